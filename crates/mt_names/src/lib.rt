@@ -2,8 +2,12 @@
 #![tactic(auto)]
 
 mod fault;
+mod keys;
 mod names;
 mod text;
+mod types;
 
 pub use fault::NameFault;
+pub use keys::{RuleKey, RuleTarget};
 pub use names::{KeyspaceName, TableName, WorkflowName};
+pub use types::{TabletType, TypeSet};
