@@ -1,2 +1,5 @@
 pub mod Faults
+pub mod Keys
 pub mod Names
+pub mod Results
+pub mod Types

@@ -1,7 +1,12 @@
 //! Routing rules' keys and targets.
-ghost use Rattle.std.specs.Prelude.{◌≡◌};
+ghost use Rattle.std.specs.Prelude.{◌≡◌, ℕ, ◌+◌, ◌^◌, ◌<◌, ◌↔◌, Some, Ok, IsOk, IfOk, length, option_copied};
 
-use crate::{KeyspaceName, TableName, TabletType};
+use crate::{KeyspaceName, NameFault, TableName, TabletType};
+use arrayvec::ArrayString;
+use std::fmt;
+
+/// The longest key in bytes: two names of 64, the dot, the `@` and a type of 7.
+const MAX_KEY_LENGTH: usize = 137;
 
 /// What a routing rule applies to, its from-table: a table by its name alone or in a keyspace, for all tablet
 /// types or for one.
@@ -22,6 +27,32 @@ pub struct RuleTarget {
     pub keyspace: KeyspaceName,
     /// The table.
     pub table: TableName,
+}
+
+ghost use Rattle.mt_names.specs.Keys.{IsRuleKey, IsRuleTarget, IsKeyText, IsTargetText, key_text, target_text, read_key, read_target, read_plain_key, read_target_parts, read_dotted, before, after, fault_behind};
+ghost use Rattle.mt_names.specs.Names.{read_table};
+
+/// The text before the first mark, and what stands after it, where there is one.
+fn cut(text: &str, mark: char) -> (&str, Option<&str>)
+    requires { mark < 128 }
+    ensures front { result.0.now ≡ before mark text.now }
+    ensures rest { option_copied result.1 ≡ after mark text.now }
+{
+    match text.split_once(mark) {
+        Some((front, rest)) => (front, Some(rest)),
+        None => (text, None),
+    }
+}
+
+/// Reads a table's name behind `front` bytes of the whole text, by which a fault's place is told.
+fn table_behind(front: usize, text: &str) -> Result<TableName, NameFault>
+    requires { front + length text.now < 2 ^ 64 }
+    ensures { result ≡ fault_behind front (read_table text.now) }
+{
+    match TableName::parse(text) {
+        Err(NameFault::BadByte(place)) => Err(NameFault::BadByte(front + place)),
+        read => read,
+    }
 }
 
 impl RuleKey {

@@ -1,5 +1,7 @@
 //! Tablet types, and sets of them.
 
+use crate::NameFault;
+
 /// What a tablet serves: writes and reads, reads, or batch reads.
 #[derive(Clone, Copy, Debug, Eq, Hash, Ord, PartialEq, PartialOrd)]
 pub enum TabletType {
@@ -20,4 +22,32 @@ pub struct TypeSet {
     pub replica: bool,
     /// Whether `rdonly` is.
     pub rdonly: bool,
+}
+
+impl TabletType {
+    ghost use Rattle.std.specs.Prelude.{◌≡◌};
+    ghost use Rattle.mt_names.specs.Types.{type_text, read_type};
+
+    /// Reads a type.
+    pub fn parse(text: &str) -> Result<Self, NameFault>
+        ensures { result ≡ read_type text.now }
+    {
+        match text {
+            "primary" => Ok(TabletType::Primary),
+            "replica" => Ok(TabletType::Replica),
+            "rdonly" => Ok(TabletType::Rdonly),
+            _ => Err(NameFault::BadType),
+        }
+    }
+
+    /// The type as a text.
+    pub fn as_str(self) -> &'static str
+        ensures { result.now ≡ type_text self }
+    {
+        match self {
+            TabletType::Primary => "primary",
+            TabletType::Replica => "replica",
+            TabletType::Rdonly => "rdonly",
+        }
+    }
 }
