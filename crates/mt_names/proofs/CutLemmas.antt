@@ -1,5 +1,5 @@
 -- What stands before the first mark, and after it.
-use Rattle.std.proofs.Common.{◌≡◌, ◌≢◌, ℕ, suc, ◌+◌, ◌<◌, Bool, true, false, cond, eqb, List, [], ◌∷◌, ◌++◌, length, get_or, Option, None, Some, refl, sym, ap, arith}
+use Rattle.std.proofs.Common.{◌≡◌, ◌≢◌, ℕ, suc, ◌+◌, ◌<◌, Bool, true, false, cond, eqb, List, [], ◌∷◌, ◌++◌, length, get_or, Option, None, Some, refl, sym, ap, ◌∙◌, arith}
 use Rattle.std.proofs.lemmas.Bool.{true≢false, eqb-true, eq-eqb, ne_eqb}
 use Rattle.mt_names.specs.Keys.{before, after}
 
@@ -31,3 +31,21 @@ module _ (mark : ℕ) where
   pub after-append : (front rest : List ℕ) → Lacks mark front → after mark (front ++ mark ∷ rest) ≡ Some rest
   after-append [] rest lacks = rw (eq-eqb mark mark refl) refl
   after-append (b ∷ bs) rest lacks = rw (Lacks-head mark b bs lacks) (after-append bs rest (Lacks-tail mark b bs lacks))
+
+-- a text in two parts with the mark between them, or in one
+abbrev pub joined : ℕ → List ℕ → Option (List ℕ) → List ℕ
+joined mark front None = front
+joined mark front (Some rest) = front ++ mark ∷ rest
+
+joined-longer : (mark b : ℕ) (front : List ℕ) (rest : Option (List ℕ)) → joined mark (b ∷ front) rest ≡ b ∷ joined mark front rest
+joined-longer mark b front None = refl
+joined-longer mark b front (Some rest) = refl
+
+-- the parts, joined again, are the text
+pub joined-before : (mark : ℕ) (bytes : List ℕ) → joined mark (before mark bytes) (after mark bytes) ≡ bytes
+joined-before mark [] = refl
+joined-before mark (b ∷ bs) = by (joined-before mark bs) (eqb b mark) refl
+  where
+    by : joined mark (before mark bs) (after mark bs) ≡ bs → (t : Bool) → eqb b mark ≡ t → joined mark (before mark (b ∷ bs)) (after mark (b ∷ bs)) ≡ b ∷ bs
+    by again true e = rw e (ap (λ x. x ∷ bs) (sym (eqb-true b mark e)))
+    by again false e = rw e (joined-longer mark b (before mark bs) (after mark bs) ∙ ap (λ l. b ∷ l) again)

@@ -104,5 +104,4 @@ read_dotted keyspace (Some table) = read_target_parts keyspace table
 
 -- the target that a text is, or its first fault
 abbrev pub read_target : List ℕ → Result RuleTarget NameFault
-read_target [] = Err Empty
-read_target (byte ∷ bytes) = read_dotted (before dot (byte ∷ bytes)) (after dot (byte ∷ bytes))
+read_target text = if length text == 0 then Err Empty else read_dotted (before dot text) (after dot text)

@@ -1,5 +1,6 @@
 //! Routing rules' keys and targets.
-ghost use Rattle.std.specs.Prelude.{◌≡◌, ℕ, ◌+◌, ◌^◌, ◌<◌, ◌↔◌, Some, Ok, IsOk, IfOk, length, option_copied};
+ghost use Rattle.std.specs.Prelude.{◌≡◌, ℕ, ◌+◌, ◌-◌, ◌^◌, ◌<◌, ◌↔◌, Some, Ok, IsOk, List, length, option_copied};
+ghost use Rattle.std.specs.Option.{ForSome};
 
 use crate::{KeyspaceName, NameFault, TableName, TabletType};
 use arrayvec::ArrayString;
@@ -29,7 +30,7 @@ pub struct RuleTarget {
     pub table: TableName,
 }
 
-ghost use Rattle.mt_names.specs.Keys.{IsRuleKey, IsRuleTarget, IsKeyText, IsTargetText, key_text, target_text, read_key, read_target, read_plain_key, read_target_parts, read_dotted, before, after, fault_behind};
+ghost use Rattle.mt_names.specs.Keys.{IsRuleKey, IsRuleTarget, IsKeyText, IsTargetText, key_text, target_text, read_key, read_target, read_key_type, read_plain_key, read_target_parts, before, after, fault_behind};
 ghost use Rattle.mt_names.specs.Names.{read_table};
 
 /// The text before the first mark, and what stands after it, where there is one.
@@ -55,7 +56,84 @@ fn table_behind(front: usize, text: &str) -> Result<TableName, NameFault>
     }
 }
 
+/// Reads a target of a keyspace and of a table that stands behind it and a dot.
+fn target_of(keyspace: &str, table: &str) -> Result<RuleTarget, NameFault>
+    requires { length keyspace.now + length table.now < 2 ^ 64 - 1 }
+    ensures { result ≡ read_target_parts keyspace.now table.now }
+{
+    let front = keyspace.len() + 1;
+    let keyspace = KeyspaceName::parse(keyspace)?;
+    let table = table_behind(front, table)?;
+    Ok(RuleTarget { keyspace, table })
+}
+
+/// Reads a key for all types: a table alone, or a keyspace and a table.
+fn plain_key(name: &str, table: Option<&str>) -> Result<RuleKey, NameFault>
+    requires { ForSome table (λ t. length name.now + length t.now < 2 ^ 64 - 1) }
+    ensures { result ≡ read_plain_key name.now (option_copied table.entry) }
+{
+    match table {
+        None => Ok(RuleKey {
+            keyspace: None,
+            table: TableName::parse(name)?,
+            tablet_type: None,
+        }),
+        Some(table) => {
+            let target = target_of(name, table)?;
+            Ok(RuleKey {
+                keyspace: Some(target.keyspace),
+                table: target.table,
+                tablet_type: None,
+            })
+        }
+    }
+}
+
+/// The key for the one type that the word names, where there is a word.
+fn key_of_type(key: RuleKey, word: Option<&str>) -> Result<RuleKey, NameFault>
+    ensures { result ≡ read_key_type key (option_copied word.entry) }
+{
+    match word {
+        None => Ok(key),
+        Some(word) => Ok(RuleKey {
+            tablet_type: Some(TabletType::parse(word)?),
+            ..key
+        }),
+    }
+}
+
 impl RuleKey {
+    /// Reads a key: `table` or `keyspace.table`, each plain or followed by `@primary`, `@replica` or `@rdonly`.
+    /// The text is cut at its first `@`, and what stands before it at its first dot. The first fault from left to
+    /// right is answered: those of the keyspace's name, of the table's name, and `N6 BadType`.
+    pub fn parse(text: &str) -> Result<Self, NameFault>
+        ensures value { result ≡ read_key text.now }
+        ensures grammar { IsOk result ↔ IsKeyText text.now }
+    {
+        let (name, type_word) = cut(text, '@');
+        let (front, rest) = cut(name, '.');
+        let key = plain_key(front, rest)?;
+        key_of_type(key, type_word)
+    }
+
+    /// The key as a text, by which it is read back.
+    pub fn text(&self) -> ArrayString<MAX_KEY_LENGTH>
+        ensures bytes { result.bytes ≡ key_text self.now }
+        ensures key { IsRuleKey self.now }
+        ensures read_back { read_key (key_text self.now) ≡ Ok self.now }
+    {
+        let mut text = ArrayString::new();
+        if let Some(keyspace) = &self.keyspace {
+            text.push_str(keyspace.as_str());
+            text.push('.');
+        }
+        text.push_str(self.table.as_str());
+        if let Some(tablet_type) = self.tablet_type {
+            text.push('@');
+            text.push_str(tablet_type.as_str());
+        }
+        text
+    }
     /// The same key. It takes no memory.
     pub fn copied(&self) -> Self
         ensures { result ≡ self.now }
@@ -69,6 +147,35 @@ impl RuleKey {
 }
 
 impl RuleTarget {
+    /// Reads a target: `keyspace.table`, cut at its first dot. `N1 Empty` of an empty text, then `N8 NoKeyspace`
+    /// where there is no dot, then the first fault of the keyspace's name and of the table's.
+    pub fn parse(text: &str) -> Result<Self, NameFault>
+        ensures value { result ≡ read_target text.now }
+        ensures grammar { IsOk result ↔ IsTargetText text.now }
+    {
+        if text.is_empty() {
+            return Err(NameFault::Empty);
+        }
+        let (keyspace, rest) = cut(text, '.');
+        match rest {
+            None => Err(NameFault::NoKeyspace),
+            Some(table) => target_of(keyspace, table),
+        }
+    }
+
+    /// The target as a text, by which it is read back.
+    pub fn text(&self) -> ArrayString<MAX_KEY_LENGTH>
+        ensures bytes { result.bytes ≡ target_text self.now }
+        ensures target { IsRuleTarget self.now }
+        ensures read_back { read_target (target_text self.now) ≡ Ok self.now }
+    {
+        let mut text = ArrayString::new();
+        text.push_str(self.keyspace.as_str());
+        text.push('.');
+        text.push_str(self.table.as_str());
+        text
+    }
+
     /// The same target. It takes no memory.
     pub fn copied(&self) -> Self
         ensures { result ≡ self.now }
@@ -78,4 +185,32 @@ impl RuleTarget {
             table: self.table.copied(),
         }
     }
+}
+
+impl fmt::Display for RuleKey {
+    ghost output = { λ key. Some (key_text key) };
+
+    fn fmt<W: fmt::Write>(&self, f: &mut fmt::Formatter<W>) -> fmt::Result {
+        f.pad(self.text().as_str())
+    }
+}
+
+impl fmt::Display for RuleTarget {
+    ghost output = { λ target. Some (target_text target) };
+
+    fn fmt<W: fmt::Write>(&self, f: &mut fmt::Formatter<W>) -> fmt::Result {
+        f.pad(self.text().as_str())
+    }
+}
+
+/// A key has one spelling: a text that is read as a key is the text of that key.
+pub fn key_has_one_spelling()
+    ensures { (text : List ℕ) (key : RuleKey) → read_key text ≡ Ok key → key_text key ≡ text }
+{
+}
+
+/// A target has one spelling: a text that is read as a target is the text of that target.
+pub fn target_has_one_spelling()
+    ensures { (text : List ℕ) (target : RuleTarget) → read_target text ≡ Ok target → target_text target ≡ text }
+{
 }
