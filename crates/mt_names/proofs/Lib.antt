@@ -1,3 +1,4 @@
 pub mod CutLemmas
 pub mod KeyLemmas
 pub mod NameLemmas
+pub mod TableLemmas

@@ -2,4 +2,5 @@ pub mod Faults
 pub mod Keys
 pub mod Names
 pub mod Results
+pub mod Tables
 pub mod Types

@@ -1,6 +1,7 @@
 -- What is a name: the grammar, and beside it the function that reads one and tells the first fault.
 use Rattle.std.specs.Prelude.{◌≡◌, ◌≢◌, ℕ, ◌<◌, ◌≤◌, Bool, true, not, ◌||◌, if◌then◌else◌, ◌==◌, nat_eq, nat_lt, List, [], ◌∷◌, ◌++◌, length, slice_get, position, codes, Option, Some, None, Result, Ok, Err}
 use Rattle.std.specs.Char.{is_ascii_alphanumeric}
+use Rattle.std.specs.Cmp.Lexicographic.{pointwise}
 use Rattle.std.specs.List.{AllPass, starts_with, ends_with}
 use Rattle.mt_names.specs.declared.fault.NameFault.{NameFault}
 use Rattle.mt_names.specs.declared.fault.NameFault.TheVariants.{Empty, TooLong, BadByte, ReservedSuffix}
@@ -17,6 +18,10 @@ underscore = 95
 
 abbrev pub dollar : ℕ
 dollar = 36
+
+-- whether two texts have the same bytes
+abbrev pub same_text : List ℕ → List ℕ → Bool
+same_text = pointwise nat_eq
 
 -- an ASCII letter or digit, `_` or `-`
 abbrev pub is_plain_byte : ℕ → Bool

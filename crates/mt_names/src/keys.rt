@@ -34,7 +34,7 @@ ghost use Rattle.mt_names.specs.Keys.{IsRuleKey, IsRuleTarget, IsKeyText, IsTarg
 ghost use Rattle.mt_names.specs.Names.{read_table};
 
 /// The text before the first mark, and what stands after it, where there is one.
-fn cut(text: &str, mark: char) -> (&str, Option<&str>)
+pub fn cut(text: &str, mark: char) -> (&str, Option<&str>)
     requires { mark < 128 }
     ensures front { result.0.now ≡ before mark text.now }
     ensures rest { option_copied result.1 ≡ after mark text.now }
@@ -46,7 +46,7 @@ fn cut(text: &str, mark: char) -> (&str, Option<&str>)
 }
 
 /// Reads a table's name behind `front` bytes of the whole text, by which a fault's place is told.
-fn table_behind(front: usize, text: &str) -> Result<TableName, NameFault>
+pub fn table_behind(front: usize, text: &str) -> Result<TableName, NameFault>
     requires { front + length text.now < 2 ^ 64 }
     ensures { result ≡ fault_behind front (read_table text.now) }
 {

@@ -4,10 +4,12 @@
 mod fault;
 mod keys;
 mod names;
+mod tables;
 mod text;
 mod types;
 
 pub use fault::NameFault;
 pub use keys::{RuleKey, RuleTarget};
 pub use names::{KeyspaceName, TableName, WorkflowName};
+pub use tables::table_list;
 pub use types::{TabletType, TypeSet};

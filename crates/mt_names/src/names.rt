@@ -4,6 +4,7 @@ ghost use Rattle.mt_names.specs.Names.{IsKeyspaceName, IsTableName, IsWorkflowNa
 
 use crate::NameFault;
 use crate::text::{Alphabet, Text};
+use std::default::MadeWith;
 use std::fmt;
 use std::marker::Model;
 
@@ -55,6 +56,15 @@ impl KeyspaceName {
     {
         KeyspaceName {
             text: self.text.copied(),
+        }
+    }
+}
+
+/// The blank that an `ArrayVec` of names keeps in its unused places.
+impl MadeWith<()> for KeyspaceName {
+    fn made_with(_alloc: ()) -> Self {
+        KeyspaceName {
+            text: Text::blank(),
         }
     }
 }
@@ -111,6 +121,15 @@ impl TableName {
     {
         TableName {
             text: self.text.copied(),
+        }
+    }
+}
+
+/// The blank that an `ArrayVec` of names keeps in its unused places.
+impl MadeWith<()> for TableName {
+    fn made_with(_alloc: ()) -> Self {
+        TableName {
+            text: Text::blank(),
         }
     }
 }

@@ -1,12 +1,12 @@
 //! The text of a name: at most 64 bytes, kept in the value itself.
-ghost use Rattle.std.specs.Prelude.{◌≡◌, ◌↔◌, Some, IsOk, IfOk, nat_eq, not, position};
+ghost use Rattle.std.specs.Prelude.{◌≡◌, ◌↔◌, [], ◌∷◌, Some, IsOk, IfOk, nat_eq, not, position};
 ghost use Rattle.std.specs.Ordering.{nat_cmp};
 ghost use Rattle.std.specs.Cmp.{partial_equiv_from_equiv, nat_cmp_total};
 ghost use Rattle.std.specs.Cmp.Lexicographic.{pointwise, slice_cmp, nat_list_eq_equiv, nat_list_cmp_total, texts_po, texts_ties};
 ghost use Rattle.std.specs.Cmp.Rules.{hashing};
 ghost use Rattle.std.specs.Hash as fed;
 ghost use Rattle.std.proofs.Common.{rules, refl};
-ghost use Rattle.mt_names.specs.Names.{IsName, allows, bad_place, read_name};
+ghost use Rattle.mt_names.specs.Names.{IsName, allows, bad_place, read_name, underscore};
 
 use crate::NameFault;
 use arrayvec::ArrayString;
@@ -87,6 +87,15 @@ impl Text {
             Some(place) => Err(NameFault::BadByte(place)),
             None => Ok(Text { chars }),
         }
+    }
+
+    /// The text `_`, which is a name over each alphabet. The unused places of an `ArrayVec` of names hold it.
+    pub fn blank() -> Text
+        ensures { result ≡ underscore ∷ [] }
+    {
+        let mut chars = ArrayString::new();
+        chars.push('_');
+        Text { chars }
     }
 
     /// The text.
