@@ -16,17 +16,7 @@ use Rattle.mt_names.specs.Results.{◌>>=◌}
 use Rattle.mt_names.specs.Types.{type_text, read_type}
 use Rattle.mt_names.proofs.CutLemmas.{Lacks, before-lacks, after-lacks, before-append, after-append, joined, joined-before}
 use Rattle.mt_names.proofs.NameLemmas.{read_name-name, name_from_read}
-
--- ---- steps that may be refused
-
--- where the whole was taken, so was the first step, and the next one took its value
-after_step : {A B E : Type 0} (r : Result A E) (f : A → Result B E) (y : B) → (r >>= f) ≡ Ok y → (x : A) × (r ≡ Ok x) × (f x ≡ Ok y)
-after_step (Ok x) f y e = (x, refl, e)
-after_step (Err fault) f y e = absurd cc
-
-Ok-fault_behind : {A : Type 0} (front : ℕ) (r : Result A NameFault) (x : A) → fault_behind front r ≡ Ok x → r ≡ Ok x
-Ok-fault_behind front (Ok y) x e = e
-Ok-fault_behind front (Err fault) x e = absurd cc
+use Rattle.mt_names.proofs.ResultLemmas.{after_step, Ok-fault_behind}
 
 -- ---- types
 
@@ -49,7 +39,7 @@ type_from_read word t e = by (pointwise eqb word (type_text Primary)) refl (poin
 
 -- ---- what a name lacks
 
-name_lacks : (alphabet : Alphabet) (mark : ℕ) (bytes : List ℕ) → allows alphabet mark ≡ false → IsName alphabet bytes → Lacks mark bytes
+pub name_lacks : (alphabet : Alphabet) (mark : ℕ) (bytes : List ℕ) → allows alphabet mark ≡ false → IsName alphabet bytes → Lacks mark bytes
 name_lacks alphabet mark bytes refused name i h same =
     true≢false (sym (name.each i 0 h) ∙ ap (allows alphabet) same ∙ refused)
 

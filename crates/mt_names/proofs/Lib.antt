@@ -1,4 +1,6 @@
 pub mod CutLemmas
 pub mod KeyLemmas
 pub mod NameLemmas
+pub mod ResultLemmas
 pub mod TableLemmas
+pub mod TableListLemmas

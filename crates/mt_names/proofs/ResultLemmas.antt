@@ -1,0 +1,14 @@
+-- Steps that may be refused, one after another.
+use Rattle.std.proofs.Common.{◌≡◌, ℕ, Result, Ok, Err, refl}
+use Rattle.mt_names.specs.declared.fault.NameFault.{NameFault}
+use Rattle.mt_names.specs.Keys.{fault_behind}
+use Rattle.mt_names.specs.Results.{◌>>=◌}
+
+-- where the whole was taken, so was the first step, and the next one took its value
+pub after_step : {A B E : Type 0} (r : Result A E) (f : A → Result B E) (y : B) → (r >>= f) ≡ Ok y → (x : A) × (r ≡ Ok x) × (f x ≡ Ok y)
+after_step (Ok x) f y e = (x, refl, e)
+after_step (Err fault) f y e = absurd cc
+
+pub Ok-fault_behind : {A : Type 0} (front : ℕ) (r : Result A NameFault) (x : A) → fault_behind front r ≡ Ok x → r ≡ Ok x
+Ok-fault_behind front (Ok y) x e = e
+Ok-fault_behind front (Err fault) x e = absurd cc
