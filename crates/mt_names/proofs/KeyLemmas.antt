@@ -52,8 +52,8 @@ dot_not_in_table bytes name = name_lacks WithDollar dot bytes refl name
 Lacks-append : (mark : ℕ) (xs ys : List ℕ) → Lacks mark xs → Lacks mark ys → Lacks mark (xs ++ ys)
 Lacks-append mark xs ys left right i h same =
     ⊎_elim (λ below. left i below (sym (get_or_append_left xs ys 0 i below) ∙ same))
-        (λ beyond. right (i - length xs) (omega (arith, length-append xs ys)) (sym (get_or-append_right xs ys (length xs) i 0 refl beyond) ∙ same))
-        (cases_lt i (length xs))
+    (λ beyond. right (i - length xs) (omega (arith, length-append xs ys)) (sym (get_or-append_right xs ys (length xs) i 0 refl beyond) ∙ same))
+    (cases_lt i (length xs))
 
 Lacks-one : (mark byte : ℕ) → byte ≢ mark → Lacks mark (byte ∷ [])
 Lacks-one mark byte other zero h = other
@@ -107,16 +107,16 @@ read_key-key_text key is =
     let plain : List ℕ = qualifier_text key.keyspace ++ key.table in
     let cut = key_cut plain key.tablet_type (plain_lacks key.keyspace key.table is.keyspace is.table) in
     rw (cut.0, cut.1, read_plain_key-names key.keyspace key.table is.keyspace is.table)
-        (read_key_type-text (record { keyspace = key.keyspace; table = key.table; tablet_type = None }) key.tablet_type refl)
+    (read_key_type-text (record { keyspace = key.keyspace; table = key.table; tablet_type = None }) key.tablet_type refl)
 
 -- the text of a target is read as that target
 pub read_target-target_text : (target : RuleTarget) → IsRuleTarget target → read_target (target_text target) ≡ Ok target
 read_target-target_text target is =
     let lacks = dot_not_in_keyspace target.keyspace is.keyspace in
     let some : eqb (length (target_text target)) 0 ≡ false =
-        ne_eqb (length (target_text target)) 0 (λ e. omega (arith, length-append target.keyspace (dot ∷ target.table))) in
+    ne_eqb (length (target_text target)) 0 (λ e. omega (arith, length-append target.keyspace (dot ∷ target.table))) in
     rw (some, before-append dot target.keyspace target.table lacks, after-append dot target.keyspace target.table lacks)
-        (read_target_parts-names target.keyspace target.table is.keyspace is.table)
+    (read_target_parts-names target.keyspace target.table is.keyspace is.table)
 
 -- ---- what is read is a key, and has one text
 
@@ -129,7 +129,7 @@ target_from_parts keyspace table target e =
     let whole : record { keyspace = k.0; table = t.0 } ≡ target = cc in
     let parts : record { keyspace = keyspace; table = table } ≡ target = cc in
     subst (λ x. IsRuleTarget x × (target_text x ≡ keyspace ++ dot ∷ table)) parts
-        (record { keyspace = keyspace_name.0; table = table_name.0 }, refl)
+    (record { keyspace = keyspace_name.0; table = table_name.0 }, refl)
 
 -- a key without a type, from the two parts of its text
 record IsPlainKeyOf (name : List ℕ) (rest : Option (List ℕ)) (key : RuleKey) : Type 0 where
@@ -144,17 +144,17 @@ plain_from_read name None key e =
     let whole : record { keyspace = None; table = t.0; tablet_type = None } ≡ key = cc in
     let parts : record { keyspace = None; table = name; tablet_type = None } ≡ key = cc in
     subst (IsPlainKeyOf name None) parts
-        (record { is = record { keyspace = tt; table = table_name.0 }; text = refl; untyped = refl })
+    (record { is = record { keyspace = tt; table = table_name.0 }; text = refl; untyped = refl })
 plain_from_read name (Some table) key e =
     let t = after_step (read_target_parts name table) _ key e in
     let target = target_from_parts name table t.0 t.1 in
     let parts : record { keyspace = Some t.0.keyspace; table = t.0.table; tablet_type = None } ≡ key = cc in
     subst (IsPlainKeyOf name (Some table)) parts
-        (record {
-          is = record { keyspace = target.0.keyspace; table = target.0.table };
-          text = append_assoc t.0.keyspace (dot ∷ []) t.0.table ∙ target.1;
-          untyped = refl;
-        })
+    (record {
+      is = record { keyspace = target.0.keyspace; table = target.0.table };
+      text = append_assoc t.0.keyspace (dot ∷ []) t.0.table ∙ target.1;
+      untyped = refl;
+    })
 
 -- a key with the type that the word names
 record IsTypedKeyOf (before : RuleKey) (plain : List ℕ) (word : Option (List ℕ)) (key : RuleKey) : Type 0 where
@@ -166,12 +166,12 @@ typed_from_read : (before : RuleKey) (plain : List ℕ) (word : Option (List ℕ
 typed_from_read before plain None key e untyped =
     let same : before ≡ key = cc in
     subst (IsTypedKeyOf before plain None) same
-        (record { keyspace = refl; table = refl; text = ap (λ t. plain ++ suffix_text t) untyped ∙ append-nil plain })
+    (record { keyspace = refl; table = refl; text = ap (λ t. plain ++ suffix_text t) untyped ∙ append-nil plain })
 typed_from_read before plain (Some word) key e untyped =
     let t = after_step (read_type word) _ key e in
     let same : record before { tablet_type = Some t.0 } ≡ key = cc in
     subst (IsTypedKeyOf before plain (Some word)) same
-        (record { keyspace = refl; table = refl; text = ap (λ w. plain ++ at_sign ∷ w) (type_from_read word t.0 t.1) })
+    (record { keyspace = refl; table = refl; text = ap (λ w. plain ++ at_sign ∷ w) (type_from_read word t.0 t.1) })
 
 -- what is read is a key, and the text is its only one
 pub key_from_read : (text : List ℕ) (key : RuleKey) → read_key text ≡ Ok key → IsRuleKey key × (key_text key ≡ text)
@@ -181,11 +181,13 @@ key_from_read text key e =
     let plain = plain_from_read (before dot name) (after dot name) first.0 first.1 in
     let typed = typed_from_read first.0 name (after at_sign text) key first.2 plain.untyped in
     let front : qualifier_text key.keyspace ++ key.table ≡ name =
-        (λ i. qualifier_text (typed.keyspace i) ++ typed.table i) ∙ plain.text ∙ joined-before dot name in
-    (record {
-      keyspace = subst (λ k. IfSome k IsKeyspaceName) (sym typed.keyspace) plain.is.keyspace;
-      table = subst IsTableName (sym typed.table) plain.is.table;
-    }, ap (λ p. p ++ suffix_text key.tablet_type) front ∙ typed.text ∙ joined-before at_sign text)
+    (λ i. qualifier_text (typed.keyspace i) ++ typed.table i) ∙ plain.text ∙ joined-before dot name in (
+      record {
+        keyspace = subst (λ k. IfSome k IsKeyspaceName) (sym typed.keyspace) plain.is.keyspace;
+        table = subst IsTableName (sym typed.table) plain.is.table;
+      },
+      ap (λ p. p ++ suffix_text key.tablet_type) front ∙ typed.text ∙ joined-before at_sign text,
+    )
 
 -- what is read is a target, and the text is its only one
 pub target_from_read : (text : List ℕ) (target : RuleTarget) → read_target text ≡ Ok target → IsRuleTarget target × (target_text target ≡ text)

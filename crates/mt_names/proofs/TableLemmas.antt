@@ -56,7 +56,7 @@ module _ (names : List (List ℕ)) (total : ℕ) where
   -- the words of a text are read by its first word, and then the words after it
   pub read-first : (text : List ℕ) → length text ≤ total
       → read_tables_after names (total - length text) (words_of text)
-        ≡ (with_word names (total - length text) (before comma text) >>= λ more. read_tables_after more (total - length_left (after comma text)) (words_left (after comma text)))
+      ≡ (with_word names (total - length text) (before comma text) >>= λ more. read_tables_after more (total - length_left (after comma text)) (words_left (after comma text)))
   read-first text fits =
       rw (words_of-cut text) (ap (λ f. with_word names (total - length text) (before comma text) >>= f) (λ i more. read-behind text fits more (after comma text) refl i))
 

@@ -39,12 +39,14 @@ list_from_with_table names name more is list e = by (eqb (length names) MAX_TABL
     by true full u there = absurd (let h = rw full at e in cc)
     by false full true there = absurd (let h = rw (full, there) at e in cc)
     by false full false there =
-        let same : names ++ name ∷ [] ≡ more = (let h = rw (full, there) at e in cc) in
-        (subst IsTableList same (record {
-          each = All-push IsTableName names name list.each is;
-          distinct = all_pairs_push ◌≢◌ names name list.distinct (absent_from_test names name there);
-          few = let h = eqb-false (length names) MAX_TABLES full in let few = list.few in omega (arith, h, few, length-append names (name ∷ []));
-        }), sym same)
+        let same : names ++ name ∷ [] ≡ more = (let h = rw (full, there) at e in cc) in (
+          subst IsTableList same (record {
+            each = All-push IsTableName names name list.each is;
+            distinct = all_pairs_push ◌≢◌ names name list.distinct (absent_from_test names name there);
+            few = let h = eqb-false (length names) MAX_TABLES full in let few = list.few in omega (arith, h, few, length-append names (name ∷ []));
+          }),
+          sym same,
+        )
 
 -- what the words are read as
 tables_from_read : (words names : List (List ℕ)) (front : ℕ) (read : List (List ℕ)) → read_tables_after names front words ≡ Ok read → IsTableList names
@@ -99,8 +101,8 @@ with_word-next done front name names list =
     let is : IsTableName name = subst IsTableName (at_name []) (list.each (length done) [] (omega (arith, total))) in
     let room : eqb (length done) MAX_TABLES ≡ false = ne_eqb (length done) MAX_TABLES (λ full. omega (arith, total, few, full)) in
     let new : list_any (λ other. same_text other name) done ≡ false =
-        list_any_none (λ other. same_text other name) done (λ k d h. false_from_ne_true (same_text (get_or done k d) name) (λ t.
-            list.distinct k (length done) d h (omega (arith, total)) (get_or_append_left done (name ∷ names) d k h ∙ from_same (get_or done k d) name (sym t) ∙ sym (at_name d)))) in
+    list_any_none (λ other. same_text other name) done (λ k d h. false_from_ne_true (same_text (get_or done k d) name) (λ t.
+    list.distinct k (length done) d h (omega (arith, total)) (get_or_append_left done (name ∷ names) d k h ∙ from_same (get_or done k d) name (sym t) ∙ sym (at_name d)))) in
     rw (read_name-name WithDollar name is, room, new) refl
 
 read_tables_after-names : (names done : List (List ℕ)) (front : ℕ) → IsTableList (done ++ names) → read_tables_after done front names ≡ Ok (done ++ names)
@@ -108,7 +110,7 @@ read_tables_after-names [] done front list = ap Ok (sym (append-nil done))
 read_tables_after-names (name ∷ names) done front list =
     let again = append_assoc done (name ∷ []) names in
     rw (with_word-next done front name names list)
-        (read_tables_after-names names (done ++ name ∷ []) (front + length name + 1) (subst IsTableList (sym again) list) ∙ ap Ok again)
+    (read_tables_after-names names (done ++ name ∷ []) (front + length name + 1) (subst IsTableList (sym again) list) ∙ ap Ok again)
 
 first-append : (xs ys : List ℕ) → 0 < length xs → slice_get (xs ++ ys) 0 ≡ slice_get xs 0
 first-append [] ys some = absurd (omega arith)
@@ -118,7 +120,7 @@ first-append (x ∷ xs) ys some = refl
 begins≢dash : (name more : List ℕ) {text : List ℕ} → IsTableName name → name ++ more ≡ text → same_text text (dash ∷ []) ≡ false
 begins≢dash name more {text} is e =
     false_from_ne_true (same_text text (dash ∷ [])) (λ t.
-        is.first (sym (first-append name more is.not_empty) ∙ ap (λ l. slice_get l 0) (e ∙ from_same text (dash ∷ []) (sym t))))
+    is.first (sym (first-append name more is.not_empty) ∙ ap (λ l. slice_get l 0) (e ∙ from_same text (dash ∷ []) (sym t))))
 
 -- no list's text but the empty one's is `-`
 joined≢dash : (name : List ℕ) (names : List (List ℕ)) → IsTableName name → same_text (join_with_byte comma (name ∷ names)) (dash ∷ []) ≡ false
@@ -129,7 +131,7 @@ pub read_table_list-text : (names : List (List ℕ)) → IsTableList names → r
 read_table_list-text [] list = refl
 read_table_list-text (name ∷ names) list =
     rw (joined≢dash name names (list.each 0 [] (omega arith)), words_of-joined name names list.each)
-        (read_tables_after-names (name ∷ names) [] 0 list)
+    (read_tables_after-names (name ∷ names) [] 0 list)
 
 -- ---- a text is read exactly where it is a list's
 

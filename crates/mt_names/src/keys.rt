@@ -206,11 +206,9 @@ impl fmt::Display for RuleTarget {
 /// A key has one spelling: a text that is read as a key is the text of that key.
 pub fn key_has_one_spelling()
     ensures { (text : List ℕ) (key : RuleKey) → read_key text ≡ Ok key → key_text key ≡ text }
-{
-}
+{}
 
 /// A target has one spelling: a text that is read as a target is the text of that target.
 pub fn target_has_one_spelling()
     ensures { (text : List ℕ) (target : RuleTarget) → read_target text ≡ Ok target → target_text target ≡ text }
-{
-}
+{}

@@ -9,7 +9,8 @@ mod text;
 mod types;
 
 pub use fault::NameFault;
-pub use keys::{RuleKey, RuleTarget};
+pub use keys::{RuleKey, RuleTarget, key_has_one_spelling, target_has_one_spelling};
 pub use names::{KeyspaceName, TableName, WorkflowName};
-pub use tables::table_list;
+pub use tables::{MAX_TABLES, table_list, table_list_is_read_back};
+pub use text::MAX_NAME_LENGTH;
 pub use types::{TabletType, TypeSet};

@@ -35,6 +35,8 @@ fn add_table(
 /// right is answered: of each name its own, then `N7 TooMany` of a 17th, then `N4 Repeated`.
 pub fn table_list(text: &str) -> Result<ArrayVec<TableName, MAX_TABLES>, NameFault>
     ensures value { names_of result ≡ read_table_list text.now }
+    ensures grammar { IsOk result ↔ IsTableListText text.now }
+    ensures list { IfOk result (λ tables. IsTableList tables.items) }
 {
     let mut tables = ArrayVec::new_in(());
     if text == "-" {
@@ -49,3 +51,8 @@ pub fn table_list(text: &str) -> Result<ArrayVec<TableName, MAX_TABLES>, NameFau
     }
     Ok(tables)
 }
+
+/// The text of a list of tables is read as that list.
+pub fn table_list_is_read_back()
+    ensures { (names : List (List ℕ)) → IsTableList names → read_table_list (table_list_text names) ≡ Ok names }
+{}
