@@ -1,4 +1,5 @@
 pub mod CutLemmas
+pub mod EntryLemmas
 pub mod KeyLemmas
 pub mod NameLemmas
 pub mod ResultLemmas

@@ -2,5 +2,6 @@ pub mod Faults
 pub mod Keys
 pub mod Names
 pub mod Results
+pub mod Same
 pub mod Tables
 pub mod Types

@@ -1,6 +1,7 @@
 //! The names that an operator writes: keyspaces, tables, workflows, tablet types, rule keys and targets.
 #![tactic(auto)]
 
+mod equality;
 mod fault;
 mod keys;
 mod names;
@@ -8,6 +9,7 @@ mod tables;
 mod text;
 mod types;
 
+pub use equality::equality_decides;
 pub use fault::NameFault;
 pub use keys::{RuleKey, RuleTarget, key_has_one_spelling, target_has_one_spelling};
 pub use names::{KeyspaceName, TableName, WorkflowName};
