@@ -8,6 +8,7 @@ mod names;
 mod tables;
 mod text;
 mod types;
+mod values;
 
 pub use equality::equality_decides;
 pub use fault::NameFault;
@@ -16,3 +17,4 @@ pub use names::{KeyspaceName, TableName, WorkflowName};
 pub use tables::{MAX_TABLES, table_list, table_list_is_read_back};
 pub use text::MAX_NAME_LENGTH;
 pub use types::{TabletType, TypeSet};
+pub use values::{MAX_VALUE_LENGTH, Position, Value, copied_value};
