@@ -1,20 +1,20 @@
 -- Sets of tablet types, as they are read and written.
-use Rattle.std.proofs.Common.{◌≡◌, ◌≢◌, ℕ, ◌+◌, ◌<◌, ◌≤◌, zero, suc, ◌⊎◌, inl, inr, Bool, true, false, not, ◌||◌, List, [], ◌∷◌, ◌++◌, length, take, drop, get_or, drop-cons, map, filter, fold, Result, Ok, Err, IsOk, IsTrue, ◌↔◌, refl, sym, ap, ◌∙◌, subst, is_ok, arith, append_assoc, ⊎_elim, lit≤, eqb, codes, rules}
+use Rattle.std.proofs.Common.{◌≡◌, ◌≢◌, ℕ, ◌<◌, zero, suc, ◌⊎◌, inl, inr, Bool, true, false, ◌||◌, List, [], ◌∷◌, ◌++◌, length, take, drop, get_or, drop-cons, map, fold, Result, Ok, Err, IsOk, IsTrue, ◌↔◌, refl, sym, ap, ◌∙◌, subst, is_ok, arith, ⊎_elim, eqb, codes, rules}
 use Rattle.std.proofs.lemmas.Bool.{true≢false, cases_Bool}
 use Rattle.std.proofs.lemmas.Grind.{common_steps}
-use Rattle.std.proofs.lemmas.List.{append-nil, length-map, take-append-drop, take_more}
-use Rattle.std.proofs.lemmas.List.Elements.{All-from_recursion, All-nil, All-cons, All-head, All-tail, filter-append}
+use Rattle.std.proofs.lemmas.List.{length-map, take-append-drop}
+use Rattle.std.proofs.lemmas.List.Elements.{All-from_recursion, All-nil, All-cons, All-head}
 use Rattle.std.proofs.lemmas.List.Kept.{AllPairs-cons}
 use Rattle.std.proofs.lemmas.List.Splits.{slice_split_none, slice_split_at, length-slice_split, join_with_byte-slice_split}
 use Rattle.std.proofs.lemmas.List.Sums.{fold-append}
 use Rattle.std.specs.Cmp.Lexicographic.{same_text}
 use Rattle.std.specs.List.{All, AllPairs, Contains, slice_split, join_with_byte}
 use Rattle.mt_names.specs.declared.fault.NameFault.{NameFault}
-use Rattle.mt_names.specs.declared.fault.NameFault.TheVariants.{Empty, Repeated, BadType}
+use Rattle.mt_names.specs.declared.fault.NameFault.TheVariants.{Repeated}
 use Rattle.mt_names.specs.declared.types.TabletType.{TabletType}
 use Rattle.mt_names.specs.declared.types.TabletType.TheVariants.{Primary, Replica, Rdonly}
 use Rattle.mt_names.specs.declared.types.TypeSet.{TypeSet}
-use Rattle.mt_names.specs.Types.{comma, type_text, text_eq, read_type, has, no_types, all_types, with_type, set_of, every_type, members, list_text, followed_by, type_set_text, IsTypeSetText, all, none, listed, with_word, read_words, read_type_set}
+use Rattle.mt_names.specs.Types.{comma, type_text, text_eq, read_type, has, no_types, with_type, set_of, list_text, IsTypeSetText, all, none, listed, with_word, read_words, read_type_set}
 
 -- two sets with the same members are equal
 pub same_members : (S R : TypeSet) → ((t : TabletType) → has S t ≡ has R t) → S ≡ R
@@ -62,6 +62,7 @@ with_type-from_union S R U t union only = same_members U (with_type S t) (λ s. 
   where
     same : (s : TabletType) → t ≡ s → has U s ≡ has (with_type S t) s
     same s e = let one : has R s ≡ true = (only s).1 (sym e) in let a = union s in subst (λ u. has U u ≡ has (with_type S t) u) e (let b : has R t ≡ true = (only t).1 refl in let c = union t in let d = has-with_type_same S t in grind (arith, common_steps, b, c, d))
+
     other : (s : TabletType) → t ≢ s → has U s ≡ has (with_type S t) s
     other s ne = ⊎_elim (λ yes. absurd (ne (sym ((only s).0 yes)))) (λ none. let a = union s in let d = has-with_type_other S t s ne in grind (arith, common_steps, a, d, none)) (cases_Bool (has R s))
 
@@ -76,6 +77,7 @@ text_from_read_type word t e = by (text_eq word (type_text Primary)) refl (text_
   where
     as_type : (s : TabletType) → true ≡ text_eq word (type_text s) → s ≡ t → word ≡ type_text t
     as_type s same e = same_text word (type_text s) same ∙ ap type_text e
+
     by : (p : Bool) → text_eq word (type_text Primary) ≡ p → (q : Bool) → text_eq word (type_text Replica) ≡ q → (r : Bool) → text_eq word (type_text Rdonly) ≡ r → word ≡ type_text t
     by true p q replica r rdonly = as_type Primary (sym p) (let h = rw p at e in cc)
     by false p true q r rdonly = as_type Replica (sym q) (let h = rw (p, q) at e in cc)
@@ -108,9 +110,9 @@ read_new S [] distinct new = refl
 read_new S (t ∷ ts) distinct new =
     ap (λ r. fold with_word r (map type_text ts)) (with_word-new S t (All-head (λ s. has S s ≡ false) t ts new))
     ∙ read_new (with_type S t) ts (λ i j d lt within. distinct (suc i) (suc j) d (omega arith) (omega arith))
-      (λ k d within. has-with_type_other S t (get_or ts k d) (distinct 0 (suc k) d (omega arith) (omega arith)) ∙ new (suc k) d (omega arith))
+    (λ k d within. has-with_type_other S t (get_or ts k d) (distinct 0 (suc k) d (omega arith) (omega arith)) ∙ new (suc k) d (omega arith))
 
--- what words come to that are read into the set S: they are texts of types that it lacks, none twice
+-- how words are read into the set S as R: they are texts of types that it lacks, none twice
 record AreRead (S : TypeSet) (words : List (List ℕ)) (R : TypeSet) : Type 0 where
   types : List TabletType
   texts : words ≡ map type_text types
@@ -132,9 +134,11 @@ are_read S (word ∷ words) R e = by (λ t. are_read (with_type S t) words R) (r
           new = All-cons (λ s. has S s ≡ false) t rest.types lacks (λ k d within. sym (has-with_type_other S t (get_or rest.types k d) (other k d within)) ∙ rest.new k d within);
           set = rest.set;
         }
+
     of_type : ((t : TabletType) → fold with_word (Ok (with_type S t)) words ≡ Ok R → AreRead (with_type S t) words R) → (t : TabletType) → read_type word ≡ Ok t → (b : Bool) → has S t ≡ b → AreRead S (word ∷ words) R
     of_type rest t is true stood = absurd (let h = sym (fold-fault Repeated words) ∙ (rw (is, stood) at e) in cc)
     of_type rest t is false lacks = with_first t is lacks (rest t (rw (is, lacks) at e))
+
     by : ((t : TabletType) → fold with_word (Ok (with_type S t)) words ≡ Ok R → AreRead (with_type S t) words R) → (r : Result TabletType NameFault) → read_type word ≡ r → AreRead S (word ∷ words) R
     by rest (Ok t) is = of_type rest t is (has S t) refl
     by rest (Err fault) is = absurd (let h = sym (fold-fault fault words) ∙ (rw is at e) in cc)
@@ -159,9 +163,11 @@ has-fold S (s ∷ ts) t =
     keeps : IsTrue (has S t) → (s ≡ t) ⊎ (s ≢ t) → IsTrue (has (with_type S s) t)
     keeps had (inl e) = ap (λ x. has (with_type S x) t) e ∙ has-with_type_same S t
     keeps had (inr ne) = has-with_type_other S s t ne ∙ had
+
     from : (s : TabletType) → IsTrue (has (with_type S s) t) → (s ≡ t) ⊎ (s ≢ t) → IsTrue (has S t) ⊎ Contains (s ∷ ts) t
     from s now (inl e) = inr (0, omega arith, e)
     from s now (inr ne) = inl (sym (has-with_type_other S s t ne) ∙ now)
+
     at : (k : ℕ) → k < length (s ∷ ts) → get_or (s ∷ ts) k t ≡ t → IsTrue (has (with_type S s) t) ⊎ Contains ts t
     at zero within e = inl (keeps_same e)
       where
@@ -213,10 +219,12 @@ read_accepts bytes r e = (from_ok r e, λ text. ap is_ok e ∙ is_read bytes tex
     is_read bytes (all is) = ap (λ b. is_ok (read_type_set b)) is
     is_read bytes (none is) = ap (λ b. is_ok (read_type_set b)) is
     is_read bytes (listed types some distinct is) = ap (λ b. is_ok (read_type_set b)) is ∙ ap is_ok (list_is_read types some distinct)
+
     from_words : (R : TypeSet) → AreRead no_types (slice_split (λ b. eqb b comma) bytes) R → IsTypeSetText bytes
     from_words R read =
         let some : 0 < length read.types = omega (arith, length-slice_split (λ b. eqb b comma) bytes, ap length read.texts, length-map read.types type_text) in
         listed read.types some read.distinct (sym (join_with_byte-slice_split comma bytes) ∙ ap (join_with_byte comma) read.texts)
+
     from_ok : (r : Result TypeSet NameFault) → r ≡ read_type_set bytes → IsOk r → IsTypeSetText bytes
     from_ok (Err fault) e ok = absurd (true≢false (sym ok))
     from_ok (Ok R) e ok = by (text_eq bytes []) refl (text_eq bytes (codes "all")) refl (text_eq bytes (codes "-")) refl
@@ -226,61 +234,3 @@ read_accepts bytes r e = (from_ok r e, λ text. ap is_ok e ∙ is_read bytes tex
         by false p true is_all s is_none = all (same_text bytes (codes "all") (sym is_all))
         by false p false is_all true is_none = none (same_text bytes (codes "-") (sym is_none))
         by false p false is_all false is_none = from_words R (are_read no_types (slice_split (λ b. eqb b comma) bytes) R (sym (rw (p, is_all, is_none) at e)))
-
--- a type's text behind those of others
-list_text-push : (types : List TabletType) (t : TabletType) → list_text (types ++ t ∷ []) ≡ followed_by (list_text types) (type_text t)
-list_text-push [] t = refl
-list_text-push (u ∷ us) t = joined u us ∙ sym (not_first u us)
-  where
-    joined : (u : TabletType) (us : List TabletType) → list_text ((u ∷ us) ++ t ∷ []) ≡ list_text (u ∷ us) ++ comma ∷ type_text t
-    joined u [] = refl
-    joined u (v ∷ vs) = ap (λ b. type_text u ++ comma ∷ b) (joined v vs) ∙ sym (append_assoc (type_text u) (comma ∷ list_text (v ∷ vs)) (comma ∷ type_text t))
-    not_first : (u : TabletType) (us : List TabletType) → followed_by (list_text (u ∷ us)) (type_text t) ≡ list_text (u ∷ us) ++ comma ∷ type_text t
-    not_first Primary [] = refl
-    not_first Primary (v ∷ vs) = refl
-    not_first Replica [] = refl
-    not_first Replica (v ∷ vs) = refl
-    not_first Rdonly [] = refl
-    not_first Rdonly (v ∷ vs) = refl
-
--- the members among the first k types
-abbrev pub members_below : TypeSet → ℕ → List TabletType
-members_below S k = filter (has S) (take k every_type)
-
-module _ (S : TypeSet) (k : ℕ) (d : TabletType) where
-  pub members_below-yes : k < 3 → has S (get_or every_type k d) ≡ true → list_text (members_below S (k + 1)) ≡ followed_by (list_text (members_below S k)) (type_text (get_or every_type k d))
-  members_below-yes within is = rw (take_more every_type k d within, filter-append, is) (list_text-push (members_below S k) (get_or every_type k d))
-
-  pub members_below-no : k < 3 → has S (get_or every_type k d) ≡ false → members_below S (k + 1) ≡ members_below S k
-  members_below-no within is = rw (take_more every_type k d within, filter-append, is, append-nil)
-
--- there is room for the next type
-pub room : (S : TypeSet) (k : ℕ) (d : TabletType) → k < 3 → length (list_text (members_below S k)) + 1 + length (type_text (get_or every_type k d)) ≤ 22
-room S zero d within = lit≤ tt
-room S (suc zero) d within = by S.primary refl
-  where
-    by : (p : Bool) → S.primary ≡ p → length (list_text (members_below S 1)) + 1 + 7 ≤ 22
-    by true p = rw p (lit≤ tt)
-    by false p = rw p (lit≤ tt)
-room S (suc (suc zero)) d within = by S.primary refl S.replica refl
-  where
-    by : (p : Bool) → S.primary ≡ p → (q : Bool) → S.replica ≡ q → length (list_text (members_below S 2)) + 1 + 6 ≤ 22
-    by true p true q = rw (p, q) (lit≤ tt)
-    by true p false q = rw (p, q) (lit≤ tt)
-    by false p true q = rw (p, q) (lit≤ tt)
-    by false p false q = rw (p, q) (lit≤ tt)
-room S (suc (suc (suc k))) d within = absurd (omega arith)
-
--- what is written is read back
-pub written_is_read : (S : TypeSet) → read_type_set (type_set_text S) ≡ Ok S
-written_is_read S = by S.primary S.replica S.rdonly
-  where
-    by : (p q r : Bool) → let T : TypeSet = record { primary = p; replica = q; rdonly = r } in read_type_set (type_set_text T) ≡ Ok T
-    by true true true = refl
-    by true true false = refl
-    by true false true = refl
-    by true false false = refl
-    by false true true = refl
-    by false true false = refl
-    by false false true = refl
-    by false false false = refl

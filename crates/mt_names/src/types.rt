@@ -25,11 +25,7 @@ impl TabletType {
     ghost use Rattle.mt_names.specs.Types.{type_text, read_type};
 
     /// Each type, in the order in which a set of them is written.
-    pub const ALL: [TabletType; 3] = [
-        TabletType::Primary,
-        TabletType::Replica,
-        TabletType::Rdonly,
-    ];
+    pub const ALL: [TabletType; 3] = [TabletType::Primary, TabletType::Replica, TabletType::Rdonly];
 
     /// Reads a type: `primary`, `replica` or `rdonly`. Any other text is `N6 BadType`.
     pub fn parse(text: &str) -> Result<Self, NameFault>
@@ -96,19 +92,10 @@ impl TypeSet {
     pub fn of(tablet_type: TabletType) -> Self
         ensures { (type : TabletType) → IsTrue (has result type) ↔ (type ≡ tablet_type) }
     {
-        match tablet_type {
-            TabletType::Primary => TypeSet {
-                primary: true,
-                ..TypeSet::NONE
-            },
-            TabletType::Replica => TypeSet {
-                replica: true,
-                ..TypeSet::NONE
-            },
-            TabletType::Rdonly => TypeSet {
-                rdonly: true,
-                ..TypeSet::NONE
-            },
+        TypeSet {
+            primary: tablet_type == TabletType::Primary,
+            replica: tablet_type == TabletType::Replica,
+            rdonly: tablet_type == TabletType::Rdonly,
         }
     }
 
@@ -233,8 +220,7 @@ impl fmt::Display for TypeSet {
 /// Two sets with the same members are equal.
 pub fn same_members_same_set()
     ensures { (s r : TypeSet) → ((type : TabletType) → has s type ≡ has r type) → s ≡ r }
-{
-}
+{}
 
 /// A list of types is read as their set, in whatever order they stand, if none stands twice; `all` is read as
 /// the set of every type, and `-` as that of none.
@@ -243,12 +229,73 @@ pub fn any_order_is_read()
         → read_type_set (list_text types) ≡ Ok (set_of types) }
     ensures all { read_type_set (codes "all") ≡ Ok all_types }
     ensures none { read_type_set (codes "-") ≡ Ok no_types }
-{
-}
+{}
 
 /// What a list is read as contains the types that are listed, and no other.
 pub fn only_listed_are_read()
     ensures { (types : List TabletType) (set : TypeSet) → read_type_set (list_text types) ≡ Ok set
         → (type : TabletType) → IsTrue (has set type) ↔ Contains types type }
-{
+{}
+
+#[cfg(test)]
+mod tests {
+    use super::*;
+    use std::test::Fail;
+
+    #[test]
+    fn reads_and_writes_sets(rt: HostRuntime) {
+        for (text, want) in [
+            ("primary", "primary"),
+            ("rdonly,primary", "primary,rdonly"),
+            ("rdonly,replica,primary", "primary,replica,rdonly"),
+            ("all", "primary,replica,rdonly"),
+            ("-", "-"),
+            ("", "N1 Empty"),
+            ("primary,primary", "N4 Repeated"),
+            ("primary,primary,x", "N4 Repeated"),
+            ("primary,x,primary", "N6 BadType"),
+            ("primary,,rdonly", "N6 BadType"),
+            ("primary,", "N6 BadType"),
+            ("all,primary", "N6 BadType"),
+            ("master", "N6 BadType"),
+            ("Primary", "N6 BadType"),
+        ] {
+            match TypeSet::parse(text) {
+                Ok(set) => assert_eq!(rt; set.text().as_str(), want, "at {text}"),
+                Err(fault) => assert_eq!(rt; fault.as_str(), want, "at {text}"),
+            }
+        }
+    }
+
+    #[test]
+    fn sets_are_combined(rt: HostRuntime) {
+        let writes = TypeSet::of(TabletType::Primary);
+        let reads = TypeSet::ALL.without(writes);
+        assert_eq!(rt; reads.text().as_str(), "replica,rdonly");
+        assert_eq!(rt; reads.union(writes), TypeSet::ALL);
+        assert_eq!(rt; reads.both(writes), TypeSet::NONE);
+        assert!(rt; reads.both(writes).is_empty() && !reads.is_empty());
+        for tablet_type in TabletType::ALL {
+            let is_primary = tablet_type == TabletType::Primary;
+            assert_eq!(rt;
+                writes.contains(tablet_type),
+                is_primary,
+                "at {tablet_type}"
+            );
+            assert_eq!(rt; TabletType::parse(tablet_type.as_str()), Ok(tablet_type));
+        }
+    }
+
+    #[test]
+    fn types_and_sets_are_printed(rt: HostRuntime) -> Result<(), Fail> {
+        let alloc = rt.alloc();
+        let line = format!(in alloc;
+            "{} [{:>7}] {}",
+            TabletType::Rdonly,
+            TabletType::Primary,
+            TypeSet::ALL
+        )?;
+        assert_eq!(rt; line.as_str(), "rdonly [primary] primary,replica,rdonly");
+        Ok(())
+    }
 }

@@ -1,11 +1,11 @@
 -- The words are the parts that the text's commas cut.
-use Rattle.std.proofs.Common.{◌≡◌, ℕ, Bool, true, false, List, [], ◌∷◌, ◌++◌, length, map, Result, Ok, Err, Bor, nat_eq, refl, sym, ap, ◌∙◌, rules, lit<}
+use Rattle.std.proofs.Common.{◌≡◌, ℕ, true, List, [], ◌∷◌, map, Ok, Err, Bor, nat_eq, sym, ap, ◌∙◌, rules, lit<}
 use Rattle.std.proofs.lemmas.Iterator.Splits.{YieldsList-from_str_split}
 use Rattle.std.proofs.lemmas.Iterator.Consumers.{YieldsList-at, YieldsList-so_far, YieldsList-turn, YieldsList-end}
 use Rattle.std.proofs.lemmas.List.{map-append}
 use Rattle.std.proofs.lemmas.List.Sums.{fold_push}
 use Rattle.std.specs.List.{slice_split}
-use Rattle.mt_names.specs.declared.fault.NameFault.TheVariants.{Repeated, BadType}
+use Rattle.mt_names.specs.declared.fault.NameFault.TheVariants.{Repeated}
 use Rattle.mt_names.specs.Types.{comma, has, no_types, read_type, with_word, read_words}
 use Rattle.mt_names.proofs.TypeLemmas.{with_word-read, read_words-fault}
 use Rattle.mt_names.proofs.types.parse_words.Goals as goal
@@ -18,7 +18,7 @@ loop-word-preserved c =
       tt,
       tt,
       ap read_words (map-append (λ (x : Bor (List ℕ)). x.now) c.loop-word.yielded (c.in-Some.word ∷ []))
-      ∙ fold_push with_word (Ok no_types) so_far c.in-Some.word.now ∙ ap (λ r. with_word r c.in-Some.word.now) c.loop-word.invariant.2 ∙ step,
+          ∙ fold_push with_word (Ok no_types) so_far c.in-Some.word.now ∙ ap (λ r. with_word r c.in-Some.word.now) c.loop-word.invariant.2 ∙ step,
     )
 
 pub returns : goal.returns
