@@ -74,7 +74,7 @@ module _ {K V : Type 0} (same : K → K → Bool) (decides : (a b : K) → Decid
       by again true t = absurd (let h = rw t at none in cc)
       by again false t = rw t (ap (λ l. e ∷ l) (again (rw t at none)))
 
--- ---- keys that stay distinct
+  -- ---- keys that stay distinct
 
   -- no key of the entries is k
   pub absent_from_lookup : (es : List (K × V)) (k : K) → lookup (same k) es ≡ None → AllByRecursion (λ j. same k j ≡ false) (keys_of es)

@@ -16,26 +16,8 @@ use Rattle.mt_names.specs.Results.{◌>>=◌}
 use Rattle.mt_names.specs.Types.{type_text, read_type}
 use Rattle.mt_names.proofs.CutLemmas.{Lacks, before-lacks, after-lacks, before-append, after-append, joined, joined-before}
 use Rattle.mt_names.proofs.NameLemmas.{read_name-name, name_from_read}
+use Rattle.mt_names.proofs.TypeLemmas.{read_type-type_text, text_from_read_type}
 use Rattle.mt_names.proofs.ResultLemmas.{after_step, Ok-fault_behind}
-
--- ---- types
-
-read_type-text : (t : TabletType) → read_type (type_text t) ≡ Ok t
-read_type-text Primary = refl
-read_type-text Replica = refl
-read_type-text Rdonly = refl
-
-type_from_read : (word : List ℕ) (t : TabletType) → read_type word ≡ Ok t → type_text t ≡ word
-type_from_read word t e = by (pointwise eqb word (type_text Primary)) refl (pointwise eqb word (type_text Replica)) refl (pointwise eqb word (type_text Rdonly)) refl
-  where
-    is : (s : TabletType) → pointwise eqb word (type_text s) ≡ true → read_type word ≡ Ok s → type_text t ≡ word
-    is s same read = let both : t ≡ s = cc in ap type_text both ∙ sym (same_text word (type_text s) (sym same))
-
-    by : (p : Bool) → pointwise eqb word (type_text Primary) ≡ p → (q : Bool) → pointwise eqb word (type_text Replica) ≡ q → (r : Bool) → pointwise eqb word (type_text Rdonly) ≡ r → type_text t ≡ word
-    by true p q eq r er = is Primary p (rw p)
-    by false p true q r er = is Replica q (rw (p, q))
-    by false p false q true r = is Rdonly r (rw (p, q, r))
-    by false p false q false r = absurd (let h = rw (p, q, r) at e in cc)
 
 -- ---- what a name lacks
 
@@ -99,7 +81,7 @@ key_cut plain (Some t) lacks = (before-append at_sign plain (type_text t) lacks,
 
 read_key_type-text : (key : RuleKey) (t : Option TabletType) → key.tablet_type ≡ None → read_key_type key (option_map type_text t) ≡ Ok (record key { tablet_type = t })
 read_key_type-text key None e = ap Ok (λ i. record key { tablet_type = e i })
-read_key_type-text key (Some t) e = rw (read_type-text t) refl
+read_key_type-text key (Some t) e = rw (read_type-type_text t) refl
 
 -- the text of a key is read as that key
 pub read_key-key_text : (key : RuleKey) → IsRuleKey key → read_key (key_text key) ≡ Ok key
@@ -171,7 +153,7 @@ typed_from_read before plain (Some word) key e untyped =
     let t = after_step (read_type word) _ key e in
     let same : record before { tablet_type = Some t.0 } ≡ key = cc in
     subst (IsTypedKeyOf before plain (Some word)) same
-    (record { keyspace = refl; table = refl; text = ap (λ w. plain ++ at_sign ∷ w) (type_from_read word t.0 t.1) })
+    (record { keyspace = refl; table = refl; text = ap (λ w. plain ++ at_sign ∷ w) (sym (text_from_read_type word t.0 t.1)) })
 
 -- what is read is a key, and the text is its only one
 pub key_from_read : (text : List ℕ) (key : RuleKey) → read_key text ≡ Ok key → IsRuleKey key × (key_text key ≡ text)

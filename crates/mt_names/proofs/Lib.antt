@@ -6,3 +6,4 @@ pub mod ResultLemmas
 pub mod SameLemmas
 pub mod TableLemmas
 pub mod TableListLemmas
+pub mod TypeLemmas

@@ -4,7 +4,8 @@ use Rattle.std.specs.List.{slice_split, onto_first}
 use Rattle.mt_names.specs.declared.fault.NameFault.{NameFault}
 use Rattle.mt_names.specs.Keys.{before, after}
 use Rattle.mt_names.specs.Results.{◌>>=◌}
-use Rattle.mt_names.specs.Tables.{comma, names_of, read_table_list, read_tables_after, with_word}
+use Rattle.mt_names.specs.Types.{comma}
+use Rattle.mt_names.specs.Tables.{names_of, read_table_list, read_tables_after, with_word}
 use Rattle.mt_names.specs.Names.{dash, same_text}
 use Rattle.arrayvec.specs.ArrayVec.{ArrayVec}
 

@@ -16,7 +16,8 @@ use Rattle.mt_names.specs.declared.tables.TheConstants.{MAX_TABLES}
 use Rattle.mt_names.specs.Keys.{fault_behind}
 use Rattle.mt_names.specs.Names.{IsTableName, allows, dash, read_table, same_text}
 use Rattle.mt_names.specs.Results.{◌>>=◌}
-use Rattle.mt_names.specs.Tables.{IsTableList, IsTableListText, comma, names_of, read_table_list, read_tables_after, table_list_text, with_table, with_word}
+use Rattle.mt_names.specs.Types.{comma}
+use Rattle.mt_names.specs.Tables.{IsTableList, IsTableListText, names_of, read_table_list, read_tables_after, table_list_text, with_table, with_word}
 use Rattle.mt_names.proofs.CutLemmas.{Lacks}
 use Rattle.mt_names.proofs.KeyLemmas.{name_lacks}
 use Rattle.mt_names.proofs.NameLemmas.{read_name-name, name_from_read}

@@ -8,9 +8,7 @@ use Rattle.mt_names.specs.declared.tables.TheConstants.{MAX_TABLES}
 use Rattle.mt_names.specs.Keys.{fault_behind}
 use Rattle.mt_names.specs.Names.{IsTableName, dash, read_table, same_text}
 use Rattle.mt_names.specs.Results.{◌>>=◌}
-
-abbrev pub comma : ℕ
-comma = 44
+use Rattle.mt_names.specs.Types.{comma}
 
 -- at most 16 names of tables, none of them twice
 pub record IsTableList (names : List (List ℕ)) : Type 0 where

@@ -9,5 +9,4 @@ pub fn equality_decides()
     ensures targets { DecidesEquality same_target }
     ensures types { DecidesEquality same_type }
     ensures type_sets { DecidesEquality same_types }
-{
-}
+{}

@@ -16,5 +16,7 @@ pub use keys::{RuleKey, RuleTarget, key_has_one_spelling, target_has_one_spellin
 pub use names::{KeyspaceName, TableName, WorkflowName};
 pub use tables::{MAX_TABLES, table_list, table_list_is_read_back};
 pub use text::MAX_NAME_LENGTH;
-pub use types::{TabletType, TypeSet};
+pub use types::{
+    TabletType, TypeSet, any_order_is_read, only_listed_are_read, same_members_same_set,
+};
 pub use values::{MAX_VALUE_LENGTH, Position, Value, copied_value};
