@@ -1,0 +1,3 @@
+pub mod ExamplesOne
+pub mod ExamplesTwo
+pub mod Worked
