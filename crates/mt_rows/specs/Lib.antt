@@ -1,3 +1,5 @@
+pub mod Answers
 pub mod ExamplesOne
 pub mod ExamplesTwo
+pub mod Limits
 pub mod Worked

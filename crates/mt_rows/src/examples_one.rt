@@ -23,5 +23,4 @@ pub fn first_twenty_examples()
     ensures example_018 { example_018 }
     ensures example_019 { example_019 }
     ensures example_020 { example_020 }
-{
-}
+{}

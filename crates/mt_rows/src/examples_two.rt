@@ -23,5 +23,4 @@ pub fn last_twenty_examples()
     ensures example_038 { example_038 }
     ensures example_039 { example_039 }
     ensures example_040 { example_040 }
-{
-}
+{}

@@ -1,10 +1,14 @@
 //! Scripts with their outputs, as laws that the checker computes from the definitions.
 #![tactic(auto)]
 
+mod answers;
 mod examples_one;
 mod examples_two;
+mod limits;
 mod worked;
 
+pub use answers::events_get_their_answers;
 pub use examples_one::first_twenty_examples;
 pub use examples_two::last_twenty_examples;
+pub use limits::limits_are_exact;
 pub use worked::worked_scripts;

@@ -7,5 +7,4 @@ pub fn worked_scripts()
     ensures get_without_a_rule { get_without_a_rule }
     ensures ambiguous_name { ambiguous_name }
     ensures get_back_through_a_rule { get_back_through_a_rule }
-{
-}
+{}
