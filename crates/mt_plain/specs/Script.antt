@@ -35,9 +35,14 @@ is_visible byte = nat_le 33 byte && nat_le byte 126
 abbrev pub is_silent : List ℕ → Bool
 is_silent line = starts_with nat_eq line (codes "#") || list_all is_blank line
 
+-- a word has a byte
+abbrev pub is_word : List ℕ → Bool
+is_word [] = false
+is_word (byte ∷ bytes) = true
+
 -- the words of a line, which blanks part
 abbrev pub words_of : List ℕ → List (List ℕ)
-words_of line = filter (λ word. not (length word == 0)) (slice_split is_blank line)
+words_of line = filter is_word (slice_split is_blank line)
 
 -- ---- numbers and values
 

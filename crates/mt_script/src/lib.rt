@@ -1,0 +1,4 @@
+//! The script language: what a line asks for, and the texts of answers.
+#![tactic(auto)]
+
+mod words;

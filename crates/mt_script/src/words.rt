@@ -1,0 +1,43 @@
+//! The words of a line.
+ghost use Rattle.std.specs.Prelude.{◌≡◌, ◌≤◌, ◌∷◌, [], ◌++◌, not, length, position, drop, take, MatchOption};
+ghost use Rattle.std.specs.List.{list_all};
+ghost use Rattle.mt_plain.specs.Script.{is_blank, is_visible, words_of};
+
+/// Whether the byte parts words: a space or a tab.
+pub fn is_blank(byte: u8) -> bool
+    ensures { result ≡ is_blank byte }
+{
+    byte == b' ' || byte == b'\t'
+}
+
+/// Whether the byte may stand in a word: a visible ASCII character.
+pub fn is_visible(byte: u8) -> bool
+    ensures { result ≡ is_visible byte }
+{
+    byte.is_ascii_graphic()
+}
+
+/// The place of the first byte of a word.
+fn word_start(line: &[u8]) -> Option<usize>
+    ensures { result ≡ position (λ byte. not (is_blank byte)) line.now }
+{
+    line.iter().position(|&byte| !is_blank(byte))
+}
+
+/// The place of the first blank.
+fn word_end(line: &[u8]) -> Option<usize>
+    ensures { result ≡ position is_blank line.now }
+{
+    line.iter().position(|&byte| is_blank(byte))
+}
+
+/// The first word of a line, and what follows it.
+pub fn first_word(line: &[u8]) -> Option<(&[u8], &[u8])>
+    ensures { MatchOption result (words_of line.now ≡ [])
+        (λ parts. words_of line.now ≡ parts.0.now ∷ words_of parts.1.now) }
+{
+    let start = word_start(line)?;
+    let (_blanks, rest) = line.split_at(start);
+    let end = word_end(rest).unwrap_or(rest.len());
+    Some(rest.split_at(end))
+}
