@@ -1,9 +1,13 @@
 -- What can be asked of the controller, and what it answers.
-use Rattle.std.specs.Prelude.{ℕ, Bool, List, codes, Option}
+use Rattle.std.specs.Prelude.{ℕ, Bool, List, codes, Option, Result, Ok, Err}
 use Rattle.mt_names.specs.declared.keys.RuleKey.{RuleKey}
 use Rattle.mt_names.specs.declared.keys.RuleTarget.{RuleTarget}
 use Rattle.mt_names.specs.declared.types.TabletType.{TabletType}
 use Rattle.mt_names.specs.declared.types.TypeSet.{TypeSet}
+use Rattle.mt_model.specs.declared.answers.Refusal as code
+use Rattle.mt_model.specs.declared.answers.Refusal.TheVariants as from
+use Rattle.mt_model.specs.declared.answers.Reply.{Reply}
+use Rattle.mt_model.specs.declared.answers.Reply.TheVariants as reply
 use Rattle.mt_model.specs.declared.rows.Op.{Op}
 use Rattle.mt_model.specs.Rows.{Row}
 
@@ -58,3 +62,20 @@ pub data Answer : Type 0 where
   done : Answer
   row : Row → Answer
   refused : Refusal → Answer
+
+-- ---- the code's words for answers
+
+abbrev pub refusal_from : code.Refusal → Refusal
+refusal_from from.Memory = memory
+refusal_from from.NoKeyspace = no_keyspace
+refusal_from from.NoTable = no_table
+refusal_from from.RowExists = row_exists
+refusal_from from.NoRow = no_row
+refusal_from from.Full = full
+refusal_from from.TooLong = too_long
+refusal_from from.Exists = exists
+
+abbrev pub answer_from : Result Reply code.Refusal → Answer
+answer_from (Ok reply.Done) = done
+answer_from (Ok (reply.Row r)) = row r
+answer_from (Err refusal) = refused (refusal_from refusal)

@@ -1,5 +1,5 @@
 -- The script language (this profile's own): what a line says.
-use Rattle.std.specs.Prelude.{◌≡◌, ℕ, suc, ◌+◌, ◌-◌, ◌*◌, ◌^◌, Bool, true, false, not, ◌&&◌, ◌||◌, if◌then◌else◌, ◌==◌, nat_eq, nat_lt, nat_le, List, [], ◌∷◌, ◌++◌, length, filter, fold, codes, unwrap_or, Option, None, Some, Result, Ok, Err}
+use Rattle.std.specs.Prelude.{◌≡◌, ℕ, suc, ◌+◌, ◌-◌, ◌*◌, ◌^◌, Bool, true, false, not, ◌&&◌, ◌||◌, if◌then◌else◌, ◌==◌, nat_eq, nat_lt, nat_le, List, [], ◌∷◌, ◌++◌, length, filter, fold, codes, unwrap_or, option_map, option_and_then, Option, None, Some, Result, Ok, Err}
 use Rattle.std.specs.Char.{is_ascii_digit}
 use Rattle.std.specs.List.{list_all, slice_split, starts_with}
 use Rattle.std.specs.Str.Lines.{lines}
@@ -75,42 +75,31 @@ abbrev pub is_for_reads : Option (List ℕ) → Bool
 is_for_reads None = false
 is_for_reads (Some word) = same_text word (codes "replica") || same_text word (codes "rdonly")
 
--- each command with the number of words that it takes; `None` is a bad line
-abbrev pub read_insert : List ℕ → Option ℕ → Option RowValue → Option Command
-read_insert name (Some number) (Some value) = if is_for_reads (after at_sign name) then None else Some (insert name number value)
-read_insert name number value = None
+abbrev pub insert_of : List ℕ → Option ℕ → Option RowValue → Option Command
+insert_of name (Some number) (Some value) = if is_for_reads (after at_sign name) then None else Some (insert name number value)
+insert_of name number value = None
 
-abbrev pub read_get : List ℕ → Option ℕ → Option Command
-read_get name (Some number) = Some (get name number)
-read_get name None = None
+-- the words behind a command, where there are just so many
+abbrev pub one_word : List (List ℕ) → Option (List ℕ)
+one_word (word ∷ []) = Some word
+one_word words = None
 
-abbrev pub keyspace_command : List (List ℕ) → Option Command
-keyspace_command (name ∷ []) = Some (keyspace name)
-keyspace_command words = None
+abbrev pub two_words : List (List ℕ) → Option (List ℕ × List ℕ)
+two_words (first ∷ second ∷ []) = Some (first, second)
+two_words words = None
 
-abbrev pub table_command : List (List ℕ) → Option Command
-table_command (name ∷ name' ∷ []) = Some (table name name')
-table_command words = None
+abbrev pub three_words : List (List ℕ) → Option (List ℕ × List ℕ × List ℕ)
+three_words (first ∷ second ∷ third ∷ []) = Some (first, second, third)
+three_words words = None
 
-abbrev pub rule_command : List (List ℕ) → Option Command
-rule_command (key ∷ target ∷ []) = Some (rule key target)
-rule_command words = None
-
-abbrev pub insert_command : List (List ℕ) → Option Command
-insert_command (name ∷ number ∷ value ∷ []) = read_insert name (read_number number) (read_value value)
-insert_command words = None
-
-abbrev pub get_command : List (List ℕ) → Option Command
-get_command (name ∷ number ∷ []) = read_get name (read_number number)
-get_command words = None
-
+-- the command of a verb and the words behind it; `None` is a bad line
 abbrev pub read_command : List ℕ → List (List ℕ) → Option Command
 read_command verb words =
-    if same_text verb (codes "keyspace") then keyspace_command words
-    else if same_text verb (codes "table") then table_command words
-    else if same_text verb (codes "rule") then rule_command words
-    else if same_text verb (codes "insert") then insert_command words
-    else if same_text verb (codes "get") then get_command words
+    if same_text verb (codes "keyspace") then option_map keyspace (one_word words)
+    else if same_text verb (codes "table") then option_map (λ w. table w.0 w.1) (two_words words)
+    else if same_text verb (codes "rule") then option_map (λ w. rule w.0 w.1) (two_words words)
+    else if same_text verb (codes "insert") then option_and_then (λ w. insert_of w.0 (read_number w.1) (read_value w.2)) (three_words words)
+    else if same_text verb (codes "get") then option_and_then (λ w. option_map (get w.0) (read_number w.1)) (two_words words)
     else None
 
 -- ---- lines

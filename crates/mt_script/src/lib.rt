@@ -1,4 +1,10 @@
 //! The script language: what a line asks for, and the texts of answers.
 #![tactic(auto)]
 
+mod commands;
+mod lines;
+mod texts;
 mod words;
+
+pub use lines::{Line, LineRefusal, MAX_LINE_LENGTH, Request};
+pub use texts::{LineText, answer_line, refusal_line, look_up_line};

@@ -1,7 +1,9 @@
 //! The words of a line.
-ghost use Rattle.std.specs.Prelude.{◌≡◌, ◌≤◌, ◌∷◌, [], ◌++◌, not, length, position, drop, take, MatchOption};
+ghost use Rattle.std.specs.Prelude.{◌≡◌, ◌≤◌, ◌∷◌, [], ◌++◌, not, length, position, drop, take, MatchOption, true};
 ghost use Rattle.std.specs.List.{list_all};
 ghost use Rattle.mt_plain.specs.Script.{is_blank, is_visible, words_of};
+
+use std::str;
 
 /// Whether the byte parts words: a space or a tab.
 pub fn is_blank(byte: u8) -> bool
@@ -40,4 +42,15 @@ pub fn first_word(line: &[u8]) -> Option<(&[u8], &[u8])>
     let (_blanks, rest) = line.split_at(start);
     let end = word_end(rest).unwrap_or(rest.len());
     Some(rest.split_at(end))
+}
+
+/// The word as a text.
+pub fn text_of(word: &[u8]) -> &str
+    requires { list_all is_visible word.now ≡ true }
+    ensures { result.now ≡ word.now }
+{
+    match str::from_utf8(word) {
+        Ok(text) => text,
+        Err(_) => unreachable!(),
+    }
 }

@@ -1,0 +1,74 @@
+//! Lines of a script.
+ghost use Rattle.std.specs.Prelude.{◌≡◌, ◌||◌};
+ghost use Rattle.std.specs.List.{list_all};
+ghost use Rattle.mt_plain.specs.Plain.{Plain};
+ghost use Rattle.mt_plain.specs.Output.{told};
+ghost use Rattle.mt_plain.specs.Script.{is_blank, is_silent, is_visible};
+
+use crate::words::{is_blank, is_visible};
+use mt_model::Op;
+use mt_names::{KeyspaceName, NameFault, RuleKey, RuleTarget, TableName, TabletType};
+
+/// The longest line that is read, in bytes, without its line end.
+pub const MAX_LINE_LENGTH: usize = 4096;
+
+/// What a line asks for, with its names read.
+#[derive(Debug, Drop)]
+pub enum Request {
+    /// `keyspace K`: makes a keyspace.
+    AddKeyspace(KeyspaceName),
+    /// `table K T`: makes a table in a keyspace.
+    AddTable(KeyspaceName, TableName),
+    /// `rule KEY TARGET`: sets a routing rule, or takes it away where the target is `-`.
+    EditRule(RuleKey, Option<RuleTarget>),
+    /// `insert NAME N V`: looks the name up for the primary, and writes there.
+    Write(RuleKey, Op),
+    /// `get NAME N`: looks the name up for its type, which is the primary where none is given, and reads there.
+    Read(RuleKey, u64, TabletType),
+}
+
+/// Why a line is refused before it asks for anything.
+#[derive(Clone, Copy, Debug, Eq, PartialEq)]
+pub enum LineRefusal {
+    /// The line is no command: an unknown word, a wrong number of words, a bad number or value, a bad byte.
+    BadLine,
+    /// The line has more than 4,096 bytes.
+    TooLong,
+    /// A name in it is in fault; the first from left to right.
+    Name(NameFault),
+}
+
+/// What a line says.
+#[derive(Debug, Drop)]
+pub enum Line {
+    /// Nothing: it is empty, of spaces and tabs alone, or a comment, which begins with `#`.
+    Silent,
+    /// It is refused.
+    Refused(LineRefusal),
+    /// It asks for something.
+    Request(Request),
+}
+
+/// Whether a line writes nothing.
+fn is_silent(line: &[u8]) -> bool
+    ensures { result ≡ is_silent line.now }
+{
+    line.starts_with(b"#") || is_all_blank(line)
+}
+
+fn is_all_blank(line: &[u8]) -> bool
+    ensures { result ≡ list_all is_blank line.now }
+{
+    line.iter().all(|&byte| is_blank(byte))
+}
+
+/// Whether each byte of a line may stand in a line.
+fn is_readable(line: &[u8]) -> bool
+    ensures { result ≡ list_all (λ byte. is_blank byte || is_visible byte) line.now }
+{
+    line.iter().all(|&byte| is_blank(byte) || is_visible(byte))
+}
+
+impl Line {
+    ghost use Rattle.mt_script.specs.Requests.{told_of};
+}

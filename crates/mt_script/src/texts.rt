@@ -1,0 +1,59 @@
+//! The texts of answers.
+ghost use Rattle.std.specs.Prelude.{◌≡◌, ◌+◌, ◌<◌, ◌++◌, length};
+ghost use Rattle.mt_plain.specs.Events.{answer_from};
+ghost use Rattle.mt_plain.specs.Output.{answer_text, line_feed, refused_text};
+ghost use Rattle.mt_model.specs.Faults.{topology_fault_text};
+ghost use Rattle.mt_script.specs.Requests.{line_refusal_text};
+
+use crate::lines::LineRefusal;
+use arrayvec::ArrayVec;
+use mt_model::{Refusal, Reply, TopologyFault};
+
+/// The longest line of an answer, in bytes: `row `, a value of 64 bytes, and the line feed.
+const MAX_TEXT: usize = 69;
+
+/// The text of a line of output, with its line feed.
+pub type LineText = ArrayVec<u8, MAX_TEXT>;
+
+/// A line of the two texts, one behind the other.
+fn line_of(first: &[u8], second: &[u8]) -> LineText
+    requires { length first.now + length second.now < MAX_TEXT }
+    ensures { result.items ≡ first.now ++ second.now ++ line_feed }
+{
+    let mut line = LineText::new();
+    let _fits = line.try_extend_from_slice(first);
+    let _fits = line.try_extend_from_slice(second);
+    line.push(b'\n');
+    line
+}
+
+/// The line that tells the answer to an event.
+pub fn answer_line(answer: &Result<Reply, Refusal>) -> LineText
+    ensures { result.items ≡ answer_text (answer_from answer.now) ++ line_feed }
+{
+    match answer {
+        Ok(Reply::Done) => line_of(b"ok", b""),
+        Ok(Reply::Row(None)) => line_of(b"none", b""),
+        Ok(Reply::Row(Some(value))) => line_of(b"row ", value),
+        Err(refusal) => line_of(b"refused ", refusal.as_str().as_bytes()),
+    }
+}
+
+/// The line that tells why a line is refused.
+pub fn refusal_line(refusal: LineRefusal) -> LineText
+    ensures { result.items ≡ refused_text (line_refusal_text refusal) ++ line_feed }
+{
+    let text = match refusal {
+        LineRefusal::BadLine => "X1 BadLine",
+        LineRefusal::TooLong => "X2 LineTooLong",
+        LineRefusal::Name(fault) => fault.as_str(),
+    };
+    line_of(b"refused ", text.as_bytes())
+}
+
+/// The line that tells why a look-up is refused.
+pub fn look_up_line(fault: TopologyFault) -> LineText
+    ensures { result.items ≡ refused_text (topology_fault_text fault) ++ line_feed }
+{
+    line_of(b"refused ", fault.as_str().as_bytes())
+}
