@@ -14,3 +14,6 @@ pub use names::{KeyspaceName, TableName, WorkflowName};
 pub use tables::{MAX_TABLES, table_list, table_list_is_read_back};
 pub use text::MAX_NAME_LENGTH;
 pub use types::{TabletType, TypeSet};
+
+#[cfg(test)]
+mod tests;
