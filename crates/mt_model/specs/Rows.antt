@@ -1,13 +1,13 @@
 -- Rows: what an operation makes of one, and what a log tells of them.
 use Rattle.std.specs.Prelude.{◌≡◌, ℕ, ◌+◌, ◌&&◌, Bool, List, [], ◌∷◌, ◌++◌, length, fold, drop, if◌then◌else◌, nat_lt, ◌==◌, Option, None, Some, Result, Ok, Err}
 use Rattle.arrayvec.specs.ArrayVec.{ArrayVec}
-use Rattle.mt_names.specs.declared.values.TheConstants.{MAX_VALUE_LENGTH}
 use Rattle.mt_names.specs.Names.{same_text}
 use Rattle.mt_model.specs.declared.faults.PrimaryFault.{PrimaryFault}
 use Rattle.mt_model.specs.declared.faults.PrimaryFault.TheVariants.{RowExists, NoRow, TooLong}
 use Rattle.mt_model.specs.declared.rows.Op.{Op}
 use Rattle.mt_model.specs.declared.rows.Op.TheVariants.{Insert, Update, Append, Delete}
 use Rattle.mt_model.specs.declared.rows.RowChange.{RowChange}
+use Rattle.mt_model.specs.Limits.{longest_value}
 
 -- the bytes of a row's value, and a row or none
 abbrev pub RowValue : Type 0
@@ -26,7 +26,7 @@ op_key (Delete key) = key
 -- one value behind another, if both fit
 abbrev pub appended : RowValue → RowValue → Result Row PrimaryFault
 appended old more =
-    if nat_lt MAX_VALUE_LENGTH (length old.items + length more.items) then Err TooLong
+    if nat_lt longest_value (length old.items + length more.items) then Err TooLong
     else Ok (Some (record { items = old.items ++ more.items }))
 
 -- the row that an operation makes of a row, or why it is refused

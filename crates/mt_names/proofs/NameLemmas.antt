@@ -6,8 +6,7 @@ use Rattle.std.proofs.lemmas.Grind.{common_steps}
 use Rattle.std.specs.List.{AllPass, starts_with, position_or_len}
 use Rattle.mt_names.specs.declared.fault.NameFault.{NameFault}
 use Rattle.mt_names.specs.declared.text.Alphabet.{Alphabet}
-use Rattle.mt_names.specs.declared.text.TheConstants.{MAX_NAME_LENGTH}
-use Rattle.mt_names.specs.Names.{IsName, allows, bad_place, dash, read_name, unless_bad}
+use Rattle.mt_names.specs.Names.{IsName, allows, bad_place, dash, longest_name, read_name, unless_bad}
 
 -- where every element passes, none is refused
 position-none : (p : ℕ → Bool) (xs : List ℕ) → AllPass p xs → position (λ x. not (p x)) xs ≡ None
@@ -54,21 +53,21 @@ module _ (alphabet : Alphabet) where
   pub read_name-name : (bytes : List ℕ) → IsName alphabet bytes → read_name alphabet bytes ≡ Ok bytes
   read_name-name bytes name =
       let empty : eqb (length bytes) 0 ≡ false = ne_eqb (length bytes) 0 (λ e. omega (arith, name.not_empty)) in
-      let long : ltb MAX_NAME_LENGTH (length bytes) ≡ false = le-ltb MAX_NAME_LENGTH (length bytes) name.not_long in
+      let long : ltb longest_name (length bytes) ≡ false = le-ltb longest_name (length bytes) name.not_long in
       rw (empty, long, bad_place-name bytes name.first name.each)
 
   -- what is read is a name, and the whole text
   pub name_from_read : (bytes read : List ℕ) → read_name alphabet bytes ≡ Ok read → IsName alphabet bytes × (read ≡ bytes)
-  name_from_read bytes read e = by (eqb (length bytes) 0) refl (ltb MAX_NAME_LENGTH (length bytes)) refl (bad_place alphabet bytes) refl
+  name_from_read bytes read e = by (eqb (length bytes) 0) refl (ltb longest_name (length bytes)) refl (bad_place alphabet bytes) refl
     where
-      by : (t : Bool) → eqb (length bytes) 0 ≡ t → (u : Bool) → ltb MAX_NAME_LENGTH (length bytes) ≡ u → (o : Option ℕ) → bad_place alphabet bytes ≡ o → IsName alphabet bytes × (read ≡ bytes)
+      by : (t : Bool) → eqb (length bytes) 0 ≡ t → (u : Bool) → ltb longest_name (length bytes) ≡ u → (o : Option ℕ) → bad_place alphabet bytes ≡ o → IsName alphabet bytes × (read ≡ bytes)
       by true empty u long o bad = absurd (let h = rw empty at e in cc)
       by false empty true long o bad = absurd (let h = rw (empty, long) at e in cc)
       by false empty false long (Some place) bad = absurd (let h = rw (empty, long, bad) at e in cc)
       by false empty false long None bad = (
         record {
           not_empty = let h = eqb-false (length bytes) 0 empty in omega arith;
-          not_long = ltb-false MAX_NAME_LENGTH (length bytes) long;
+          not_long = ltb-false longest_name (length bytes) long;
           first = first_from_bad_place bytes bad;
           each = each_from_bad_place bytes bad;
         },

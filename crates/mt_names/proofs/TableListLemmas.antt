@@ -12,12 +12,11 @@ use Rattle.std.specs.List.{join_with_byte, list_any, slice_split}
 use Rattle.arrayvec.specs.ArrayVec.{ArrayVec}
 use Rattle.mt_names.specs.declared.fault.NameFault.{NameFault}
 use Rattle.mt_names.specs.declared.text.Alphabet.TheVariants.{WithDollar}
-use Rattle.mt_names.specs.declared.tables.TheConstants.{MAX_TABLES}
 use Rattle.mt_names.specs.Keys.{fault_behind}
 use Rattle.mt_names.specs.Names.{IsTableName, allows, dash, read_table, same_text}
 use Rattle.mt_names.specs.Results.{◌>>=◌}
 use Rattle.mt_names.specs.Types.{comma}
-use Rattle.mt_names.specs.Tables.{IsTableList, IsTableListText, names_of, read_table_list, read_tables_after, table_list_text, with_table, with_word}
+use Rattle.mt_names.specs.Tables.{IsTableList, IsTableListText, most_tables, names_of, read_table_list, read_tables_after, table_list_text, with_table, with_word}
 use Rattle.mt_names.proofs.CutLemmas.{Lacks}
 use Rattle.mt_names.proofs.KeyLemmas.{name_lacks}
 use Rattle.mt_names.proofs.NameLemmas.{read_name-name, name_from_read}
@@ -34,9 +33,9 @@ absent_from_test names name none k d h same =
 -- a list that takes one more name is still one
 list_from_with_table : (names : List (List ℕ)) (name : List ℕ) (more : List (List ℕ)) → IsTableName name → IsTableList names → with_table names name ≡ Ok more
     → IsTableList more × (more ≡ names ++ name ∷ [])
-list_from_with_table names name more is list e = by (eqb (length names) MAX_TABLES) refl (list_any (λ other. same_text other name) names) refl
+list_from_with_table names name more is list e = by (eqb (length names) most_tables) refl (list_any (λ other. same_text other name) names) refl
   where
-    by : (t : Bool) → eqb (length names) MAX_TABLES ≡ t → (u : Bool) → list_any (λ other. same_text other name) names ≡ u → IsTableList more × (more ≡ names ++ name ∷ [])
+    by : (t : Bool) → eqb (length names) most_tables ≡ t → (u : Bool) → list_any (λ other. same_text other name) names ≡ u → IsTableList more × (more ≡ names ++ name ∷ [])
     by true full u there = absurd (let h = rw full at e in cc)
     by false full true there = absurd (let h = rw (full, there) at e in cc)
     by false full false there =
@@ -44,7 +43,7 @@ list_from_with_table names name more is list e = by (eqb (length names) MAX_TABL
           subst IsTableList same (record {
             each = All-push IsTableName names name list.each is;
             distinct = all_pairs_push ◌≢◌ names name list.distinct (absent_from_test names name there);
-            few = let h = eqb-false (length names) MAX_TABLES full in let few = list.few in omega (arith, h, few, length-append names (name ∷ []));
+            few = let h = eqb-false (length names) most_tables full in let few = list.few in omega (arith, h, few, length-append names (name ∷ []));
           }),
           sym same,
         )
@@ -100,7 +99,7 @@ with_word-next done front name names list =
     let few = list.few in
     let at_name : (d : List ℕ) → get_or (done ++ name ∷ names) (length done) d ≡ name = λ d. get_or-append_seam done name names d in
     let is : IsTableName name = subst IsTableName (at_name []) (list.each (length done) [] (omega (arith, total))) in
-    let room : eqb (length done) MAX_TABLES ≡ false = ne_eqb (length done) MAX_TABLES (λ full. omega (arith, total, few, full)) in
+    let room : eqb (length done) most_tables ≡ false = ne_eqb (length done) most_tables (λ full. omega (arith, total, few, full)) in
     let new : list_any (λ other. same_text other name) done ≡ false =
     list_any_none (λ other. same_text other name) done (λ k d h. false_from_ne_true (same_text (get_or done k d) name) (λ t.
     list.distinct k (length done) d h (omega (arith, total)) (get_or_append_left done (name ∷ names) d k h ∙ from_same (get_or done k d) name (sym t) ∙ sym (at_name d)))) in

@@ -7,7 +7,10 @@ use Rattle.mt_names.specs.declared.fault.NameFault.{NameFault}
 use Rattle.mt_names.specs.declared.fault.NameFault.TheVariants.{Empty, TooLong, BadByte, ReservedSuffix}
 use Rattle.mt_names.specs.declared.text.Alphabet.{Alphabet}
 use Rattle.mt_names.specs.declared.text.Alphabet.TheVariants.{Plain, WithDollar}
-use Rattle.mt_names.specs.declared.text.TheConstants.{MAX_NAME_LENGTH}
+
+-- the longest name, in bytes
+abbrev pub longest_name : ℕ
+longest_name = 64
 
 -- `-`, `_` and `$`
 abbrev pub dash : ℕ
@@ -35,7 +38,7 @@ allows WithDollar byte = is_plain_byte byte || (byte == dollar)
 -- 1 to 64 bytes that the alphabet allows, of which the first is no `-`
 pub record IsName (alphabet : Alphabet) (bytes : List ℕ) : Type 0 where
   pub not_empty : 0 < length bytes
-  pub not_long : length bytes ≤ MAX_NAME_LENGTH
+  pub not_long : length bytes ≤ longest_name
   pub first : slice_get bytes 0 ≢ Some dash
   pub each : AllPass (allows alphabet) bytes
 
@@ -67,7 +70,7 @@ unless_bad bytes (Some place) = Err (BadByte place)
 abbrev pub read_name : Alphabet → List ℕ → Result (List ℕ) NameFault
 read_name alphabet bytes =
     if length bytes == 0 then Err Empty
-    else if nat_lt MAX_NAME_LENGTH (length bytes) then Err TooLong
+    else if nat_lt longest_name (length bytes) then Err TooLong
     else unless_bad bytes (bad_place alphabet bytes)
 
 abbrev pub read_keyspace : List ℕ → Result (List ℕ) NameFault

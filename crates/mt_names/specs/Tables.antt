@@ -4,17 +4,20 @@ use Rattle.std.specs.List.{join_with_byte, list_any, slice_split}
 use Rattle.arrayvec.specs.ArrayVec.{ArrayVec}
 use Rattle.mt_names.specs.declared.fault.NameFault.{NameFault}
 use Rattle.mt_names.specs.declared.fault.NameFault.TheVariants.{Repeated, TooMany}
-use Rattle.mt_names.specs.declared.tables.TheConstants.{MAX_TABLES}
 use Rattle.mt_names.specs.Keys.{fault_behind}
 use Rattle.mt_names.specs.Names.{IsTableName, dash, read_table, same_text}
 use Rattle.mt_names.specs.Results.{◌>>=◌}
 use Rattle.mt_names.specs.Types.{comma}
 
+-- how many tables a list has at most
+abbrev pub most_tables : ℕ
+most_tables = 16
+
 -- at most 16 names of tables, none of them twice
 pub record IsTableList (names : List (List ℕ)) : Type 0 where
   pub each : All IsTableName names
   pub distinct : AllPairs ◌≢◌ names
-  pub few : length names ≤ MAX_TABLES
+  pub few : length names ≤ most_tables
 
 -- `-` for no table, else the names, parted by commas
 abbrev pub table_list_text : List (List ℕ) → List ℕ
@@ -28,7 +31,7 @@ IsTableListText text = (names : List (List ℕ)) × IsTableList names × (table_
 -- the list with one name more, unless it is full or has the name
 abbrev pub with_table : List (List ℕ) → List ℕ → Result (List (List ℕ)) NameFault
 with_table names name =
-    if length names == MAX_TABLES then Err TooMany
+    if length names == most_tables then Err TooMany
     else if list_any (λ other. same_text other name) names then Err Repeated
     else Ok (names ++ name ∷ [])
 

@@ -8,7 +8,7 @@ use Rattle.mt_names.specs.declared.types.TabletType.{TabletType}
 use Rattle.mt_names.specs.Same.{same_key}
 use Rattle.mt_model.specs.declared.faults.PrimaryFault.{PrimaryFault}
 use Rattle.mt_model.specs.declared.faults.PrimaryFault.TheVariants as primary
-use Rattle.mt_model.specs.declared.limits.TheConstants.{MAX_KEYSPACES, MAX_LOG, MAX_RULES, MAX_TABLES_IN_KEYSPACE}
+use Rattle.mt_model.specs.Limits.{longest_log, most_keyspaces, most_rules, most_tables_in_keyspace}
 use Rattle.mt_model.specs.declared.rows.Op.{Op}
 use Rattle.mt_model.specs.Rows.{Row, op_key, op_row}
 use Rattle.mt_model.specs.Topology.{Rules, keyspace_at}
@@ -38,11 +38,11 @@ row_refusal (Err other) = None
 abbrev pub write_refusal : Plain → (keyspace table : List ℕ) → Op → Option Refusal
 write_refusal p keyspace table op =
     or_else (unknown_table p keyspace table)
-    (or_else (row_refusal (op_row op (row_of p keyspace table (op_key op)))) (refuse_if (nat_le MAX_LOG (log_length p keyspace)) full))
+    (or_else (row_refusal (op_row op (row_of p keyspace table (op_key op)))) (refuse_if (nat_le longest_log (log_length p keyspace)) full))
 
 abbrev pub keyspace_refusal : Plain → List ℕ → Option Refusal
 keyspace_refusal p keyspace =
-    or_else (refuse_if (has_keyspace p keyspace) exists) (refuse_if (nat_le MAX_KEYSPACES (length p.topology.keyspaces)) full)
+    or_else (refuse_if (has_keyspace p keyspace) exists) (refuse_if (nat_le most_keyspaces (length p.topology.keyspaces)) full)
 
 -- how many tables a keyspace has
 abbrev pub table_count : Plain → List ℕ → ℕ
@@ -51,13 +51,13 @@ table_count p keyspace = option_map_or (λ state. count_by (λ mark. mark.1) sta
 abbrev pub table_refusal : Plain → (keyspace table : List ℕ) → Option Refusal
 table_refusal p keyspace table =
     or_else (refuse_if (not (has_keyspace p keyspace)) no_keyspace)
-    (or_else (refuse_if (has_table p keyspace table) exists) (refuse_if (nat_le MAX_TABLES_IN_KEYSPACE (table_count p keyspace)) full))
+    (or_else (refuse_if (has_table p keyspace table) exists) (refuse_if (nat_le most_tables_in_keyspace (table_count p keyspace)) full))
 
 -- a rule is refused at the limit only where it is a new one
 abbrev pub rule_refusal : Rules → RuleKey → Option RuleTarget → Option Refusal
 rule_refusal rules key None = None
 rule_refusal rules key (Some target) =
-    if is_some (lookup (same_key key) rules) then None else refuse_if (nat_le MAX_RULES (length rules)) full
+    if is_some (lookup (same_key key) rules) then None else refuse_if (nat_le most_rules (length rules)) full
 
 -- the first refusal of an event, want of memory aside
 abbrev pub refusal_of : Plain → Event → Option Refusal

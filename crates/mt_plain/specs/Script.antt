@@ -9,12 +9,12 @@ use Rattle.mt_names.specs.declared.keys.RuleKey.{RuleKey}
 use Rattle.mt_names.specs.declared.keys.RuleTarget.{RuleTarget}
 use Rattle.mt_names.specs.declared.types.TabletType.{TabletType}
 use Rattle.mt_names.specs.declared.types.TabletType.TheVariants.{Primary}
-use Rattle.mt_names.specs.declared.values.TheConstants.{MAX_VALUE_LENGTH}
 use Rattle.mt_names.specs.Keys.{after, at_sign, read_key, read_target}
 use Rattle.mt_names.specs.Names.{dash, read_keyspace, read_table, same_text}
 use Rattle.mt_names.specs.Results.{◌>>=◌}
 use Rattle.mt_model.specs.declared.rows.Op.{Op}
 use Rattle.mt_model.specs.declared.rows.Op.TheVariants.{Insert}
+use Rattle.mt_model.specs.Limits.{longest_value}
 use Rattle.mt_model.specs.Rows.{RowValue}
 use Rattle.mt_plain.specs.Events.{Event, add_keyspace, add_table, edit_rule}
 
@@ -58,7 +58,7 @@ read_number word = if is_number word then Some (number_of_digits word) else None
 
 -- a word of at most 64 bytes
 abbrev pub read_value : List ℕ → Option RowValue
-read_value word = if nat_le (length word) MAX_VALUE_LENGTH then Some (record { items = word }) else None
+read_value word = if nat_le (length word) longest_value then Some (record { items = word }) else None
 
 -- ---- commands
 

@@ -38,16 +38,16 @@ words_of-word byte bytes blank line all is =
 none_before : (p : ℕ → Bool) (line : List ℕ) (place : ℕ) → position p line ≡ Some place → AllByRecursion (λ byte. p byte ≡ false) (take place line)
 none_before p line place found =
     recursion_from_All (λ byte. p byte ≡ false) (take place line) (λ k d h.
-        let at = position-Some p line place d found in
-        let below : k < place = omega (arith, length-take-le place line (omega (arith, at.0)), h) in
-        rw (get_or-take place line k d below) (at.2 k below))
+    let at = position-Some p line place d found in
+    let below : k < place = omega (arith, length-take-le place line (omega (arith, at.0)), h) in
+    rw (get_or-take place line k d below) (at.2 k below))
 
 none_passes : (p : ℕ → Bool) (line : List ℕ) → position p line ≡ None → AllByRecursion (λ byte. p byte ≡ false) line
 none_passes p line none =
     recursion_from_All (λ byte. p byte ≡ false) line (λ k d h.
-        ⊎_elim (λ below. absurd (grind (arith, common_steps)))
-            (λ beyond. fails_before_first p line k d (omega arith))
-            (cases_lt (position_or_len p line) (length line)))
+    ⊎_elim (λ below. absurd (grind (arith, common_steps)))
+    (λ beyond. fails_before_first p line k d (omega arith))
+    (cases_lt (position_or_len p line) (length line)))
 
 Blanks-from_not : (bytes : List ℕ) → AllByRecursion (λ byte. not (is_blank byte) ≡ false) bytes → Blanks bytes
 Blanks-from_not [] all = tt
@@ -97,7 +97,7 @@ word_first line first others begins visible = by (position is_blank line) refl
 -- where a word begins, it is the first
 pub words_of-Some : (line : List ℕ) (start : ℕ) → position (λ byte. not (is_blank byte)) line ≡ Some start
     → words_of line ≡ take (unwrap_or (position is_blank (drop start line)) (length (drop start line))) (drop start line)
-        ∷ words_of (drop (unwrap_or (position is_blank (drop start line)) (length (drop start line))) (drop start line))
+    ∷ words_of (drop (unwrap_or (position is_blank (drop start line)) (length (drop start line))) (drop start line))
 words_of-Some line start found =
     let at = position-Some (λ byte. not (is_blank byte)) line start 0 found in
     ap words_of (sym (take-append-drop start line))

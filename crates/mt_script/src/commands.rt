@@ -5,10 +5,8 @@ ghost use Rattle.mt_plain.specs.Script.{Command, is_blank, is_visible, read_comm
 ghost use Rattle.mt_script.specs.Requests.{read_from};
 
 use crate::lines::Request;
-
 use mt_model::Op;
 use mt_names::{KeyspaceName, NameFault, RuleKey, RuleTarget, TableName, TabletType, Value};
-
 
 /// Reads a number: 1 to 20 digits of a value that fits 64 bits.
 fn read_number(word: &str) -> Option<u64>

@@ -7,4 +7,4 @@ mod texts;
 mod words;
 
 pub use lines::{Line, LineRefusal, MAX_LINE_LENGTH, Request};
-pub use texts::{LineText, answer_line, refusal_line, look_up_line};
+pub use texts::{LineText, answer_line, look_up_line, refusal_line};
