@@ -31,6 +31,10 @@ is_blank byte = (byte == 32) || (byte == 9)
 abbrev pub is_visible : ℕ → Bool
 is_visible byte = nat_le 33 byte && nat_le byte 126
 
+-- whether a line is of blanks and visible characters alone
+abbrev pub is_readable : List ℕ → Bool
+is_readable line = list_all (λ byte. is_blank byte || is_visible byte) line
+
 -- a line that writes nothing, whatever its length: one of blanks alone, and a comment, which begins with `#`
 abbrev pub is_silent : List ℕ → Bool
 is_silent line = starts_with nat_eq line (codes "#") || list_all is_blank line
@@ -115,17 +119,18 @@ abbrev pub commanded : Option Command → Line
 commanded (Some c) = command c
 commanded None = bad_line
 
-abbrev pub read_words : List (List ℕ) → Line
-read_words [] = silent
-read_words (verb ∷ words) = commanded (read_command verb words)
+-- the command of some words, of which the first is its verb
+abbrev pub command_of : List (List ℕ) → Option Command
+command_of [] = None
+command_of (verb ∷ words) = read_command verb words
 
 -- a line's length is tested before its bytes, these before its words
 abbrev pub read_line : List ℕ → Line
 read_line line =
     if is_silent line then silent
     else if nat_lt MAX_LINE_LENGTH (length line) then line_too_long
-    else if not (list_all (λ byte. is_blank byte || is_visible byte) line) then bad_line
-    else read_words (words_of line)
+    else if not (is_readable line) then bad_line
+    else commanded (command_of (words_of line))
 
 -- ---- what a command asks for, once its names are read
 

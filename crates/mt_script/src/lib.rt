@@ -6,5 +6,5 @@ mod lines;
 mod texts;
 mod words;
 
-pub use lines::{Line, LineRefusal, MAX_LINE_LENGTH, Request};
+pub use lines::{Line, LineRefusal, MAX_LINE_LENGTH, Request, read_line};
 pub use texts::{LineText, answer_line, look_up_line, refusal_line};

@@ -3,8 +3,10 @@ ghost use Rattle.std.specs.Prelude.{◌≡◌, ◌||◌};
 ghost use Rattle.std.specs.List.{list_all};
 ghost use Rattle.mt_plain.specs.Plain.{Plain};
 ghost use Rattle.mt_plain.specs.Output.{told};
-ghost use Rattle.mt_plain.specs.Script.{is_blank, is_silent, is_visible};
+ghost use Rattle.mt_plain.specs.Script.{is_blank, is_readable, is_silent};
+ghost use Rattle.mt_script.specs.Requests.{told_of};
 
+use crate::commands::read_command;
 use crate::words::{is_blank, is_visible};
 use mt_model::Op;
 use mt_names::{KeyspaceName, NameFault, RuleKey, RuleTarget, TableName, TabletType};
@@ -64,11 +66,28 @@ fn is_all_blank(line: &[u8]) -> bool
 
 /// Whether each byte of a line may stand in a line.
 fn is_readable(line: &[u8]) -> bool
-    ensures { result ≡ list_all (λ byte. is_blank byte || is_visible byte) line.now }
+    ensures { result ≡ is_readable line.now }
 {
     line.iter().all(|&byte| is_blank(byte) || is_visible(byte))
 }
 
-impl Line {
-    ghost use Rattle.mt_script.specs.Requests.{told_of};
+/// Reads a line: what it asks for in every state. The length is tested before the bytes, these before the words, the
+/// words before the names.
+pub fn read_line(line: &[u8]) -> Line
+    ensures { (p : Plain) → told_of p result ≡ told p line.now }
+{
+    if is_silent(line) {
+        return Line::Silent;
+    }
+    if line.len() > MAX_LINE_LENGTH {
+        return Line::Refused(LineRefusal::TooLong);
+    }
+    if !is_readable(line) {
+        return Line::Refused(LineRefusal::BadLine);
+    }
+    match read_command(line) {
+        None => Line::Refused(LineRefusal::BadLine),
+        Some(Err(fault)) => Line::Refused(LineRefusal::Name(fault)),
+        Some(Ok(request)) => Line::Request(request),
+    }
 }

@@ -1,7 +1,7 @@
 //! The words of a line.
-ghost use Rattle.std.specs.Prelude.{◌≡◌, ◌≤◌, ◌∷◌, [], ◌++◌, not, length, position, drop, take, MatchOption, true};
+ghost use Rattle.std.specs.Prelude.{◌≡◌, ◌≤◌, ◌∷◌, [], ◌++◌, not, length, position, drop, take, MatchOption, IfSome, option_copied, option_map, true};
 ghost use Rattle.std.specs.List.{list_all};
-ghost use Rattle.mt_plain.specs.Script.{is_blank, is_visible, words_of};
+ghost use Rattle.mt_plain.specs.Script.{is_blank, is_readable, is_visible, one_word, three_words, two_words, words_of};
 
 use std::str;
 
@@ -35,8 +35,10 @@ fn word_end(line: &[u8]) -> Option<usize>
 
 /// The first word of a line, and what follows it.
 pub fn first_word(line: &[u8]) -> Option<(&[u8], &[u8])>
-    ensures { MatchOption result (words_of line.now ≡ [])
+    ensures words { MatchOption result (words_of line.now ≡ [])
         (λ parts. words_of line.now ≡ parts.0.now ∷ words_of parts.1.now) }
+    ensures readable { is_readable line.now ≡ true
+        → IfSome result (λ parts. (list_all is_visible parts.0.now ≡ true) × (is_readable parts.1.now ≡ true)) }
 {
     let start = word_start(line)?;
     let (_blanks, rest) = line.split_at(start);
@@ -53,4 +55,36 @@ pub fn text_of(word: &[u8]) -> &str
         Ok(text) => text,
         Err(_) => unreachable!(),
     }
+}
+
+/// The word of a line that has just one.
+pub fn one_word(line: &[u8]) -> Option<&str>
+    requires { is_readable line.now ≡ true }
+    ensures { option_copied result ≡ one_word (words_of line.now) }
+{
+    let (word, rest) = first_word(line)?;
+    match first_word(rest) {
+        Some(_) => None,
+        None => Some(text_of(word)),
+    }
+}
+
+/// The words of a line that has just two.
+pub fn two_words(line: &[u8]) -> Option<(&str, &str)>
+    requires { is_readable line.now ≡ true }
+    ensures { option_map (λ w. (w.0.now, w.1.now)) result ≡ two_words (words_of line.now) }
+{
+    let (first, rest) = first_word(line)?;
+    let second = one_word(rest)?;
+    Some((text_of(first), second))
+}
+
+/// The words of a line that has just three.
+pub fn three_words(line: &[u8]) -> Option<(&str, &str, &str)>
+    requires { is_readable line.now ≡ true }
+    ensures { option_map (λ w. (w.0.now, w.1.now, w.2.now)) result ≡ three_words (words_of line.now) }
+{
+    let (first, rest) = first_word(line)?;
+    let (second, third) = two_words(rest)?;
+    Some((text_of(first), second, third))
 }
