@@ -113,9 +113,9 @@ words_of-Some line start found =
 pub IsUtf8-visible : (word : List ℕ) → list_all is_visible word ≡ true → IsUtf8 word
 IsUtf8-visible word visible =
     IsUtf8-from_ascii word (IsAscii-from_all word (λ k d h.
-        let at = AllPass-from_list_all is_visible word visible k d h in
-        let high = leb-true (get_or word k d) 126 (and_parts (leb 33 (get_or word k d)) (leb (get_or word k d) 126) at).1 in
-        omega (arith, high)))
+    let at = AllPass-from_list_all is_visible word visible k d h in
+    let high = leb-true (get_or word k d) 126 (and_parts (leb 33 (get_or word k d)) (leb (get_or word k d) 126) at).1 in
+    omega (arith, high)))
 
 -- ---- the words of a readable line are visible
 
