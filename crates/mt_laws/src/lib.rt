@@ -1,0 +1,6 @@
+//! What follows from the definitions of the plain state, the refusals, the next state and the output alone.
+#![tactic(auto)]
+
+mod events;
+
+pub use events::{answers_are_determined, reads_answer_the_row, refused_events_change_nothing};
