@@ -2,5 +2,7 @@
 #![tactic(auto)]
 
 mod events;
+mod scripts;
 
 pub use events::{answers_are_determined, reads_answer_the_row, refused_events_change_nothing};
+pub use scripts::output_is_what_is_written_where_memory_is_ample;

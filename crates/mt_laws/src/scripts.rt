@@ -1,0 +1,16 @@
+//! Laws on the output of a script.
+ghost use Rattle.std.specs.Prelude.{◌≡◌, ◌↔◌, ℕ, List};
+ghost use Rattle.std.specs.Str.Lines.{lines};
+ghost use Rattle.mt_plain.specs.Next.{Answers};
+ghost use Rattle.mt_plain.specs.Output.{AnswersWithMemory, Output, output, output_from};
+ghost use Rattle.mt_plain.specs.Plain.{Plain, opening};
+
+/// Where memory is ample, a script has one output, the function `output`; and that is one of the outputs that it has anyway.
+pub fn output_is_what_is_written_where_memory_is_ample()
+    ensures from_each_state { (p : Plain) (lines : List (List ℕ)) (out : List ℕ)
+        → Output AnswersWithMemory p lines out ↔ (out ≡ output_from p lines) }
+    ensures of_a_script { (input out : List ℕ)
+        → Output AnswersWithMemory opening (lines input) out ↔ (out ≡ output input) }
+    ensures is_an_output { (p : Plain) (lines : List (List ℕ)) (out : List ℕ)
+        → Output AnswersWithMemory p lines out → Output Answers p lines out }
+{}
