@@ -1,17 +1,15 @@
 -- The answers that an event may get.
-use Rattle.std.proofs.Common.{◌≡◌, ◌≢◌, ℕ, Bool, true, false, cond, List, Option, None, Some, Result, Ok, Err, refl, sym, ap, ◌∙◌, arith}
+use Rattle.std.proofs.Common.{◌≡◌, ◌≢◌, ℕ, Bool, true, false, cond, List, Option, None, Some, Result, Ok, Err, refl, sym, ap, ◌∙◌}
 use Rattle.mt_names.specs.declared.keys.RuleKey.{RuleKey}
 use Rattle.mt_names.specs.declared.keys.RuleTarget.{RuleTarget}
-use Rattle.mt_names.specs.declared.types.TabletType.{TabletType}
 use Rattle.mt_model.specs.declared.faults.PrimaryFault.{PrimaryFault}
 use Rattle.mt_model.specs.declared.faults.PrimaryFault.TheVariants as primary
-use Rattle.mt_model.specs.declared.rows.Op.{Op}
-use Rattle.mt_model.specs.Rows.{Row, op_key, op_row}
+use Rattle.mt_model.specs.Rows.{Row}
 use Rattle.mt_model.specs.Topology.{Rules}
-use Rattle.mt_plain.specs.Events.{Event, write, read, add_keyspace, add_table, edit_rule, create, advance, begin_switch, begin_reverse, step, undo, cancel, complete, show, Refusal, memory, no_keyspace, no_table, denied, row_exists, no_row, full, too_long, exists, Answer, done, row, refused}
+use Rattle.mt_plain.specs.Events.{Event, write, read, add_keyspace, add_table, edit_rule, Refusal, memory, no_keyspace, no_table, full, exists, Answer, done, row, refused}
 use Rattle.mt_plain.specs.Next.{Answers, HasMeaning, Refuses, answer_of, answer_or, reply_of}
-use Rattle.mt_plain.specs.Plain.{Plain, row_of}
-use Rattle.mt_plain.specs.Refuse.{keyspace_refusal, or_else, refusal_of, refuse_if, row_refusal, rule_refusal, table_refusal, unknown_table, write_refusal}
+use Rattle.mt_plain.specs.Plain.{Plain}
+use Rattle.mt_plain.specs.Refuse.{or_else, refusal_of, refuse_if, row_refusal, rule_refusal, unknown_table}
 
 -- ---- one answer at most
 

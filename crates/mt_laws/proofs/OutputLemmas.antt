@@ -1,6 +1,5 @@
 -- The output as a relation and as a function.
 use Rattle.std.proofs.Common.{◌≡◌, ◌↔◌, ℕ, List, [], ◌∷◌, ◌++◌, refl, sym, ap, ◌∙◌, subst}
-use Rattle.mt_plain.specs.Events.{Event, Answer}
 use Rattle.mt_plain.specs.Next.{Answers, HasMeaning, answer_of, next}
 use Rattle.mt_plain.specs.Output.{Adds, AnswersWithMemory, Output, Told, nothing, says, asks, answer_text, line_feed, output_from, told, told_then}
 use Rattle.mt_plain.specs.Plain.{Plain}

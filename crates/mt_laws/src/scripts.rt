@@ -1,6 +1,7 @@
 //! Laws on the output of a script.
 ghost use Rattle.std.specs.Prelude.{◌≡◌, ◌↔◌, ℕ, List};
 ghost use Rattle.std.specs.Str.Lines.{lines};
+ghost use Rattle.mt_laws.specs.Lines.{line_feeds, writing_lines};
 ghost use Rattle.mt_plain.specs.Next.{Answers};
 ghost use Rattle.mt_plain.specs.Output.{AnswersWithMemory, Output, output, output_from};
 ghost use Rattle.mt_plain.specs.Plain.{Plain, opening};
@@ -13,4 +14,9 @@ pub fn output_is_what_is_written_where_memory_is_ample()
         → Output AnswersWithMemory opening (lines input) out ↔ (out ≡ output input) }
     ensures is_an_output { (p : Plain) (lines : List (List ℕ)) (out : List ℕ)
         → Output AnswersWithMemory p lines out → Output Answers p lines out }
+{}
+
+/// Each line that isn't silent writes one line, and a silent one none.
+pub fn each_line_that_writes_writes_one_line()
+    ensures { (input : List ℕ) → line_feeds (output input) ≡ writing_lines (lines input) }
 {}
