@@ -1,5 +1,5 @@
 -- Each line that writes writes one line feed.
-use Rattle.std.proofs.Common.{◌≡◌, ℕ, ◌+◌, Bool, true, false, not, cond, eqb, List, [], ◌∷◌, ◌++◌, codes, Option, None, Some, Ok, Err, refl, sym, ap, ◌∙◌, arith}
+use Rattle.std.proofs.Common.{◌≡◌, ℕ, ◌+◌, Bool, true, false, not, cond, eqb, List, [], ◌∷◌, ◌++◌, codes, Option, None, Some, Ok, Err, refl, sym, ap, ◌∙◌, subst, arith}
 use Rattle.std.proofs.lemmas.List.Sums.{sum_by-append, sum_by-cons, sum_by_push}
 use Rattle.std.specs.List.{AllByRecursion, fold}
 use Rattle.std.specs.Prelude.{⊤}
@@ -8,8 +8,8 @@ use Rattle.mt_model.specs.declared.rows.Op.{Op}
 use Rattle.mt_model.specs.declared.rows.Op.TheVariants.{Insert, Update, Append, Delete}
 use Rattle.mt_model.specs.Rows.{Row, op_key, op_row}
 use Rattle.mt_plain.specs.Events.{Event, write, read, Refusal, memory, no_keyspace, no_table, denied, row_exists, no_row, full, too_long, exists, Answer, done, row, refused}
-use Rattle.mt_plain.specs.Next.{answer_of, answer_or, next, next_taken, reply_of, row_left}
-use Rattle.mt_plain.specs.Output.{Told, nothing, says, asks, answer_text, line_feed, output_from, told, told_then}
+use Rattle.mt_plain.specs.Next.{Answers, answer_of, answer_or, next, next_taken, reply_of, row_left}
+use Rattle.mt_plain.specs.Output.{Adds, Output, Told, nothing, says, asks, answer_text, line_feed, output_from, told, told_then}
 use Rattle.mt_plain.specs.Plain.{Plain, Write, number_of, row_after_write, row_of}
 use Rattle.mt_plain.specs.Refuse.{refusal_of}
 use Rattle.mt_plain.specs.Script.{is_silent, read_line}
@@ -143,5 +143,39 @@ output_from-line_feeds (line ∷ lines) p clean = by (output_from-line_feeds lin
     by again false t =
         let tells : Tells EventHasNoFeed (told p line) = told_line-tells EventHasNoFeed others_have_no_feed p (read_line line) (read_line-speaks line t) in
         let one : line_feeds (output_from p (line ∷ lines)) ≡ 1 + writing_lines lines = line_feeds-told p (told p line) (λ q. output_from q lines) (writing_lines lines) clean tells again in
+        let count : writing_lines (line ∷ lines) ≡ cond (not (is_silent line)) 1 0 + writing_lines lines = sum_by-cons (λ l. cond (not (is_silent l)) 1 0) line lines in
+        one ∙ sym (count ∙ ap (λ b. cond (not b) 1 0 + writing_lines lines) t)
+
+-- ---- each output, whatever wants memory
+
+answers-no_feed : (p : Plain) (event : Event) (answer : Answer) → IsClean p → Answers p event answer → AnswerHasNoFeed answer
+answers-no_feed p event done clean a = tt
+answers-no_feed p event (refused refusal) clean a = tt
+answers-no_feed p event (row r) clean a = subst AnswerHasNoFeed (sym a.2) (reply_of-no_feed p event clean)
+
+line_feeds-adds : (p : Plain) (t : Told) (Rest : Plain → List ℕ → Type 0) (n : ℕ) (out : List ℕ) → IsClean p → Tells EventHasNoFeed t → ((q : Plain) (rest : List ℕ) → IsClean q → Rest q rest → line_feeds rest ≡ n) → Adds Answers p t Rest out → line_feeds out ≡ 1 + n
+line_feeds-adds p nothing Rest n out clean tells again adds = absurd tells
+line_feeds-adds p (says text) Rest n out clean tells again adds =
+    ap line_feeds adds.1 ∙ line_feeds-line text adds.0 tells ∙ ap (λ k. 1 + k) (again p adds.0 clean adds.2)
+line_feeds-adds p (asks e) Rest n out clean tells again adds =
+    let answer = adds.0 in
+    ap line_feeds adds.3 ∙ line_feeds-line (answer_text answer) adds.1 (line_feeds-answer answer (answers-no_feed p e answer clean adds.2))
+    ∙ ap (λ k. 1 + k) (again (next p e answer) adds.1 (next-clean p e answer clean tells) adds.4)
+
+pub output-line_feeds : (lines : List (List ℕ)) (p : Plain) (out : List ℕ) → IsClean p → Output Answers p lines out → line_feeds out ≡ writing_lines lines
+output-line_feeds [] p out clean written = ap line_feeds written
+output-line_feeds (line ∷ lines) p out clean written = by (output-line_feeds lines) (is_silent line) refl
+  where
+    by : ((q : Plain) (rest : List ℕ) → IsClean q → Output Answers q lines rest → line_feeds rest ≡ writing_lines lines) → (t : Bool) → is_silent line ≡ t → line_feeds out ≡ writing_lines (line ∷ lines)
+    by again true t =
+        let is : told p line ≡ nothing = rw t refl in
+        let left : Output Answers p lines out = subst (λ k. Adds Answers p k (λ q rest. Output Answers q lines rest) out) is written in
+        let count : writing_lines (line ∷ lines) ≡ cond (not (is_silent line)) 1 0 + writing_lines lines = sum_by-cons (λ l. cond (not (is_silent l)) 1 0) line lines in
+        let none : cond (not (is_silent line)) 1 0 + writing_lines lines ≡ 0 + writing_lines lines = ap (λ b. cond (not b) 1 0 + writing_lines lines) t in
+        let same : 0 + writing_lines lines ≡ writing_lines lines = omega arith in
+        again p out clean left ∙ sym (count ∙ none ∙ same)
+    by again false t =
+        let tells : Tells EventHasNoFeed (told p line) = told_line-tells EventHasNoFeed others_have_no_feed p (read_line line) (read_line-speaks line t) in
+        let one : line_feeds out ≡ 1 + writing_lines lines = line_feeds-adds p (told p line) (λ q rest. Output Answers q lines rest) (writing_lines lines) out clean tells again written in
         let count : writing_lines (line ∷ lines) ≡ cond (not (is_silent line)) 1 0 + writing_lines lines = sum_by-cons (λ l. cond (not (is_silent l)) 1 0) line lines in
         one ∙ sym (count ∙ ap (λ b. cond (not b) 1 0 + writing_lines lines) t)

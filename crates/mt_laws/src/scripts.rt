@@ -3,7 +3,7 @@ ghost use Rattle.std.specs.Prelude.{◌≡◌, ◌↔◌, ℕ, List};
 ghost use Rattle.std.specs.Str.Lines.{lines};
 ghost use Rattle.mt_laws.specs.Lines.{line_feeds, writing_lines};
 ghost use Rattle.mt_plain.specs.Next.{Answers};
-ghost use Rattle.mt_plain.specs.Output.{AnswersWithMemory, Output, output, output_from};
+ghost use Rattle.mt_plain.specs.Output.{AnswersWithMemory, IsOutput, Output, output, output_from};
 ghost use Rattle.mt_plain.specs.Plain.{Plain, opening};
 
 /// Where memory is ample, a script has one output, the function `output`; and that is one of the outputs that it has anyway.
@@ -16,7 +16,9 @@ pub fn output_is_what_is_written_where_memory_is_ample()
         → Output AnswersWithMemory p lines out → Output Answers p lines out }
 {}
 
-/// Each line that isn't silent writes one line, and a silent one none.
+/// Each line that isn't silent writes one line, and a silent one none: where memory is ample, and in each output.
 pub fn each_line_that_writes_writes_one_line()
-    ensures { (input : List ℕ) → line_feeds (output input) ≡ writing_lines (lines input) }
+    ensures where_memory_is_ample { (input : List ℕ) → line_feeds (output input) ≡ writing_lines (lines input) }
+    ensures in_each_output { (input out : List ℕ) → IsOutput input out
+        → line_feeds out ≡ writing_lines (lines input) }
 {}
