@@ -6,7 +6,8 @@ mod runs;
 mod scripts;
 
 pub use events::{
-    answers_are_determined, limits_are_told_last, reads_answer_the_row, refused_events_change_nothing,
+    answers_are_determined, limits_are_told_last, reads_answer_the_row,
+    refused_events_change_nothing,
 };
 pub use runs::reads_answer_the_acknowledged_writes;
 pub use scripts::{
