@@ -1,0 +1,2 @@
+pub mod Acknowledged
+pub mod Lines

@@ -1,0 +1,15 @@
+//! What follows from the definitions of the plain state, the refusals, the next state and the output alone.
+#![tactic(auto)]
+
+mod events;
+mod runs;
+mod scripts;
+
+pub use events::{
+    answers_are_determined, limits_are_told_last, reads_answer_the_row,
+    refused_events_change_nothing,
+};
+pub use runs::reads_answer_the_acknowledged_writes;
+pub use scripts::{
+    each_line_that_writes_writes_one_line, output_is_what_is_written_where_memory_is_ample,
+};
