@@ -38,7 +38,7 @@ pub fn add_table(
     keyspace: &KeyspaceName,
     table: &TableName,
 ) -> Result<(), TopologyFault>
-    ensures { Edits keyspaces.old.entries (add_table_refusal keyspaces.old.entries keyspace.now table.now) (add_table_grows keyspaces.old.entries keyspace.now table.now)
+    ensures edits { Edits keyspaces.old.entries (add_table_refusal keyspaces.old.entries keyspace.now table.now) (add_table_grows keyspaces.old.entries keyspace.now table.now)
         (with_keyspace_state (with_new_table table.now) keyspaces.old.entries keyspace.now) result keyspaces.new.entries }
     ensures len { length keyspaces.new.entries ≡ length keyspaces.old.entries }
 {

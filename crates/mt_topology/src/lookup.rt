@@ -1,5 +1,5 @@
 //! What is read and written at the keyspaces and the rules.
-ghost use Rattle.std.specs.Prelude.{◌≡◌, ◌++◌, true, false, Some, is_some, option_copied};
+ghost use Rattle.std.specs.Prelude.{◌≡◌, ◌++◌, true, length, false, Some, is_some, option_copied};
 ghost use Rattle.std.specs.List.{cons_option};
 ghost use Rattle.std.specs.Map.{lookup};
 ghost use Rattle.std.specs.Option.{option_map_or};
@@ -46,6 +46,7 @@ pub fn set_present(
     requires { option_map_or (λ state. is_some (lookup (same_text table.now) state.tables)) (keyspace_at keyspaces.old.entries keyspace.now) false ≡ true }
     ensures before { result ≡ is_present keyspaces.old.entries keyspace.now table.now }
     ensures after { keyspaces.new.entries ≡ with_keyspace_state (with_table_mark table.now mark) keyspaces.old.entries keyspace.now }
+    ensures len { length keyspaces.new.entries ≡ length keyspaces.old.entries }
 {
     match keyspaces.get_mut(keyspace) {
         Some(keyspace) => keyspace.set_present(table, mark),

@@ -92,7 +92,11 @@ impl Topology {
     /// up again. A name without a rule is the table of its keyspace; else that of the one keyspace that has it, with
     /// `T2 NoTable` where none has it and `T3 Ambiguous` where several do. The key's own type is not looked at. It takes
     /// no memory.
-    pub fn resolve(&self, key: &RuleKey, tablet_type: TabletType) -> Result<RuleTarget, TopologyFault>
+    pub fn resolve(
+        &self,
+        key: &RuleKey,
+        tablet_type: TabletType,
+    ) -> Result<RuleTarget, TopologyFault>
         ensures { result ≡ resolution self.now key.now tablet_type }
     {
         if let Some(target) = rule_for(&self.rules, key, tablet_type) {
@@ -115,7 +119,11 @@ impl Topology {
     }
 
     /// Adds a table to a keyspace. `T1 NoKeyspace`, `T4 Exists`, `T5 Full` at a 257th place of the keyspace, `T0 Memory`.
-    pub fn add_table(&mut self, keyspace: &KeyspaceName, table: &TableName) -> Result<(), TopologyFault>
+    pub fn add_table(
+        &mut self,
+        keyspace: &KeyspaceName,
+        table: &TableName,
+    ) -> Result<(), TopologyFault>
         ensures { Edits self.old (add_table_refusal self.old.keyspaces keyspace.now table.now) (add_table_grows self.old.keyspaces keyspace.now table.now)
             (with_table self.old keyspace.now table.now) result self.new }
     {
@@ -124,7 +132,11 @@ impl Topology {
 
     /// Sets the rule of a key, or takes it away with its place. `T5 Full` at a 4,097th place, `T0 Memory`. To change a
     /// rule or to take one away is never refused.
-    pub fn edit_rule(&mut self, key: &RuleKey, target: Option<RuleTarget>) -> Result<(), TopologyFault>
+    pub fn edit_rule(
+        &mut self,
+        key: &RuleKey,
+        target: Option<RuleTarget>,
+    ) -> Result<(), TopologyFault>
         ensures { Edits self.old (edit_rule_refusal self.old.rules key.now target) (edit_rule_grows self.old.rules key.now target)
             (record self.old { rules = with_rule self.old.rules key.now target }) result self.new }
     {

@@ -28,13 +28,15 @@ invariant_of-self c =
     let tables = c.self.inside.tables.entries in
     let copy = c.copied.result in
     let room_here : (not (is_some (lookup (same_text copy) tables)) && (length tables == MAX_TABLES_IN_KEYSPACE)) ≡ false =
-      ap (λ t. not (is_some (lookup (same_text t) tables)) && (length tables == MAX_TABLES_IN_KEYSPACE)) c.copied.ensures
-      ∙ ap (λ state. lacks_table_place state c.args.table.now && (length state.tables == MAX_TABLES_IN_KEYSPACE)) c.self.view_is ∙ room c in
-    (c.insert.ensures.unique, elim c.match-insert.branch as (λ b. length c.insert.new.self.entries ≤ MAX_TABLES_IN_KEYSPACE) [
-      | in-Ok w ↦ within-place (length tables) (length c.insert.new.self.entries) MAX_TABLES_IN_KEYSPACE (is_some (lookup (same_text copy) tables)) c.self.invariant.1 room_here
-                  (w.in-Ok.ensures.len ∙ ap (λ r. length tables + (if is_some r then 0 else 1)) w.in-Ok.ensures.old)
-      | in-Err w ↦ subst (λ entries. length entries ≤ MAX_TABLES_IN_KEYSPACE) (sym w.in-Err.ensures.err) c.self.invariant.1
-    ])
+    ap (λ t. not (is_some (lookup (same_text t) tables)) && (length tables == MAX_TABLES_IN_KEYSPACE)) c.copied.ensures
+    ∙ ap (λ state. lacks_table_place state c.args.table.now && (length state.tables == MAX_TABLES_IN_KEYSPACE)) c.self.view_is ∙ room c in (
+      c.insert.ensures.unique,
+      elim c.match-insert.branch as (λ b. length c.insert.new.self.entries ≤ MAX_TABLES_IN_KEYSPACE) [
+        | in-Ok w ↦ within-place (length tables) (length c.insert.new.self.entries) MAX_TABLES_IN_KEYSPACE (is_some (lookup (same_text copy) tables)) c.self.invariant.1 room_here
+            (w.in-Ok.ensures.len ∙ ap (λ r. length tables + (if is_some r then 0 else 1)) w.in-Ok.ensures.old)
+        | in-Err w ↦ subst (λ entries. length entries ≤ MAX_TABLES_IN_KEYSPACE) (sym w.in-Err.ensures.err) c.self.invariant.1
+      ],
+    )
 
 pub returns : goal.returns
 returns c =
@@ -43,10 +45,10 @@ returns c =
     let new = only_tables c.insert.new.self.entries in
     elim c.match-insert.branch as (λ b. Edits old (new_table_refusal old table) (lacks_table_place old table) (with_new_table table old) c.match-insert.result new) [
       | in-Ok w ↦ subst (λ r. Edits old (new_table_refusal old table) (lacks_table_place old table) (with_new_table table old) r new) (sym w.result-is)
-                  (added old new table c.copied.result (absent c) (room c) c.copied.ensures
-                  (ap only_tables w.in-Ok.ensures.entries ∙ ap (with_inserted c.copied.result) c.self.view_is))
+          (added old new table c.copied.result (absent c) (room c) c.copied.ensures
+          (ap only_tables w.in-Ok.ensures.entries ∙ ap (with_inserted c.copied.result) c.self.view_is))
       | in-Err w ↦ subst (λ r. Edits old (new_table_refusal old table) (lacks_table_place old table) (with_new_table table old) r new) (sym w.result-is)
-                   (not_added old new table c.copied.result (absent c) (room c) c.copied.ensures
-                   (ap (λ state. lookup (same_text c.copied.result) state.tables) (sym c.self.view_is) ∙ w.in-Err.ensures.absent)
-                   (ap only_tables w.in-Err.ensures.err ∙ c.self.view_is))
+          (not_added old new table c.copied.result (absent c) (room c) c.copied.ensures
+          (ap (λ state. lookup (same_text c.copied.result) state.tables) (sym c.self.view_is) ∙ w.in-Err.ensures.absent)
+          (ap only_tables w.in-Err.ensures.err ∙ c.self.view_is))
     ]
