@@ -4,6 +4,8 @@
 mod edits;
 mod keyspace;
 mod lookup;
+#[cfg(test)]
+mod tests;
 mod topology;
 
 pub use mt_model::{Entry, EntryKey, TopologyFault};
