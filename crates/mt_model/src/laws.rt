@@ -1,6 +1,6 @@
 //! What follows from how a topology is written and looked up.
 ghost use Rattle.std.specs.Prelude.{◌≡◌, ◌≢◌, ℕ, true, List, Option, None, Some, Ok, is_some};
-ghost use Rattle.mt_model.specs.Topology.{TopologyState, HasDistinctPlaces, key_of, value_of, has_place, with_entry, keyspace_at, rule_at, rule_for, for_type, for_all_types, resolution, with_keyspace_state, with_rule_place, without_rule_place, with_table_place, without_table_place, with_denied_place, without_denied_place, with_keyspace, with_table, with_rule};
+ghost use Rattle.mt_model.specs.Topology.{TopologyState, HasDistinctPlaces, empty_topology, key_of, value_of, has_place, with_entry, keyspace_at, rule_at, rule_for, for_type, for_all_types, resolution, with_keyspace_state, with_rule_place, without_rule_place, with_table_place, without_table_place, with_denied_place, without_denied_place, with_keyspace, with_table, with_rule};
 
 use crate::{Entry, EntryKey};
 use mt_names::{RuleKey, RuleTarget, TabletType};
@@ -63,4 +63,28 @@ pub fn rules_are_applied_once()
         → resolution t key type ≡ Ok target }
     ensures own_type { (t : TopologyState) (key : RuleKey) (own : Option TabletType) (type : TabletType)
         → resolution t (record key { tablet_type = own }) type ≡ resolution t key type }
+{}
+
+/// Places stay distinct, whatever is written, made or dropped.
+pub fn places_stay_distinct()
+    ensures empty { HasDistinctPlaces empty_topology }
+    ensures write { (t : TopologyState) (e : Entry) → HasDistinctPlaces t → HasDistinctPlaces (with_entry t e) }
+    ensures keyspace { (t : TopologyState) (name : List ℕ) → keyspace_at t.keyspaces name ≡ None → HasDistinctPlaces t
+        → HasDistinctPlaces (with_keyspace t name) }
+    ensures table { (t : TopologyState) (keyspace table : List ℕ) → HasDistinctPlaces t
+        → HasDistinctPlaces (with_table t keyspace table) }
+    ensures rule { (t : TopologyState) (key : RuleKey) (target : Option RuleTarget) → HasDistinctPlaces t
+        → HasDistinctPlaces (record t { rules = with_rule t.rules key target }) }
+    ensures rule_made { (t : TopologyState) (key : RuleKey) → HasDistinctPlaces t
+        → HasDistinctPlaces (record t { rules = with_rule_place t.rules key }) }
+    ensures rule_dropped { (t : TopologyState) (key : RuleKey) → HasDistinctPlaces t
+        → HasDistinctPlaces (record t { rules = without_rule_place t.rules key }) }
+    ensures table_made { (t : TopologyState) (keyspace table : List ℕ) → HasDistinctPlaces t
+        → HasDistinctPlaces (record t { keyspaces = with_keyspace_state (with_table_place table) t.keyspaces keyspace }) }
+    ensures table_dropped { (t : TopologyState) (keyspace table : List ℕ) → HasDistinctPlaces t
+        → HasDistinctPlaces (record t { keyspaces = with_keyspace_state (without_table_place table) t.keyspaces keyspace }) }
+    ensures denial_made { (t : TopologyState) (keyspace table : List ℕ) → HasDistinctPlaces t
+        → HasDistinctPlaces (record t { keyspaces = with_keyspace_state (with_denied_place table) t.keyspaces keyspace }) }
+    ensures denial_dropped { (t : TopologyState) (keyspace table : List ℕ) → HasDistinctPlaces t
+        → HasDistinctPlaces (record t { keyspaces = with_keyspace_state (without_denied_place table) t.keyspaces keyspace }) }
 {}
