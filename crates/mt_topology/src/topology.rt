@@ -1,6 +1,6 @@
 //! The topology as one value.
 ghost use Rattle.std.specs.Prelude.{◌≡◌, true};
-ghost use Rattle.mt_model.specs.Topology.{empty_topology, has_place, key_of, resolution, value_of, with_entry, with_keyspace, with_rule, with_table};
+ghost use Rattle.mt_model.specs.Topology.{HasDistinctPlaces, empty_topology, has_place, key_of, resolution, value_of, with_entry, with_keyspace, with_rule, with_table};
 ghost use Rattle.mt_topology.specs.Edits.{Edits, add_keyspace_refusal, add_table_grows, add_table_refusal, edit_rule_grows, edit_rule_refusal};
 
 use crate::edits::{add_keyspace, add_table, put_rule, take_rule};
@@ -24,13 +24,13 @@ pub struct Topology {
 impl Model for Topology {
     ghost use Rattle.std.specs.Prelude.{◌≤◌, length};
     ghost use Rattle.mt_model.specs.declared.limits.TheConstants.{MAX_KEYSPACES};
-    ghost use Rattle.mt_model.specs.Topology.{TopologyState};
+    ghost use Rattle.mt_model.specs.Topology.{TopologyState, HasDistinctPlaces};
 
     ghost Value = { TopologyState };
 
     ghost view = { λ topology. record { rules = topology.rules; keyspaces = topology.keyspaces.entries } };
 
-    ghost invariant = { λ topology. length topology.keyspaces.entries ≤ MAX_KEYSPACES };
+    ghost invariant = { λ topology. HasDistinctPlaces (record { rules = topology.rules; keyspaces = topology.keyspaces.entries }) × (length topology.keyspaces.entries ≤ MAX_KEYSPACES) };
 }
 
 impl Topology {
@@ -47,7 +47,8 @@ impl Topology {
 
     /// What the topology says at a key. It takes no memory.
     pub fn value(&self, key: &EntryKey) -> Entry
-        ensures { result ≡ value_of self.now key.now }
+        ensures value { result ≡ value_of self.now key.now }
+        ensures distinct { HasDistinctPlaces self.now }
     {
         match key {
             EntryKey::Rule(key) => {
