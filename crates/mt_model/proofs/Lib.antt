@@ -1,0 +1,2 @@
+pub mod DistinctLemmas
+pub mod TopologyLemmas

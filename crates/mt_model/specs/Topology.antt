@@ -1,7 +1,8 @@
 -- A topology: its keyspaces with their tables and denials, and its routing rules. How a name is looked up in it.
-use Rattle.std.specs.Prelude.{◌≡◌, ℕ, Bool, true, false, List, [], ◌∷◌, ◌++◌, map, filter, Option, None, Some, is_some, unwrap_or, if◌then◌else◌, Result, Ok, Err}
+use Rattle.std.specs.Prelude.{◌≡◌, ℕ, Bool, true, false, List, [], ◌∷◌, ◌++◌, map, filter, All, Option, None, Some, is_some, unwrap_or, if◌then◌else◌, Result, Ok, Err}
+use Rattle.std.specs.List.{IsDistinct}
 use Rattle.std.specs.Option.{option_map_or, option_or}
-use Rattle.std.specs.Map.{lookup, remove_entry, set_value}
+use Rattle.std.specs.Map.{keys_of, lookup, remove_entry, set_value}
 use Rattle.mt_names.specs.declared.keys.RuleKey.{RuleKey}
 use Rattle.mt_names.specs.declared.keys.RuleTarget.{RuleTarget}
 use Rattle.mt_names.specs.declared.types.TabletType.{TabletType}
@@ -44,6 +45,13 @@ pub record TopologyState : Type 0 where
 
 abbrev pub empty_topology : TopologyState
 empty_topology = record { rules = []; keyspaces = [] }
+
+-- no name and no key has two places
+pub record HasDistinctPlaces (t : TopologyState) : Type 0 where
+  pub rules : IsDistinct same_key (keys_of t.rules)
+  pub keyspaces : IsDistinct same_text (keys_of t.keyspaces)
+  pub tables : All (λ k. IsDistinct same_text (keys_of k.1.tables)) t.keyspaces
+  pub denied : All (λ k. IsDistinct same_text (keys_of k.1.denied)) t.keyspaces
 
 -- ---- what it says at an entry
 
@@ -110,13 +118,26 @@ without_mark_place marks name = if is_marked marks name then marks else remove_e
 abbrev pub without_rule_place : Rules → RuleKey → Rules
 without_rule_place rules key = option_map_or (λ target. rules) (rule_at rules key) (remove_entry (same_key key) rules)
 
+-- the same for a table of a keyspace, and for its denial there
+abbrev pub with_table_place : List ℕ → KeyspaceState → KeyspaceState
+with_table_place table state = record state { tables = with_mark_place state.tables table }
+
+abbrev pub without_table_place : List ℕ → KeyspaceState → KeyspaceState
+without_table_place table state = record state { tables = without_mark_place state.tables table }
+
+abbrev pub with_denied_place : List ℕ → KeyspaceState → KeyspaceState
+with_denied_place table state = record state { denied = with_mark_place state.denied table }
+
+abbrev pub without_denied_place : List ℕ → KeyspaceState → KeyspaceState
+without_denied_place table state = record state { denied = without_mark_place state.denied table }
+
 -- ---- keyspaces, tables and rules made by hand
 
 abbrev pub with_keyspace : TopologyState → List ℕ → TopologyState
 with_keyspace t name = record t { keyspaces = t.keyspaces ++ (name, record { tables = []; denied = [] }) ∷ [] }
 
 abbrev pub with_new_table : List ℕ → KeyspaceState → KeyspaceState
-with_new_table table state = with_table_mark table true (record state { tables = with_mark_place state.tables table })
+with_new_table table state = with_table_mark table true (with_table_place table state)
 
 abbrev pub with_table : TopologyState → List ℕ → List ℕ → TopologyState
 with_table t keyspace table = record t { keyspaces = with_keyspace_state (with_new_table table) t.keyspaces keyspace }

@@ -4,11 +4,16 @@
 mod answers;
 mod entries;
 mod faults;
+mod laws;
 mod limits;
 mod rows;
 
 pub use answers::{Refusal, Reply};
 pub use entries::{Entry, EntryKey, Scope};
 pub use faults::{PrimaryFault, TopologyFault};
+pub use laws::{
+    one_entry_and_no_other, places_change_no_value, places_stay_distinct, rules_are_applied_once,
+    what_is_made_by_hand, written_back,
+};
 pub use limits::{MAX_KEYSPACES, MAX_LOG, MAX_RULES, MAX_TABLES_IN_KEYSPACE};
 pub use rows::{Op, RowChange};

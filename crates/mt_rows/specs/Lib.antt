@@ -1,4 +1,5 @@
 pub mod Answers
+pub mod Edges
 pub mod ExamplesOne
 pub mod ExamplesTwo
 pub mod Limits

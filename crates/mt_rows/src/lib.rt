@@ -2,12 +2,14 @@
 #![tactic(auto)]
 
 mod answers;
+mod edges;
 mod examples_one;
 mod examples_two;
 mod limits;
 mod worked;
 
 pub use answers::events_get_their_answers;
+pub use edges::what_no_other_row_tells;
 pub use examples_one::first_twenty_examples;
 pub use examples_two::last_twenty_examples;
 pub use limits::limits_are_exact;

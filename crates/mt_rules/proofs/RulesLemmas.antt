@@ -1,0 +1,25 @@
+-- A place more, at a key that has none.
+use Rattle.std.proofs.Common.{◌≡◌, false, List, [], ◌∷◌, ◌++◌, Option, None, Some, is_some, refl, sym, ap, ◌∙◌}
+use Rattle.std.proofs.lemmas.Bool.{true≢false}
+use Rattle.std.specs.Map.{lookup}
+use Rattle.indexmap.proofs.CallerLemmas.{insert_entry-new}
+use Rattle.indexmap.specs.IndexMap.{IndexMap, insert_entry}
+use Rattle.mt_names.specs.declared.keys.RuleKey.{RuleKey}
+use Rattle.mt_names.specs.declared.keys.RuleTarget.{RuleTarget}
+use Rattle.mt_names.specs.Same.{same_key}
+use Rattle.mt_model.specs.Topology.{Rules, with_rule_place}
+use Rattle.mt_rules.specs.Rules.{has_rule_place}
+
+pub none_from : {A : Type 0} (r : Option A) → is_some r ≡ false → r ≡ None
+none_from None e = refl
+none_from (Some x) e = absurd (true≢false e)
+
+pub with_rule_place-new : (rules : Rules) (key : RuleKey) → has_rule_place rules key ≡ false → with_rule_place rules key ≡ rules ++ (key, None) ∷ []
+with_rule_place-new rules key lacks = rw (none_from (lookup (same_key key) rules) lacks) refl
+
+-- what `insert` makes of the map
+pub insert_entry-place : {S : Type 0} (m : IndexMap RuleKey (Option RuleTarget) S) (rules : Rules) (key copy : RuleKey) → m.entries ≡ rules → copy ≡ key → has_rule_place rules key ≡ false → insert_entry same_key m.entries copy None ≡ with_rule_place rules key
+insert_entry-place m rules key copy is copied lacks =
+    ap (λ k. insert_entry same_key m.entries k None) copied
+    ∙ insert_entry-new same_key m key None (ap (lookup (same_key key)) is ∙ none_from (lookup (same_key key) rules) lacks)
+    ∙ ap (λ es. es ++ (key, None) ∷ []) is ∙ sym (with_rule_place-new rules key lacks)

@@ -1,0 +1,169 @@
+//! The table of routing rules.
+ghost use Rattle.std.specs.Prelude.{◌≡◌, ◌≤◌, ◌↔◌, [], true, length, IsTrue, option_copied};
+ghost use Rattle.std.specs.List.{IsDistinct};
+ghost use Rattle.std.specs.Map.{keys_of, set_value};
+ghost use Rattle.mt_names.specs.Same.{same_key};
+ghost use Rattle.mt_model.specs.Topology.{rule_at, without_rule_place};
+ghost use Rattle.mt_rules.specs.Rules.{Reserves, has_rule_place};
+
+use crate::RulesFault;
+use indexmap::IndexMap;
+use mt_model::MAX_RULES;
+use mt_names::{RuleKey, RuleTarget};
+use std::alloc::Global;
+use std::marker::Model;
+use std::mem;
+
+/// Routing rules by their keys. A key is reserved before its rule is set, so that to set it takes no memory: it then
+/// has a place, with a rule or without one. There are at most 4,096 places.
+#[derive(Drop)]
+pub struct RoutingRules {
+    places: IndexMap<RuleKey, Option<RuleTarget>>,
+}
+
+impl Model for RoutingRules {
+    ghost use Rattle.std.specs.Prelude.{◌≤◌, length};
+    ghost use Rattle.std.specs.List.{IsDistinct};
+    ghost use Rattle.std.specs.Map.{keys_of};
+    ghost use Rattle.mt_names.specs.Same.{same_key};
+    ghost use Rattle.mt_model.specs.declared.limits.TheConstants.{MAX_RULES};
+    ghost use Rattle.mt_model.specs.Topology.{Rules};
+
+    ghost Value = { Rules };
+
+    ghost view = { λ rules. rules.places.entries };
+
+    ghost invariant = { λ rules. IsDistinct same_key (keys_of rules.places.entries) × (length rules.places.entries ≤ MAX_RULES) };
+}
+
+impl RoutingRules {
+    /// No rule, and no place for one.
+    pub fn new(alloc: Global) -> Self
+        ensures { result ≡ [] }
+    {
+        RoutingRules {
+            places: IndexMap::new(alloc),
+        }
+    }
+
+    /// How many places there are.
+    pub fn len(&self) -> usize
+        ensures len { result ≡ length self.now }
+        ensures within { length self.now ≤ MAX_RULES }
+        ensures distinct { IsDistinct same_key (keys_of self.now) }
+    {
+        self.places.len()
+    }
+
+    /// Whether there is no place.
+    pub fn is_empty(&self) -> bool
+        ensures { IsTrue result ↔ (self.now ≡ []) }
+    {
+        self.places.is_empty()
+    }
+
+    /// The rule of a key, if it has one. It takes no memory.
+    pub fn get(&self, key: &RuleKey) -> Option<&RuleTarget>
+        ensures { option_copied result ≡ rule_at self.now key.now }
+    {
+        self.places.get(key)?.as_ref()
+    }
+
+    /// Whether a key is reserved.
+    pub fn has_place(&self, key: &RuleKey) -> bool
+        ensures { result ≡ has_rule_place self.now key.now }
+    {
+        self.places.contains_key(key)
+    }
+
+    /// Makes a place for a key, without a rule. Where the key has one nothing changes. `R1 Full` at a 4,097th place,
+    /// `R0 Memory`; both leave all as it was.
+    pub fn reserve_key(&mut self, key: &RuleKey) -> Result<(), RulesFault>
+        ensures { Reserves self.old key.now result self.new }
+    {
+        if self.has_place(key) {
+            return Ok(());
+        }
+        if self.len() == MAX_RULES {
+            return Err(RulesFault::Full);
+        }
+        match self.places.insert(key.copied(), None) {
+            Ok(_) => Ok(()),
+            Err(_) => Err(RulesFault::Memory),
+        }
+    }
+
+    /// Sets the rule of a reserved key, or takes it away, and answers the rule before. It takes no memory.
+    pub fn set(&mut self, key: &RuleKey, target: Option<RuleTarget>) -> Option<RuleTarget>
+        requires { has_rule_place self.old key.now ≡ true }
+        ensures before { result ≡ rule_at self.old key.now }
+        ensures after { self.new ≡ set_value (same_key key.now) self.old target }
+    {
+        match self.places.get_mut(key) {
+            Some(rule) => mem::replace(rule, target),
+            None => None,
+        }
+    }
+
+    /// Drops the place of a key that has no rule. Where the key has a rule nothing changes. It takes no memory.
+    pub fn release_key(&mut self, key: &RuleKey)
+        ensures { self.new ≡ without_rule_place self.old key.now }
+    {
+        if self.get(key).is_none() {
+            self.places.shift_remove(key);
+        }
+    }
+}
+
+#[cfg(test)]
+mod tests {
+    use super::*;
+    use std::test::Fail;
+
+    #[test]
+    fn a_rule_is_set_and_taken_away(rt: HostRuntime) -> Result<(), Fail> {
+        let mut rules = RoutingRules::new(rt.alloc());
+        let a = RuleKey::parse("a")?;
+        let target = RuleTarget::parse("k.a")?;
+        assert_eq!(rt; rules.reserve_key(&a), Ok(()));
+        assert_eq!(rt; rules.reserve_key(&a), Ok(()));
+        assert_eq!(rt; rules.len(), 1);
+        assert_eq!(rt; rules.set(&a, Some(target.copied())), None);
+        assert_eq!(rt; rules.get(&a), Some(&target));
+        assert_eq!(rt; rules.set(&a, None), Some(target));
+        assert_eq!(rt; rules.get(&a), None);
+        assert!(rt; rules.has_place(&a));
+        rules.release_key(&a);
+        assert!(rt; rules.is_empty());
+        Ok(())
+    }
+
+    #[test]
+    fn places_are_limited(rt: HostRuntime) -> Result<(), Fail> {
+        let mut rules = RoutingRules::new(rt.alloc());
+        for number in 0..4096u32 {
+            let name = format!(in rt.alloc(); "t{number}")?;
+            assert_eq!(rt; rules.reserve_key(&RuleKey::parse(name.as_str())?), Ok(()));
+        }
+        assert_eq!(rt;
+            rules.reserve_key(&RuleKey::parse("t4096")?),
+            Err(RulesFault::Full)
+        );
+        assert_eq!(rt; rules.reserve_key(&RuleKey::parse("t7")?), Ok(()));
+        assert_eq!(rt; rules.len(), 4096);
+        Ok(())
+    }
+
+    #[test]
+    fn refusals_are_printed(rt: HostRuntime) -> Result<(), Fail> {
+        assert_eq!(rt;
+            format!(in rt.alloc(); "{}", RulesFault::Memory)?.as_str(),
+            "R0 Memory"
+        );
+        assert_eq!(rt;
+            format!(in rt.alloc(); "{}", RulesFault::Full)?.as_str(),
+            "R1 Full"
+        );
+        Ok(())
+    }
+}
