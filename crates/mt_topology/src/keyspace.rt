@@ -59,6 +59,20 @@ impl Keyspace {
         false
     }
 
+    /// Whether the denial of a table has a place: none has one yet.
+    pub fn has_denied_place(&self, table: &TableName) -> bool
+        ensures { result ≡ is_some (lookup (same_text table.now) self.now.denied) }
+    {
+        self.is_denied(table)
+    }
+
+    /// Whether a table has a place.
+    pub fn has_place(&self, table: &TableName) -> bool
+        ensures { result ≡ is_some (lookup (same_text table.now) self.now.tables) }
+    {
+        self.tables.contains_key(table)
+    }
+
     /// Says of a table that has a place whether it is there, and answers what was said before. It takes no memory.
     pub fn set_present(&mut self, table: &TableName, is_present: bool) -> bool
         requires { is_some (lookup (same_text table.now) self.old.tables) ≡ true }

@@ -36,6 +36,26 @@ pub fn is_denied(keyspaces: &Keyspaces, keyspace: &KeyspaceName, table: &TableNa
     }
 }
 
+/// Whether a denial of a table has a place in a keyspace: none has one yet.
+pub fn has_denied_place(keyspaces: &Keyspaces, keyspace: &KeyspaceName, table: &TableName) -> bool
+    ensures { result ≡ option_map_or (λ state. is_some (lookup (same_text table.now) state.denied)) (keyspace_at keyspaces.now.entries keyspace.now) false }
+{
+    match keyspaces.get(keyspace) {
+        Some(keyspace) => keyspace.has_denied_place(table),
+        None => false,
+    }
+}
+
+/// Whether a table has a place in a keyspace.
+pub fn has_place(keyspaces: &Keyspaces, keyspace: &KeyspaceName, table: &TableName) -> bool
+    ensures { result ≡ option_map_or (λ state. is_some (lookup (same_text table.now) state.tables)) (keyspace_at keyspaces.now.entries keyspace.now) false }
+{
+    match keyspaces.get(keyspace) {
+        Some(keyspace) => keyspace.has_place(table),
+        None => false,
+    }
+}
+
 /// Says of a table that has a place whether it is there, and answers what was said before. It takes no memory.
 pub fn set_present(
     keyspaces: &mut Keyspaces,

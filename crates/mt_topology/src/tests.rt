@@ -94,6 +94,7 @@ fn a_write_answers_what_stood_before(rt: HostRuntime) -> Result<(), Fail> {
     let keyspace = KeyspaceName::parse("b")?;
     let table = TableName::parse("t")?;
     let there = EntryKey::Present(keyspace.copied(), table.copied());
+    assert!(rt; topology.has_place(&there));
     let before = topology.write(Entry::Present(keyspace.copied(), table.copied(), false));
     assert_eq!(rt;
         before,
@@ -103,7 +104,8 @@ fn a_write_answers_what_stood_before(rt: HostRuntime) -> Result<(), Fail> {
         topology.value(&there),
         Entry::Present(keyspace.copied(), table.copied(), false)
     );
-    topology.write(before);
+    assert!(rt; topology.has_place(&there));
+    topology.write(Entry::Present(keyspace.copied(), table.copied(), true));
     assert_eq!(rt;
         topology.value(&there),
         Entry::Present(keyspace.copied(), table.copied(), true)

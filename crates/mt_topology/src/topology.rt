@@ -4,7 +4,10 @@ ghost use Rattle.mt_model.specs.Topology.{HasDistinctPlaces, empty_topology, has
 ghost use Rattle.mt_topology.specs.Edits.{Edits, add_keyspace_refusal, add_table_grows, add_table_refusal, edit_rule_grows, edit_rule_refusal};
 
 use crate::edits::{add_keyspace, add_table, put_rule, take_rule};
-use crate::lookup::{Keyspaces, is_denied, is_present, rule_for, set_present, sole_holder};
+use crate::lookup::{
+    Keyspaces, has_denied_place, has_place, is_denied, is_present, rule_for, set_present,
+    sole_holder,
+};
 use indexmap::IndexMap;
 use mt_model::{Entry, EntryKey, TopologyFault};
 use mt_names::{KeyspaceName, RuleKey, RuleTarget, TableName, TabletType};
@@ -64,6 +67,17 @@ impl Topology {
                 table.copied(),
                 is_present(&self.keyspaces, keyspace, table),
             ),
+        }
+    }
+
+    /// Whether a key has a place, so that its entry can be written: no denial has one yet. It takes no memory.
+    pub fn has_place(&self, key: &EntryKey) -> bool
+        ensures { result ≡ has_place self.now key.now }
+    {
+        match key {
+            EntryKey::Rule(key) => self.rules.has_place(key),
+            EntryKey::Denied(keyspace, table) => has_denied_place(&self.keyspaces, keyspace, table),
+            EntryKey::Present(keyspace, table) => has_place(&self.keyspaces, keyspace, table),
         }
     }
 
