@@ -35,7 +35,7 @@ written_row p name op =
 -- one row is what the operation makes of it, the log has one entry more, and all else is as it was
 pub record IsWritten (old : PrimaryState) (name : List ℕ) (op : Op) (answer : ℕ) (new : PrimaryState) : Type 0 where
   pub row : written_row old name op ≡ Ok (row_at new name (op_key op))
-  pub others : (other : List ℕ) (key : ℕ) → (other, key) ≢ (name, op_key op) → row_at new other key ≡ row_at old other key
+  pub others : (other : List ℕ) (key : ℕ) → ¬ ((other ≡ name) × (key ≡ op_key op)) → row_at new other key ≡ row_at old other key
   pub made : (other : List ℕ) → made_at new other ≡ made_at old other
   pub log : new.log ≡ old.log ++ record { table = name; key = op_key op; before = row_at old name (op_key op); after = row_at new name (op_key op) } ∷ []
   pub position : answer ≡ length new.log

@@ -1,10 +1,12 @@
 //! A primary.
-ghost use Rattle.std.specs.Prelude.{◌≡◌, length};
+ghost use Rattle.std.specs.Prelude.{◌≡◌, false, length};
+ghost use Rattle.std.specs.Option.{option_copied};
 ghost use Rattle.mt_primary.specs.Primary.{empty_primary, has_table, row_at, IsPrimary};
+ghost use Rattle.mt_primary.specs.Writes.{Creates, Writes};
 
-use crate::table::Table;
+use crate::table::{Table, change_row};
 use indexmap::IndexMap;
-use mt_model::RowChange;
+use mt_model::{Op, PrimaryFault, RowChange};
 use mt_names::{Position, TableName, Value};
 use std::alloc::Global;
 use std::marker::Model;
@@ -50,5 +52,37 @@ impl Primary {
         ensures { result ≡ has_table self.now table.now }
     {
         self.tables.contains_key(table)
+    }
+
+    /// Makes a table without rows, which begins at this position of the log. It is refused with `P0 Memory` alone.
+    pub fn create_table(&mut self, table: &TableName) -> Result<(), PrimaryFault>
+        requires absent { has_table self.old table.now ≡ false }
+        ensures { Creates self.old table.now result self.new }
+    {
+        let alloc = *self.tables.allocator();
+        let made = self.log.len() as u64;
+        match self.tables.insert(table.copied(), Table::new(alloc, made)) {
+            Ok(_) => Ok(()),
+            Err(_) => Err(PrimaryFault::Memory),
+        }
+    }
+
+    /// Does an operation on a row of a table, and answers the position behind its entry in the log. The first of
+    /// these that holds is answered: `P1 NoTable`, `P3 RowExists` or `P4 NoRow`, `P5 TooLong`, `P6 LogFull`,
+    /// `P0 Memory`.
+    pub fn write(&mut self, table: &TableName, op: Op) -> Result<Position, PrimaryFault>
+        ensures { Writes self.old table.now op result self.new }
+    {
+        match self.tables.get_mut(table) {
+            Some(rows) => change_row(rows, &mut self.log, table, op),
+            None => Err(PrimaryFault::NoTable),
+        }
+    }
+
+    /// The row of a table and a key. It takes no memory.
+    pub fn read(&self, table: &TableName, key: u64) -> Option<&Value>
+        ensures { option_copied result ≡ row_at self.now table.now key }
+    {
+        self.tables.get(table)?.row(key)
     }
 }
