@@ -1,6 +1,6 @@
 -- What a map's clause on an insert or a removal says of a table's rows.
 use Rattle.std.proofs.Common.{◌≡◌, ◌≢◌, ℕ, Bool, true, false, cond, eqb, List, [], ◌∷◌, Option, Some, None, refl, sym, ap, ◌∙◌}
-use Rattle.std.proofs.lemmas.Bool.{eqb-refl, ne_eqb}
+use Rattle.std.proofs.lemmas.Bool.{eq-eqb, ne_eqb}
 use Rattle.std.specs.BTreeMap.{is_at}
 use Rattle.std.specs.Cmp.{unsigned_tied}
 use Rattle.std.specs.Map.{lookup}
@@ -18,7 +18,7 @@ pub row_put : (old new : TableState) (key : ℕ) (row : Row)
     → ((q : ℕ) → lookup (is_at (nat_cmp q)) new.rows ≡ cond (is_at (nat_cmp key) q) row (lookup (is_at (nat_cmp q)) old.rows))
     → new.made ≡ old.made → IsInKeyOrder new → IsRowPut old key row new
 row_put old new key row updates made ordered = record {
-  here = at key ∙ rw (eqb-refl key) refl;
+  here = at key ∙ rw (eq-eqb key key refl) refl;
   others = λ other apart. at other ∙ rw (ne_eqb key other (λ h. apart (sym h))) refl;
   made = made;
   ordered = ordered;

@@ -45,22 +45,18 @@ row_in table key = lookup (nat_eq key) table.rows
 abbrev pub row_at : PrimaryState → List ℕ → ℕ → Row
 row_at p name key = option_map_or (λ table. row_in table key) (table_at p name) None
 
--- the row that the log leaves, from where the table was made
-abbrev pub logged_row : PrimaryState → List ℕ → ℕ → Row
-logged_row p name key = option_map_or (λ table. row_since p.log table.made name key) (table_at p name) None
-
 -- ---- what holds of every primary
 
 abbrev pub IsInKeyOrder : TableState → Type 0
 IsInKeyOrder table = IsStrictlySortedBy nat_cmp (keys_of table.rows)
 
 pub record IsPrimary (p : PrimaryState) : Type 0 where
-  -- each table has one place
+  -- each table has one place, and its rows are in the order of their keys
   pub distinct : IsDistinct same_text (keys_of p.tables)
-  -- its rows are in the order of their keys, and it was made before now
   pub ordered : (name : List ℕ) (table : TableState) → table_at p name ≡ Some table → IsInKeyOrder table
-  pub made : (name : List ℕ) (table : TableState) → table_at p name ≡ Some table → table.made ≤ length p.log
-  -- each row is what the log leaves
-  pub rows : (name : List ℕ) (key : ℕ) → row_at p name key ≡ logged_row p name key
-  -- each entry of the log, since its table was made, has the row that stood before it
-  pub befores : (name : List ℕ) (table : TableState) (i : ℕ) (change : RowChange) → table_at p name ≡ Some table → table.made ≤ i → slice_get p.log i ≡ Some change → change.table ≡ name → change.before ≡ row_since (take i p.log) table.made name change.key
+  -- it was made at a position of this log
+  pub made : (name : List ℕ) (made : ℕ) → made_at p name ≡ Some made → made ≤ length p.log
+  -- each row is what the log leaves since then
+  pub rows : (name : List ℕ) (made key : ℕ) → made_at p name ≡ Some made → row_at p name key ≡ row_since p.log made name key
+  -- and each entry since then has the row that stood before it
+  pub befores : (name : List ℕ) (made i : ℕ) (change : RowChange) → made_at p name ≡ Some made → made ≤ i → slice_get p.log i ≡ Some change → change.table ≡ name → change.before ≡ row_since (take i p.log) made name change.key
