@@ -86,3 +86,80 @@ impl Primary {
         self.tables.get(table)?.row(key)
     }
 }
+
+#[cfg(test)]
+mod tests {
+    use super::*;
+    use std::test::Fail;
+
+    fn value(bytes: &[u8]) -> Value {
+        let mut value = Value::new();
+        let _fits = value.try_extend_from_slice(bytes);
+        value
+    }
+
+    #[test]
+    fn a_row_is_written_and_read(rt: HostRuntime) -> Result<(), Fail> {
+        let mut primary = Primary::new(rt.alloc());
+        let customer = TableName::parse("customer")?;
+        assert_eq!(rt; primary.position(), 0);
+        assert!(rt; !primary.has_table(&customer));
+        primary.create_table(&customer)?;
+        assert!(rt; primary.has_table(&customer));
+        assert_eq!(rt; primary.read(&customer, 1), None);
+        assert_eq!(rt; primary.write(&customer, Op::Insert(1, value(b"a"))), Ok(1));
+        assert_eq!(rt; primary.read(&customer, 1), Some(&value(b"a")));
+        assert_eq!(rt; primary.read(&customer, 2), None);
+        assert_eq!(rt; primary.position(), 1);
+        Ok(())
+    }
+
+    #[test]
+    fn each_refusal_leaves_the_primary(rt: HostRuntime) -> Result<(), Fail> {
+        let mut primary = Primary::new(rt.alloc());
+        let customer = TableName::parse("customer")?;
+        let orders = TableName::parse("orders")?;
+        assert!(rt; !primary.has_table(&customer));
+        primary.create_table(&customer)?;
+        let full = [b'x'; 64];
+        primary.write(&customer, Op::Insert(7, value(&full)))?;
+        for (op, want) in [
+            (Op::Insert(7, value(b"b")), PrimaryFault::RowExists),
+            (Op::Update(8, value(b"b")), PrimaryFault::NoRow),
+            (Op::Append(8, value(b"b")), PrimaryFault::NoRow),
+            (Op::Delete(8), PrimaryFault::NoRow),
+            (Op::Append(7, value(b"b")), PrimaryFault::TooLong),
+        ] {
+            assert_eq!(rt;
+                primary.write(&orders, op.copied()),
+                Err(PrimaryFault::NoTable)
+            );
+            assert_eq!(rt; primary.write(&customer, op), Err(want));
+        }
+        assert_eq!(rt; primary.read(&orders, 7), None);
+        assert_eq!(rt; primary.read(&customer, 7), Some(&value(&full)));
+        assert_eq!(rt; primary.position(), 1);
+        Ok(())
+    }
+
+    #[test]
+    fn tables_have_rows_of_their_own(rt: HostRuntime) -> Result<(), Fail> {
+        let mut primary = Primary::new(rt.alloc());
+        let customer = TableName::parse("customer")?;
+        let orders = TableName::parse("orders")?;
+        assert!(rt; !primary.has_table(&customer));
+        primary.create_table(&customer)?;
+        primary.write(&customer, Op::Insert(1, value(b"a")))?;
+        assert!(rt; !primary.has_table(&orders));
+        primary.create_table(&orders)?;
+        assert_eq!(rt; primary.read(&orders, 1), None);
+        primary.write(&orders, Op::Insert(1, value(b"b")))?;
+        primary.write(&customer, Op::Append(1, value(b"c")))?;
+        assert_eq!(rt; primary.read(&customer, 1), Some(&value(b"ac")));
+        assert_eq!(rt; primary.write(&customer, Op::Delete(1)), Ok(4));
+        assert_eq!(rt; primary.read(&customer, 1), None);
+        assert_eq!(rt; primary.write(&orders, Op::Update(1, value(b""))), Ok(5));
+        assert_eq!(rt; primary.read(&orders, 1), Some(&value(b"")));
+        Ok(())
+    }
+}
