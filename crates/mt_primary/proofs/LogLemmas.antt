@@ -1,5 +1,5 @@
 -- What one entry more makes of what a log tells.
-use Rattle.std.proofs.Common.{◌≡◌, ◌≢◌, ℕ, suc, zero, ◌≤◌, ◌⊎◌, Bool, true, false, eqb, List, [], ◌∷◌, ◌++◌, length, drop, slice_get, Option, Some, None, refl, ap, inl, inr, ⊎_elim}
+use Rattle.std.proofs.Common.{◌≡◌, ◌≢◌, ℕ, suc, zero, ◌≤◌, ◌⊎◌, eqb, List, [], ◌∷◌, ◌++◌, length, drop, slice_get, Some, None, refl, ap, inl, inr, ⊎_elim}
 use Rattle.std.proofs.lemmas.Bool.{and_right, eqb-true, eq-eqb, false_from_ne_true}
 use Rattle.std.proofs.lemmas.List.{drop-append-le}
 use Rattle.std.proofs.lemmas.List.Sums.{fold_push}

@@ -1,5 +1,5 @@
 -- What stays true of a primary as a row of it changes, or as a table is made.
-use Rattle.std.proofs.Common.{◌≡◌, ◌≢◌, ℕ, ◌≤◌, ◌<◌, ◌⊎◌, Bool, true, false, cond, eqb, List, [], ◌∷◌, ◌++◌, length, take, slice_get, Option, Some, None, Result, Ok, Err, refl, sym, ap, subst, ◌∙◌, inl, inr, ⊎_elim, arith, length-append}
+use Rattle.std.proofs.Common.{◌≡◌, ◌≢◌, ℕ, ◌≤◌, ◌<◌, ◌⊎◌, Bool, true, false, eqb, List, [], ◌∷◌, ◌++◌, length, take, slice_get, Option, Some, None, Result, Ok, Err, refl, sym, ap, subst, ◌∙◌, inl, inr, ⊎_elim, arith, length-append}
 use Rattle.std.proofs.lemmas.Bool.{eqb-true, eqb-false, true≢false}
 use Rattle.std.proofs.lemmas.List.{take-append-le, take_at}
 use Rattle.std.proofs.lemmas.Option.{slice_get_within}
@@ -13,7 +13,7 @@ use Rattle.mt_model.specs.declared.faults.PrimaryFault.{PrimaryFault}
 use Rattle.mt_model.specs.declared.faults.PrimaryFault.TheVariants.{Memory}
 use Rattle.mt_model.specs.declared.rows.Op.{Op}
 use Rattle.mt_model.specs.declared.rows.RowChange.{RowChange}
-use Rattle.mt_model.specs.Rows.{Row, op_key, row_since, row_with}
+use Rattle.mt_model.specs.Rows.{op_key, row_since, row_with}
 use Rattle.mt_primary.specs.Primary.{IsInKeyOrder, IsPrimary, PrimaryState, TableState, made_at, new_table, row_at, row_in, table_at}
 use Rattle.mt_primary.specs.Tables.{ChangesRow, IsRowPut, LoggedTable, changed_row}
 use Rattle.mt_primary.specs.Writes.{IsTableMade, IsWritten, Writes, written_row}

@@ -1,5 +1,5 @@
 -- What the calls that change a primary do, by their answers.
-use Rattle.std.specs.Prelude.{◌≡◌, ◌≢◌, ℕ, List, [], ◌∷◌, ◌++◌, length, nat_lt, not, if◌then◌else◌, Option, Some, Result, Ok, Err, ⊤}
+use Rattle.std.specs.Prelude.{◌≡◌, ◌≢◌, ℕ, List, [], ◌∷◌, ◌++◌, length, nat_lt, if◌then◌else◌, Some, Result, Ok, Err, ⊤}
 use Rattle.mt_names.specs.Results.{◌>>=◌}
 use Rattle.mt_model.specs.declared.faults.PrimaryFault.{PrimaryFault}
 use Rattle.mt_model.specs.declared.faults.PrimaryFault.TheVariants.{Memory, NoTable, LogFull}
@@ -7,7 +7,7 @@ use Rattle.mt_model.specs.declared.limits.TheConstants.{MAX_LOG}
 use Rattle.mt_model.specs.declared.rows.Op.{Op}
 use Rattle.mt_model.specs.declared.rows.RowChange.{RowChange}
 use Rattle.mt_model.specs.Rows.{Row, op_key, op_row}
-use Rattle.mt_primary.specs.Primary.{PrimaryState, TableState, has_table, made_at, new_table, row_at, table_at}
+use Rattle.mt_primary.specs.Primary.{PrimaryState, has_table, made_at, new_table, row_at, table_at}
 
 -- ---- a table made
 

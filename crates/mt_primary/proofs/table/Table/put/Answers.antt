@@ -1,6 +1,5 @@
 -- A row is set or taken away where the map says so.
-use Rattle.std.proofs.Common.{◌≡◌, refl, sym, ap, ◌∙◌}
-use Rattle.std.proofs.lemmas.Grind.{common_steps}
+use Rattle.std.proofs.Common.{refl}
 use Rattle.mt_primary.proofs.TableLemmas.{row_put}
 use Rattle.mt_primary.proofs.table.Table.put.Goals as goal
 
