@@ -1,0 +1,254 @@
+-- What stays true of a primary as a row of it changes, or as a table is made.
+use Rattle.std.proofs.Common.{◌≡◌, ◌≢◌, ℕ, ◌≤◌, ◌<◌, ◌⊎◌, Bool, true, false, eqb, List, [], ◌∷◌, ◌++◌, length, take, slice_get, Option, Some, None, Result, Ok, Err, refl, sym, ap, subst, ◌∙◌, inl, inr, ⊎_elim, arith, length-append}
+use Rattle.std.proofs.lemmas.Bool.{eqb-true, eqb-false, true≢false}
+use Rattle.std.proofs.lemmas.List.{take-append-le, take_at}
+use Rattle.std.proofs.lemmas.Option.{slice_get_within}
+use Rattle.std.specs.List.{IsDistinct}
+use Rattle.std.specs.Map.{keys_of, lookup, set_value}
+use Rattle.std.specs.Option.{option_map, option_map_or}
+use Rattle.mt_names.proofs.EntryLemmas.{IsDistinct-push, IsDistinct-set_value, lookup-push_elsewhere, lookup-push_here, lookup-set_value_elsewhere, lookup-set_value_here}
+use Rattle.mt_names.proofs.SameLemmas.{same_text_decides}
+use Rattle.mt_names.specs.Names.{same_text}
+use Rattle.mt_model.specs.declared.faults.PrimaryFault.{PrimaryFault}
+use Rattle.mt_model.specs.declared.faults.PrimaryFault.TheVariants.{Memory}
+use Rattle.mt_model.specs.declared.rows.Op.{Op}
+use Rattle.mt_model.specs.declared.rows.RowChange.{RowChange}
+use Rattle.mt_model.specs.Rows.{op_key, row_since, row_with}
+use Rattle.mt_primary.specs.Primary.{IsInKeyOrder, IsPrimary, PrimaryState, TableState, made_at, new_table, row_at, row_in, table_at}
+use Rattle.mt_primary.specs.Tables.{ChangesRow, IsRowPut, LoggedTable, changed_row}
+use Rattle.mt_primary.specs.Writes.{IsTableMade, IsWritten, Writes, written_row}
+use Rattle.mt_primary.proofs.LogLemmas.{row_since-end, row_since-push, row_with-here, row_with-other_key, row_with-other_table, slice_get_push}
+
+-- ---- each table by itself
+
+-- a table that the log leads to
+record IsLogged (log : List RowChange) (name : List ℕ) (table : TableState) : Type 0 where
+  ordered : IsInKeyOrder table
+  made : table.made ≤ length log
+  rows : (key : ℕ) → row_in table key ≡ row_since log table.made name key
+  befores : (i : ℕ) (change : RowChange) → table.made ≤ i → slice_get log i ≡ Some change → change.table ≡ name → change.before ≡ row_since (take i log) table.made name change.key
+
+-- a table is there where its position is known
+table_from_made : (p : PrimaryState) (name : List ℕ) (made : ℕ) → made_at p name ≡ Some made → (table : TableState) × (table_at p name ≡ Some table) × (table.made ≡ made)
+table_from_made p name made e = by (table_at p name) refl
+  where
+    by : (o : Option TableState) → table_at p name ≡ o → (table : TableState) × (table_at p name ≡ Some table) × (table.made ≡ made)
+    by None at = absurd (let h = rw at at e in cc)
+    by (Some table) at = (table, at, let h = rw at at e in cc)
+
+logged : (p : PrimaryState) (name : List ℕ) (table : TableState) → IsPrimary p → table_at p name ≡ Some table → IsLogged p.log name table
+logged p name table is found =
+    let at : made_at p name ≡ Some table.made = ap (option_map (λ (t : TableState). t.made)) found in
+    record {
+      ordered = is.ordered name table found;
+      made = is.made name table.made at;
+      rows = λ key. sym (ap (λ (o : Option TableState). option_map_or (λ t. row_in t key) o None) found) ∙ is.rows name table.made key at;
+      befores = λ i change within here of. is.befores name table.made i change at within here of;
+    }
+
+primary_from : (p : PrimaryState) → IsDistinct same_text (keys_of p.tables) → ((name : List ℕ) (table : TableState) → table_at p name ≡ Some table → IsLogged p.log name table) → IsPrimary p
+primary_from p distinct each = record {
+  distinct = distinct;
+  ordered = λ name table found. (each name table found).ordered;
+  made = λ name made at.
+      let t = table_from_made p name made at in subst (λ m. m ≤ length p.log) t.2 (each name t.0 t.1).made;
+  rows = λ name made key at.
+      let t = table_from_made p name made at in
+      ap (λ (o : Option TableState). option_map_or (λ t. row_in t key) o None) t.1 ∙ (each name t.0 t.1).rows key ∙ ap (λ m. row_since p.log m name key) t.2;
+  befores = λ name made i change at within here of.
+      let t = table_from_made p name made at in
+      (each name t.0 t.1).befores i change (omega (arith, t.2)) here of ∙ ap (λ m. row_since (take i p.log) m name change.key) t.2;
+}
+
+-- one entry more, and a table that has its row where it is one of this table
+logged-push : (log : List RowChange) (change : RowChange) (name : List ℕ) (old new : TableState) → IsLogged log name old → new.made ≡ old.made → IsInKeyOrder new
+    → ((key : ℕ) → row_in new key ≡ row_with name key (row_in old key) change) → (change.table ≡ name → change.before ≡ row_in old change.key) → IsLogged (log ++ change ∷ []) name new
+logged-push log change name old new was made ordered rows before = record {
+  ordered = ordered;
+  made = omega (arith, made, was.made, length-append log (change ∷ []));
+  rows = λ key. rw made (rows key ∙ ap (λ r. row_with name key r change) (was.rows key) ∙ sym (row_since-push log change old.made name key was.made));
+  befores = λ i entry within here of. rw made (⊎_elim (λ inside. earlier i entry (omega (arith, made)) inside of) (λ last. latest i entry last.0 last.1 of) (slice_get_push log change entry i here));
+}
+  where
+    earlier : (i : ℕ) (entry : RowChange) → old.made ≤ i → slice_get log i ≡ Some entry → entry.table ≡ name → entry.before ≡ row_since (take i (log ++ change ∷ [])) old.made name entry.key
+    earlier i entry within inside of =
+        let below : i < length log = slice_get_within log i entry inside in
+        rw (take-append-le i log (change ∷ []) (omega arith)) (was.befores i entry within inside of)
+
+    latest : (i : ℕ) (entry : RowChange) → i ≡ length log → entry ≡ change → entry.table ≡ name → entry.before ≡ row_since (take i (log ++ change ∷ [])) old.made name entry.key
+    latest i entry end last of = rw (last, take_at log (change ∷ []) i (sym end)) (before (rw last at of) ∙ was.rows change.key)
+
+-- ---- a row that changes
+
+-- what is set as it stood
+set_value-same : (es : List (List ℕ × TableState)) (name : List ℕ) (table : TableState) → lookup (same_text name) es ≡ Some table → set_value (same_text name) es table ≡ es
+set_value-same [] name table found = refl
+set_value-same (e ∷ es) name table found = by (set_value-same es name table) (same_text name e.0) refl
+  where
+    by : (lookup (same_text name) es ≡ Some table → set_value (same_text name) es table ≡ es) → (t : Bool) → same_text name e.0 ≡ t → set_value (same_text name) (e ∷ es) table ≡ e ∷ es
+    by again true t = let is : Some e.1 ≡ Some table = rw t at found in let was : e.1 ≡ table = cc in rw t (ap (λ x. (e.0, x) ∷ es) (sym was))
+    by again false t = rw t (ap (λ l. e ∷ l) (again (rw t at found)))
+
+module _ (old : PrimaryState) (name : List ℕ) (table put : TableState) (found : table_at old name ≡ Some table) where
+  -- the primary with another table in this place, and another log
+  abbrev pub with_table : List RowChange → PrimaryState
+  with_table log = record { tables = set_value (same_text name) old.tables put; log = log }
+
+  here : (log : List RowChange) → table_at (with_table log) name ≡ Some put
+  here log = lookup-set_value_here same_text same_text_decides old.tables name put table found
+
+  elsewhere : (log : List RowChange) (other : List ℕ) → name ≢ other → table_at (with_table log) other ≡ table_at old other
+  elsewhere log other apart = lookup-set_value_elsewhere same_text same_text_decides old.tables name other put apart
+
+  -- a table is this one, or one that stood before
+  table_cases : (log : List RowChange) (other : List ℕ) (t : TableState) → table_at (with_table log) other ≡ Some t → ((name ≡ other) × (put ≡ t)) ⊎ ((name ≢ other) × (table_at old other ≡ Some t))
+  table_cases log other t at = by (same_text name other) refl
+    where
+      by : (b : Bool) → same_text name other ≡ b → ((name ≡ other) × (put ≡ t)) ⊎ ((name ≢ other) × (table_at old other ≡ Some t))
+      by true same =
+          let is : name ≡ other = (same_text_decides name other).0 same in
+          let both : Some put ≡ Some t = sym (here log) ∙ ap (table_at (with_table log)) is ∙ at in
+          inl (is, cc)
+      by false same =
+          let apart : name ≢ other = λ is. true≢false (sym ((same_text_decides name other).1 is) ∙ same) in
+          inr (apart, sym (elsewhere log other apart) ∙ at)
+
+  -- the row at this key, at another key of the table, and of another table
+  row_at-here : (log : List RowChange) (key : ℕ) → row_at (with_table log) name key ≡ row_in put key
+  row_at-here log key = ap (λ (o : Option TableState). option_map_or (λ t. row_in t key) o None) (here log)
+
+  row_at-old : (key : ℕ) → row_at old name key ≡ row_in table key
+  row_at-old key = ap (λ (o : Option TableState). option_map_or (λ t. row_in t key) o None) found
+
+  row_at-elsewhere : (log : List RowChange) (other : List ℕ) (key : ℕ) → name ≢ other → row_at (with_table log) other key ≡ row_at old other key
+  row_at-elsewhere log other key apart = ap (λ (o : Option TableState). option_map_or (λ t. row_in t key) o None) (elsewhere log other apart)
+
+  module _ (key : ℕ) (is : IsPrimary old) (is_put : IsRowPut table key (row_in put key) put) where
+    abbrev change : RowChange
+    change = record { table = name; key = key; before = row_in table key; after = row_in put key }
+
+    -- the row that the entry leaves
+    row_changed : (k : ℕ) → row_in put k ≡ row_with name k (row_in table k) change
+    row_changed k = by (eqb k key) refl
+      where
+        by : (b : Bool) → eqb k key ≡ b → row_in put k ≡ row_with name k (row_in table k) change
+        by true same = let at : k ≡ key = eqb-true k key same in rw at (sym (row_with-here (row_in table key) change))
+        by false same =
+            let apart : k ≢ key = eqb-false k key same in
+            is_put.others k apart ∙ sym (row_with-other_key name k (row_in table k) change apart)
+
+    -- what holds of every primary holds of it with the change
+    pub IsPrimary-changed : IsPrimary (with_table (old.log ++ change ∷ []))
+    IsPrimary-changed = primary_from (with_table (old.log ++ change ∷ [])) (IsDistinct-set_value same_text same_text_decides old.tables name put is.distinct) each
+      where
+        each : (other : List ℕ) (t : TableState) → table_at (with_table (old.log ++ change ∷ [])) other ≡ Some t → IsLogged (old.log ++ change ∷ []) other t
+        each other t at = ⊎_elim (λ same. ours same.0 same.1) (λ apart. theirs apart.0 apart.1) (table_cases (old.log ++ change ∷ []) other t at)
+          where
+            ours : name ≡ other → put ≡ t → IsLogged (old.log ++ change ∷ []) other t
+            ours at_name is_t =
+                let this = logged-push old.log change name table put (logged old name table is found) is_put.made is_put.ordered row_changed (λ _. refl) in
+                rw (sym at_name, sym is_t) this
+
+            theirs : name ≢ other → table_at old other ≡ Some t → IsLogged (old.log ++ change ∷ []) other t
+            theirs apart stood =
+                let was = logged old other t is stood in
+                logged-push old.log change other t t was refl was.ordered (λ k. sym (row_with-other_table other k (row_in t k) change (λ h. apart (sym h)))) (λ h. absurd (apart h))
+
+    -- the positions at which tables were made stay
+    made_stays : (log : List RowChange) (other : List ℕ) → made_at (with_table log) other ≡ made_at old other
+    made_stays log other = by (same_text name other) refl
+      where
+        by : (b : Bool) → same_text name other ≡ b → made_at (with_table log) other ≡ made_at old other
+        by true same =
+            let at : name ≡ other = (same_text_decides name other).0 same in
+            let now : table_at (with_table log) other ≡ Some put = ap (table_at (with_table log)) (sym at) ∙ here log in
+            let was : table_at old other ≡ Some table = ap (table_at old) (sym at) ∙ found in
+            rw (now, was) (ap Some is_put.made)
+        by false same = rw (elsewhere log other (λ at. true≢false (sym ((same_text_decides name other).1 at) ∙ same))) refl
+
+    others_stay : (log : List RowChange) (other : List ℕ) (k : ℕ) → ¬ ((other ≡ name) × (k ≡ key)) → row_at (with_table log) other k ≡ row_at old other k
+    others_stay log other k apart = by (same_text name other) refl
+      where
+        by : (b : Bool) → same_text name other ≡ b → row_at (with_table log) other k ≡ row_at old other k
+        by true same =
+            let at : name ≡ other = (same_text_decides name other).0 same in
+            rw (← at) (row_at-here log k ∙ is_put.others k (λ h. apart (sym at, h)) ∙ sym (row_at-old k))
+        by false same = row_at-elsewhere log other k (λ at. true≢false (sym ((same_text_decides name other).1 at) ∙ same))
+
+  -- the tests of a write are those of the change of its table
+  written-changed : (op : Op) → written_row old name op ≡ changed_row (record { table = table; log = old.log }) op
+  written-changed op = rw found refl
+
+  -- a change that leaves the table and the log leaves the primary
+  unchanged : (log : List RowChange) → (let new : LoggedTable = record { table = put; log = log } in new ≡ record { table = table; log = old.log }) → with_table log ≡ old
+  unchanged log h =
+      let is_table : put ≡ table = ap (λ (s : LoggedTable). s.table) h in
+      let is_log : log ≡ old.log = ap (λ (s : LoggedTable). s.log) h in
+      let tables : set_value (same_text name) old.tables put ≡ old.tables = ap (set_value (same_text name) old.tables) is_table ∙ set_value-same old.tables name table found in
+      rw (tables, is_log) refl
+
+  -- a change of the table is a write, and what holds of every primary holds behind it
+  pub change_is_write : (op : Op) (log : List RowChange) (r : Result ℕ PrimaryFault) → IsPrimary old → ChangesRow (record { table = table; log = old.log }) name op r (record { table = put; log = log })
+      → IsPrimary (with_table log) × Writes old name op r (with_table log)
+  change_is_write op log (Ok position) is h = by log h.log h.position
+    where
+      key : ℕ
+      key = op_key op
+
+      by : (l : List RowChange) → l ≡ old.log ++ record { table = name; key = key; before = row_in table key; after = row_in put key } ∷ [] → position ≡ length l → IsPrimary (with_table l) × IsWritten old name op position (with_table l)
+      by l is_l at = (
+        rw is_l (IsPrimary-changed key is h.put),
+        record {
+          row = written-changed op ∙ h.row ∙ ap Ok (sym (row_at-here l key));
+          others = others_stay key is h.put l;
+          made = made_stays key is h.put l;
+          log = rw (row_at-here l key, row_at-old key) is_l;
+          position = at;
+        },
+      )
+  change_is_write op log (Err Memory) is h =
+      let same = unchanged log h.1 in (subst IsPrimary (sym same) is, ((h.0.0, written-changed op ∙ h.0.1), same))
+  change_is_write op log (Err fault) is h =
+      let same = unchanged log h.1 in (subst IsPrimary (sym same) is, (written-changed op ∙ h.0, same))
+
+-- ---- a table that is made
+
+-- a new table is what an entry from here on leads to
+logged-new : (log : List RowChange) (name : List ℕ) → IsInKeyOrder (new_table (length log)) → IsLogged log name (new_table (length log))
+logged-new log name ordered = record {
+  ordered = ordered;
+  made = omega arith;
+  rows = λ key. sym (row_since-end log name key);
+  befores = λ i change within at of. let below : i < length log = slice_get_within log i change at in absurd (omega arith);
+}
+
+module _ (old : PrimaryState) (name : List ℕ) (absent : table_at old name ≡ None) where
+  -- the primary with the table
+  abbrev pub with_new_table : PrimaryState
+  with_new_table = record { tables = old.tables ++ (name, new_table (length old.log)) ∷ []; log = old.log }
+
+  made_here : table_at with_new_table name ≡ Some (new_table (length old.log))
+  made_here = lookup-push_here same_text same_text_decides old.tables name (new_table (length old.log)) absent
+
+  made_elsewhere : (other : List ℕ) → other ≢ name → table_at with_new_table other ≡ table_at old other
+  made_elsewhere other apart = lookup-push_elsewhere same_text same_text_decides old.tables name other (new_table (length old.log)) (λ h. apart (sym h))
+
+  pub IsTableMade-new : IsTableMade old name with_new_table
+  IsTableMade-new = record { table = made_here; others = made_elsewhere; log = refl }
+
+  pub IsPrimary-new_table : IsPrimary old → IsInKeyOrder (new_table (length old.log)) → IsPrimary with_new_table
+  IsPrimary-new_table is ordered =
+      primary_from with_new_table (IsDistinct-push same_text same_text_decides old.tables name (new_table (length old.log)) absent is.distinct) each
+    where
+      each : (other : List ℕ) (t : TableState) → table_at with_new_table other ≡ Some t → IsLogged old.log other t
+      each other t at = by (same_text name other) refl
+        where
+          by : (b : Bool) → same_text name other ≡ b → IsLogged old.log other t
+          by true same =
+              let is_name : name ≡ other = (same_text_decides name other).0 same in
+              let both : Some (new_table (length old.log)) ≡ Some t = sym made_here ∙ ap (table_at with_new_table) is_name ∙ at in
+              let is_t : new_table (length old.log) ≡ t = cc in
+              rw (sym is_t) (logged-new old.log other ordered)
+          by false same =
+              let apart : other ≢ name = λ h. true≢false (sym ((same_text_decides name other).1 (sym h)) ∙ same) in
+              logged old other t is (sym (made_elsewhere other apart) ∙ at)

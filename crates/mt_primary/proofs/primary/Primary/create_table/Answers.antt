@@ -1,0 +1,34 @@
+-- A new table is added at the end.
+use Rattle.std.proofs.Common.{◌≡◌, false, Option, None, Some, ◌++◌, ◌∷◌, [], length, is_some, refl, ap, subst, ◌∙◌, rules}
+use Rattle.indexmap.proofs.CallerLemmas.{insert_entry-new}
+use Rattle.mt_names.specs.Names.{same_text}
+use Rattle.mt_primary.specs.Primary.{IsInKeyOrder, PrimaryState, TableState, new_table, table_at}
+use Rattle.mt_primary.proofs.PrimaryLemmas.{IsPrimary-new_table, IsTableMade-new}
+use Rattle.mt_primary.proofs.primary.Primary.create_table.Goals as goal
+
+abbrev before : goal.Joined-insert-2 → PrimaryState
+before c = record { tables = c.self.inside.tables.entries; log = c.self.inside.log.items }
+
+absent : (c : goal.Joined-insert-2) → table_at (before c) c.args.table.now ≡ None
+absent c = by (table_at (before c) c.args.table.now) (rw (← c.self.view_is) at c.requires.absent)
+  where
+    by : (o : Option TableState) → is_some o ≡ false → o ≡ None
+    by None e = refl
+    by (Some table) e = absurd cc
+
+made : (c : goal.Joined-insert-2) → c.new.result ≡ new_table (length (before c).log)
+made c =
+    let position : c.len-made.result ≡ length (before c).log = search rules in
+    c.new.ensures.value ∙ ap new_table position
+
+added : (c : goal.Joined-insert-2) → c.insert.new.self.entries ≡ (before c).tables ++ (c.args.table.now, new_table (length (before c).log)) ∷ []
+added c =
+    c.in-Ok.ensures.entries
+    ∙ rw (c.copied.ensures, made c) (insert_entry-new same_text c.self.inside.tables c.args.table.now (new_table (length (before c).log)) (absent c))
+
+pub invariant_of-self : goal.invariant_of-self
+invariant_of-self c =
+    rw (added c) (IsPrimary-new_table (before c) c.args.table.now (absent c) c.self.invariant (subst IsInKeyOrder (made c) c.new.ensures.ordered))
+
+pub returns-in-Ok : goal.returns-in-Ok
+returns-in-Ok c = rw (← c.self.view_is) (rw (added c) (IsTableMade-new (before c) c.args.table.now (absent c)))

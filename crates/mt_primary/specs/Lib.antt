@@ -1,0 +1,3 @@
+pub mod Primary
+pub mod Tables
+pub mod Writes

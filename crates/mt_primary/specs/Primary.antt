@@ -1,0 +1,62 @@
+-- A primary: its tables with their rows, and its log. What is found in it, and what holds of every one.
+use Rattle.std.specs.Prelude.{◌≡◌, ℕ, ◌≤◌, Bool, List, [], length, take, slice_get, Option, None, Some, is_some, nat_eq}
+use Rattle.std.specs.List.{IsDistinct}
+use Rattle.std.specs.List.Sorted.{IsStrictlySortedBy}
+use Rattle.std.specs.Map.{keys_of, lookup}
+use Rattle.std.specs.Option.{option_map, option_map_or}
+use Rattle.std.specs.Ordering.{nat_cmp}
+use Rattle.mt_names.specs.Names.{same_text}
+use Rattle.mt_model.specs.declared.rows.RowChange.{RowChange}
+use Rattle.mt_model.specs.Rows.{Row, RowValue, row_since}
+
+-- a table: the position of the log at which it was made, and its rows by their keys
+pub record TableState : Type 0 where
+  pub made : ℕ
+  pub rows : List (ℕ × RowValue)
+
+pub record PrimaryState : Type 0 where
+  pub tables : List (List ℕ × TableState)
+  pub log : List RowChange
+
+abbrev pub empty_primary : PrimaryState
+empty_primary = record { tables = []; log = [] }
+
+-- a table without rows
+abbrev pub new_table : ℕ → TableState
+new_table position = record { made = position; rows = [] }
+
+-- ---- what is found
+
+abbrev pub table_at : PrimaryState → List ℕ → Option TableState
+table_at p name = lookup (same_text name) p.tables
+
+abbrev pub has_table : PrimaryState → List ℕ → Bool
+has_table p name = is_some (table_at p name)
+
+-- the position at which a table was made
+abbrev pub made_at : PrimaryState → List ℕ → Option ℕ
+made_at p name = option_map (λ table. table.made) (table_at p name)
+
+-- the row of a key in a table
+abbrev pub row_in : TableState → ℕ → Row
+row_in table key = lookup (nat_eq key) table.rows
+
+-- the row of a table and a key; a table that isn't there has none
+abbrev pub row_at : PrimaryState → List ℕ → ℕ → Row
+row_at p name key = option_map_or (λ table. row_in table key) (table_at p name) None
+
+-- ---- what holds of every primary
+
+abbrev pub IsInKeyOrder : TableState → Type 0
+IsInKeyOrder table = IsStrictlySortedBy nat_cmp (keys_of table.rows)
+
+pub record IsPrimary (p : PrimaryState) : Type 0 where
+  -- each table has one place, and its rows are in the order of their keys
+  pub distinct : IsDistinct same_text (keys_of p.tables)
+  pub ordered : (name : List ℕ) (table : TableState) → table_at p name ≡ Some table → IsInKeyOrder table
+  -- it was made at a position of this log
+  pub made : (name : List ℕ) (made : ℕ) → made_at p name ≡ Some made → made ≤ length p.log
+  -- each row is what the log leaves since then
+  pub rows : (name : List ℕ) (made key : ℕ) → made_at p name ≡ Some made → row_at p name key ≡ row_since p.log made name key
+  -- and each entry since then has the row that stood before it
+  pub befores : (name : List ℕ) (made i : ℕ) (change : RowChange) → made_at p name ≡ Some made → made ≤ i → slice_get p.log i ≡ Some change → change.table ≡ name → change.before ≡ row_since (take i p.log) made name change.key

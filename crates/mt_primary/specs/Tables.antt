@@ -1,0 +1,43 @@
+-- What a change of one table is, and what becomes of the log with it.
+use Rattle.std.specs.Prelude.{◌≡◌, ◌≢◌, ℕ, List, [], ◌∷◌, ◌++◌, length, ⊤, Result, Ok, Err}
+use Rattle.std.specs.declared.alloc.AllocError.{AllocError}
+use Rattle.mt_names.specs.Results.{◌>>=◌}
+use Rattle.mt_model.specs.declared.faults.PrimaryFault.{PrimaryFault}
+use Rattle.mt_model.specs.declared.faults.PrimaryFault.TheVariants.{Memory}
+use Rattle.mt_model.specs.declared.rows.Op.{Op}
+use Rattle.mt_model.specs.declared.rows.RowChange.{RowChange}
+use Rattle.mt_model.specs.Rows.{Row, op_key, op_row}
+use Rattle.mt_primary.specs.Primary.{TableState, IsInKeyOrder, row_in}
+use Rattle.mt_primary.specs.Writes.{unless_full}
+
+-- one row is set or taken away
+pub record IsRowPut (old : TableState) (key : ℕ) (row : Row) (new : TableState) : Type 0 where
+  pub here : row_in new key ≡ row
+  pub others : (other : ℕ) → other ≢ key → row_in new other ≡ row_in old other
+  pub made : new.made ≡ old.made
+  pub ordered : IsInKeyOrder new
+
+abbrev pub PutsRow : TableState → ℕ → Row → Result ⊤ AllocError → TableState → Type 0
+PutsRow old key row (Ok done) new = IsRowPut old key row new
+PutsRow old key row (Err fault) new = new ≡ old
+
+-- a table and the log, before or after
+pub record LoggedTable : Type 0 where
+  pub table : TableState
+  pub log : List RowChange
+
+-- the row that an operation leaves, or the first test that refuses it
+abbrev pub changed_row : LoggedTable → Op → Result Row PrimaryFault
+changed_row old op = op_row op (row_in old.table (op_key op)) >>= unless_full old.log
+
+-- one row is what the operation makes of it, and the log has one entry more
+pub record IsRowChanged (old : LoggedTable) (name : List ℕ) (op : Op) (answer : ℕ) (new : LoggedTable) : Type 0 where
+  pub row : changed_row old op ≡ Ok (row_in new.table (op_key op))
+  pub put : IsRowPut old.table (op_key op) (row_in new.table (op_key op)) new.table
+  pub log : new.log ≡ old.log ++ record { table = name; key = op_key op; before = row_in old.table (op_key op); after = row_in new.table (op_key op) } ∷ []
+  pub position : answer ≡ length new.log
+
+abbrev pub ChangesRow : LoggedTable → List ℕ → Op → Result ℕ PrimaryFault → LoggedTable → Type 0
+ChangesRow old name op (Ok position) new = IsRowChanged old name op position new
+ChangesRow old name op (Err Memory) new = ((row : Row) × (changed_row old op ≡ Ok row)) × (new ≡ old)
+ChangesRow old name op (Err fault) new = (changed_row old op ≡ Err fault) × (new ≡ old)

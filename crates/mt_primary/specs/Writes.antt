@@ -1,0 +1,47 @@
+-- What the calls that change a primary do, by their answers.
+use Rattle.std.specs.Prelude.{◌≡◌, ◌≢◌, ℕ, List, [], ◌∷◌, ◌++◌, length, nat_lt, if◌then◌else◌, Some, Result, Ok, Err, ⊤}
+use Rattle.mt_names.specs.Results.{◌>>=◌}
+use Rattle.mt_model.specs.declared.faults.PrimaryFault.{PrimaryFault}
+use Rattle.mt_model.specs.declared.faults.PrimaryFault.TheVariants.{Memory, NoTable, LogFull}
+use Rattle.mt_model.specs.declared.limits.TheConstants.{MAX_LOG}
+use Rattle.mt_model.specs.declared.rows.Op.{Op}
+use Rattle.mt_model.specs.declared.rows.RowChange.{RowChange}
+use Rattle.mt_model.specs.Rows.{Row, op_key, op_row}
+use Rattle.mt_primary.specs.Primary.{PrimaryState, has_table, made_at, new_table, row_at, table_at}
+
+-- ---- a table made
+
+-- the table is there without a row, and all else is as it was
+pub record IsTableMade (old : PrimaryState) (name : List ℕ) (new : PrimaryState) : Type 0 where
+  pub table : table_at new name ≡ Some (new_table (length old.log))
+  pub others : (other : List ℕ) → other ≢ name → table_at new other ≡ table_at old other
+  pub log : new.log ≡ old.log
+
+abbrev pub Creates : PrimaryState → List ℕ → Result ⊤ PrimaryFault → PrimaryState → Type 0
+Creates old name (Ok done) new = IsTableMade old name new
+Creates old name (Err fault) new = (fault ≡ Memory) × (new ≡ old)
+
+-- ---- a write
+
+-- a row that the log has room for
+abbrev pub unless_full : List RowChange → Row → Result Row PrimaryFault
+unless_full log row = if nat_lt (length log) MAX_LOG then Ok row else Err LogFull
+
+-- the row that a write leaves, or the first test that refuses it
+abbrev pub written_row : PrimaryState → List ℕ → Op → Result Row PrimaryFault
+written_row p name op =
+    if has_table p name then op_row op (row_at p name (op_key op)) >>= unless_full p.log else Err NoTable
+
+-- one row is what the operation makes of it, the log has one entry more, and all else is as it was
+pub record IsWritten (old : PrimaryState) (name : List ℕ) (op : Op) (answer : ℕ) (new : PrimaryState) : Type 0 where
+  pub row : written_row old name op ≡ Ok (row_at new name (op_key op))
+  pub others : (other : List ℕ) (key : ℕ) → ¬ ((other ≡ name) × (key ≡ op_key op)) → row_at new other key ≡ row_at old other key
+  pub made : (other : List ℕ) → made_at new other ≡ made_at old other
+  pub log : new.log ≡ old.log ++ record { table = name; key = op_key op; before = row_at old name (op_key op); after = row_at new name (op_key op) } ∷ []
+  pub position : answer ≡ length new.log
+
+-- Memory is told of a write that no test refuses
+abbrev pub Writes : PrimaryState → List ℕ → Op → Result ℕ PrimaryFault → PrimaryState → Type 0
+Writes old name op (Ok position) new = IsWritten old name op position new
+Writes old name op (Err Memory) new = ((row : Row) × (written_row old name op ≡ Ok row)) × (new ≡ old)
+Writes old name op (Err fault) new = (written_row old name op ≡ Err fault) × (new ≡ old)
