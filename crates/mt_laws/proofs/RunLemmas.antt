@@ -13,7 +13,7 @@ use Rattle.mt_names.specs.Same.{same_target}
 use Rattle.mt_names.proofs.EntryLemmas.{lookup-push_elsewhere, lookup-set_value_elsewhere, lookup-set_value_here}
 use Rattle.mt_names.proofs.SameLemmas.{same_target_decides, same_text_decides}
 use Rattle.mt_model.specs.declared.faults.PrimaryFault.TheVariants as primary
-use Rattle.mt_model.specs.declared.limits.TheConstants.{MAX_LOG}
+use Rattle.mt_model.specs.Limits.{longest_log}
 use Rattle.mt_model.specs.declared.rows.Op.{Op}
 use Rattle.mt_model.specs.declared.rows.Op.TheVariants.{Insert, Update, Append, Delete}
 use Rattle.mt_model.specs.Rows.{Row, op_key, op_row}
@@ -217,7 +217,7 @@ table_is_there p keyspace table op none =
 row_is_left : (p : Plain) (keyspace table : List ℕ) (op : Op) → refusal_of p (write keyspace table op) ≡ None → row_refusal (op_row op (row_of p keyspace table (op_key op))) ≡ None
 row_is_left p keyspace table op none =
     let by_row = row_refusal (op_row op (row_of p keyspace table (op_key op))) in
-    let by_log = refuse_if (nat_le MAX_LOG (log_length p keyspace)) full in
+    let by_log = refuse_if (nat_le longest_log (log_length p keyspace)) full in
     (or_else-none by_row by_log (or_else-none (unknown_table p keyspace table) (or_else by_row by_log) none).1).0
 
 -- a table that is there has a number, by which its writes are told

@@ -3,7 +3,7 @@ use Rattle.std.specs.Prelude.{◌≡◌, ◌≢◌, ℕ, List, [], ◌∷◌, �
 use Rattle.mt_names.specs.Results.{◌>>=◌}
 use Rattle.mt_model.specs.declared.faults.PrimaryFault.{PrimaryFault}
 use Rattle.mt_model.specs.declared.faults.PrimaryFault.TheVariants.{Memory, NoTable, LogFull}
-use Rattle.mt_model.specs.declared.limits.TheConstants.{MAX_LOG}
+use Rattle.mt_model.specs.Limits.{longest_log}
 use Rattle.mt_model.specs.declared.rows.Op.{Op}
 use Rattle.mt_model.specs.declared.rows.RowChange.{RowChange}
 use Rattle.mt_model.specs.Rows.{Row, op_key, op_row}
@@ -25,7 +25,7 @@ Creates old name (Err fault) new = (fault ≡ Memory) × (new ≡ old)
 
 -- a row that the log has room for
 abbrev pub unless_full : List RowChange → Row → Result Row PrimaryFault
-unless_full log row = if nat_lt (length log) MAX_LOG then Ok row else Err LogFull
+unless_full log row = if nat_lt (length log) longest_log then Ok row else Err LogFull
 
 -- the row that a write leaves, or the first test that refuses it
 abbrev pub written_row : PrimaryState → List ℕ → Op → Result Row PrimaryFault

@@ -4,7 +4,7 @@ use Rattle.std.specs.List.{IsDistinct}
 use Rattle.std.specs.Map.{keys_of, lookup}
 use Rattle.mt_names.specs.declared.keys.RuleKey.{RuleKey}
 use Rattle.mt_names.specs.Same.{same_key}
-use Rattle.mt_model.specs.declared.limits.TheConstants.{MAX_RULES}
+use Rattle.mt_model.specs.Limits.{most_rules}
 use Rattle.mt_model.specs.Topology.{Rules, with_rule_place}
 use Rattle.mt_rules.specs.declared.fault.RulesFault.{RulesFault}
 use Rattle.mt_rules.specs.declared.fault.RulesFault.TheVariants.{Memory, Full}
@@ -20,6 +20,6 @@ has_rule_place rules key = is_some (lookup (same_key key) rules)
 -- what becomes of the rules where a key is reserved: it has a place or gets one; else there were as many as there may
 -- be, or no memory for one more
 abbrev pub Reserves : Rules → RuleKey → Result Unit RulesFault → Rules → Type 0
-Reserves old key (Ok done) new = ((has_rule_place old key ≡ true) ⊎ (length old < MAX_RULES)) × (new ≡ with_rule_place old key)
-Reserves old key (Err Full) new = (has_rule_place old key ≡ false) × (length old ≡ MAX_RULES) × (new ≡ old)
-Reserves old key (Err Memory) new = (has_rule_place old key ≡ false) × (length old < MAX_RULES) × (new ≡ old)
+Reserves old key (Ok done) new = ((has_rule_place old key ≡ true) ⊎ (length old < most_rules)) × (new ≡ with_rule_place old key)
+Reserves old key (Err Full) new = (has_rule_place old key ≡ false) × (length old ≡ most_rules) × (new ≡ old)
+Reserves old key (Err Memory) new = (has_rule_place old key ≡ false) × (length old < most_rules) × (new ≡ old)

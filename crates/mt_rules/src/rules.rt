@@ -3,6 +3,7 @@ ghost use Rattle.std.specs.Prelude.{◌≡◌, ◌≤◌, ◌↔◌, [], true, l
 ghost use Rattle.std.specs.List.{IsDistinct};
 ghost use Rattle.std.specs.Map.{keys_of, set_value};
 ghost use Rattle.mt_names.specs.Same.{same_key};
+ghost use Rattle.mt_model.specs.Limits.{most_rules};
 ghost use Rattle.mt_model.specs.Topology.{rule_at, without_rule_place};
 ghost use Rattle.mt_rules.specs.Rules.{Reserves, has_rule_place};
 
@@ -26,14 +27,14 @@ impl Model for RoutingRules {
     ghost use Rattle.std.specs.List.{IsDistinct};
     ghost use Rattle.std.specs.Map.{keys_of};
     ghost use Rattle.mt_names.specs.Same.{same_key};
-    ghost use Rattle.mt_model.specs.declared.limits.TheConstants.{MAX_RULES};
+    ghost use Rattle.mt_model.specs.Limits.{most_rules};
     ghost use Rattle.mt_model.specs.Topology.{Rules};
 
     ghost Value = { Rules };
 
     ghost view = { λ rules. rules.places.entries };
 
-    ghost invariant = { λ rules. IsDistinct same_key (keys_of rules.places.entries) × (length rules.places.entries ≤ MAX_RULES) };
+    ghost invariant = { λ rules. IsDistinct same_key (keys_of rules.places.entries) × (length rules.places.entries ≤ most_rules) };
 }
 
 impl RoutingRules {
@@ -49,7 +50,7 @@ impl RoutingRules {
     /// How many places there are.
     pub fn len(&self) -> usize
         ensures len { result ≡ length self.now }
-        ensures within { length self.now ≤ MAX_RULES }
+        ensures within { length self.now ≤ most_rules }
         ensures distinct { IsDistinct same_key (keys_of self.now) }
     {
         self.places.len()

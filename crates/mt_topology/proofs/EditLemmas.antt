@@ -12,7 +12,7 @@ use Rattle.mt_names.specs.Names.{same_text}
 use Rattle.mt_names.specs.Same.{same_key}
 use Rattle.mt_model.specs.declared.faults.TopologyFault.{TopologyFault}
 use Rattle.mt_model.specs.declared.faults.TopologyFault.TheVariants.{Memory, NoKeyspace, NoTable, Ambiguous, Exists, Full, BadDump}
-use Rattle.mt_model.specs.declared.limits.TheConstants.{MAX_KEYSPACES}
+use Rattle.mt_model.specs.Limits.{most_keyspaces}
 use Rattle.mt_model.specs.Topology.{Keyspaces, KeyspaceState, Rules, keyspace_at, rule_at, with_keyspace_state, with_new_table, without_rule_place}
 use Rattle.mt_model.proofs.TopologyLemmas.{rule_at-set_here, with_keyspace_state-found}
 use Rattle.mt_topology.specs.Edits.{Edits, add_keyspace_refusal, add_table_grows, add_table_refusal, lacks_table_place, new_table_refusal}
@@ -41,7 +41,7 @@ table_added keyspaces new keyspace table state state_new r found is e =
     subst (λ k. Edits keyspaces (option_map_or (λ s. new_table_refusal s table) k (Some NoKeyspace)) (option_map_or (λ s. lacks_table_place s table) k false) (with_keyspace_state (with_new_table table) keyspaces keyspace) r new) (sym found) whole
 
 -- no keyspace of the name, and room for one
-pub keyspace_taken : (keyspaces : Keyspaces) (name : List ℕ) → is_some (keyspace_at keyspaces name) ≡ false → (length keyspaces == MAX_KEYSPACES) ≡ false → add_keyspace_refusal keyspaces name ≡ None
+pub keyspace_taken : (keyspaces : Keyspaces) (name : List ℕ) → is_some (keyspace_at keyspaces name) ≡ false → (length keyspaces == most_keyspaces) ≡ false → add_keyspace_refusal keyspaces name ≡ None
 keyspace_taken keyspaces name absent room = rw (absent, room) refl
 
 -- and where `insert` puts it

@@ -3,7 +3,7 @@ use Rattle.std.proofs.Common.{◌≡◌, ℕ, ◌+◌, ◌≤◌, Bool, true, fa
 use Rattle.std.proofs.lemmas.Bool.{eqb-false}
 use Rattle.mt_model.specs.declared.faults.TopologyFault.{TopologyFault}
 use Rattle.mt_model.specs.declared.faults.TopologyFault.TheVariants.{Memory, NoKeyspace, NoTable, Ambiguous, Exists, Full, BadDump}
-use Rattle.mt_model.specs.declared.limits.TheConstants.{MAX_KEYSPACES}
+use Rattle.mt_model.specs.Limits.{most_keyspaces}
 use Rattle.mt_model.specs.Topology.{TopologyState, HasDistinctPlaces, Keyspaces, KeyspaceState, keyspace_at, with_keyspace}
 use Rattle.mt_model.proofs.DistinctLemmas.{distinct-with_keyspace}
 use Rattle.mt_topology.specs.Edits.{Edits, add_keyspace_refusal}
@@ -20,15 +20,15 @@ Edits-keeps P old made new refusal grows (Err Full) makes holds e = subst P (sym
 Edits-keeps P old made new refusal grows (Err BadDump) makes holds e = subst P (sym e.1) holds
 
 -- where a keyspace is not refused there is none of its name, and room for one
-room_for : (keyspaces : Keyspaces) (name : List ℕ) → add_keyspace_refusal keyspaces name ≡ None → (keyspace_at keyspaces name ≡ None) × ((length keyspaces == MAX_KEYSPACES) ≡ false)
-room_for keyspaces name free = by (keyspace_at keyspaces name) refl (length keyspaces == MAX_KEYSPACES) refl
+room_for : (keyspaces : Keyspaces) (name : List ℕ) → add_keyspace_refusal keyspaces name ≡ None → (keyspace_at keyspaces name ≡ None) × ((length keyspaces == most_keyspaces) ≡ false)
+room_for keyspaces name free = by (keyspace_at keyspaces name) refl (length keyspaces == most_keyspaces) refl
   where
-    by : (r : Option KeyspaceState) → keyspace_at keyspaces name ≡ r → (t : Bool) → (length keyspaces == MAX_KEYSPACES) ≡ t → (keyspace_at keyspaces name ≡ None) × ((length keyspaces == MAX_KEYSPACES) ≡ false)
+    by : (r : Option KeyspaceState) → keyspace_at keyspaces name ≡ r → (t : Bool) → (length keyspaces == most_keyspaces) ≡ t → (keyspace_at keyspaces name ≡ None) × ((length keyspaces == most_keyspaces) ≡ false)
     by None none false room = (none, room)
     by None none true full = absurd (let h = rw (none, full) at free in cc)
     by (Some state) some t is = absurd (let h = rw some at free in cc)
 
-pub keyspace_more : (t : TopologyState) (name : List ℕ) → add_keyspace_refusal t.keyspaces name ≡ None → HasDistinctPlaces t → length t.keyspaces ≤ MAX_KEYSPACES → HasDistinctPlaces (with_keyspace t name) × (length (with_keyspace t name).keyspaces ≤ MAX_KEYSPACES)
+pub keyspace_more : (t : TopologyState) (name : List ℕ) → add_keyspace_refusal t.keyspaces name ≡ None → HasDistinctPlaces t → length t.keyspaces ≤ most_keyspaces → HasDistinctPlaces (with_keyspace t name) × (length (with_keyspace t name).keyspaces ≤ most_keyspaces)
 keyspace_more t name free distinct within =
     let room = room_for t.keyspaces name free in
-    (distinct-with_keyspace t name room.0 distinct, omega (arith, within, eqb-false (length t.keyspaces) MAX_KEYSPACES room.1, length-append t.keyspaces ((name, record { tables = []; denied = [] }) ∷ [])))
+    (distinct-with_keyspace t name room.0 distinct, omega (arith, within, eqb-false (length t.keyspaces) most_keyspaces room.1, length-append t.keyspaces ((name, record { tables = []; denied = [] }) ∷ [])))

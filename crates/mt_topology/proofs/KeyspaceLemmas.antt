@@ -9,7 +9,7 @@ use Rattle.mt_names.specs.Names.{same_text}
 use Rattle.mt_names.proofs.EntryLemmas.{same_itself}
 use Rattle.mt_names.proofs.SameLemmas.{same_text_decides}
 use Rattle.mt_model.specs.declared.faults.TopologyFault.TheVariants.{Memory}
-use Rattle.mt_model.specs.declared.limits.TheConstants.{MAX_TABLES_IN_KEYSPACE}
+use Rattle.mt_model.specs.Limits.{most_tables_in_keyspace}
 use Rattle.mt_model.specs.Topology.{KeyspaceState, is_marked, with_new_table}
 use Rattle.mt_topology.specs.Edits.{Edits, lacks_table_place, new_table_refusal}
 
@@ -29,11 +29,11 @@ insert_entry-place {K} {V} same decides (e ∷ es) k v blank = by (insert_entry-
 -- ---- a table more
 
 -- where none is refused and `insert` succeeds, the table is there, and the others as they were
-pub added : (state new : KeyspaceState) (table copy : List ℕ) → is_marked state.tables table ≡ false → (lacks_table_place state table && (length state.tables == MAX_TABLES_IN_KEYSPACE)) ≡ false → copy ≡ table → new ≡ record state { tables = insert_entry same_text state.tables copy true } → Edits state (new_table_refusal state table) (lacks_table_place state table) (with_new_table table state) (Ok tt) new
+pub added : (state new : KeyspaceState) (table copy : List ℕ) → is_marked state.tables table ≡ false → (lacks_table_place state table && (length state.tables == most_tables_in_keyspace)) ≡ false → copy ≡ table → new ≡ record state { tables = insert_entry same_text state.tables copy true } → Edits state (new_table_refusal state table) (lacks_table_place state table) (with_new_table table state) (Ok tt) new
 added state new table copy absent room copied is = (rw (absent, room) refl, is ∙ ap (λ t. record state { tables = insert_entry same_text state.tables t true }) copied ∙ ap (λ marks. record state { tables = marks }) (insert_entry-place same_text same_text_decides state.tables table true false))
 
 -- where it finds no memory, nothing has changed
-pub not_added : (state new : KeyspaceState) (table copy : List ℕ) → is_marked state.tables table ≡ false → (lacks_table_place state table && (length state.tables == MAX_TABLES_IN_KEYSPACE)) ≡ false → copy ≡ table → lookup (same_text copy) state.tables ≡ None → new ≡ state → Edits state (new_table_refusal state table) (lacks_table_place state table) (with_new_table table state) (Err Memory) new
+pub not_added : (state new : KeyspaceState) (table copy : List ℕ) → is_marked state.tables table ≡ false → (lacks_table_place state table && (length state.tables == most_tables_in_keyspace)) ≡ false → copy ≡ table → lookup (same_text copy) state.tables ≡ None → new ≡ state → Edits state (new_table_refusal state table) (lacks_table_place state table) (with_new_table table state) (Err Memory) new
 not_added state new table copy absent room copied none is = (rw (absent, room) refl, ap (λ t. not (is_some (lookup (same_text t) state.tables))) (sym copied) ∙ ap (λ r. not (is_some r)) none, is)
 
 -- a place more is within a limit that was not reached

@@ -8,7 +8,7 @@ use Rattle.mt_names.specs.Names.{same_text}
 use Rattle.mt_names.specs.Same.{same_key}
 use Rattle.mt_model.specs.declared.faults.TopologyFault.{TopologyFault}
 use Rattle.mt_model.specs.declared.faults.TopologyFault.TheVariants.{Memory, NoKeyspace, Exists, Full}
-use Rattle.mt_model.specs.declared.limits.TheConstants.{MAX_KEYSPACES, MAX_RULES, MAX_TABLES_IN_KEYSPACE}
+use Rattle.mt_model.specs.Limits.{most_keyspaces, most_rules, most_tables_in_keyspace}
 use Rattle.mt_model.specs.Topology.{Keyspaces, KeyspaceState, Rules, is_marked, keyspace_at}
 
 -- what becomes of a value where an edit would make `made` of it, is refused as `refusal` says, and `grows` where it takes
@@ -22,7 +22,7 @@ Edits old refusal grows made (Err fault) new = (refusal ≡ Some fault) × (new 
 abbrev pub add_keyspace_refusal : Keyspaces → List ℕ → Option TopologyFault
 add_keyspace_refusal keyspaces name =
     if is_some (keyspace_at keyspaces name) then Some Exists
-    else if length keyspaces == MAX_KEYSPACES then Some Full
+    else if length keyspaces == most_keyspaces then Some Full
     else None
 
 -- the table lacks a place in the keyspace
@@ -33,7 +33,7 @@ lacks_table_place state table = not (is_some (lookup (same_text table) state.tab
 abbrev pub new_table_refusal : KeyspaceState → List ℕ → Option TopologyFault
 new_table_refusal state table =
     if is_marked state.tables table then Some Exists
-    else if lacks_table_place state table && (length state.tables == MAX_TABLES_IN_KEYSPACE) then Some Full
+    else if lacks_table_place state table && (length state.tables == most_tables_in_keyspace) then Some Full
     else None
 
 abbrev pub add_table_refusal : Keyspaces → List ℕ → List ℕ → Option TopologyFault
@@ -51,4 +51,4 @@ edit_rule_grows rules key (Some target) = not (is_some (lookup (same_key key) ru
 
 abbrev pub edit_rule_refusal : Rules → RuleKey → Option RuleTarget → Option TopologyFault
 edit_rule_refusal rules key target =
-    if edit_rule_grows rules key target && (length rules == MAX_RULES) then Some Full else None
+    if edit_rule_grows rules key target && (length rules == most_rules) then Some Full else None

@@ -2,6 +2,7 @@
 ghost use Rattle.std.specs.Prelude.{◌≡◌, ◌&&◌, ◌==◌, [], true, false, length, is_some};
 ghost use Rattle.std.specs.Map.{lookup};
 ghost use Rattle.mt_names.specs.Names.{same_text};
+ghost use Rattle.mt_model.specs.Limits.{most_tables_in_keyspace};
 ghost use Rattle.mt_model.specs.Topology.{is_marked, with_table_mark, with_new_table};
 ghost use Rattle.mt_topology.specs.Edits.{Edits, new_table_refusal, lacks_table_place};
 
@@ -23,14 +24,14 @@ impl Model for Keyspace {
     ghost use Rattle.std.specs.List.{IsDistinct};
     ghost use Rattle.std.specs.Map.{keys_of};
     ghost use Rattle.mt_names.specs.Names.{same_text};
-    ghost use Rattle.mt_model.specs.declared.limits.TheConstants.{MAX_TABLES_IN_KEYSPACE};
+    ghost use Rattle.mt_model.specs.Limits.{most_tables_in_keyspace};
     ghost use Rattle.mt_model.specs.Topology.{KeyspaceState};
 
     ghost Value = { KeyspaceState };
 
     ghost view = { λ keyspace. record { tables = keyspace.tables.entries; denied = [] } };
 
-    ghost invariant = { λ keyspace. IsDistinct same_text (keys_of keyspace.tables.entries) × (length keyspace.tables.entries ≤ MAX_TABLES_IN_KEYSPACE) };
+    ghost invariant = { λ keyspace. IsDistinct same_text (keys_of keyspace.tables.entries) × (length keyspace.tables.entries ≤ most_tables_in_keyspace) };
 }
 
 impl Keyspace {
@@ -87,7 +88,7 @@ impl Keyspace {
 
     /// Whether a table lacks a place, and there are as many as there may be.
     fn is_full_for(&self, table: &TableName) -> bool
-        ensures { result ≡ (lacks_table_place self.now table.now && (length self.now.tables == MAX_TABLES_IN_KEYSPACE)) }
+        ensures { result ≡ (lacks_table_place self.now table.now && (length self.now.tables == most_tables_in_keyspace)) }
     {
         !self.tables.contains_key(table) && self.tables.len() == MAX_TABLES_IN_KEYSPACE
     }

@@ -26,14 +26,14 @@ pub struct Topology {
 
 impl Model for Topology {
     ghost use Rattle.std.specs.Prelude.{◌≤◌, length};
-    ghost use Rattle.mt_model.specs.declared.limits.TheConstants.{MAX_KEYSPACES};
+    ghost use Rattle.mt_model.specs.Limits.{most_keyspaces};
     ghost use Rattle.mt_model.specs.Topology.{TopologyState, HasDistinctPlaces};
 
     ghost Value = { TopologyState };
 
     ghost view = { λ topology. record { rules = topology.rules; keyspaces = topology.keyspaces.entries } };
 
-    ghost invariant = { λ topology. HasDistinctPlaces (record { rules = topology.rules; keyspaces = topology.keyspaces.entries }) × (length topology.keyspaces.entries ≤ MAX_KEYSPACES) };
+    ghost invariant = { λ topology. HasDistinctPlaces (record { rules = topology.rules; keyspaces = topology.keyspaces.entries }) × (length topology.keyspaces.entries ≤ most_keyspaces) };
 }
 
 impl Topology {

@@ -3,7 +3,7 @@ use Rattle.std.proofs.Common.{◌≡◌, ℕ, List, ◌≤◌, ◌+◌, ◌&&◌
 use Rattle.indexmap.specs.IndexMap.{insert_entry}
 use Rattle.std.specs.Map.{lookup}
 use Rattle.mt_names.specs.Names.{same_text}
-use Rattle.mt_model.specs.declared.limits.TheConstants.{MAX_TABLES_IN_KEYSPACE}
+use Rattle.mt_model.specs.Limits.{most_tables_in_keyspace}
 use Rattle.mt_model.specs.Topology.{KeyspaceState, Marks, is_marked, with_new_table}
 use Rattle.mt_topology.specs.Edits.{Edits, lacks_table_place, new_table_refusal}
 use Rattle.mt_topology.proofs.KeyspaceLemmas.{added, not_added, within-place}
@@ -20,21 +20,21 @@ with_inserted table state = record state { tables = insert_entry same_text state
 absent : (c : goal.Joined-insert) → is_marked c.args.self.now.tables c.args.table.now ≡ false
 absent c = sym c.is_present.ensures ∙ c.if-is_present.false
 
-room : (c : goal.Joined-insert) → (lacks_table_place c.args.self.now c.args.table.now && (length c.args.self.now.tables == MAX_TABLES_IN_KEYSPACE)) ≡ false
+room : (c : goal.Joined-insert) → (lacks_table_place c.args.self.now c.args.table.now && (length c.args.self.now.tables == most_tables_in_keyspace)) ≡ false
 room c = sym c.is_full_for.ensures ∙ c.if-is_full_for.false
 
 pub invariant_of-self : goal.invariant_of-self
 invariant_of-self c =
     let tables = c.self.inside.tables.entries in
     let copy = c.copied.result in
-    let room_here : (not (is_some (lookup (same_text copy) tables)) && (length tables == MAX_TABLES_IN_KEYSPACE)) ≡ false =
-    ap (λ t. not (is_some (lookup (same_text t) tables)) && (length tables == MAX_TABLES_IN_KEYSPACE)) c.copied.ensures
-    ∙ ap (λ state. lacks_table_place state c.args.table.now && (length state.tables == MAX_TABLES_IN_KEYSPACE)) c.self.view_is ∙ room c in (
+    let room_here : (not (is_some (lookup (same_text copy) tables)) && (length tables == most_tables_in_keyspace)) ≡ false =
+    ap (λ t. not (is_some (lookup (same_text t) tables)) && (length tables == most_tables_in_keyspace)) c.copied.ensures
+    ∙ ap (λ state. lacks_table_place state c.args.table.now && (length state.tables == most_tables_in_keyspace)) c.self.view_is ∙ room c in (
       c.insert.ensures.unique,
-      elim c.match-insert.branch as (λ b. length c.insert.new.self.entries ≤ MAX_TABLES_IN_KEYSPACE) [
-        | in-Ok w ↦ within-place (length tables) (length c.insert.new.self.entries) MAX_TABLES_IN_KEYSPACE (is_some (lookup (same_text copy) tables)) c.self.invariant.1 room_here
+      elim c.match-insert.branch as (λ b. length c.insert.new.self.entries ≤ most_tables_in_keyspace) [
+        | in-Ok w ↦ within-place (length tables) (length c.insert.new.self.entries) most_tables_in_keyspace (is_some (lookup (same_text copy) tables)) c.self.invariant.1 room_here
             (w.in-Ok.ensures.len ∙ ap (λ r. length tables + (if is_some r then 0 else 1)) w.in-Ok.ensures.old)
-        | in-Err w ↦ subst (λ entries. length entries ≤ MAX_TABLES_IN_KEYSPACE) (sym w.in-Err.ensures.err) c.self.invariant.1
+        | in-Err w ↦ subst (λ entries. length entries ≤ most_tables_in_keyspace) (sym w.in-Err.ensures.err) c.self.invariant.1
       ],
     )
 

@@ -1,6 +1,6 @@
 -- Tables stay distinct, and the keyspaces as many.
 use Rattle.std.proofs.Common.{◌≤◌, subst, sym}
-use Rattle.mt_model.specs.declared.limits.TheConstants.{MAX_KEYSPACES}
+use Rattle.mt_model.specs.Limits.{most_keyspaces}
 use Rattle.mt_model.specs.Topology.{TopologyState, HasDistinctPlaces, with_table}
 use Rattle.mt_model.proofs.DistinctLemmas.{distinct-with_table}
 use Rattle.mt_topology.proofs.InvariantLemmas.{Edits-keeps}
@@ -12,5 +12,5 @@ invariant_of-self c =
     let distinct = c.self.invariant.0 in (
       Edits-keeps (λ keyspaces. HasDistinctPlaces (record t { keyspaces = keyspaces })) t.keyspaces (with_table t c.args.keyspace.now c.args.table.now).keyspaces c.add_table.new.keyspaces.entries _ _ c.add_table.result
           (λ free. distinct-with_table t c.args.keyspace.now c.args.table.now distinct) distinct c.add_table.ensures.edits,
-      subst (λ n. n ≤ MAX_KEYSPACES) (sym c.add_table.ensures.len) c.self.invariant.1,
+      subst (λ n. n ≤ most_keyspaces) (sym c.add_table.ensures.len) c.self.invariant.1,
     )

@@ -1,7 +1,7 @@
 -- A write makes no place.
 use Rattle.std.proofs.Common.{◌≤◌, subst, sym}
 use Rattle.mt_model.specs.declared.entries.Entry.TheVariants as entry
-use Rattle.mt_model.specs.declared.limits.TheConstants.{MAX_KEYSPACES}
+use Rattle.mt_model.specs.Limits.{most_keyspaces}
 use Rattle.mt_model.specs.Topology.{TopologyState, HasDistinctPlaces}
 use Rattle.mt_model.proofs.DistinctLemmas.{distinct-with_entry}
 use Rattle.mt_topology.proofs.topology.Topology.write.Goals as goal
@@ -17,5 +17,5 @@ pub invariant_of-self-in-Present : goal.invariant_of-self-in-Present
 invariant_of-self-in-Present c =
     let t : TopologyState = record { rules = c.self.inside.rules; keyspaces = c.self.inside.keyspaces.entries } in (
       subst (λ keyspaces. HasDistinctPlaces (record t { keyspaces = keyspaces })) (sym c.set_present-before.ensures.after) (distinct-with_entry t (entry.Present c.in-Present.keyspace c.in-Present.table c.in-Present.mark) c.self.invariant.0),
-      subst (λ n. n ≤ MAX_KEYSPACES) (sym c.set_present-before.ensures.len) c.self.invariant.1,
+      subst (λ n. n ≤ most_keyspaces) (sym c.set_present-before.ensures.len) c.self.invariant.1,
     )
