@@ -1,4 +1,5 @@
--- Rows: what an operation makes of one, and what a log tells of them.
+-- Rows: what an operation makes of one, and what a log tells of them (this profile's own; in Vitess a row event of the
+-- binary log has the row before and after).
 use Rattle.std.specs.Prelude.{◌≡◌, ℕ, ◌+◌, ◌&&◌, Bool, List, [], ◌∷◌, ◌++◌, length, fold, drop, if◌then◌else◌, nat_lt, ◌==◌, Option, None, Some, Result, Ok, Err}
 use Rattle.arrayvec.specs.ArrayVec.{ArrayVec}
 use Rattle.mt_names.specs.Names.{same_text}

@@ -27,11 +27,11 @@ key_of (entry.Present keyspace table is_present) = about.Present keyspace table
 abbrev pub Marks : Type 0
 Marks = List (List ℕ × Bool)
 
--- places for rule keys, each with a rule or none
+-- places for rule keys, each with a rule or none (Vitess: Routing Rules, from-table and to-table)
 abbrev pub Rules : Type 0
 Rules = List (RuleKey × Option RuleTarget)
 
--- the tables that a keyspace has, and those that its primary is to refuse
+-- the tables that a keyspace has, and those that its primary is to refuse (Vitess: a shard record's denied tables)
 pub record KeyspaceState : Type 0 where
   pub tables : Marks
   pub denied : Marks
@@ -147,7 +147,7 @@ abbrev pub with_rule : Rules → RuleKey → Option RuleTarget → Rules
 with_rule rules key (Some target) = set_value (same_key key) (with_rule_place rules key) (Some target)
 with_rule rules key None = remove_entry (same_key key) rules
 
--- ---- look-up
+-- ---- look-up (Vitess: Routing Rules; that a rule is applied once is this profile's own)
 
 -- the key for one type, and the one for all
 abbrev pub for_type : RuleKey → TabletType → RuleKey

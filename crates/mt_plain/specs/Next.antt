@@ -1,4 +1,4 @@
--- The answers that an event may get, the state after each, and runs of events.
+-- The answers that an event may get, the state after each, and runs of events (this profile's own).
 use Rattle.std.specs.Prelude.{◌≡◌, ℕ, suc, Bool, true, List, [], ◌∷◌, ◌++◌, length, option_and_then, unwrap_or, Option, None, Some, Result, Ok, Err, ⊤}
 use Rattle.mt_names.specs.declared.keys.RuleKey.{RuleKey}
 use Rattle.mt_names.specs.declared.keys.RuleTarget.{RuleTarget}

@@ -1,5 +1,5 @@
--- The output of a script: the text of each line that writes.
-use Rattle.std.specs.Prelude.{◌≡◌, ℕ, ◌≤◌, ◌*◌, ◌^◌, List, [], ◌∷◌, ◌++◌, length, codes, Option, None, Some, Result, Ok, Err}
+-- The output of a script: the text of each line that writes. The texts are this profile's own.
+use Rattle.std.specs.Prelude.{◌≡◌, ℕ, ◌<◌, List, [], ◌∷◌, ◌++◌, length, codes, Option, None, Some, Result, Ok, Err}
 use Rattle.std.specs.Str.Lines.{lines}
 use Rattle.mt_names.specs.declared.fault.NameFault.{NameFault}
 use Rattle.mt_names.specs.declared.keys.RuleKey.{RuleKey}
@@ -113,3 +113,18 @@ output input = output_from opening (lines input)
 -- the rule of a core that never wants memory
 abbrev pub AnswersWithMemory : AnswerRule
 AnswersWithMemory p e answer = answer ≡ answer_of p e
+
+-- ---- why a script may end early, and what it leaves written
+
+pub data ScriptFault : Type 0 where
+  memory : ScriptFault
+  read_fault : ScriptFault
+  write_fault : ScriptFault
+  too_long : ScriptFault
+
+-- a script is read whole before its first line: a fault of reading, or a script that is too long, leaves nothing written
+abbrev pub Leaves : ScriptFault → (input written : List ℕ) → Type 0
+Leaves memory input written = BeginsOutput input written
+Leaves read_fault input written = written ≡ []
+Leaves write_fault input written = BeginsOutput input written
+Leaves too_long input written = (MAX_SCRIPT_LENGTH < length input) × (written ≡ [])

@@ -1,4 +1,5 @@
--- Which refusal an event meets: the first in the order of the tests, or none.
+-- Which refusal an event meets: the first in the order of the tests, or none. The order, the numbers and the limits are
+-- this profile's own.
 use Rattle.std.specs.Prelude.{ℕ, Bool, true, false, not, List, length, count_by, if◌then◌else◌, nat_le, Option, None, Some, is_some, Result, Ok, Err}
 use Rattle.std.specs.Option.{option_map_or}
 use Rattle.std.specs.Map.{lookup}

@@ -1,3 +1,4 @@
+pub mod CutLemmas
 pub mod LineLemmas
 pub mod NumberLemmas
 pub mod WordLemmas

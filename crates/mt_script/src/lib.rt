@@ -2,9 +2,11 @@
 #![tactic(auto)]
 
 mod commands;
+mod cut;
 mod lines;
 mod texts;
 mod words;
 
+pub use cut::first_line;
 pub use lines::{Line, LineRefusal, MAX_LINE_LENGTH, Request, read_line};
 pub use texts::{LineText, answer_line, look_up_line, refusal_line};
