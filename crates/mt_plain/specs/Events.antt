@@ -1,4 +1,5 @@
--- What can be asked of the controller, and what it answers.
+-- What can be asked of the controller, and what it answers. The commands are those of Vitess's MoveTables (Create,
+-- SwitchTraffic, ReverseTraffic, Cancel, Complete, Show) in this profile's atomic steps; the refusals are this profile's own.
 use Rattle.std.specs.Prelude.{ℕ, Bool, List, codes, Option, Result, Ok, Err}
 use Rattle.mt_names.specs.declared.keys.RuleKey.{RuleKey}
 use Rattle.mt_names.specs.declared.keys.RuleTarget.{RuleTarget}

@@ -1,4 +1,4 @@
--- The plain state: the topology, and the client tables as one list of acknowledged writes.
+-- The plain state: the topology, and the client tables as one list of acknowledged writes (this profile's own).
 use Rattle.std.specs.Prelude.{ℕ, Bool, List, [], ◌∷◌, ◌++◌, length, fold, filter, count_by, if◌then◌else◌, ◌&&◌, ◌==◌, Option, None, Some, unwrap_or, is_some}
 use Rattle.std.specs.Map.{lookup}
 use Rattle.mt_names.specs.declared.keys.RuleTarget.{RuleTarget}
