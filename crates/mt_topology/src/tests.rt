@@ -1,185 +1,169 @@
 //! A topology by direct calls.
 
-use crate::{Entry, EntryKey, Topology, TopologyFault};
+use crate::{Entry, Topology, TopologyFault};
 use mt_names::{KeyspaceName, RuleKey, RuleTarget, TableName, TabletType};
 use std::alloc::Global;
 use std::test::Fail;
 
+/// How an answer is printed.
+fn printed(answer: Result<(), TopologyFault>) -> &'static str {
+    match answer {
+        Ok(()) => "ok",
+        Err(fault) => fault.as_str(),
+    }
+}
+
+fn add_keyspace(topology: &mut Topology, name: &str) -> Result<&'static str, Fail> {
+    Ok(printed(topology.add_keyspace(&KeyspaceName::parse(name)?)))
+}
+
+fn add_table(topology: &mut Topology, keyspace: &str, table: &str) -> Result<&'static str, Fail> {
+    let keyspace = KeyspaceName::parse(keyspace)?;
+    Ok(printed(topology.add_table(&keyspace, &TableName::parse(table)?)))
+}
+
+fn set_rule(topology: &mut Topology, key: &str, target: &str) -> Result<&'static str, Fail> {
+    let target = RuleTarget::parse(target)?;
+    Ok(printed(topology.edit_rule(&RuleKey::parse(key)?, Some(target))))
+}
+
+fn take_rule(topology: &mut Topology, key: &str) -> Result<&'static str, Fail> {
+    Ok(printed(topology.edit_rule(&RuleKey::parse(key)?, None)))
+}
+
+/// Whether a name leads to a target for a type, or is refused so.
+fn leads(
+    topology: &Topology,
+    key: &str,
+    tablet_type: TabletType,
+    want: &str,
+) -> Result<bool, Fail> {
+    match topology.resolve(&RuleKey::parse(key)?, tablet_type) {
+        Ok(target) => Ok(target.text().as_str() == want),
+        Err(fault) => Ok(fault.as_str() == want),
+    }
+}
+
 /// The keyspaces `a` and `b`, of which `b` has the table `t`.
 fn two_keyspaces(alloc: Global) -> Result<Topology, Fail> {
     let mut topology = Topology::new(alloc);
-    topology.add_keyspace(&KeyspaceName::parse("a")?)?;
-    topology.add_keyspace(&KeyspaceName::parse("b")?)?;
-    topology.add_table(&KeyspaceName::parse("b")?, &TableName::parse("t")?)?;
+    add_keyspace(&mut topology, "a")?;
+    add_keyspace(&mut topology, "b")?;
+    add_table(&mut topology, "b", "t")?;
     Ok(topology)
 }
 
-#[test]
-fn a_rule_leads_to_its_target(rt: HostRuntime) -> Result<(), Fail> {
-    let mut topology = two_keyspaces(rt.alloc())?;
-    let x = RuleKey::parse("x")?;
-    let target = RuleTarget::parse("b.t")?;
-    assert_eq!(rt; topology.edit_rule(&x, Some(target.copied())), Ok(()));
-    assert_eq!(rt;
-        topology.resolve(&x, TabletType::Replica),
-        Ok(target.copied())
-    );
-    assert_eq!(rt;
-        topology.resolve(&RuleKey::parse("x@rdonly")?, TabletType::Primary),
-        Ok(target)
-    );
-    assert_eq!(rt;
-        topology.edit_rule(
-            &RuleKey::parse("x@replica")?,
-            Some(RuleTarget::parse("a.u")?)
-        ),
-        Ok(())
-    );
-    assert_eq!(rt;
-        topology.resolve(&x, TabletType::Replica),
-        Ok(RuleTarget::parse("a.u")?)
-    );
-    assert_eq!(rt; topology.edit_rule(&x, None), Ok(()));
-    assert_eq!(rt; topology.edit_rule(&x, None), Ok(()));
-    assert_eq!(rt;
-        topology.resolve(&x, TabletType::Primary),
-        Err(TopologyFault::NoTable)
-    );
-    Ok(())
+/// Rules are set and taken away; a name leads by the rule for its type, else by that for all.
+fn rules_lead(topology: &mut Topology) -> Result<bool, Fail> {
+    let set = set_rule(topology, "x", "b.t")? == "ok"
+        && set_rule(topology, "x@replica", "a.x")? == "ok";
+    let led = leads(topology, "x", TabletType::Primary, "b.t")?
+        && leads(topology, "x@replica", TabletType::Primary, "b.t")?
+        && leads(topology, "x", TabletType::Replica, "a.x")?;
+    let taken = take_rule(topology, "x")? == "ok" && take_rule(topology, "x")? == "ok";
+    Ok(set && led && taken && leads(topology, "x", TabletType::Primary, "T2 NoTable")?)
 }
 
-#[test]
-fn a_name_without_a_rule_is_looked_up(rt: HostRuntime) -> Result<(), Fail> {
-    let mut topology = two_keyspaces(rt.alloc())?;
-    let t = RuleKey::parse("t")?;
-    let table = TableName::parse("t")?;
-    assert_eq!(rt;
-        topology.resolve(&t, TabletType::Primary),
-        Ok(RuleTarget::parse("b.t")?)
-    );
-    assert_eq!(rt;
-        topology.resolve(&RuleKey::parse("c.u")?, TabletType::Primary),
-        Ok(RuleTarget::parse("c.u")?)
-    );
-    assert_eq!(rt;
-        topology.resolve(&RuleKey::parse("u")?, TabletType::Primary),
-        Err(TopologyFault::NoTable)
-    );
-    assert_eq!(rt;
-        topology.add_table(&KeyspaceName::parse("a")?, &table),
-        Ok(())
-    );
-    assert_eq!(rt;
-        topology.resolve(&t, TabletType::Primary),
-        Err(TopologyFault::Ambiguous)
-    );
-    assert_eq!(rt;
-        topology.add_table(&KeyspaceName::parse("a")?, &table),
-        Err(TopologyFault::Exists)
-    );
-    assert_eq!(rt;
-        topology.add_table(&KeyspaceName::parse("c")?, &table),
-        Err(TopologyFault::NoKeyspace)
-    );
-    assert_eq!(rt;
-        topology.add_keyspace(&KeyspaceName::parse("a")?),
-        Err(TopologyFault::Exists)
-    );
-    Ok(())
+/// A name without a rule is looked up among the keyspaces.
+fn tables_lead(topology: &mut Topology) -> Result<bool, Fail> {
+    let one = leads(topology, "t", TabletType::Primary, "b.t")?
+        && leads(topology, "c.u", TabletType::Primary, "c.u")?
+        && leads(topology, "u", TabletType::Primary, "T2 NoTable")?;
+    let two = add_table(topology, "a", "t")? == "ok";
+    Ok(one && two && leads(topology, "t", TabletType::Primary, "T3 Ambiguous")?)
 }
 
-#[test]
-fn a_write_answers_what_stood_before(rt: HostRuntime) -> Result<(), Fail> {
-    let mut topology = two_keyspaces(rt.alloc())?;
-    let keyspace = KeyspaceName::parse("b")?;
-    let table = TableName::parse("t")?;
-    let there = EntryKey::Present(keyspace.copied(), table.copied());
-    assert!(rt; topology.has_place(&there));
-    let before = topology.write(Entry::Present(keyspace.copied(), table.copied(), false));
-    assert_eq!(rt;
-        before,
-        Entry::Present(keyspace.copied(), table.copied(), true)
-    );
-    assert_eq!(rt;
-        topology.value(&there),
-        Entry::Present(keyspace.copied(), table.copied(), false)
-    );
-    assert!(rt; topology.has_place(&there));
-    topology.write(Entry::Present(keyspace.copied(), table.copied(), true));
-    assert_eq!(rt;
-        topology.value(&there),
-        Entry::Present(keyspace.copied(), table.copied(), true)
-    );
-    assert_eq!(rt;
-        topology.value(&EntryKey::Denied(keyspace.copied(), table.copied())),
-        Entry::Denied(keyspace, table, false)
-    );
-    Ok(())
+/// Edits that are refused.
+fn edits_are_refused(topology: &mut Topology) -> Result<bool, Fail> {
+    Ok(
+        add_keyspace(topology, "a")? == "T4 Exists"
+            && add_table(topology, "b", "t")? == "T4 Exists"
+            && add_table(topology, "c", "t")? == "T1 NoKeyspace",
+    )
 }
 
-#[test]
-fn limits_are_kept(rt: HostRuntime) -> Result<(), Fail> {
-    let mut topology = Topology::new(rt.alloc());
-    for number in 0..32u32 {
-        let name = format!(in rt.alloc(); "k{number}")?;
-        assert_eq!(rt;
-            topology.add_keyspace(&KeyspaceName::parse(name.as_str())?),
-            Ok(())
-        );
+/// A write, and a write of what it answered.
+fn writes_and_back(topology: &mut Topology) -> Result<bool, Fail> {
+    let gone = Entry::Present(KeyspaceName::parse("b")?, TableName::parse("t")?, false);
+    if !topology.has_place(&gone.key()) {
+        return Ok(false);
     }
-    assert_eq!(rt;
-        topology.add_keyspace(&KeyspaceName::parse("k7")?),
-        Err(TopologyFault::Exists)
-    );
-    assert_eq!(rt;
-        topology.add_keyspace(&KeyspaceName::parse("k")?),
-        Err(TopologyFault::Full)
-    );
-    let keyspace = KeyspaceName::parse("k7")?;
+    let before = topology.write(gone);
+    let lost = leads(topology, "t", TabletType::Primary, "T2 NoTable")?;
+    if !topology.has_place(&before.key()) {
+        return Ok(false);
+    }
+    topology.write(before);
+    Ok(lost && leads(topology, "t", TabletType::Primary, "b.t")?)
+}
+
+/// Thirty more keyspaces.
+fn add_keyspaces(topology: &mut Topology, alloc: Global) -> Result<bool, Fail> {
+    for number in 0..30u32 {
+        let name = format!(in alloc; "k{number}")?;
+        if add_keyspace(topology, name.as_str())? != "ok" {
+            return Ok(false);
+        }
+    }
+    Ok(true)
+}
+
+/// As many tables as a keyspace may have.
+fn add_tables(topology: &mut Topology, alloc: Global) -> Result<bool, Fail> {
     for number in 0..256u32 {
-        let name = format!(in rt.alloc(); "t{number}")?;
-        assert_eq!(rt;
-            topology.add_table(&keyspace, &TableName::parse(name.as_str())?),
-            Ok(())
-        );
+        let name = format!(in alloc; "t{number}")?;
+        if add_table(topology, "a", name.as_str())? != "ok" {
+            return Ok(false);
+        }
     }
-    assert_eq!(rt;
-        topology.add_table(&keyspace, &TableName::parse("t8")?),
-        Err(TopologyFault::Exists)
-    );
-    assert_eq!(rt;
-        topology.add_table(&keyspace, &TableName::parse("t")?),
-        Err(TopologyFault::Full)
-    );
-    assert_eq!(rt;
-        topology.add_table(&KeyspaceName::parse("k8")?, &TableName::parse("t")?),
-        Ok(())
-    );
+    Ok(true)
+}
+
+/// As many rules as there may be.
+fn set_rules(topology: &mut Topology, alloc: Global) -> Result<bool, Fail> {
+    for number in 0..4096u32 {
+        let name = format!(in alloc; "t{number}")?;
+        if set_rule(topology, name.as_str(), "k.t")? != "ok" {
+            return Ok(false);
+        }
+    }
+    Ok(true)
+}
+
+/// What is refused at the limits, and what is taken.
+fn limits_are_kept(topology: &mut Topology) -> Result<bool, Fail> {
+    let keyspaces = add_keyspace(topology, "k7")? == "T4 Exists"
+        && add_keyspace(topology, "k")? == "T5 Full";
+    let tables = add_table(topology, "a", "t7")? == "T4 Exists"
+        && add_table(topology, "a", "u")? == "T5 Full"
+        && add_table(topology, "b", "u")? == "ok";
+    Ok(keyspaces && tables)
+}
+
+/// The same of rules: one that is there may be changed or taken away.
+fn rules_are_kept(topology: &mut Topology) -> Result<bool, Fail> {
+    let refused = set_rule(topology, "t", "k.t")? == "T5 Full" && take_rule(topology, "t")? == "ok";
+    let changed = set_rule(topology, "t9", "k.u")? == "ok" && take_rule(topology, "t9")? == "ok";
+    Ok(refused && changed && set_rule(topology, "t", "k.t")? == "ok")
+}
+
+#[test]
+fn rows_of_look_ups(rt: HostRuntime) -> Result<(), Fail> {
+    let mut topology = two_keyspaces(rt.alloc())?;
+    assert!(rt; rules_lead(&mut topology)?);
+    assert!(rt; edits_are_refused(&mut topology)?);
+    assert!(rt; writes_and_back(&mut topology)?);
+    assert!(rt; tables_lead(&mut topology)?);
     Ok(())
 }
 
 #[test]
-fn rules_are_limited(rt: HostRuntime) -> Result<(), Fail> {
-    let mut topology = Topology::new(rt.alloc());
-    let target = RuleTarget::parse("k.t")?;
-    for number in 0..4096u32 {
-        let name = format!(in rt.alloc(); "t{number}")?;
-        assert_eq!(rt;
-            topology.edit_rule(&RuleKey::parse(name.as_str())?, Some(target.copied())),
-            Ok(())
-        );
-    }
-    let more = RuleKey::parse("t")?;
-    assert_eq!(rt;
-        topology.edit_rule(&more, Some(target.copied())),
-        Err(TopologyFault::Full)
-    );
-    assert_eq!(rt; topology.edit_rule(&more, None), Ok(()));
-    assert_eq!(rt;
-        topology.edit_rule(&RuleKey::parse("t9")?, Some(RuleTarget::parse("k.u")?)),
-        Ok(())
-    );
-    assert_eq!(rt; topology.edit_rule(&RuleKey::parse("t9")?, None), Ok(()));
-    assert_eq!(rt; topology.edit_rule(&more, Some(target)), Ok(()));
+fn limits(rt: HostRuntime) -> Result<(), Fail> {
+    let mut topology = two_keyspaces(rt.alloc())?;
+    assert!(rt; add_keyspaces(&mut topology, rt.alloc())?);
+    assert!(rt; add_tables(&mut topology, rt.alloc())?);
+    assert!(rt; limits_are_kept(&mut topology)?);
+    assert!(rt; set_rules(&mut topology, rt.alloc())?);
+    assert!(rt; rules_are_kept(&mut topology)?);
     Ok(())
 }
