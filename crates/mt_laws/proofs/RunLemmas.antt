@@ -23,27 +23,11 @@ use Rattle.mt_plain.specs.Next.{Answers, Run, after, next, next_taken, row_left}
 use Rattle.mt_plain.specs.Plain.{Plain, Write, has_keyspace, has_table, in_keyspace, log_length, number_of, opening, row_after_write, row_after_writes, row_of}
 use Rattle.mt_plain.specs.Refuse.{or_else, refusal_of, refuse_if, row_refusal, unknown_table}
 use Rattle.mt_laws.specs.Acknowledged.{acknowledged, acknowledged_by, row_by, row_or, row_with_op}
+use Rattle.mt_laws.specs.Numbers.{Below, HasNumbers, Numbers, number_at}
 
 -- ---- states that a run reaches
 
-abbrev pub Numbers : Type 0
-Numbers = List (RuleTarget × ℕ)
-
-abbrev pub number_at : Numbers → RuleTarget → Option ℕ
-number_at numbers target = lookup (same_target target) numbers
-
--- the writes are of tables with a number below a bound
-abbrev pub Below : ℕ → List Write → Type 0
-Below bound writes = AllByRecursion (λ w. w.table < bound) writes
-
--- a table has a number, which is below the bound and no other table's; each write is of such a number
-pub record IsReached (p : Plain) : Type 0 where
-  numbered : (keyspace table : List ℕ) → has_table p keyspace table ≡ true → (n : ℕ) × (number_at p.numbers (in_keyspace keyspace table) ≡ Some n)
-  distinct : (a b : RuleTarget) (n : ℕ) → number_at p.numbers a ≡ Some n → number_at p.numbers b ≡ Some n → a ≡ b
-  below : (a : RuleTarget) (n : ℕ) → number_at p.numbers a ≡ Some n → n < p.made
-  written : Below p.made p.writes
-
-opening_is_reached : IsReached opening
+pub opening_is_reached : HasNumbers opening
 opening_is_reached = record {
   numbered = λ keyspace table has. absurd (true≢false (sym has));
   distinct = λ a b n at_a at_b. absurd cc;
@@ -157,7 +141,7 @@ Below-push bound [] w all lt = (lt, tt)
 Below-push bound (v ∷ vs) w all lt = (all.0, Below-push bound vs w all.1 lt)
 
 -- the numbers with one more, which is the bound
-module _ (p : Plain) (reached : IsReached p) (new : RuleTarget) where
+module _ (p : Plain) (reached : HasNumbers p) (new : RuleTarget) where
   abbrev pushed : Numbers
   pushed = p.numbers ++ (new, p.made) ∷ []
 
@@ -221,12 +205,12 @@ row_is_left p keyspace table op none =
     (or_else-none by_row by_log (or_else-none (unknown_table p keyspace table) (or_else by_row by_log) none).1).0
 
 -- a table that is there has a number, by which its writes are told
-number_of_there : (p : Plain) (keyspace table : List ℕ) → IsReached p → has_table p keyspace table ≡ true → (n : ℕ) × (number_at p.numbers (in_keyspace keyspace table) ≡ Some n) × (number_of p keyspace table ≡ n)
+number_of_there : (p : Plain) (keyspace table : List ℕ) → HasNumbers p → has_table p keyspace table ≡ true → (n : ℕ) × (number_at p.numbers (in_keyspace keyspace table) ≡ Some n) × (number_of p keyspace table ≡ n)
 number_of_there p keyspace table reached has =
     let there = reached.numbered keyspace table has in
     (there.0, there.1, ap (λ o. unwrap_or o p.made) there.1)
 
-next_taken_is_reached : (p : Plain) (event : Event) → IsReached p → refusal_of p event ≡ None → IsReached (next_taken p event)
+next_taken_is_reached : (p : Plain) (event : Event) → HasNumbers p → refusal_of p event ≡ None → HasNumbers (next_taken p event)
 next_taken_is_reached p (write keyspace table op) reached none =
     let there = number_of_there p keyspace table reached (table_is_there p keyspace table op none) in
     let below : number_of p keyspace table < p.made = subst (λ n. n < p.made) (sym there.2) (reached.below (in_keyspace keyspace table) there.0 there.1) in
@@ -252,7 +236,7 @@ next_taken_is_reached p (add_table k name) reached none = record {
 next_taken_is_reached p (edit_rule key target) reached none = record { numbered = reached.numbered; distinct = reached.distinct; below = reached.below; written = reached.written }
 next_taken_is_reached p other reached none = reached
 
-next_is_reached : (p : Plain) (event : Event) (answer : Answer) → IsReached p → Answers p event answer → IsReached (next p event answer)
+pub next_is_reached : (p : Plain) (event : Event) (answer : Answer) → HasNumbers p → Answers p event answer → HasNumbers (next p event answer)
 next_is_reached p event (refused refusal) reached a = reached
 next_is_reached p event done reached a = next_taken_is_reached p event reached a.1
 next_is_reached p event (row r) reached a = next_taken_is_reached p event reached a.1
@@ -260,7 +244,7 @@ next_is_reached p event (row r) reached a = next_taken_is_reached p event reache
 -- ---- the row after a write
 
 -- two names that aren't one table have two numbers
-number_apart : (p : Plain) (k t keyspace table : List ℕ) (n : ℕ) → IsReached p → number_at p.numbers (in_keyspace k t) ≡ Some n → number_of p k t ≡ n → in_keyspace k t ≢ in_keyspace keyspace table → number_of p k t ≢ number_of p keyspace table
+number_apart : (p : Plain) (k t keyspace table : List ℕ) (n : ℕ) → HasNumbers p → number_at p.numbers (in_keyspace k t) ≡ Some n → number_of p k t ≡ n → in_keyspace k t ≢ in_keyspace keyspace table → number_of p k t ≢ number_of p keyspace table
 number_apart p k t keyspace table n reached at_n is other same = by (number_at p.numbers (in_keyspace keyspace table)) refl
   where
     by : (o : Option ℕ) → number_at p.numbers (in_keyspace keyspace table) ≡ o → ⊥
@@ -274,7 +258,7 @@ number_apart p k t keyspace table n reached at_n is other same = by (number_at p
         let e : n ≡ m = sym is ∙ same ∙ one in
         other (reached.distinct (in_keyspace k t) (in_keyspace keyspace table) n at_n (at_it ∙ ap Some (sym e)))
 
-same_numbers : (p : Plain) (k t keyspace table : List ℕ) (n : ℕ) → IsReached p → number_at p.numbers (in_keyspace k t) ≡ Some n → number_of p k t ≡ n → eqb (number_of p k t) (number_of p keyspace table) ≡ (same_text k keyspace && same_text t table)
+same_numbers : (p : Plain) (k t keyspace table : List ℕ) (n : ℕ) → HasNumbers p → number_at p.numbers (in_keyspace k t) ≡ Some n → number_of p k t ≡ n → eqb (number_of p k t) (number_of p keyspace table) ≡ (same_text k keyspace && same_text t table)
 same_numbers p k t keyspace table n reached at_n is = by (same_text k keyspace) refl (same_text t table) refl
   where
     apart : in_keyspace k t ≢ in_keyspace keyspace table → eqb (number_of p k t) (number_of p keyspace table) ≡ false
@@ -311,7 +295,7 @@ write_row n true true false left before op e is = rw e refl
 write_row n true false c left before op e is = rw e refl
 write_row n false b c left before op e is = rw e refl
 
-write_step : (p : Plain) (k t : List ℕ) (op : Op) → IsReached p → refusal_of p (write k t op) ≡ None → (keyspace table : List ℕ) (key : ℕ) → row_of (next_taken p (write k t op)) keyspace table key ≡ fold row_with_op (row_of p keyspace table key) (acknowledged_by keyspace table key (write k t op) done)
+write_step : (p : Plain) (k t : List ℕ) (op : Op) → HasNumbers p → refusal_of p (write k t op) ≡ None → (keyspace table : List ℕ) (key : ℕ) → row_of (next_taken p (write k t op)) keyspace table key ≡ fold row_with_op (row_of p keyspace table key) (acknowledged_by keyspace table key (write k t op) done)
 write_step p k t op reached none keyspace table key =
     let there = number_of_there p k t reached (table_is_there p k t op none) in
     fold-append (row_after_write (number_of p keyspace table) key) None p.writes (w ∷ [])
@@ -336,7 +320,7 @@ unwritten (w ∷ ws) bound number key all le =
     let other : eqb w.table number ≡ false = ne_eqb w.table number (λ e. absurd (omega arith)) in
     rw other (unwritten ws bound number key all.1 le)
 
-table_step : (p : Plain) (k t : List ℕ) → IsReached p → (keyspace table : List ℕ) (key : ℕ) → row_of (next_taken p (add_table k t)) keyspace table key ≡ row_of p keyspace table key
+table_step : (p : Plain) (k t : List ℕ) → HasNumbers p → (keyspace table : List ℕ) (key : ℕ) → row_of (next_taken p (add_table k t)) keyspace table key ≡ row_of p keyspace table key
 table_step p k t reached keyspace table key = by (number_at p.numbers (in_keyspace keyspace table)) refl
   where
     more : Numbers
@@ -364,7 +348,7 @@ acknowledged_by-refused : (keyspace table : List ℕ) (key : ℕ) (event : Event
 acknowledged_by-refused keyspace table key (write k t op) refusal = refl
 acknowledged_by-refused keyspace table key other refusal = refl
 
-row_step : (p : Plain) (event : Event) (answer : Answer) → IsReached p → Answers p event answer → (keyspace table : List ℕ) (key : ℕ) → row_of (next p event answer) keyspace table key ≡ fold row_with_op (row_of p keyspace table key) (acknowledged_by keyspace table key event answer)
+pub row_step : (p : Plain) (event : Event) (answer : Answer) → HasNumbers p → Answers p event answer → (keyspace table : List ℕ) (key : ℕ) → row_of (next p event answer) keyspace table key ≡ fold row_with_op (row_of p keyspace table key) (acknowledged_by keyspace table key event answer)
 row_step p event (refused refusal) reached a keyspace table key = sym (ap (fold row_with_op (row_of p keyspace table key)) (acknowledged_by-refused keyspace table key event refusal))
 row_step p (write k t op) done reached a keyspace table key = write_step p k t op reached a.1 keyspace table key
 row_step p (write k t op) (row r) reached a keyspace table key = absurd (let e = a.2 in cc)
@@ -373,7 +357,7 @@ row_step p (add_table k t) (row r) reached a keyspace table key = table_step p k
 row_step p other done reached a keyspace table key = refl
 row_step p other (row r) reached a keyspace table key = refl
 
-row_of-after : (events : List Event) (answers : List Answer) (p : Plain) → IsReached p → Run p events answers → (keyspace table : List ℕ) (key : ℕ) → row_of (after p events answers) keyspace table key ≡ fold row_with_op (row_of p keyspace table key) (acknowledged keyspace table key events answers)
+row_of-after : (events : List Event) (answers : List Answer) (p : Plain) → HasNumbers p → Run p events answers → (keyspace table : List ℕ) (key : ℕ) → row_of (after p events answers) keyspace table key ≡ fold row_with_op (row_of p keyspace table key) (acknowledged keyspace table key events answers)
 row_of-after [] [] p reached run keyspace table key = refl
 row_of-after [] (answer ∷ answers) p reached run keyspace table key = absurd run
 row_of-after (event ∷ events) [] p reached run keyspace table key = absurd run

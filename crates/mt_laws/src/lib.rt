@@ -4,6 +4,7 @@
 mod events;
 mod runs;
 mod scripts;
+mod tables;
 
 pub use events::{
     answers_are_determined, limits_are_told_last, reads_answer_the_row,
@@ -12,4 +13,7 @@ pub use events::{
 pub use runs::reads_answer_the_acknowledged_writes;
 pub use scripts::{
     each_line_that_writes_writes_one_line, output_is_what_is_written_where_memory_is_ample,
+};
+pub use tables::{
+    an_answer_changes_a_row_by_its_operation_alone, tables_keep_numbers_of_their_own,
 };
