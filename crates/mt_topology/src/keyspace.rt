@@ -3,7 +3,7 @@ ghost use Rattle.std.specs.Prelude.{◌≡◌, ◌&&◌, ◌==◌, [], true, fal
 ghost use Rattle.std.specs.Map.{lookup};
 ghost use Rattle.mt_names.specs.Names.{same_text};
 ghost use Rattle.mt_model.specs.Limits.{most_tables_in_keyspace};
-ghost use Rattle.mt_model.specs.Topology.{is_marked, with_table_mark, with_new_table};
+ghost use Rattle.mt_model.specs.Topology.{is_marked, with_table_mark, with_new_table, without_table_place};
 ghost use Rattle.mt_topology.specs.Edits.{Edits, new_table_refusal, lacks_table_place};
 
 use indexmap::IndexMap;
@@ -83,6 +83,15 @@ impl Keyspace {
         match self.tables.get_mut(table) {
             Some(mark) => mem::replace(mark, is_present),
             None => false,
+        }
+    }
+
+    /// Drops the place of a table that isn't there. It takes no memory.
+    pub fn release_table(&mut self, table: &TableName)
+        ensures { self.new ≡ without_table_place table.now self.old }
+    {
+        if !self.is_present(table) {
+            self.tables.shift_remove(table);
         }
     }
 

@@ -4,7 +4,7 @@ ghost use Rattle.std.specs.List.{cons_option};
 ghost use Rattle.std.specs.Map.{lookup};
 ghost use Rattle.std.specs.Option.{option_map_or};
 ghost use Rattle.mt_names.specs.Names.{same_text};
-ghost use Rattle.mt_model.specs.Topology.{holders, is_denied, is_present, keyspace_at, rule_for, sole_holder, with_keyspace_state, with_table_mark};
+ghost use Rattle.mt_model.specs.Topology.{holders, is_denied, is_present, keyspace_at, rule_for, sole_holder, with_keyspace_state, with_table_mark, without_table_place};
 
 use crate::keyspace::Keyspace;
 use indexmap::IndexMap;
@@ -71,6 +71,16 @@ pub fn set_present(
     match keyspaces.get_mut(keyspace) {
         Some(keyspace) => keyspace.set_present(table, mark),
         None => false,
+    }
+}
+
+/// Drops the place of a table that isn't there. It takes no memory.
+pub fn release_table(keyspaces: &mut Keyspaces, keyspace: &KeyspaceName, table: &TableName)
+    ensures after { keyspaces.new.entries ≡ with_keyspace_state (without_table_place table.now) keyspaces.old.entries keyspace.now }
+    ensures len { length keyspaces.new.entries ≡ length keyspaces.old.entries }
+{
+    if let Some(keyspace) = keyspaces.get_mut(keyspace) {
+        keyspace.release_table(table);
     }
 }
 

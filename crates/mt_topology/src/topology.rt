@@ -1,12 +1,12 @@
 //! The topology as one value.
 ghost use Rattle.std.specs.Prelude.{◌≡◌, true};
-ghost use Rattle.mt_model.specs.Topology.{HasDistinctPlaces, empty_topology, has_place, key_of, resolution, value_of, with_entry, with_keyspace, with_rule, with_table};
+ghost use Rattle.mt_model.specs.Topology.{HasDistinctPlaces, empty_topology, has_place, key_of, resolution, value_of, with_entry, with_keyspace, with_keyspace_state, with_rule, with_table, without_table_place};
 ghost use Rattle.mt_topology.specs.Edits.{Edits, add_keyspace_refusal, add_table_grows, add_table_refusal, edit_rule_grows, edit_rule_refusal};
 
 use crate::edits::{add_keyspace, add_table, put_rule, take_rule};
 use crate::lookup::{
-    Keyspaces, has_denied_place, has_place, is_denied, is_present, rule_for, set_present,
-    sole_holder,
+    Keyspaces, has_denied_place, has_place, is_denied, is_present, release_table, rule_for,
+    set_present, sole_holder,
 };
 use indexmap::IndexMap;
 use mt_model::{Entry, EntryKey, TopologyFault};
@@ -143,6 +143,13 @@ impl Topology {
             (with_table self.old keyspace.now table.now) result self.new }
     {
         add_table(&mut self.keyspaces, keyspace, table)
+    }
+
+    /// Drops the place of a table that isn't there. Where the table is there nothing changes. It takes no memory.
+    pub fn release_table(&mut self, keyspace: &KeyspaceName, table: &TableName)
+        ensures { self.new ≡ record self.old { keyspaces = with_keyspace_state (without_table_place table.now) self.old.keyspaces keyspace.now } }
+    {
+        release_table(&mut self.keyspaces, keyspace, table);
     }
 
     /// Sets the rule of a key, or takes it away with its place. `T5 Full` at a 4,097th place, `T0 Memory`. To change a

@@ -1,0 +1,3 @@
+pub mod Commands
+pub mod Core
+pub mod Runs

@@ -1,0 +1,73 @@
+-- What a run of a script does to its reader and its writer.
+use Rattle.std.specs.Prelude.{◌≡◌, ℕ, ◌≤◌, ◌<◌, List, [], ◌++◌, length, codes, Option, None, Some, Result, Ok, Err}
+use Rattle.std.specs.Io.KnownBytes.{Appends, Consumes, IsAtEnd, Keeps}
+use Rattle.mt_plain.specs.Events.{Answer}
+use Rattle.mt_plain.specs.Next.{Answers, next}
+use Rattle.mt_plain.specs.Output as plain
+use Rattle.mt_plain.specs.Output.{IsOutput, Leaves, MAX_SCRIPT_LENGTH, Told, answer_text, asks, line_feed, nothing, says}
+use Rattle.mt_plain.specs.Plain.{Plain}
+use Rattle.mt_program.specs.declared.reading.Progress.{Progress}
+use Rattle.mt_program.specs.declared.reading.Progress.TheVariants as progress
+use Rattle.mt_program.specs.declared.fault.ScriptFault.{ScriptFault}
+use Rattle.mt_program.specs.declared.fault.ScriptFault.TheVariants as fault
+use Rattle.mt_program.specs.Core.{CoreState, Stands}
+
+abbrev pub script_fault_text : ScriptFault → List ℕ
+script_fault_text fault.Memory = codes "Memory"
+script_fault_text fault.Read = codes "Read"
+script_fault_text fault.Write = codes "Write"
+script_fault_text fault.TooLong = codes "TooLong"
+
+-- what is known of the bytes that a reader has left, or a writer holds
+abbrev pub Known : Type 0
+Known = Option (List ℕ)
+
+-- ---- reading
+
+-- one read adds to the script what it gave, which is nothing at the end
+abbrev pub ReadsMore : Known → Known → (old new : List ℕ) → Result Progress ScriptFault → Type 0
+ReadsMore left left' old new (Ok progress.Whole) = (new ≡ old) × Keeps left left' × IsAtEnd left'
+ReadsMore left left' old new (Ok progress.More) = (more : List ℕ) × Consumes left left' more × (new ≡ old ++ more)
+ReadsMore left left' old new (Err f) = (more : List ℕ) × Consumes left left' more × (f ≢ fault.Write)
+
+-- the whole script was read; or what was read is too long; or some of it was read
+abbrev pub Reads : Known → Known → (List ℕ) → Result Unit ScriptFault → Type 0
+Reads left left' script (Ok done) = Consumes left left' script × IsAtEnd left' × (length script ≤ MAX_SCRIPT_LENGTH)
+Reads left left' script (Err fault.TooLong) = Consumes left left' script × (MAX_SCRIPT_LENGTH < length script)
+Reads left left' script (Err other) = Consumes left left' script × (other ≢ fault.Write)
+
+-- ---- a line
+
+-- what a line tells becomes a text, or none, and the core stands for the state after it
+abbrev pub Tells : Plain → Told → Option (List ℕ) → CoreState → Type 0
+Tells p nothing text core = (text ≡ None) × Stands p core
+Tells p (says words) text core = (text ≡ Some (words ++ line_feed)) × Stands p core
+Tells p (asks event) text core =
+    (answer : Answer) × Answers p event answer × (text ≡ Some (answer_text answer ++ line_feed)) × Stands (next p event answer) core
+
+-- ---- writing
+
+-- of some bytes the first went out, and the others did not
+abbrev pub GoesOut : Known → Known → (all rest : List ℕ) → Type 0
+GoesOut held held' all rest = (written : List ℕ) × Appends held held' written × (all ≡ written ++ rest)
+
+-- of all bytes that were to be written so far, those that wait are not written yet; a write fault leaves some others too
+abbrev pub Writes : Known → Known → (all waiting : List ℕ) → Result Unit ScriptFault → Type 0
+Writes held held' all waiting (Ok done) = GoesOut held held' all waiting
+Writes held held' all waiting (Err f) = (f ≡ fault.Write) × ((rest : List ℕ) × GoesOut held held' all rest)
+
+-- ---- the whole run
+
+abbrev pub fault_of : ScriptFault → plain.ScriptFault
+fault_of fault.Memory = plain.memory
+fault_of fault.Read = plain.read_fault
+fault_of fault.Write = plain.write_fault
+fault_of fault.TooLong = plain.too_long
+
+-- the bytes read are a script, and those written are an output of it and nothing else; a fault leaves written what
+-- the definitions say of it
+abbrev pub Runs : (left left' held held' : Known) → Result Unit ScriptFault → Type 0
+Runs left left' held held' (Ok done) =
+    (input : List ℕ) × (written : List ℕ) × Consumes left left' input × IsAtEnd left' × Appends held held' written × IsOutput input written
+Runs left left' held held' (Err f) =
+    (input : List ℕ) × (written : List ℕ) × Consumes left left' input × Appends held held' written × Leaves (fault_of f) input written
