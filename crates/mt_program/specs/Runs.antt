@@ -1,10 +1,11 @@
 -- What a run of a script does to its reader and its writer.
-use Rattle.std.specs.Prelude.{◌≡◌, ℕ, ◌≤◌, ◌<◌, List, [], ◌++◌, length, codes, Option, None, Some, Result, Ok, Err}
+use Rattle.std.specs.Prelude.{◌≡◌, ◌≢◌, ℕ, ◌≤◌, ◌<◌, List, [], ◌++◌, length, take, codes, Option, None, Some, Result, Ok, Err}
+use Rattle.std.specs.Str.Lines.{lines}
 use Rattle.std.specs.Io.KnownBytes.{Appends, Consumes, IsAtEnd, Keeps}
 use Rattle.mt_plain.specs.Events.{Answer}
 use Rattle.mt_plain.specs.Next.{Answers, next}
 use Rattle.mt_plain.specs.Output as plain
-use Rattle.mt_plain.specs.Output.{IsOutput, Leaves, MAX_SCRIPT_LENGTH, Told, answer_text, asks, line_feed, nothing, says}
+use Rattle.mt_plain.specs.Output.{IsOutput, Leaves, MAX_SCRIPT_LENGTH, Told, answer_text, asks, Output, line_feed, nothing, says, told}
 use Rattle.mt_plain.specs.Plain.{Plain}
 use Rattle.mt_program.specs.declared.reading.Progress.{Progress}
 use Rattle.mt_program.specs.declared.reading.Progress.TheVariants as progress
@@ -28,13 +29,13 @@ Known = Option (List ℕ)
 abbrev pub ReadsMore : Known → Known → (old new : List ℕ) → Result Progress ScriptFault → Type 0
 ReadsMore left left' old new (Ok progress.Whole) = (new ≡ old) × Keeps left left' × IsAtEnd left'
 ReadsMore left left' old new (Ok progress.More) = (more : List ℕ) × Consumes left left' more × (new ≡ old ++ more)
-ReadsMore left left' old new (Err f) = (more : List ℕ) × Consumes left left' more × (f ≢ fault.Write)
+ReadsMore left left' old new (Err f) = (more : List ℕ) × Consumes left left' more × (f ≢ fault.Write) × (f ≢ fault.TooLong)
 
--- the whole script was read; or what was read is too long; or some of it was read
-abbrev pub Reads : Known → Known → (List ℕ) → Result Unit ScriptFault → Type 0
+-- the whole script was read; or some of it, which is too long already where the fault says so
+abbrev pub Reads : Known → Known → (script : List ℕ) → Result Unit ScriptFault → Type 0
 Reads left left' script (Ok done) = Consumes left left' script × IsAtEnd left' × (length script ≤ MAX_SCRIPT_LENGTH)
-Reads left left' script (Err fault.TooLong) = Consumes left left' script × (MAX_SCRIPT_LENGTH < length script)
-Reads left left' script (Err other) = Consumes left left' script × (other ≢ fault.Write)
+Reads left left' script (Err f) =
+    (input : List ℕ) × Consumes left left' input × (f ≢ fault.Write) × (f ≡ fault.TooLong → MAX_SCRIPT_LENGTH < length input)
 
 -- ---- a line
 
@@ -51,10 +52,31 @@ Tells p (asks event) text core =
 abbrev pub GoesOut : Known → Known → (all rest : List ℕ) → Type 0
 GoesOut held held' all rest = (written : List ℕ) × Appends held held' written × (all ≡ written ++ rest)
 
+-- one write takes some of the bytes, or none
+abbrev pub WritesSome : Known → Known → (bytes : List ℕ) → Result ℕ ScriptFault → Type 0
+WritesSome held held' bytes (Ok count) = (count ≤ length bytes) × Appends held held' (take count bytes)
+WritesSome held held' bytes (Err f) = (f ≡ fault.Write) × Appends held held' []
+
 -- of all bytes that were to be written so far, those that wait are not written yet; a write fault leaves some others too
 abbrev pub Writes : Known → Known → (all waiting : List ℕ) → Result Unit ScriptFault → Type 0
 Writes held held' all waiting (Ok done) = GoesOut held held' all waiting
 Writes held held' all waiting (Err f) = (f ≡ fault.Write) × ((rest : List ℕ) × GoesOut held held' all rest)
+
+-- the bytes of a text, or none
+abbrev pub bytes_of : Option (List ℕ) → List ℕ
+bytes_of None = []
+bytes_of (Some text) = text
+
+-- a line is answered, and its text is written behind what waited
+abbrev pub RunsLine : Plain → (line : List ℕ) → CoreState → Known → Known → (waiting waiting' : List ℕ) → Result Unit ScriptFault → Type 0
+RunsLine p line core held held' waiting waiting' result =
+    (text : Option (List ℕ)) × Tells p (told p line) text core × Writes held held' (waiting ++ bytes_of text) waiting' result
+
+-- the answers to the lines of a script, from a state on: an output of them, of which a write fault leaves the beginning
+abbrev pub RunsLines : Plain → (script : List ℕ) → Known → Known → Result Unit ScriptFault → Type 0
+RunsLines p script held held' (Ok done) = (written : List ℕ) × Appends held held' written × Output Answers p (lines script) written
+RunsLines p script held held' (Err f) =
+    (f ≡ fault.Write) × ((out : List ℕ) × (rest : List ℕ) × Output Answers p (lines script) out × GoesOut held held' out rest)
 
 -- ---- the whole run
 

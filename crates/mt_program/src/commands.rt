@@ -6,9 +6,7 @@ ghost use Rattle.mt_program.specs.Commands.{AddsKeyspace, AddsTable, CreatesTabl
 ghost use Rattle.mt_program.specs.Core.{IsCore, Primaries, primary_at, primary_of};
 
 use indexmap::IndexMap;
-use mt_model::{
-    Entry, EntryKey, MAX_KEYSPACES, Op, PrimaryFault, Refusal, Reply, TopologyFault,
-};
+use mt_model::{Entry, EntryKey, MAX_KEYSPACES, Op, PrimaryFault, Refusal, Reply, TopologyFault};
 use mt_names::{KeyspaceName, RuleKey, RuleTarget, TableName, copied_value};
 use mt_primary::Primary;
 use mt_topology::Topology;

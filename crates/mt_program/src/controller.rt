@@ -7,9 +7,7 @@ ghost use Rattle.mt_plain.specs.Plain.{Plain, opening};
 ghost use Rattle.mt_program.specs.Commands.{Steps};
 ghost use Rattle.mt_program.specs.Core.{CoreState, Stands};
 
-use crate::commands::{
-    Primaries, add_keyspace, add_table, edit_rule, read_row, write_row,
-};
+use crate::commands::{Primaries, add_keyspace, add_table, edit_rule, read_row, write_row};
 use indexmap::IndexMap;
 use mt_model::{Op, Refusal, Reply, TopologyFault};
 use mt_names::{KeyspaceName, RuleKey, RuleTarget, TableName, TabletType};
@@ -79,11 +77,7 @@ impl Core {
     }
 
     /// Sets the rule of a key, or takes it away: `F27 Full`, `F0 Memory`.
-    pub fn edit_rule(
-        &mut self,
-        key: &RuleKey,
-        target: Option<RuleTarget>,
-    ) -> Result<Reply, Refusal>
+    pub fn edit_rule(&mut self, key: &RuleKey, target: Option<RuleTarget>) -> Result<Reply, Refusal>
         ensures steps { Steps self.old (edit_rule key.now target) result self.new }
         ensures unchanged { OnErr result (self.new ≡ self.old) }
     {

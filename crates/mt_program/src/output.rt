@@ -1,6 +1,6 @@
 //! Output that goes out in pieces.
-ghost use Rattle.std.specs.Prelude.{◌≡◌, ◌≤◌, ◌++◌, [], List, ℕ, length, OnOk, OnErr};
-ghost use Rattle.mt_program.specs.Runs.{GoesOut, Writes};
+ghost use Rattle.std.specs.Prelude.{◌≡◌, ◌≤◌, ◌+◌, ◌++◌, [], length, OnOk};
+ghost use Rattle.mt_program.specs.Runs.{Writes, WritesSome};
 
 use crate::fault::ScriptFault;
 use arrayvec::ArrayVec;
@@ -9,10 +9,26 @@ use std::io::{ErrorKind, Write};
 /// How many bytes of output wait at most.
 const ROOM: usize = 8192;
 
+/// The longest line of output, in bytes.
+const LONGEST_LINE: usize = 69;
+
 /// Output that is still to be written.
 pub type Waiting = ArrayVec<u8, ROOM>;
 
-/// Writes some bytes. A write that fails or takes no byte ends it: the first of the bytes are then written.
+/// Writes once, and answers how many of the bytes went out: none where the write was interrupted. A write that fails or
+/// takes no byte is a fault, and nothing went out.
+fn write_some<W: Write>(writer: &mut W, bytes: &[u8]) -> Result<usize, ScriptFault>
+    ensures { WritesSome (W.contents writer.old) (W.contents writer.new) bytes.now result }
+{
+    match writer.write(bytes) {
+        Ok(0) => Err(ScriptFault::Write),
+        Ok(count) => Ok(count),
+        Err(error) if error.kind() == ErrorKind::Interrupted => Ok(0),
+        Err(_) => Err(ScriptFault::Write),
+    }
+}
+
+/// Writes some bytes. After a fault the first of them are written.
 fn write_all<W: Write>(writer: &mut W, bytes: &[u8]) -> Result<(), ScriptFault>
     ensures { Writes (W.contents writer.old) (W.contents writer.new) bytes.now [] result }
 {
@@ -21,24 +37,31 @@ fn write_all<W: Write>(writer: &mut W, bytes: &[u8]) -> Result<(), ScriptFault>
         if rest.is_empty() {
             return Ok(());
         }
-        match writer.write(rest) {
-            Ok(0) => return Err(ScriptFault::Write),
-            Ok(count) => rest = rest.split_at(count).1,
-            Err(error) if error.kind() == ErrorKind::Interrupted => {}
-            Err(_) => return Err(ScriptFault::Write),
-        }
+        let count = write_some(writer, rest)?;
+        rest = rest.split_at(count).1;
     }
     Err(ScriptFault::Write)
 }
 
 /// Writes all that waits.
 pub fn flush<W: Write>(waiting: &mut Waiting, writer: &mut W) -> Result<(), ScriptFault>
-    ensures { Writes (W.contents writer.old) (W.contents writer.new) waiting.old.items waiting.new.items result }
-    ensures { OnOk result (waiting.new.items ≡ []) }
+    ensures writes { Writes (W.contents writer.old) (W.contents writer.new) waiting.old.items waiting.new.items result }
+    ensures empty { OnOk result (waiting.new.items ≡ []) }
 {
     write_all(writer, waiting)?;
     waiting.clear();
     Ok(())
+}
+
+/// Makes room for a line: where there is none, all that waits is written.
+fn make_room<W: Write>(waiting: &mut Waiting, writer: &mut W) -> Result<(), ScriptFault>
+    ensures writes { Writes (W.contents writer.old) (W.contents writer.new) waiting.old.items waiting.new.items result }
+    ensures room { OnOk result (length waiting.new.items + 69 ≤ ROOM) }
+{
+    if waiting.remaining_capacity() >= LONGEST_LINE {
+        return Ok(());
+    }
+    flush(waiting, writer)
 }
 
 /// Adds a line to what waits, and writes what waited where there is no room for it.
@@ -50,9 +73,7 @@ pub fn put_line<W: Write>(
     requires { length line.now ≤ 69 }
     ensures { Writes (W.contents writer.old) (W.contents writer.new) (waiting.old.items ++ line.now) waiting.new.items result }
 {
-    if waiting.remaining_capacity() < line.len() {
-        flush(waiting, writer)?;
-    }
+    make_room(waiting, writer)?;
     let _fits = waiting.try_extend_from_slice(line);
     Ok(())
 }

@@ -1,9 +1,8 @@
 //! Reading a script.
-ghost use Rattle.std.specs.Prelude.{◌≡◌, ◌++◌, [], ◌×◌};
+ghost use Rattle.std.specs.Prelude.{◌≡◌, []};
 ghost use Rattle.mt_program.specs.Runs.{Reads, ReadsMore};
 
 use crate::fault::ScriptFault;
-use std::alloc::Global;
 use std::io::{ErrorKind, Read};
 
 /// The longest script, in bytes.
@@ -43,7 +42,7 @@ fn read_more<R: Read>(script: &mut Vec<u8>, reader: &mut R) -> Result<Progress, 
     Ok(Progress::More)
 }
 
-/// Reads a script to its end. What was read is in `script`, in each case.
+/// Reads a script to its end.
 pub fn read_script<R: Read>(script: &mut Vec<u8>, reader: &mut R) -> Result<(), ScriptFault>
     requires { script.old.items ≡ [] }
     ensures { Reads (R.remaining reader.old) (R.remaining reader.new) script.new.items result }

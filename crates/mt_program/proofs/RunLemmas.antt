@@ -1,0 +1,143 @@
+-- Whatever completes the output of the lines that are left completes that of the script.
+use Rattle.std.proofs.Common.{◌≡◌, ℕ, true, ◌==◌, List, [], ◌∷◌, ◌++◌, length, take, drop, Option, Some, Result, Ok, Err, refl, sym, ap, ◌∙◌, subst, append-nil, append_assoc}
+use Rattle.std.proofs.lemmas.Bool.{eqb-true}
+use Rattle.std.proofs.lemmas.List.{nil_from_length, take-append-drop}
+use Rattle.std.specs.Io.KnownBytes.{Appends}
+use Rattle.std.specs.Str.Lines.{lines}
+use Rattle.mt_model.specs.declared.answers.Refusal as code
+use Rattle.mt_model.specs.declared.answers.Reply.{Reply}
+use Rattle.mt_plain.specs.Events.{Event, answer_from}
+use Rattle.mt_plain.specs.Next.{Answers, next}
+use Rattle.mt_plain.specs.Output.{Adds, BeginsOutput, IsOutput, Leaves, Output, Told, asks, line_feed, nothing, output_from, says, told}
+use Rattle.mt_plain.specs.Output as plain
+use Rattle.mt_plain.specs.Plain.{Plain, opening}
+use Rattle.mt_laws.proofs.OutputLemmas.{output_from-is_written, output_from_memory}
+use Rattle.mt_program.specs.declared.fault.ScriptFault.{ScriptFault}
+use Rattle.mt_program.specs.declared.fault.ScriptFault.TheVariants as fault
+use Rattle.mt_program.specs.Core.{CoreState, Stands}
+use Rattle.mt_program.specs.Runs.{GoesOut, Known, Reads, Runs, RunsLine, RunsLines, Tells, Writes, bytes_of}
+use Rattle.mt_program.proofs.KnownLemmas.{appends_nothing, appends_then}
+
+-- ---- bytes that go out
+
+pub nothing_out : (held : Known) (waiting : List ℕ) → GoesOut held held waiting waiting
+nothing_out held waiting = ([], appends_nothing held, refl)
+
+-- first some of the bytes, then more of them
+pub goes_on : (a b c : Known) (all waiting more rest : List ℕ) → GoesOut a b all waiting → GoesOut b c (waiting ++ more) rest → GoesOut a c (all ++ more) rest
+goes_on a b c all waiting more rest (first, went, is) (second, went_then, is_then) = (
+  first ++ second,
+  appends_then a b c first second went went_then,
+  ap (λ (t : List ℕ). t ++ more) is ∙ append_assoc first waiting more ∙ ap (λ (t : List ℕ). first ++ t) is_then ∙ sym (append_assoc first second rest),
+)
+
+-- one write more
+pub goes_more : (a b c : Known) (all rest : List ℕ) (count : ℕ) → GoesOut a b all rest → Appends b c (take count rest) → GoesOut a c all (drop count rest)
+goes_more a b c all rest count (first, went, is) went_then = (
+  first ++ take count rest,
+  appends_then a b c first (take count rest) went went_then,
+  is ∙ ap (λ (t : List ℕ). first ++ t) (sym (take-append-drop count rest)) ∙ sym (append_assoc first (take count rest) (drop count rest)),
+)
+
+pub goes_none : (a b c : Known) (all rest : List ℕ) → GoesOut a b all rest → Appends b c [] → GoesOut a c all rest
+goes_none a b c all rest (first, went, is) none = (first ++ [], appends_then a b c first [] went none, is ∙ ap (λ (t : List ℕ). t ++ rest) (sym (append-nil first)))
+
+-- what didn't go out may be longer
+pub goes_short : (a b : Known) (all rest more : List ℕ) → GoesOut a b all rest → GoesOut a b (all ++ more) (rest ++ more)
+goes_short a b all rest more (written, went, is) = (written, went, ap (λ (t : List ℕ). t ++ more) is ∙ append_assoc written rest more)
+
+pub none_left : (bytes : List ℕ) → (length bytes == 0) ≡ true → bytes ≡ []
+none_left bytes e = nil_from_length bytes (eqb-true (length bytes) 0 e)
+
+-- ---- a line
+
+-- the lines that are left have an output, whatever they are
+has_output : (p : Plain) (lines : List (List ℕ)) → Output Answers p lines (output_from p lines)
+has_output p lines = output_from_memory lines p (output_from p lines) (output_from-is_written lines p)
+
+-- what a line tells adds its text to whatever the rest adds from the next state
+tells_adds : (q : Plain) (t : Told) (text : Option (List ℕ)) (core : CoreState) → Tells q t text core
+    → (r : Plain) × Stands r core × ((Rest : Plain → List ℕ → Type 0) (out : List ℕ) → Rest r out → Adds Answers q t Rest (bytes_of text ++ out))
+tells_adds q nothing text core (none, stands) = (q, stands, λ Rest out rest. rw none rest)
+tells_adds q (says words) text core (some, stands) = (q, stands, λ Rest out rest. (out, ap (λ o. bytes_of o ++ out) some, rest))
+tells_adds q (asks event) text core (answer, answers, some, stands) =
+    (next q event answer, stands, λ Rest out rest. (answer, out, answers, ap (λ o. bytes_of o ++ out) some, rest))
+
+-- the core's answer to an event, told
+pub asks_told : (p : Plain) (event : Event) (answer : Result Reply code.Refusal) (text : List ℕ) (core : CoreState) → text ≡ plain.answer_text (answer_from answer) ++ line_feed
+    → Answers p event (answer_from answer) × Stands (next p event (answer_from answer)) core → Tells p (asks event) (Some text) core
+asks_told p event answer text core is steps = (answer_from answer, steps.0, ap Some is, steps.1)
+
+-- ---- a run so far
+
+-- a state that the core stands for; what was to be written, of which some waits; and whatever completes what is left
+-- completes the whole
+abbrev pub SoFar : Plain → (script rest : List ℕ) → CoreState → Known → Known → (waiting : List ℕ) → Type 0
+SoFar p script rest core held held' waiting =
+    (q : Plain) × Stands q core × ((all : List ℕ) × GoesOut held held' all waiting × ((out : List ℕ) → Output Answers q (lines rest) out → Output Answers p (lines script) (all ++ out)))
+
+pub begins : (p : Plain) (script : List ℕ) (core : CoreState) (held : Known) → Stands p core → SoFar p script script core held held []
+begins p script core held stands = (p, stands, ([], nothing_out held [], λ out is. is))
+
+pub line_done : (p : Plain) (script rest line after : List ℕ) (core core' : CoreState) (held held' held'' : Known) (waiting waiting' : List ℕ)
+    → SoFar p script rest core held held' waiting → lines rest ≡ line ∷ lines after
+    → ((q : Plain) → Stands q core → RunsLine q line core' held' held'' waiting waiting' (Ok tt)) → SoFar p script after core' held held'' waiting'
+line_done p script rest line after core core' held held' held'' waiting waiting' (q, stands, (all, went, completes)) first runs = by (runs q stands)
+  where
+    by : RunsLine q line core' held' held'' waiting waiting' (Ok tt) → SoFar p script after core' held held'' waiting'
+    by (text, tells, writes) = from (tells_adds q (told q line) text core' tells)
+      where
+        from : (r : Plain) × Stands r core' × ((Rest : Plain → List ℕ → Type 0) (out : List ℕ) → Rest r out → Adds Answers q (told q line) Rest (bytes_of text ++ out)) → SoFar p script after core' held held'' waiting'
+        from (r, stands', adds) = (
+          r,
+          stands',
+          (
+            all ++ bytes_of text,
+            goes_on held held' held'' all waiting (bytes_of text) waiting' went writes,
+            λ out is.
+                let more : Output Answers q (line ∷ lines after) (bytes_of text ++ out) = adds (λ s rest. Output Answers s (lines after) rest) out is in
+                subst (λ o. Output Answers p (lines script) o) (sym (append_assoc all (bytes_of text) out)) (completes (bytes_of text ++ out) (subst (λ ls. Output Answers q ls (bytes_of text ++ out)) (sym first) more)),
+          ),
+        )
+
+pub line_failed : (p : Plain) (script rest line after : List ℕ) (core core' : CoreState) (held held' held'' : Known) (waiting waiting' : List ℕ) (f : ScriptFault)
+    → SoFar p script rest core held held' waiting → lines rest ≡ line ∷ lines after
+    → ((q : Plain) → Stands q core → RunsLine q line core' held' held'' waiting waiting' (Err f)) → RunsLines p script held held'' (Err f)
+line_failed p script rest line after core core' held held' held'' waiting waiting' f (q, stands, (all, went, completes)) first runs = by (runs q stands)
+  where
+    by : RunsLine q line core' held' held'' waiting waiting' (Err f) → RunsLines p script held held'' (Err f)
+    by (text, tells, (is_write, (left, writes))) = from (tells_adds q (told q line) text core' tells)
+      where
+        from : (r : Plain) × Stands r core' × ((Rest : Plain → List ℕ → Type 0) (out : List ℕ) → Rest r out → Adds Answers q (told q line) Rest (bytes_of text ++ out)) → RunsLines p script held held'' (Err f)
+        from (r, stands', adds) =
+            let o : List ℕ = output_from r (lines after) in
+            let more : Output Answers q (line ∷ lines after) (bytes_of text ++ o) = adds (λ s rest. Output Answers s (lines after) rest) o (has_output r (lines after)) in
+            let whole : Output Answers p (lines script) ((all ++ bytes_of text) ++ o) =
+            subst (λ x. Output Answers p (lines script) x) (sym (append_assoc all (bytes_of text) o)) (completes (bytes_of text ++ o) (subst (λ ls. Output Answers q ls (bytes_of text ++ o)) (sym first) more)) in
+            (is_write, ((all ++ bytes_of text) ++ o, left ++ o, whole, goes_short held held'' (all ++ bytes_of text) left o (goes_on held held' held'' all waiting (bytes_of text) left went writes)))
+
+-- ---- the end
+
+pub ends : (p : Plain) (script rest : List ℕ) (core : CoreState) (held held' held'' : Known) (waiting waiting' : List ℕ) (result : Result Unit ScriptFault)
+    → SoFar p script rest core held held' waiting → lines rest ≡ [] → Writes held' held'' waiting waiting' result → (result ≡ Ok tt → waiting' ≡ []) → RunsLines p script held held'' result
+ends p script rest core held held' held'' waiting waiting' (Ok done) (q, stands, (all, went, completes)) none writes empty =
+    let out : Output Answers p (lines script) (all ++ []) = completes [] (subst (λ ls. Output Answers q ls []) (sym none) refl) in
+    let flushed = goes_on held held' held'' all waiting [] waiting' went (subst (λ x. GoesOut held' held'' x waiting') (sym (append-nil waiting)) writes) in
+    (flushed.0, flushed.1, subst (λ o. Output Answers p (lines script) o) (flushed.2 ∙ ap (λ (t : List ℕ). flushed.0 ++ t) (empty refl) ∙ append-nil flushed.0) out)
+ends p script rest core held held' held'' waiting waiting' (Err f) (q, stands, (all, went, completes)) none (is_write, (left, writes)) empty =
+    let out : Output Answers p (lines script) (all ++ []) = completes [] (subst (λ ls. Output Answers q ls []) (sym none) refl) in
+    (is_write, (all ++ [], left, out, goes_on held held' held'' all waiting [] left went (subst (λ x. GoesOut held' held'' x left) (sym (append-nil waiting)) writes)))
+
+-- ---- the whole run
+
+pub runs_read : (left left' held : Known) (script : List ℕ) (f : ScriptFault) → Reads left left' script (Err f) → Runs left left' held held (Err f)
+runs_read left left' held script fault.Memory (input, consumed, not_write, long) =
+    (input, [], consumed, appends_nothing held, (plain.output input, plain.output input, has_output opening (lines input), refl))
+runs_read left left' held script fault.Read (input, consumed, not_write, long) = (input, [], consumed, appends_nothing held, refl)
+runs_read left left' held script fault.Write (input, consumed, not_write, long) = absurd (not_write refl)
+runs_read left left' held script fault.TooLong (input, consumed, not_write, long) = (input, [], consumed, appends_nothing held, (long refl, refl))
+
+pub runs_lines : (left left' held held' : Known) (script : List ℕ) (result : Result Unit ScriptFault) → Reads left left' script (Ok tt) → RunsLines opening script held held' result → Runs left left' held held' result
+runs_lines left left' held held' script (Ok done) read (written, went, is) = (script, written, read.0, read.1, went, is)
+runs_lines left left' held held' script (Err f) read (is_write, (out, rest, is, (written, went, all))) =
+    rw is_write (script, written, read.0, went, (out, rest, is, sym all))
