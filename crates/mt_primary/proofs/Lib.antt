@@ -1,3 +1,4 @@
+pub mod ChangeLemmas
 pub mod LogLemmas
 pub mod PrimaryLemmas
 pub mod TableLemmas

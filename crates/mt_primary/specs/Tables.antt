@@ -1,9 +1,9 @@
 -- What a change of one table is, and what becomes of the log with it.
-use Rattle.std.specs.Prelude.{◌≡◌, ◌≢◌, ℕ, List, [], ◌∷◌, ◌++◌, length, ⊤, Result, Ok, Err}
-use Rattle.std.specs.declared.alloc.AllocError.{AllocError}
+use Rattle.std.specs.Prelude.{◌≡◌, ◌≢◌, ◌⊎◌, ℕ, true, List, [], ◌∷◌, ◌++◌, length, nat_lt, if◌then◌else◌, ⊤, Result, Ok, Err}
 use Rattle.mt_names.specs.Results.{◌>>=◌}
 use Rattle.mt_model.specs.declared.faults.PrimaryFault.{PrimaryFault}
-use Rattle.mt_model.specs.declared.faults.PrimaryFault.TheVariants.{Memory}
+use Rattle.mt_model.specs.declared.faults.PrimaryFault.TheVariants.{Memory, LogFull}
+use Rattle.mt_model.specs.Limits.{longest_log}
 use Rattle.mt_model.specs.declared.rows.Op.{Op}
 use Rattle.mt_model.specs.declared.rows.RowChange.{RowChange}
 use Rattle.mt_model.specs.Rows.{Row, op_key, op_row}
@@ -16,10 +16,6 @@ pub record IsRowPut (old : TableState) (key : ℕ) (row : Row) (new : TableState
   pub others : (other : ℕ) → other ≢ key → row_in new other ≡ row_in old other
   pub made : new.made ≡ old.made
   pub ordered : IsInKeyOrder new
-
-abbrev pub PutsRow : TableState → ℕ → Row → Result ⊤ AllocError → TableState → Type 0
-PutsRow old key row (Ok done) new = IsRowPut old key row new
-PutsRow old key row (Err fault) new = new ≡ old
 
 -- a table and the log, before or after
 pub record LoggedTable : Type 0 where
@@ -41,3 +37,25 @@ abbrev pub ChangesRow : LoggedTable → List ℕ → Op → Result ℕ PrimaryFa
 ChangesRow old name op (Ok position) new = IsRowChanged old name op position new
 ChangesRow old name op (Err Memory) new = ((row : Row) × (changed_row old op ≡ Ok row)) × (new ≡ old)
 ChangesRow old name op (Err fault) new = (changed_row old op ≡ Err fault) × (new ≡ old)
+
+-- ---- the steps of a change
+
+-- whether the log has room for an entry, by what making it answered
+abbrev pub TellsRoom : List RowChange → Result ⊤ PrimaryFault → Type 0
+TellsRoom log (Ok done) = nat_lt (length log) longest_log ≡ true
+TellsRoom log (Err fault) = fault ≡ (if nat_lt (length log) longest_log then Memory else LogFull)
+
+-- the row that an operation leaves where there is room for its entry, or what refuses it
+abbrev pub row_with_room : Op → Row → Result ⊤ PrimaryFault → Result Row PrimaryFault
+row_with_room op row room = op_row op row >>= λ left. room >>= λ done. Ok left
+
+-- the row is what the operation makes of it, and the entry tells of that
+pub record IsChangeMade (old : TableState) (name : List ℕ) (op : Op) (room : Result ⊤ PrimaryFault) (change : RowChange) (new : TableState) : Type 0 where
+  pub row : row_with_room op (row_in old (op_key op)) room ≡ Ok change.after
+  pub put : IsRowPut old (op_key op) change.after new
+  pub entry : change ≡ record { table = name; key = op_key op; before = row_in old (op_key op); after = change.after }
+
+-- Memory is told where nothing else refuses it, or of the log's room
+abbrev pub MakesChange : TableState → List ℕ → Op → Result ⊤ PrimaryFault → Result RowChange PrimaryFault → TableState → Type 0
+MakesChange old name op room (Ok change) new = IsChangeMade old name op room change new
+MakesChange old name op room (Err fault) new = (new ≡ old) × ((row_with_room op (row_in old (op_key op)) room ≡ Err fault) ⊎ ((fault ≡ Memory) × ((row : Row) × (row_with_room op (row_in old (op_key op)) room ≡ Ok row))))

@@ -1,14 +1,16 @@
 //! A table of a primary.
-ghost use Rattle.std.specs.Prelude.{◌≡◌, ◌≤◌};
+ghost use Rattle.std.specs.Prelude.{◌≡◌, ◌<◌, OnOk};
 ghost use Rattle.std.specs.Option.{option_copied};
+ghost use Rattle.std.specs.Vec.{vec_len, vec_capacity};
 ghost use Rattle.mt_model.specs.Rows.{appended, op_row};
 ghost use Rattle.mt_primary.specs.Primary.{new_table, row_in, IsInKeyOrder};
-ghost use Rattle.mt_primary.specs.Tables.{PutsRow, ChangesRow};
+ghost use Rattle.mt_primary.specs.Tables.{ChangesRow, MakesChange, TellsRoom, row_with_room};
 
 use mt_model::{MAX_LOG, Op, PrimaryFault, RowChange};
 use mt_names::{Position, TableName, Value, copied_value};
-use std::alloc::{AllocError, Global};
+use std::alloc::Global;
 use std::collections::BTreeMap;
+use std::collections::btree_map::Entry;
 use std::marker::Model;
 
 /// A table: its rows by their keys, and the position of the log at which it was made.
@@ -47,19 +49,45 @@ impl Table {
         self.rows.get(&key)
     }
 
-    /// Sets the row of a key, or takes it away. A row that isn't there yet takes memory.
-    pub fn put(&mut self, key: u64, row: Option<Value>) -> Result<(), AllocError>
-        ensures { PutsRow self.old key row result self.new }
+    /// Does an operation on its row, and answers the log's entry of it. The tests come in this order: `P3 RowExists`
+    /// or `P4 NoRow`, `P5 TooLong`, what the log's room is refused for, and last `P0 Memory`. The row's place is
+    /// looked for once.
+    fn change(
+        &mut self,
+        name: &TableName,
+        op: Op,
+        room: Result<(), PrimaryFault>,
+    ) -> Result<RowChange, PrimaryFault>
+        ensures { MakesChange self.old name.now op room result self.new }
     {
-        match row {
-            Some(value) => {
-                self.rows.insert(key, value)?;
+        let key = op.key();
+        let (before, after) = match self.rows.entry(key) {
+            Ok(Entry::Occupied(mut place)) => {
+                let after = row_left(op, Some(place.get()), room)?;
+                let before = match &after {
+                    Some(value) => place.insert(copied_value(value)),
+                    None => place.remove(),
+                };
+                (Some(before), after)
             }
-            None => {
-                self.rows.remove(&key);
+            Ok(Entry::Vacant(place)) => {
+                let after = row_left(op, None, room)?;
+                if let Some(value) = &after {
+                    place.insert(copied_value(value));
+                }
+                (None, after)
             }
-        }
-        Ok(())
+            Err(_) => {
+                row_left(op, None, room)?;
+                return Err(PrimaryFault::Memory);
+            }
+        };
+        Ok(RowChange {
+            table: name.copied(),
+            key,
+            before,
+            after,
+        })
     }
 }
 
@@ -87,6 +115,31 @@ fn row_made(op: Op, row: Option<&Value>) -> Result<Option<Value>, PrimaryFault>
     }
 }
 
+/// The row that an operation leaves where the log has room, or what refuses it first.
+fn row_left(
+    op: Op,
+    row: Option<&Value>,
+    room: Result<(), PrimaryFault>,
+) -> Result<Option<Value>, PrimaryFault>
+    ensures { result ≡ row_with_room op (option_copied row.entry) room }
+{
+    let row = row_made(op, row)?;
+    room?;
+    Ok(row)
+}
+
+/// Makes room for one entry more in a log that isn't full. It leaves the entries.
+fn make_room(log: &mut Vec<RowChange>) -> Result<(), PrimaryFault>
+    ensures entries { log.new.items ≡ log.old.items }
+    ensures room { OnOk result (vec_len log.new < vec_capacity log.new) }
+    ensures told { TellsRoom log.old.items result }
+{
+    if log.len() as u64 >= MAX_LOG {
+        return Err(PrimaryFault::LogFull);
+    }
+    log.reserve(1).map_err(|_| PrimaryFault::Memory)
+}
+
 /// Does the operation on its row, and enters the change into the log. The tests come in this order: `P3 RowExists`
 /// or `P4 NoRow`, `P5 TooLong`, `P6 LogFull`, and last `P0 Memory`.
 pub fn change_row(
@@ -97,25 +150,8 @@ pub fn change_row(
 ) -> Result<Position, PrimaryFault>
     ensures { ChangesRow (record { table = table.old; log = log.old.items }) name.now op result (record { table = table.new; log = log.new.items }) }
 {
-    let key = op.key();
-    let row = table.row(key);
-    let before = row.map(|value| copied_value(value));
-    let after = row_made(op, row)?;
-    if log.len() as u64 >= MAX_LOG {
-        return Err(PrimaryFault::LogFull);
-    }
-    if log.reserve(1).is_err() {
-        return Err(PrimaryFault::Memory);
-    }
-    let change = RowChange {
-        table: name.copied(),
-        key,
-        before,
-        after: after.as_ref().map(|value| copied_value(value)),
-    };
-    if table.put(key, after).is_err() {
-        return Err(PrimaryFault::Memory);
-    }
+    let room = make_room(log);
+    let change = table.change(name, op, room)?;
     log.push_reserved(change);
     Ok(log.len() as u64)
 }
