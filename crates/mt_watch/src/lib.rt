@@ -1,0 +1,19 @@
+//! Watchers: how a change of the topology reaches the routers and the primaries. A watcher is asked with a change and
+//! answers the notice of its scope; nothing else about it is trusted.
+#![tactic(auto)]
+
+mod asks;
+mod change;
+mod fault;
+mod notice;
+mod step;
+mod watcher;
+mod watchers;
+
+pub use asks::Asks;
+pub use change::Change;
+pub use fault::{WatchFault, WatchersFault};
+pub use mt_model::{Entry, EntryKey, Scope};
+pub use notice::Notice;
+pub use watcher::{Callback, Watcher};
+pub use watchers::Watchers;
