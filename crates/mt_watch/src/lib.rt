@@ -7,6 +7,8 @@ mod change;
 mod fault;
 mod notice;
 mod step;
+#[cfg(test)]
+mod tests;
 mod watcher;
 mod watchers;
 

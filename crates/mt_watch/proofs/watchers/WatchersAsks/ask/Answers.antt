@@ -30,9 +30,10 @@ returns-in_err-told g c =
     let at : slice_get (map (λ w. w.scope) xs) n ≡ Some item.scope = slice_get-map (λ w. w.scope) xs n ∙ ap (option_map (λ w. w.scope)) found in
     let may : Answering = by_number xs (λ w shown answer. (asked : Bor (List Entry)) × (asked.now ≡ shown) × (goal.Fn-dyn g).post (w.call.vtable, w.call.value) (asked, tt) answer) in
     let mine : Result (List Entry) WatchFault → Type 0 = λ answer. (asked : Bor (List Entry)) × (asked.now ≡ c.args.change.now) × (goal.Fn-dyn g).post (item.call.vtable, item.call.value) (asked, tt) answer in
-    let told : AsksEach (map (λ w. w.scope) xs) may c.args.scope.now c.args.change.now (Err c.in_err-told.field-0) =
-      AsksEach-refused (map (λ w. w.scope) xs) may c.args.scope.now item.scope c.args.change.now n c.loop-index.told c.in_err-told.field-0 mine (λ answer m. (item, found, m)) at c.in_err-told.ensures c.loop-index.invariant in
-    subst (AsksEach (map (λ w. w.scope) xs) may c.args.scope.now c.args.change.now) (search rules) told
+    let told : AsksEach (map (λ w. w.scope) xs) may c.args.scope.now c.args.change.now (Err c.in_err-told.field-0.0) =
+      AsksEach-refused (map (λ w. w.scope) xs) may c.args.scope.now item.scope c.args.change.now n c.loop-index.told c.in_err-told.field-0.0 mine (λ answer m. (item, found, m)) at c.in_err-told.ensures c.loop-index.invariant in
+    let same : Err c.in_err-told.field-0.0 ≡ c.from_residual.result = search rules in
+    subst (AsksEach (map (λ w. w.scope) xs) may c.args.scope.now c.args.change.now) same told
 
 pub returns-in-Some : goal.returns-in-Some
 returns-in-Some g c =
