@@ -1,5 +1,5 @@
 -- How far asking has come.
-use Rattle.std.proofs.Common.{◌≡◌, rules, arith, ℕ, zero, suc, ◌+◌, ◌<◌, ◌≤◌, Bool, true, false, ◌||◌, List, [], ◌∷◌, length, slice_get, Option, None, Some, Result, Ok, Err, refl, sym, ap, subst, ◌∙◌}
+use Rattle.std.proofs.Common.{◌≡◌, arith, ℕ, zero, suc, ◌+◌, ◌<◌, ◌≤◌, Bool, true, false, ◌||◌, List, [], ◌∷◌, length, slice_get, Option, None, Some, Result, Ok, Err, refl, sym, ap, subst, ◌∙◌}
 use Rattle.std.proofs.lemmas.Bool.{true≢false}
 use Rattle.std.proofs.lemmas.Option.{slice_get_within}
 use borrow.Author.Count.{below_more}
@@ -95,9 +95,9 @@ pub AreAsked-one : (scopes : List Scope) (may : Answering) (scope own : Scope) (
 AreAsked-one scopes may scope own change n told after mine is_mine at one so_far =
     elim (same_scope own scope) as (λ b. same_scope own scope ≡ b → AsksOneWhere b mine n (notice_of own change) told (Ok after) → AreAsked scopes may scope change (n + 1) after) [
       | true ↦ λ same turn. elim after as (λ t. AsksOfScope mine n (notice_of own change) (Ok t) → AreAsked scopes may scope change (n + 1) t) [
-          | None ↦ λ none. absurd none
-          | Some notice ↦ λ is. AreAsked-told scopes may scope own change n told notice at same is.0 (is_mine (Ok notice) is.1) so_far
-        ] turn
+        | None ↦ λ none. absurd none
+        | Some notice ↦ λ is. AreAsked-told scopes may scope own change n told notice at same is.0 (is_mine (Ok notice) is.1) so_far
+      ] turn
       | false ↦ λ differs turn. subst (AreAsked scopes may scope change (n + 1)) (sym (same_ok (Ok after) after told refl turn)) (AreAsked-skip scopes may scope own change n told at differs so_far)
     ] refl one
 

@@ -1,7 +1,6 @@
 -- A test on the scopes of watchers, and on the watchers.
 use Rattle.std.proofs.Common.{◌≡◌, rules, Bool, ◌||◌, List, [], ◌∷◌, map, refl, ap}
 use Rattle.std.specs.List.{list_any}
-use Rattle.std.specs.Bool.{Decides}
 use Rattle.mt_names.specs.Same.{DecidesEquality}
 use Rattle.mt_watch.specs.Scopes.{same_scope}
 

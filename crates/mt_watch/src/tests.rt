@@ -15,16 +15,8 @@ fn three_entries(alloc: Global, keyspace: &KeyspaceName) -> Result<Change, Fail>
         RuleKey::parse("customer")?,
         Some(RuleTarget::parse("commerce.customer")?),
     ))?;
-    change.push(Entry::Denied(
-        keyspace.copied(),
-        TableName::parse("customer")?,
-        true,
-    ))?;
-    change.push(Entry::Present(
-        keyspace.copied(),
-        TableName::parse("customer")?,
-        true,
-    ))?;
+    change.push(Entry::Denied(keyspace.copied(), TableName::parse("customer")?, true))?;
+    change.push(Entry::Present(keyspace.copied(), TableName::parse("customer")?, true))?;
     Ok(change)
 }
 
@@ -43,18 +35,20 @@ fn a_thirty_third_watcher_is_refused(rt: HostRuntime) -> Result<(), Fail> {
     let alloc = rt.alloc();
     let mut watchers = Watchers::new(alloc);
     for _ in 0..32u8 {
-        let call: Callback = Box::new(alloc, move |change: &Change| -> Result<Notice, WatchFault>
-            ensures { IfOk result (λ notice. notice ≡ notice_of Routes change.now) }
-        {
-            Notice::of(alloc, &Scope::Routes, change).map_err(|_| WatchFault(0))
-        })?;
+        let call: Callback = Box::new(
+            alloc,
+            move |change: &Change| -> Result<Notice, WatchFault>
+                ensures { IfOk result (λ notice. notice ≡ notice_of Routes change.now) }
+            { Notice::of(alloc, &Scope::Routes, change).map_err(|_| WatchFault(0)) },
+        )?;
         assert_eq!(rt; watchers.add(Watcher::new(Scope::Routes, call)), Ok(()));
     }
-    let call: Callback = Box::new(alloc, |_: &Change| -> Result<Notice, WatchFault>
-        ensures { IfOk result (λ notice. ⊥) }
-    {
-        Err(WatchFault(1))
-    })?;
+    let call: Callback = Box::new(
+        alloc,
+        |_: &Change| -> Result<Notice, WatchFault>
+            ensures { IfOk result (λ notice. ⊥) }
+        { Err(WatchFault(1)) },
+    )?;
     assert_eq!(rt;
         watchers.add(Watcher::new(Scope::Routes, call)),
         Err(WatchersFault::Full)
@@ -76,11 +70,12 @@ fn the_watchers_of_a_scope_are_asked(rt: HostRuntime) -> Result<(), Fail> {
     for keyspace in [&customer, &commerce, &customer] {
         let scope = Scope::Primary(keyspace.copied());
         let own = scope.copied();
-        let call: Callback = Box::new(alloc, move |change: &Change| -> Result<Notice, WatchFault>
-            ensures { IfOk result (λ notice. notice ≡ notice_of own change.now) }
-        {
-            Notice::of(alloc, &own, change).map_err(|_| WatchFault(0))
-        })?;
+        let call: Callback = Box::new(
+            alloc,
+            move |change: &Change| -> Result<Notice, WatchFault>
+                ensures { IfOk result (λ notice. notice ≡ notice_of own change.now) }
+            { Notice::of(alloc, &own, change).map_err(|_| WatchFault(0)) },
+        )?;
         watchers.add(Watcher::new(scope, call))?;
     }
     assert!(rt; watchers.has(&Scope::Primary(commerce.copied())));
@@ -102,14 +97,17 @@ fn the_second_watcher_refuses(rt: HostRuntime) -> Result<(), Fail> {
     let alloc = rt.alloc();
     let mut watchers = Watchers::new(alloc);
     for number in 0..3u8 {
-        let call: Callback = Box::new(alloc, move |change: &Change| -> Result<Notice, WatchFault>
-            ensures { IfOk result (λ notice. notice ≡ notice_of Routes change.now) }
-        {
-            if number == 1 {
-                return Err(WatchFault(7));
-            }
-            Notice::of(alloc, &Scope::Routes, change).map_err(|_| WatchFault(0))
-        })?;
+        let call: Callback = Box::new(
+            alloc,
+            move |change: &Change| -> Result<Notice, WatchFault>
+                ensures { IfOk result (λ notice. notice ≡ notice_of Routes change.now) }
+            {
+                if number == 1 {
+                    return Err(WatchFault(7));
+                }
+                Notice::of(alloc, &Scope::Routes, change).map_err(|_| WatchFault(0))
+            },
+        )?;
         watchers.add(Watcher::new(Scope::Routes, call))?;
     }
     assert_eq!(rt;

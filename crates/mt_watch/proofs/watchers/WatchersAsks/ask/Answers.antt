@@ -1,4 +1,4 @@
-use Rattle.std.proofs.Common.{rules, arith, ◌≡◌, length, slice_get, Some, Err, Result, map, List, ◌+◌, ◌≤◌, Bor, refl, ap, subst, ◌∙◌}
+use Rattle.std.proofs.Common.{rules, arith, ◌≡◌, length, slice_get, Some, Err, Result, map, List, ◌≤◌, Bor, refl, ap, subst, ◌∙◌}
 use Rattle.std.specs.Option.{option_map}
 use Rattle.std.proofs.lemmas.List.{length-map}
 use Rattle.std.proofs.lemmas.Option.{slice_get-map, slice_get_read}
@@ -31,7 +31,7 @@ returns-in_err-told g c =
     let may : Answering = by_number xs (λ w shown answer. (asked : Bor (List Entry)) × (asked.now ≡ shown) × (goal.Fn-dyn g).post (w.call.vtable, w.call.value) (asked, tt) answer) in
     let mine : Result (List Entry) WatchFault → Type 0 = λ answer. (asked : Bor (List Entry)) × (asked.now ≡ c.args.change.now) × (goal.Fn-dyn g).post (item.call.vtable, item.call.value) (asked, tt) answer in
     let told : AsksEach (map (λ w. w.scope) xs) may c.args.scope.now c.args.change.now (Err c.in_err-told.field-0.0) =
-      AsksEach-refused (map (λ w. w.scope) xs) may c.args.scope.now item.scope c.args.change.now n c.loop-index.told c.in_err-told.field-0.0 mine (λ answer m. (item, found, m)) at c.in_err-told.ensures c.loop-index.invariant in
+    AsksEach-refused (map (λ w. w.scope) xs) may c.args.scope.now item.scope c.args.change.now n c.loop-index.told c.in_err-told.field-0.0 mine (λ answer m. (item, found, m)) at c.in_err-told.ensures c.loop-index.invariant in
     let same : Err c.in_err-told.field-0.0 ≡ c.from_residual.result = search rules in
     subst (AsksEach (map (λ w. w.scope) xs) may c.args.scope.now c.args.change.now) same told
 
@@ -42,7 +42,7 @@ returns-in-Some g c =
     let all : length (map (λ w. w.scope) xs) ≤ c.loop-index.index = simp length-map (omega arith) in
     let may : Answering = by_number xs (λ w shown answer. (asked : Bor (List Entry)) × (asked.now ≡ shown) × (goal.Fn-dyn g).post (w.call.vtable, w.call.value) (asked, tt) answer) in
     IsTold-from (map (λ w. w.scope) xs) may c.args.scope.now c.args.change.now c.in-Some.notice c.loop-index.index all
-      (subst (AreAsked (map (λ w. w.scope) xs) may c.args.scope.now c.args.change.now c.loop-index.index) c.in-Some.is c.loop-index.invariant)
+    (subst (AreAsked (map (λ w. w.scope) xs) may c.args.scope.now c.args.change.now c.loop-index.index) c.in-Some.is c.loop-index.invariant)
 
 pub returns-in-None : goal.returns-in-None
 returns-in-None g c =
@@ -51,4 +51,4 @@ returns-in-None g c =
     let all : length (map (λ w. w.scope) xs) ≤ c.loop-index.index = simp length-map (omega arith) in
     let may : Answering = by_number xs (λ w shown answer. (asked : Bor (List Entry)) × (asked.now ≡ shown) × (goal.Fn-dyn g).post (w.call.vtable, w.call.value) (asked, tt) answer) in
     lacks_scope-from (map (λ w. w.scope) xs) c.args.scope.now c.loop-index.index all
-      (subst (AreAsked (map (λ w. w.scope) xs) may c.args.scope.now c.args.change.now c.loop-index.index) c.in-None.is c.loop-index.invariant)
+    (subst (AreAsked (map (λ w. w.scope) xs) may c.args.scope.now c.args.change.now c.loop-index.index) c.in-None.is c.loop-index.invariant)

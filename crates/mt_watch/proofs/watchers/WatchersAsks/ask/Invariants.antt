@@ -7,6 +7,6 @@ use Rattle.mt_watch.proofs.watchers.WatchersAsks.ask.Given as goal
 abbrev pub invariant-loop-index : goal.invariant-loop-index
 invariant-loop-index g l =
     AreAsked
-      (map (λ w. w.scope) l.self.all.items)
-      (by_number l.self.all.items (λ w shown answer. (asked : Bor (List Entry)) × (asked.now ≡ shown) × (goal.Fn-dyn g).post (w.call.vtable, w.call.value) (asked, tt) answer))
-      l.scope l.change l.index l.told
+    (map (λ w. w.scope) l.self.all.items)
+    (by_number l.self.all.items (λ w shown answer. (asked : Bor (List Entry)) × (asked.now ≡ shown) × (goal.Fn-dyn g).post (w.call.vtable, w.call.value) (asked, tt) answer))
+    l.scope l.change l.index l.told
