@@ -42,6 +42,14 @@ has_scope_at (x ∷ xs) scope zero here =
 has_scope_at (x ∷ xs) scope (suc i) here =
     elim (same_scope x scope) as (λ b. (b || has_scope xs scope) ≡ true) [ true ↦ refl | false ↦ has_scope_at xs scope i here ]
 
+pub number_of : (scopes : List Scope) (scope : Scope) → has_scope scopes scope ≡ true → (i : ℕ) × IsScopeAt scopes scope i
+number_of [] scope has = cc
+number_of (x ∷ xs) scope has =
+    elim (same_scope x scope) as (λ b. same_scope x scope ≡ b → (b || has_scope xs scope) ≡ true → (i : ℕ) × IsScopeAt (x ∷ xs) scope i) [
+      | true ↦ λ same _. (zero, ap Some ((same_scope_decides x scope).0 same))
+      | false ↦ λ _ others. let found = number_of xs scope others in (suc found.0, found.1)
+    ] refl has
+
 pub lacks_scope : (scopes : List Scope) (scope : Scope) → ((i : ℕ) → i < length scopes → IsScopeAt scopes scope i → ⊥) → has_scope scopes scope ≡ false
 lacks_scope [] scope none = refl
 lacks_scope (x ∷ xs) scope none =

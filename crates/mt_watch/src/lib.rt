@@ -5,6 +5,7 @@
 mod asks;
 mod change;
 mod fault;
+mod laws;
 mod notice;
 mod step;
 #[cfg(test)]
@@ -15,6 +16,7 @@ mod watchers;
 pub use asks::Asks;
 pub use change::Change;
 pub use fault::{WatchFault, WatchersFault};
+pub use laws::scopes_are_told_apart;
 pub use mt_model::{Entry, EntryKey, Scope};
 pub use notice::Notice;
 pub use watcher::{Callback, Watcher};
