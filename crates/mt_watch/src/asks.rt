@@ -22,8 +22,9 @@ pub trait Asks {
         ensures { result ≡ has_scope (scopes self.now) scope.now };
 
     /// Asks every watcher of the scope with the change, in the order in which they were added, and answers the last
-    /// one's notice. The first that refuses ends it with `H2 Refused` and its number; where no watcher has the scope it
-    /// is `H1 NoWatcher`. It takes no memory but what the watchers take.
+    /// one's notice, which is the notice of the change for the scope. The first that refuses ends it with `H2 Refused`
+    /// and its number, counted from 0 over all watchers; where none has the scope it is `H1 NoWatcher`. It takes no
+    /// memory but what the callbacks take.
     fn ask(&self, scope: &Scope, change: &Change) -> Result<Notice, WatchersFault>
         ensures { AsksEach (scopes self.now) (may_answer self.now) scope.now change.now result };
 }

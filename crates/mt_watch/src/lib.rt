@@ -1,5 +1,6 @@
 //! Watchers: how a change of the topology reaches the routers and the primaries. A watcher is asked with a change and
-//! answers the notice of its scope; nothing else about it is trusted.
+//! answers the notice of its scope; nothing else about it is trusted. (Vitess: routers watch the serving VSchema, which
+//! has the routing rules, and a primary reads its denied tables anew on RefreshState.)
 #![tactic(auto)]
 
 mod asks;
