@@ -1,0 +1,5 @@
+pub mod Asking
+pub mod Faults
+pub mod Lists
+pub mod Notices
+pub mod Scopes
