@@ -38,8 +38,8 @@ has_part_room rules keys source target tables =
 abbrev pub reserve_refusal : TopologyState → List ℕ → List ℕ → List (List ℕ) → Option TopologyFault
 reserve_refusal t source target tables =
     option_map_or (λ s. option_map_or (λ g.
-        if has_part_room t.rules (flat_map (table_rule_keys source target) tables) s g tables then None else Some Full)
-        (keyspace_at t.keyspaces target) (Some NoKeyspace)) (keyspace_at t.keyspaces source) (Some NoKeyspace)
+    if has_part_room t.rules (flat_map (table_rule_keys source target) tables) s g tables then None else Some Full)
+    (keyspace_at t.keyspaces target) (Some NoKeyspace)) (keyspace_at t.keyspaces source) (Some NoKeyspace)
 
 -- a key lacks a place, so that to reserve the keys takes memory (this profile's own)
 abbrev pub lacks_a_place : TopologyState → List EntryKey → Bool

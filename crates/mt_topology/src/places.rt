@@ -84,11 +84,7 @@ pub fn reserve_table(keyspaces: &mut Keyspaces, keyspace: &KeyspaceName, table: 
 
 /// Makes a place for the denial of a table in a keyspace, and answers whether it has one now, or the keyspace isn't
 /// there.
-pub fn reserve_denial(
-    keyspaces: &mut Keyspaces,
-    keyspace: &KeyspaceName,
-    table: &TableName,
-) -> bool
+pub fn reserve_denial(keyspaces: &mut Keyspaces, keyspace: &KeyspaceName, table: &TableName) -> bool
     ensures places { keyspaces.new.entries ≡ (if result then with_keyspace_state (with_denied_place table.now) keyspaces.old.entries keyspace.now else keyspaces.old.entries) }
     ensures len { length keyspaces.new.entries ≡ length keyspaces.old.entries }
 {

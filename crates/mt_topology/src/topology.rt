@@ -6,11 +6,11 @@ ghost use Rattle.mt_topology.specs.Part.{lacks_a_place, reserve_refusal};
 ghost use Rattle.mt_topology.specs.Edits.{Edits, add_keyspace_refusal, add_table_grows, add_table_refusal, edit_rule_grows, edit_rule_refusal};
 
 use crate::edits::{add_keyspace, add_table, put_rule, take_rule};
-use crate::places;
 use crate::lookup::{
     Keyspaces, has_denied_place, has_place, is_denied, is_present, rule_for, set_denied,
     set_present, sole_holder,
 };
+use crate::places;
 use indexmap::IndexMap;
 use mt_model::{Entry, EntryKey, TopologyFault, table_part_keys};
 use mt_names::{KeyspaceName, RuleKey, RuleTarget, TableName, TabletType};
