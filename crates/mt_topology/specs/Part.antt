@@ -1,5 +1,5 @@
 -- When the part of a workflow is reserved: what its places lack, and when it is refused.
-use Rattle.std.specs.Prelude.{◌≡◌, ℕ, ◌+◌, ◌&&◌, not, nat_lt, Bool, List, length, filter, if◌then◌else◌, Option, None, Some, is_some}
+use Rattle.std.specs.Prelude.{ℕ, ◌+◌, ◌&&◌, not, nat_lt, Bool, List, length, filter, if◌then◌else◌, Option, None, Some, is_some}
 use Rattle.std.specs.List.{flat_map, list_any}
 use Rattle.std.specs.Map.{lookup}
 use Rattle.std.specs.Option.{option_map_or}
@@ -10,7 +10,7 @@ use Rattle.mt_model.specs.declared.entries.EntryKey.{EntryKey}
 use Rattle.mt_model.specs.declared.faults.TopologyFault.{TopologyFault}
 use Rattle.mt_model.specs.declared.faults.TopologyFault.TheVariants.{NoKeyspace, Full}
 use Rattle.mt_model.specs.Limits.{most_rules, most_tables_in_keyspace}
-use Rattle.mt_model.specs.Part.{part_keys, table_rule_keys}
+use Rattle.mt_model.specs.Part.{table_rule_keys}
 use Rattle.mt_model.specs.Topology.{TopologyState, KeyspaceState, Marks, Rules, has_place, keyspace_at}
 
 -- how many of some names lack a place, each counted as often as it is named (this profile's own)

@@ -1,5 +1,5 @@
 -- The keys of one table more.
-use Rattle.std.proofs.Common.{◌≡◌, ◌+◌, ◌<◌, drop, length, arith}
+use Rattle.std.proofs.Common.{◌+◌, length, arith}
 use Rattle.std.specs.List.{flat_map}
 use Rattle.mt_model.specs.Part.{table_rule_keys}
 use Rattle.mt_topology.specs.Part.{lacking_rules}

@@ -1,5 +1,5 @@
 -- A table more.
-use Rattle.std.proofs.Common.{◌≡◌, ℕ, List, ◌≤◌, ◌+◌, ◌&&◌, ◌==◌, [], not, if◌then◌else◌, is_some, true, false, length, ap, subst, sym, ◌∙◌}
+use Rattle.std.proofs.Common.{◌≡◌, ℕ, List, ◌≤◌, ◌+◌, ◌&&◌, ◌==◌, not, if◌then◌else◌, is_some, true, false, length, ap, subst, sym, ◌∙◌}
 use Rattle.indexmap.specs.IndexMap.{insert_entry}
 use Rattle.std.specs.Map.{lookup}
 use Rattle.mt_names.specs.Names.{same_text}

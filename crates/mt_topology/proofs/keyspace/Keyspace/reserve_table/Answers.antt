@@ -1,5 +1,5 @@
 -- A table without a place goes last.
-use Rattle.std.proofs.Common.{◌≡◌, false, List, Bool, if◌then◌else◌, is_some, ap, subst, sym, ◌∙◌}
+use Rattle.std.proofs.Common.{◌≡◌, false, if◌then◌else◌, is_some, ap, subst, sym, ◌∙◌}
 use Rattle.std.specs.Map.{lookup}
 use Rattle.mt_names.specs.Names.{same_text}
 use Rattle.mt_denied.proofs.DeniedLemmas.{insert_entry-place}

@@ -1,5 +1,5 @@
 -- One table more.
-use Rattle.std.proofs.Common.{◌≡◌, ◌+◌, ◌||◌, drop, ap, sym, ◌∙◌}
+use Rattle.std.proofs.Common.{◌+◌, ◌||◌, drop, ap, sym, ◌∙◌}
 use Rattle.mt_model.specs.Part.{part_keys}
 use Rattle.mt_topology.specs.Part.{lacks_a_place}
 use Rattle.mt_topology.proofs.ReserveLemmas.{lacks-left}

@@ -1,5 +1,5 @@
 -- A place that is there, and one that is made and noted.
-use Rattle.std.proofs.Common.{rules, ◌≡◌, false, [], ◌∷◌, ◌++◌, sym, ◌∙◌}
+use Rattle.std.proofs.Common.{rules, ◌≡◌, [], ◌∷◌, ◌++◌, sym, ◌∙◌}
 use Rattle.mt_model.specs.Part.{with_place}
 use Rattle.mt_topology.proofs.ReserveLemmas.{made_noted, with_place-there}
 use Rattle.mt_topology.proofs.topology.Topology.make_noted.Goals as goal

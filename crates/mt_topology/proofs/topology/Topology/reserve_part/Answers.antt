@@ -1,5 +1,5 @@
 -- Nothing is lacking.
-use Rattle.std.proofs.Common.{◌≡◌, None, false, rules, sym, ◌∙◌}
+use Rattle.std.proofs.Common.{◌≡◌, None, false, rules, sym}
 use Rattle.mt_model.specs.Part.{part_keys}
 use Rattle.mt_topology.specs.Part.{lacks_a_place, reserve_refusal}
 use Rattle.mt_topology.proofs.ReserveLemmas.{with_places-there}
