@@ -1,2 +1,4 @@
 pub mod DistinctLemmas
+pub mod PartLemmas
+pub mod PlaceLemmas
 pub mod TopologyLemmas

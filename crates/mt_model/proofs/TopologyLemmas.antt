@@ -1,5 +1,5 @@
 -- What a topology says after a write, after a place is made or dropped, and after what is made by hand.
-use Rattle.std.proofs.Common.{◌≡◌, ◌≢◌, ℕ, Bool, true, false, cond, List, [], ◌∷◌, ◌++◌, Option, None, Some, is_some, unwrap_or, All, refl, sym, ap, subst, ◌∙◌, ⊎_elim}
+use Rattle.std.proofs.Common.{◌≡◌, ◌≢◌, ℕ, Bool, true, false, cond, List, [], ◌∷◌, ◌++◌, Option, None, Some, is_some, unwrap_or, All, refl, sym, ap, subst, ◌∙◌}
 use Rattle.std.proofs.lemmas.Bool.{true≢false}
 use Rattle.std.proofs.lemmas.List.Elements.{All-head, All-tail}
 use Rattle.std.specs.Bool.{Decides}
@@ -11,7 +11,7 @@ use Rattle.mt_names.specs.Same.{same_key}
 use Rattle.mt_names.specs.declared.keys.RuleKey.{RuleKey}
 use Rattle.mt_names.specs.declared.keys.RuleTarget.{RuleTarget}
 use Rattle.mt_names.proofs.SameLemmas.{same_key_decides, same_text_decides}
-use Rattle.mt_names.proofs.EntryLemmas.{lookup-set_value_here, lookup-set_value_elsewhere, set_value-back, lookup-push_here, lookup-push_elsewhere, lookup-remove_entry_here, lookup-remove_entry_elsewhere}
+use Rattle.mt_names.proofs.EntryLemmas.{lookup-set_value_here, lookup-set_value_elsewhere, set_value-back, lookup-push_here, lookup-remove_entry_here, lookup-remove_entry_elsewhere}
 use Rattle.mt_model.specs.declared.entries.Entry.{Entry}
 use Rattle.mt_model.specs.declared.entries.Entry.TheVariants as entry
 use Rattle.mt_model.specs.declared.entries.EntryKey.{EntryKey}

@@ -7,6 +7,7 @@ use Rattle.mt_model.specs.declared.faults.PrimaryFault.TheVariants as primary
 use Rattle.mt_model.specs.declared.answers.Refusal.{Refusal}
 use Rattle.mt_model.specs.declared.answers.Refusal.TheVariants as refusal
 
+-- numbers and names are this profile's own
 abbrev pub topology_fault_text : TopologyFault → List ℕ
 topology_fault_text topology.Memory = codes "T0 Memory"
 topology_fault_text topology.NoKeyspace = codes "T1 NoKeyspace"
@@ -16,6 +17,7 @@ topology_fault_text topology.Exists = codes "T4 Exists"
 topology_fault_text topology.Full = codes "T5 Full"
 topology_fault_text topology.BadDump = codes "T6 BadDump"
 
+-- numbers and names are this profile's own
 abbrev pub primary_fault_text : PrimaryFault → List ℕ
 primary_fault_text primary.Memory = codes "P0 Memory"
 primary_fault_text primary.NoTable = codes "P1 NoTable"
@@ -25,6 +27,7 @@ primary_fault_text primary.NoRow = codes "P4 NoRow"
 primary_fault_text primary.TooLong = codes "P5 TooLong"
 primary_fault_text primary.LogFull = codes "P6 LogFull"
 
+-- numbers and names are this profile's own
 abbrev pub refusal_text : Refusal → List ℕ
 refusal_text refusal.Memory = codes "F0 Memory"
 refusal_text refusal.NoKeyspace = codes "F1 NoKeyspace"

@@ -1,4 +1,5 @@
 pub mod Faults
 pub mod Limits
+pub mod Part
 pub mod Rows
 pub mod Topology

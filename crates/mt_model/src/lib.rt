@@ -6,6 +6,7 @@ mod entries;
 mod faults;
 mod laws;
 mod limits;
+mod part;
 mod rows;
 
 pub use answers::{Refusal, Reply};
@@ -16,4 +17,8 @@ pub use laws::{
     what_is_made_by_hand, written_back,
 };
 pub use limits::{MAX_KEYSPACES, MAX_LOG, MAX_RULES, MAX_TABLES_IN_KEYSPACE};
+pub use part::{
+    denials_change_no_look_up, part_has_places, part_keys_are_distinct, places_say_nothing,
+    table_part_keys, table_rule_keys, taken_back_in_reverse,
+};
 pub use rows::{Op, RowChange};

@@ -1,5 +1,5 @@
 -- What an edit keeps: places stay distinct, and the keyspaces within their limit.
-use Rattle.std.proofs.Common.{◌≡◌, ℕ, ◌+◌, ◌≤◌, Bool, true, false, ◌==◌, List, [], ◌∷◌, ◌++◌, length, Option, None, Some, is_some, Result, Ok, Err, refl, sym, subst, arith, length-append}
+use Rattle.std.proofs.Common.{◌≡◌, ℕ, ◌≤◌, Bool, true, false, ◌==◌, List, [], ◌∷◌, length, Option, None, Some, Result, Ok, Err, refl, sym, subst, arith, length-append}
 use Rattle.std.proofs.lemmas.Bool.{eqb-false}
 use Rattle.mt_model.specs.declared.faults.TopologyFault.{TopologyFault}
 use Rattle.mt_model.specs.declared.faults.TopologyFault.TheVariants.{Memory, NoKeyspace, NoTable, Ambiguous, Exists, Full, BadDump}

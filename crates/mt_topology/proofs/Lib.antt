@@ -1,3 +1,4 @@
 pub mod EditLemmas
 pub mod InvariantLemmas
 pub mod KeyspaceLemmas
+pub mod ReserveLemmas

@@ -1,22 +1,25 @@
 //! One keyspace of a topology.
-ghost use Rattle.std.specs.Prelude.{◌≡◌, ◌&&◌, ◌==◌, [], true, false, length, is_some};
+ghost use Rattle.std.specs.Prelude.{◌≡◌, ◌&&◌, ◌==◌, ◌≤◌, [], true, length, is_some, if◌then◌else◌};
 ghost use Rattle.std.specs.Map.{lookup};
 ghost use Rattle.mt_names.specs.Names.{same_text};
 ghost use Rattle.mt_model.specs.Limits.{most_tables_in_keyspace};
-ghost use Rattle.mt_model.specs.Topology.{is_marked, with_table_mark, with_new_table, without_table_place};
+ghost use Rattle.mt_model.specs.Topology.{is_marked, with_table_mark, with_denied_mark, with_new_table, with_table_place, without_table_place, with_denied_place, without_denied_place};
 ghost use Rattle.mt_topology.specs.Edits.{Edits, new_table_refusal, lacks_table_place};
+ghost use Rattle.mt_topology.specs.Part.{has_mark_room, lacking_marks};
 
 use indexmap::IndexMap;
+use mt_denied::DeniedTables;
 use mt_model::{MAX_TABLES_IN_KEYSPACE, TopologyFault};
 use mt_names::TableName;
 use std::alloc::Global;
 use std::marker::Model;
 use std::mem;
 
-/// The tables of a keyspace: a table has a place, and is there or not.
+/// The tables of a keyspace, each there or not, and those that its primary is to refuse.
 #[derive(Drop)]
 pub struct Keyspace {
     tables: IndexMap<TableName, bool>,
+    denied: DeniedTables,
 }
 
 impl Model for Keyspace {
@@ -29,18 +32,19 @@ impl Model for Keyspace {
 
     ghost Value = { KeyspaceState };
 
-    ghost view = { λ keyspace. record { tables = keyspace.tables.entries; denied = [] } };
+    ghost view = { λ keyspace. record { tables = keyspace.tables.entries; denied = keyspace.denied } };
 
     ghost invariant = { λ keyspace. IsDistinct same_text (keys_of keyspace.tables.entries) × (length keyspace.tables.entries ≤ most_tables_in_keyspace) };
 }
 
 impl Keyspace {
-    /// A keyspace without a table.
+    /// A keyspace without a table and without a denial.
     pub fn new(alloc: Global) -> Self
         ensures { result ≡ record { tables = []; denied = [] } }
     {
         Keyspace {
             tables: IndexMap::new(alloc),
+            denied: DeniedTables::new(alloc),
         }
     }
 
@@ -51,20 +55,18 @@ impl Keyspace {
         self.tables.get(table) == Some(&true)
     }
 
-    /// Whether the keyspace's primary is to refuse a table: no denial has a place yet.
+    /// Whether the keyspace's primary is to refuse a table.
     pub fn is_denied(&self, table: &TableName) -> bool
-        ensures value { result ≡ is_marked self.now.denied table.now }
-        ensures no_place { is_some (lookup (same_text table.now) self.now.denied) ≡ false }
+        ensures { result ≡ is_marked self.now.denied table.now }
     {
-        let Keyspace { tables: _tables } = self;
-        false
+        self.denied.contains(table)
     }
 
-    /// Whether the denial of a table has a place: none has one yet.
+    /// Whether the denial of a table has a place.
     pub fn has_denied_place(&self, table: &TableName) -> bool
         ensures { result ≡ is_some (lookup (same_text table.now) self.now.denied) }
     {
-        self.is_denied(table)
+        self.denied.has_place(table)
     }
 
     /// Whether a table has a place.
@@ -86,6 +88,53 @@ impl Keyspace {
         }
     }
 
+    /// Says of a table whose denial has a place whether it is denied, and answers what was said before. It takes no
+    /// memory.
+    pub fn set_denied(&mut self, table: &TableName, is_denied: bool) -> bool
+        requires { is_some (lookup (same_text table.now) self.old.denied) ≡ true }
+        ensures before { result ≡ is_marked self.old.denied table.now }
+        ensures after { self.new ≡ with_denied_mark table.now is_denied self.old }
+    {
+        self.denied.set(table, is_denied)
+    }
+
+    /// Whether there is room for the places that tables lack.
+    pub fn has_room_for_tables(&self, tables: &[TableName]) -> bool
+        ensures { result ≡ has_mark_room self.now.tables tables.now }
+    {
+        lacking_tables(&self.tables, tables) <= MAX_TABLES_IN_KEYSPACE - self.tables.len()
+    }
+
+    /// Whether there is room for the places that denials of tables lack.
+    pub fn has_room_for_denials(&self, tables: &[TableName]) -> bool
+        ensures { result ≡ has_mark_room self.now.denied tables.now }
+    {
+        lacking_denials(&self.denied, tables) <= MAX_TABLES_IN_KEYSPACE - self.denied.len()
+    }
+
+    /// Makes a place for a table, and answers whether it has one now.
+    pub fn reserve_table(&mut self, table: &TableName) -> bool
+        ensures { self.new ≡ (if result then with_table_place table.now self.old else self.old) }
+    {
+        if self.has_place(table) {
+            return true;
+        }
+        if self.is_full_for(table) {
+            return false;
+        }
+        match self.tables.insert(table.copied(), false) {
+            Ok(_) => true,
+            Err(_) => false,
+        }
+    }
+
+    /// Makes a place for the denial of a table, and answers whether it has one now.
+    pub fn reserve_denial(&mut self, table: &TableName) -> bool
+        ensures { self.new ≡ (if result then with_denied_place table.now self.old else self.old) }
+    {
+        self.denied.reserve(table).is_ok()
+    }
+
     /// Drops the place of a table that isn't there. It takes no memory.
     pub fn release_table(&mut self, table: &TableName)
         ensures { self.new ≡ without_table_place table.now self.old }
@@ -93,6 +142,13 @@ impl Keyspace {
         if !self.is_present(table) {
             self.tables.shift_remove(table);
         }
+    }
+
+    /// Drops the place of a denial that isn't there. It takes no memory.
+    pub fn release_denial(&mut self, table: &TableName)
+        ensures { self.new ≡ without_denied_place table.now self.old }
+    {
+        self.denied.release(table);
     }
 
     /// Whether a table lacks a place, and there are as many as there may be.
@@ -117,4 +173,24 @@ impl Keyspace {
             Err(_) => Err(TopologyFault::Memory),
         }
     }
+}
+
+/// How many of some tables lack a place.
+fn lacking_tables(places: &IndexMap<TableName, bool>, tables: &[TableName]) -> usize
+    ensures { result ≡ lacking_marks places.now.entries tables.now }
+{
+    tables
+        .iter()
+        .filter(|table| !places.contains_key(*table))
+        .count()
+}
+
+/// How many denials of some tables lack a place.
+fn lacking_denials(denied: &DeniedTables, tables: &[TableName]) -> usize
+    ensures { result ≡ lacking_marks denied.now tables.now }
+{
+    tables
+        .iter()
+        .filter(|table| !denied.has_place(table))
+        .count()
 }

@@ -4,7 +4,7 @@ ghost use Rattle.std.specs.List.{cons_option};
 ghost use Rattle.std.specs.Map.{lookup};
 ghost use Rattle.std.specs.Option.{option_map_or};
 ghost use Rattle.mt_names.specs.Names.{same_text};
-ghost use Rattle.mt_model.specs.Topology.{holders, is_denied, is_present, keyspace_at, rule_for, sole_holder, with_keyspace_state, with_table_mark, without_table_place};
+ghost use Rattle.mt_model.specs.Topology.{holders, is_denied, is_present, keyspace_at, rule_for, sole_holder, with_denied_mark, with_keyspace_state, with_table_mark, without_table_place};
 
 use crate::keyspace::Keyspace;
 use indexmap::IndexMap;
@@ -25,10 +25,9 @@ pub fn is_present(keyspaces: &Keyspaces, keyspace: &KeyspaceName, table: &TableN
     }
 }
 
-/// Whether a keyspace's primary is to refuse a table: no denial has a place yet.
+/// Whether a keyspace's primary is to refuse a table.
 pub fn is_denied(keyspaces: &Keyspaces, keyspace: &KeyspaceName, table: &TableName) -> bool
-    ensures value { result ≡ is_denied keyspaces.now.entries keyspace.now table.now }
-    ensures no_place { option_map_or (λ state. is_some (lookup (same_text table.now) state.denied)) (keyspace_at keyspaces.now.entries keyspace.now) false ≡ false }
+    ensures { result ≡ is_denied keyspaces.now.entries keyspace.now table.now }
 {
     match keyspaces.get(keyspace) {
         Some(keyspace) => keyspace.is_denied(table),
@@ -36,7 +35,7 @@ pub fn is_denied(keyspaces: &Keyspaces, keyspace: &KeyspaceName, table: &TableNa
     }
 }
 
-/// Whether a denial of a table has a place in a keyspace: none has one yet.
+/// Whether a denial of a table has a place in a keyspace.
 pub fn has_denied_place(keyspaces: &Keyspaces, keyspace: &KeyspaceName, table: &TableName) -> bool
     ensures { result ≡ option_map_or (λ state. is_some (lookup (same_text table.now) state.denied)) (keyspace_at keyspaces.now.entries keyspace.now) false }
 {
@@ -81,6 +80,24 @@ pub fn release_table(keyspaces: &mut Keyspaces, keyspace: &KeyspaceName, table: 
 {
     if let Some(keyspace) = keyspaces.get_mut(keyspace) {
         keyspace.release_table(table);
+    }
+}
+
+/// Says of a table whose denial has a place whether it is denied, and answers what was said before. It takes no memory.
+pub fn set_denied(
+    keyspaces: &mut Keyspaces,
+    keyspace: &KeyspaceName,
+    table: &TableName,
+    mark: bool,
+) -> bool
+    requires { option_map_or (λ state. is_some (lookup (same_text table.now) state.denied)) (keyspace_at keyspaces.old.entries keyspace.now) false ≡ true }
+    ensures before { result ≡ is_denied keyspaces.old.entries keyspace.now table.now }
+    ensures after { keyspaces.new.entries ≡ with_keyspace_state (with_denied_mark table.now mark) keyspaces.old.entries keyspace.now }
+    ensures len { length keyspaces.new.entries ≡ length keyspaces.old.entries }
+{
+    match keyspaces.get_mut(keyspace) {
+        Some(keyspace) => keyspace.set_denied(table, mark),
+        None => false,
     }
 }
 

@@ -147,6 +147,76 @@ fn rules_are_kept(topology: &mut Topology) -> Result<bool, Fail> {
     Ok(refused && changed && set_rule(topology, "t", "k.t")? == "ok")
 }
 
+/// Reserves the part of a workflow that moves one table.
+fn reserve(
+    topology: &mut Topology,
+    source: &str,
+    target: &str,
+    table: &str,
+) -> Result<&'static str, Fail> {
+    let source = KeyspaceName::parse(source)?;
+    let target = KeyspaceName::parse(target)?;
+    Ok(printed(topology.reserve_part(&source, &target, &[TableName::parse(table)?])))
+}
+
+/// Releases the part that moves `t` from `b` to `a`.
+fn release(topology: &mut Topology) -> Result<(), Fail> {
+    let source = KeyspaceName::parse("b")?;
+    let target = KeyspaceName::parse("a")?;
+    topology.release_part(&source, &target, &[TableName::parse("t")?]);
+    Ok(())
+}
+
+/// The denial of `t` at `b`.
+fn denial(is_denied: bool) -> Result<Entry, Fail> {
+    Ok(Entry::Denied(KeyspaceName::parse("b")?, TableName::parse("t")?, is_denied))
+}
+
+/// Writes it, if it has a place: whether what stood before is as expected.
+fn writes_denial(topology: &mut Topology, is_denied: bool, before: bool) -> Result<bool, Fail> {
+    let entry = denial(is_denied)?;
+    if !topology.has_place(&entry.key()) {
+        return Ok(false);
+    }
+    Ok(topology.write(entry) == denial(before)?)
+}
+
+/// A part is reserved; a denial is written and taken back.
+fn part_is_reserved(topology: &mut Topology) -> Result<bool, Fail> {
+    let key = denial(false)?.key();
+    let lacks = !topology.has_place(&key) && reserve(topology, "b", "c", "t")? == "T1 NoKeyspace";
+    let reserved = reserve(topology, "b", "a", "t")? == "ok" && topology.has_place(&key);
+    let written = writes_denial(topology, true, false)?
+        && topology.value(&key) == denial(true)?
+        && writes_denial(topology, false, true)?;
+    Ok(lacks && reserved && written)
+}
+
+/// Places that hold something stay when a part is released.
+fn part_is_released(topology: &mut Topology) -> Result<bool, Fail> {
+    let key = denial(false)?.key();
+    let denied = writes_denial(topology, true, false)?;
+    release(topology)?;
+    let stays = topology.has_place(&key) && writes_denial(topology, false, true)?;
+    release(topology)?;
+    let gone = !topology.has_place(&key) && leads(topology, "t", TabletType::Primary, "b.t")?;
+    Ok(denied && stays && gone && set_rule(topology, "x", "b.t")? == "ok")
+}
+
+/// So many rules that a part finds no room.
+fn part_finds_no_room(topology: &mut Topology, alloc: Global) -> Result<bool, Fail> {
+    for number in 0..4085u32 {
+        let name = format!(in alloc; "r{number}")?;
+        if set_rule(topology, name.as_str(), "k.t")? != "ok" {
+            return Ok(false);
+        }
+    }
+    let full = reserve(topology, "b", "a", "t")? == "T5 Full";
+    let left = topology.has_place(&denial(false)?.key());
+    let taken = take_rule(topology, "r0")? == "ok" && reserve(topology, "b", "a", "t")? == "ok";
+    Ok(full && !left && taken)
+}
+
 #[test]
 fn rows_of_look_ups(rt: HostRuntime) -> Result<(), Fail> {
     let mut topology = two_keyspaces(rt.alloc())?;
@@ -165,5 +235,20 @@ fn limits(rt: HostRuntime) -> Result<(), Fail> {
     assert!(rt; limits_are_kept(&mut topology)?);
     assert!(rt; set_rules(&mut topology, rt.alloc())?);
     assert!(rt; rules_are_kept(&mut topology)?);
+    Ok(())
+}
+
+#[test]
+fn parts(rt: HostRuntime) -> Result<(), Fail> {
+    let mut topology = two_keyspaces(rt.alloc())?;
+    assert!(rt; part_is_reserved(&mut topology)?);
+    assert!(rt; part_is_released(&mut topology)?);
+    Ok(())
+}
+
+#[test]
+fn room_for_parts(rt: HostRuntime) -> Result<(), Fail> {
+    let mut topology = two_keyspaces(rt.alloc())?;
+    assert!(rt; part_finds_no_room(&mut topology, rt.alloc())?);
     Ok(())
 }

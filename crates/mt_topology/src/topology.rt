@@ -1,21 +1,24 @@
 //! The topology as one value.
-ghost use Rattle.std.specs.Prelude.{◌≡◌, true};
+ghost use Rattle.std.specs.Prelude.{◌≡◌, true, IsTrue, reverse, if◌then◌else◌};
 ghost use Rattle.mt_model.specs.Topology.{HasDistinctPlaces, empty_topology, has_place, key_of, resolution, value_of, with_entry, with_keyspace, with_keyspace_state, with_rule, with_table, without_table_place};
+ghost use Rattle.mt_model.specs.Part.{part_keys, table_part_keys, with_place, with_places, without_place, without_places};
+ghost use Rattle.mt_topology.specs.Part.{lacks_a_place, reserve_refusal};
 ghost use Rattle.mt_topology.specs.Edits.{Edits, add_keyspace_refusal, add_table_grows, add_table_refusal, edit_rule_grows, edit_rule_refusal};
 
 use crate::edits::{add_keyspace, add_table, put_rule, take_rule};
 use crate::lookup::{
     Keyspaces, has_denied_place, has_place, is_denied, is_present, release_table, rule_for,
-    set_present, sole_holder,
+    set_denied, set_present, sole_holder,
 };
+use crate::places;
 use indexmap::IndexMap;
-use mt_model::{Entry, EntryKey, TopologyFault};
+use mt_model::{Entry, EntryKey, TopologyFault, table_part_keys};
 use mt_names::{KeyspaceName, RuleKey, RuleTarget, TableName, TabletType};
 use mt_rules::RoutingRules;
 use std::alloc::Global;
 use std::marker::Model;
 
-/// The topology: routing rules, and keyspaces with their tables. What is written has a place before, so a write takes
+/// The topology: routing rules, and keyspaces with their tables and denials. What is written has a place before, so a write takes
 /// no memory.
 #[derive(Drop)]
 pub struct Topology {
@@ -70,7 +73,7 @@ impl Topology {
         }
     }
 
-    /// Whether a key has a place, so that its entry can be written: no denial has one yet. It takes no memory.
+    /// Whether a key has a place, so that its entry can be written. It takes no memory.
     pub fn has_place(&self, key: &EntryKey) -> bool
         ensures { result ≡ has_place self.now key.now }
     {
@@ -92,8 +95,8 @@ impl Topology {
                 let before = self.rules.set(&key, target);
                 Entry::Rule(key, before)
             }
-            Entry::Denied(keyspace, table, _) => {
-                let before = is_denied(&self.keyspaces, &keyspace, &table);
+            Entry::Denied(keyspace, table, mark) => {
+                let before = set_denied(&mut self.keyspaces, &keyspace, &table, mark);
                 Entry::Denied(keyspace, table, before)
             }
             Entry::Present(keyspace, table, mark) => {
@@ -167,6 +170,178 @@ impl Topology {
             None => {
                 take_rule(&mut self.rules, key);
                 Ok(())
+            }
+        }
+    }
+    /// Makes a place for every entry of a workflow's part, as MoveTables moves the tables from the source to the target:
+    /// twelve rule keys a table, its denial at both sides, its presence at the target. No value is changed. First
+    /// `T1 NoKeyspace`, where the source or the target isn't there; then `T5 Full`, where the places that the part lacks
+    /// don't all find room, a table that is named twice counted twice: 4,096 rule entries, and at each keyspace 256 tables
+    /// and 256 denials; at last `T0 Memory`, which can't come where the part lacks no place. A refusal leaves no place
+    /// behind.
+    pub fn reserve_part(
+        &mut self,
+        source: &KeyspaceName,
+        target: &KeyspaceName,
+        tables: &[TableName],
+    ) -> Result<(), TopologyFault>
+        ensures { Edits self.old (reserve_refusal self.old source.now target.now tables.now) (lacks_a_place self.old (part_keys source.now target.now tables.now))
+            (with_places self.old (part_keys source.now target.now tables.now)) result self.new }
+    {
+        let refusal = places::refusal(&self.rules, &self.keyspaces, source, target, tables);
+        if let Some(fault) = refusal {
+            return Err(fault);
+        }
+        if !self.lacks_a_place(source, target, tables) {
+            return Ok(());
+        }
+        // There is room, so a place that can't be made wants memory.
+        let mut made = Vec::new(self.alloc);
+        if self.make_part(source, target, tables, &mut made) {
+            return Ok(());
+        }
+        self.take_back(&made);
+        Err(TopologyFault::Memory)
+    }
+
+    /// Drops the places of a workflow's part that hold no rule, no denial and no table. No value is changed. It takes no
+    /// memory.
+    pub fn release_part(
+        &mut self,
+        source: &KeyspaceName,
+        target: &KeyspaceName,
+        tables: &[TableName],
+    )
+        ensures { self.new ≡ without_places self.old (part_keys source.now target.now tables.now) }
+    {
+        for table in tables {
+            self.drop_places(&table_part_keys(source, target, table));
+        }
+    }
+
+    /// Whether an entry of a part lacks a place.
+    fn lacks_a_place(
+        &self,
+        source: &KeyspaceName,
+        target: &KeyspaceName,
+        tables: &[TableName],
+    ) -> bool
+        ensures { result ≡ lacks_a_place self.now (part_keys source.now target.now tables.now) }
+    {
+        for table in tables {
+            if self.lacks_one_of(&table_part_keys(source, target, table)) {
+                return true;
+            }
+        }
+        false
+    }
+
+    /// Whether one of some keys lacks a place.
+    fn lacks_one_of(&self, keys: &[EntryKey]) -> bool
+        ensures { result ≡ lacks_a_place self.now keys.now }
+    {
+        for key in keys {
+            if !self.has_place(key) {
+                return true;
+            }
+        }
+        false
+    }
+
+    /// Makes the places of a part, and notes those that it made; it stops at one that can't be made.
+    fn make_part(
+        &mut self,
+        source: &KeyspaceName,
+        target: &KeyspaceName,
+        tables: &[TableName],
+        made: &mut Vec<EntryKey>,
+    ) -> bool
+        ensures all { IsTrue result → self.new ≡ with_places self.old (part_keys source.now target.now tables.now) }
+        ensures back { without_places self.new (reverse made.new.items) ≡ without_places self.old (reverse made.old.items) }
+    {
+        for table in tables {
+            if !self.make_places(&table_part_keys(source, target, table), made) {
+                return false;
+            }
+        }
+        true
+    }
+
+    /// Makes the places of some keys, and notes those that it made; it stops at one that can't be made.
+    fn make_places(&mut self, keys: &[EntryKey], made: &mut Vec<EntryKey>) -> bool
+        ensures all { IsTrue result → self.new ≡ with_places self.old keys.now }
+        ensures back { without_places self.new (reverse made.new.items) ≡ without_places self.old (reverse made.old.items) }
+    {
+        for key in keys {
+            if !self.make_noted(key, made) {
+                return false;
+            }
+        }
+        true
+    }
+
+    /// Makes the place of a key that lacks it, and notes the key.
+    fn make_noted(&mut self, key: &EntryKey, made: &mut Vec<EntryKey>) -> bool
+        ensures all { IsTrue result → self.new ≡ with_place self.old key.now }
+        ensures back { without_places self.new (reverse made.new.items) ≡ without_places self.old (reverse made.old.items) }
+    {
+        if self.has_place(key) {
+            return true;
+        }
+        if made.push(key.copied()).is_err() {
+            return false;
+        }
+        let is_made = self.make_place(key);
+        if !is_made {
+            made.pop();
+        }
+        is_made
+    }
+
+    /// Makes the place of a key, and answers whether it has one now.
+    fn make_place(&mut self, key: &EntryKey) -> bool
+        ensures { self.new ≡ (if result then with_place self.old key.now else self.old) }
+    {
+        match key {
+            EntryKey::Rule(key) => places::reserve_rule(&mut self.rules, key),
+            EntryKey::Denied(keyspace, table) => {
+                places::reserve_denial(&mut self.keyspaces, keyspace, table)
+            }
+            EntryKey::Present(keyspace, table) => {
+                places::reserve_table(&mut self.keyspaces, keyspace, table)
+            }
+        }
+    }
+
+    /// Drops the places of keys that hold nothing, the last first.
+    fn take_back(&mut self, made: &[EntryKey])
+        ensures { self.new ≡ without_places self.old (reverse made.now) }
+    {
+        for key in made.iter().rev() {
+            self.drop_place(key);
+        }
+    }
+
+    /// Drops the places of keys that hold nothing.
+    fn drop_places(&mut self, keys: &[EntryKey])
+        ensures { self.new ≡ without_places self.old keys.now }
+    {
+        for key in keys {
+            self.drop_place(key);
+        }
+    }
+
+    /// Drops the place of a key that holds nothing.
+    fn drop_place(&mut self, key: &EntryKey)
+        ensures { self.new ≡ without_place self.old key.now }
+    {
+        match key {
+            EntryKey::Rule(key) => self.rules.release_key(key),
+            EntryKey::Denied(keyspace, table) => {
+                places::release_denial(&mut self.keyspaces, keyspace, table);
+            }
+            EntryKey::Present(keyspace, table) => {
+                places::release_table(&mut self.keyspaces, keyspace, table);
             }
         }
     }

@@ -1,5 +1,5 @@
 -- A table more in one keyspace.
-use Rattle.std.proofs.Common.{sym, ap, ◌∙◌}
+use Rattle.std.proofs.Common.{sym}
 use Rattle.mt_topology.proofs.EditLemmas.{table_added}
 use Rattle.mt_topology.proofs.edits.add_table.Goals as goal
 

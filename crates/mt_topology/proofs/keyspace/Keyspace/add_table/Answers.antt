@@ -1,5 +1,5 @@
 -- A table more.
-use Rattle.std.proofs.Common.{◌≡◌, ℕ, List, ◌≤◌, ◌+◌, ◌&&◌, ◌==◌, [], not, if◌then◌else◌, is_some, true, false, length, ap, subst, sym, ◌∙◌}
+use Rattle.std.proofs.Common.{◌≡◌, ℕ, List, ◌≤◌, ◌+◌, ◌&&◌, ◌==◌, not, if◌then◌else◌, is_some, true, false, length, ap, subst, sym, ◌∙◌}
 use Rattle.indexmap.specs.IndexMap.{insert_entry}
 use Rattle.std.specs.Map.{lookup}
 use Rattle.mt_names.specs.Names.{same_text}
@@ -10,8 +10,8 @@ use Rattle.mt_topology.proofs.KeyspaceLemmas.{added, not_added, within-place}
 use Rattle.mt_topology.proofs.keyspace.Keyspace.add_table.Goals as goal
 use Rattle.mt_topology.proofs.keyspace.Keyspace.add_table.Goals.{in-Ok, in-Err}
 
-abbrev only_tables : Marks → KeyspaceState
-only_tables marks = record { tables = marks; denied = [] }
+abbrev keyspace_of : Marks → Marks → KeyspaceState
+keyspace_of denied tables = record { tables = tables; denied = denied }
 
 abbrev with_inserted : List ℕ → KeyspaceState → KeyspaceState
 with_inserted table state = record state { tables = insert_entry same_text state.tables table true }
@@ -42,6 +42,7 @@ pub returns : goal.returns
 returns c =
     let old = c.args.self.now in
     let table = c.args.table.now in
+    let only_tables = keyspace_of c.self.inside.denied in
     let new = only_tables c.insert.new.self.entries in
     elim c.match-insert.branch as (λ b. Edits old (new_table_refusal old table) (lacks_table_place old table) (with_new_table table old) c.match-insert.result new) [
       | in-Ok w ↦ subst (λ r. Edits old (new_table_refusal old table) (lacks_table_place old table) (with_new_table table old) r new) (sym w.result-is)

@@ -19,3 +19,10 @@ invariant_of-self-in-Present c =
       subst (λ keyspaces. HasDistinctPlaces (record t { keyspaces = keyspaces })) (sym c.set_present-before.ensures.after) (distinct-with_entry t (entry.Present c.in-Present.keyspace c.in-Present.table c.in-Present.mark) c.self.invariant.0),
       subst (λ n. n ≤ most_keyspaces) (sym c.set_present-before.ensures.len) c.self.invariant.1,
     )
+
+pub invariant_of-self-in-Denied : goal.invariant_of-self-in-Denied
+invariant_of-self-in-Denied c =
+    let t : TopologyState = record { rules = c.self.inside.rules; keyspaces = c.self.inside.keyspaces.entries } in (
+      subst (λ keyspaces. HasDistinctPlaces (record t { keyspaces = keyspaces })) (sym c.set_denied-before.ensures.after) (distinct-with_entry t (entry.Denied c.in-Denied.keyspace c.in-Denied.table c.in-Denied.mark) c.self.invariant.0),
+      subst (λ n. n ≤ most_keyspaces) (sym c.set_denied-before.ensures.len) c.self.invariant.1,
+    )

@@ -1,0 +1,198 @@
+//! The list of denied tables.
+ghost use Rattle.std.specs.Prelude.{◌≡◌, ◌≤◌, [], true, length, IfOk, IfErr};
+ghost use Rattle.std.specs.List.{IsDistinct};
+ghost use Rattle.std.specs.Map.{keys_of, set_value};
+ghost use Rattle.mt_names.specs.Names.{same_text};
+ghost use Rattle.mt_model.specs.Limits.{most_tables_in_keyspace};
+ghost use Rattle.mt_model.specs.Topology.{is_marked, without_mark_place};
+ghost use Rattle.mt_denied.specs.Denied.{AreMembersInOrder, Reserves, has_mark_place};
+
+use crate::DeniedFault;
+use indexmap::IndexMap;
+use mt_model::MAX_TABLES_IN_KEYSPACE;
+use mt_names::TableName;
+use std::alloc::Global;
+use std::marker::Model;
+use std::mem;
+
+/// The tables that a keyspace's primary is to refuse, as the denied tables of Vitess's shard record. A table is
+/// reserved before it is denied, so that to deny or to allow it takes no memory: it then has a place, denied or not.
+/// There are at most 256 places.
+#[derive(Drop)]
+pub struct DeniedTables {
+    places: IndexMap<TableName, bool>,
+}
+
+impl Model for DeniedTables {
+    ghost use Rattle.std.specs.Prelude.{◌≤◌, length};
+    ghost use Rattle.std.specs.List.{IsDistinct};
+    ghost use Rattle.std.specs.Map.{keys_of};
+    ghost use Rattle.mt_names.specs.Names.{same_text};
+    ghost use Rattle.mt_model.specs.Limits.{most_tables_in_keyspace};
+    ghost use Rattle.mt_model.specs.Topology.{Marks};
+
+    ghost Value = { Marks };
+
+    ghost view = { λ denied. denied.places.entries };
+
+    ghost invariant = { λ denied. IsDistinct same_text (keys_of denied.places.entries) × (length denied.places.entries ≤ most_tables_in_keyspace) };
+}
+
+impl DeniedTables {
+    /// No table is denied, and none has a place.
+    pub fn new(alloc: Global) -> Self
+        ensures { result ≡ [] }
+    {
+        DeniedTables {
+            places: IndexMap::new(alloc),
+        }
+    }
+
+    /// How many places there are.
+    pub fn len(&self) -> usize
+        ensures len { result ≡ length self.now }
+        ensures within { length self.now ≤ most_tables_in_keyspace }
+        ensures distinct { IsDistinct same_text (keys_of self.now) }
+    {
+        self.places.len()
+    }
+
+    /// Whether a table is denied. It takes no memory.
+    pub fn contains(&self, table: &TableName) -> bool
+        ensures { result ≡ is_marked self.now table.now }
+    {
+        self.places.get(table) == Some(&true)
+    }
+
+    /// Whether a table is reserved.
+    pub fn has_place(&self, table: &TableName) -> bool
+        ensures { result ≡ has_mark_place self.now table.now }
+    {
+        self.places.contains_key(table)
+    }
+
+    /// Makes a place for a table, which isn't denied by it. Where the table has one nothing changes. `L1 Full` at a
+    /// 257th place, `L0 Memory`; both leave all as it was.
+    pub fn reserve(&mut self, table: &TableName) -> Result<(), DeniedFault>
+        ensures { Reserves self.old table.now result self.new }
+    {
+        if self.has_place(table) {
+            return Ok(());
+        }
+        if self.len() == MAX_TABLES_IN_KEYSPACE {
+            return Err(DeniedFault::Full);
+        }
+        match self.places.insert(table.copied(), false) {
+            Ok(_) => Ok(()),
+            Err(_) => Err(DeniedFault::Memory),
+        }
+    }
+
+    /// Says of a reserved table whether it is denied, and answers what stood before. It takes no memory.
+    pub fn set(&mut self, table: &TableName, is_denied: bool) -> bool
+        requires { has_mark_place self.old table.now ≡ true }
+        ensures before { result ≡ is_marked self.old table.now }
+        ensures after { self.new ≡ set_value (same_text table.now) self.old is_denied }
+    {
+        match self.places.get_mut(table) {
+            Some(mark) => mem::replace(mark, is_denied),
+            None => false,
+        }
+    }
+
+    /// Drops the place of a table that isn't denied. Where it is denied nothing changes. It takes no memory.
+    pub fn release(&mut self, table: &TableName)
+        ensures { self.new ≡ without_mark_place self.old table.now }
+    {
+        if !self.contains(table) {
+            self.places.shift_remove(table);
+        }
+    }
+
+    /// The denied tables in the order of their bytes, each once. `L0 Memory`.
+    pub fn sorted(&self, alloc: Global) -> Result<Vec<TableName>, DeniedFault>
+        ensures members { IfOk result (λ names. AreMembersInOrder self.now names.items) }
+        ensures memory { IfErr result (λ fault. fault ≡ DeniedFault.Memory) }
+    {
+        let mut names = Vec::new(alloc);
+        for (name, is_denied) in self.places.iter() {
+            if *is_denied && names.push(name.copied()).is_err() {
+                return Err(DeniedFault::Memory);
+            }
+        }
+        names.sort_unstable();
+        Ok(names)
+    }
+}
+
+#[cfg(test)]
+mod tests {
+    use super::*;
+    use std::test::Fail;
+
+    #[test]
+    fn a_table_is_denied_and_allowed(rt: HostRuntime) -> Result<(), Fail> {
+        let mut denied = DeniedTables::new(rt.alloc());
+        let t = TableName::parse("t")?;
+        assert_eq!(rt; denied.reserve(&t), Ok(()));
+        assert!(rt; !denied.set(&t, true));
+        assert!(rt; denied.set(&t, true));
+        assert_eq!(rt; denied.sorted(rt.alloc())?.len(), 1);
+        denied.release(&t);
+        assert!(rt; denied.contains(&t));
+        assert!(rt; denied.set(&t, false));
+        assert_eq!(rt; denied.reserve(&t), Ok(()));
+        assert_eq!(rt; denied.len(), 1);
+        denied.release(&t);
+        assert_eq!(rt; denied.len(), 0);
+        Ok(())
+    }
+
+    #[test]
+    fn members_are_listed_in_the_order_of_their_bytes(rt: HostRuntime) -> Result<(), Fail> {
+        let mut denied = DeniedTables::new(rt.alloc());
+        for name in ["b", "a", "ab", "B", "c"] {
+            let table = TableName::parse(name)?;
+            denied.reserve(&table)?;
+            if name != "c" && denied.has_place(&table) {
+                denied.set(&table, true);
+            }
+        }
+        let mut listed = String::new(rt.alloc());
+        for name in denied.sorted(rt.alloc())?.iter() {
+            listed.push_str(name.as_str())?;
+            listed.push_str(" ")?;
+        }
+        assert_eq!(rt; listed.as_str(), "B a ab b ");
+        Ok(())
+    }
+
+    #[test]
+    fn places_are_limited(rt: HostRuntime) -> Result<(), Fail> {
+        let mut denied = DeniedTables::new(rt.alloc());
+        for number in 0..256u32 {
+            let name = format!(in rt.alloc(); "t{number}")?;
+            assert_eq!(rt; denied.reserve(&TableName::parse(name.as_str())?), Ok(()));
+        }
+        assert_eq!(rt;
+            denied.reserve(&TableName::parse("t256")?),
+            Err(DeniedFault::Full)
+        );
+        assert_eq!(rt; denied.reserve(&TableName::parse("t7")?), Ok(()));
+        assert_eq!(rt; denied.len(), 256);
+        Ok(())
+    }
+
+    #[test]
+    fn refusals_are_printed(rt: HostRuntime) -> Result<(), Fail> {
+        assert_eq!(rt;
+            format!(in rt.alloc(); "{}", DeniedFault::Memory)?.as_str(),
+            "L0 Memory"
+        );
+        assert_eq!(rt;
+            format!(in rt.alloc(); "{}", DeniedFault::Full)?.as_str(),
+            "L1 Full"
+        );
+        Ok(())
+    }
+}

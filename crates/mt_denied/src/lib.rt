@@ -1,0 +1,8 @@
+//! Denied lists: the tables that a keyspace's primary is to refuse.
+#![tactic(auto)]
+
+mod denied;
+mod fault;
+
+pub use denied::DeniedTables;
+pub use fault::DeniedFault;

@@ -1,0 +1,131 @@
+-- Places that are made one after the other, and taken back.
+use Rattle.std.proofs.Common.{◌≡◌, ℕ, ◌+◌, ◌<◌, Bool, true, false, cond, not, ◌||◌, nat_lt, if◌then◌else◌, List, [], ◌∷◌, ◌++◌, length, filter, fold, take, drop, reverse, Option, None, Some, is_some, slice_index_or, refl, sym, ap, subst, ◌∙◌, arith}
+use Rattle.std.proofs.lemmas.Bool.{lt-ltb, true≢false}
+use Rattle.std.proofs.lemmas.Grind.{flat_map-append}
+use Rattle.std.proofs.lemmas.List.{append-nil, drop_more, reverse-append, take_more}
+use Rattle.std.proofs.lemmas.List.Folds.{list_any-append}
+use Rattle.std.proofs.lemmas.List.Sums.{fold-append}
+use Rattle.std.proofs.lemmas.Map.Steps.{set_value_same}
+use Rattle.std.specs.List.{flat_map}
+use Rattle.std.specs.Map.{lookup, set_value}
+use Rattle.std.specs.Option.{option_map_or}
+use Rattle.mt_names.specs.declared.keys.RuleKey.{RuleKey}
+use Rattle.mt_names.specs.declared.keys.RuleTarget.{RuleTarget}
+use Rattle.mt_names.specs.Names.{same_text}
+use Rattle.mt_names.specs.Same.{same_key}
+use Rattle.mt_model.specs.declared.entries.EntryKey.{EntryKey}
+use Rattle.mt_model.specs.declared.entries.EntryKey.TheVariants as about
+use Rattle.mt_model.specs.Part.{part_keys, table_part_keys, with_place, with_places, without_places}
+use Rattle.mt_model.specs.Topology.{TopologyState, Keyspaces, KeyspaceState, Marks, Rules, has_place, keyspace_at, with_keyspace_state, with_mark_place, with_rule_place, with_table_place, with_denied_place}
+use Rattle.mt_model.proofs.PlaceLemmas.{place_back}
+use Rattle.mt_model.proofs.TopologyLemmas.{with_keyspace_state-found}
+use Rattle.mt_topology.specs.Part.{lacking_rules, lacks_a_place}
+
+-- a fact of what is made and of what was
+pub kept_if : {A : Type 0} (P : A → Type 0) (b : Bool) (made old new : A) → P made → P old → new ≡ (if b then made else old) → P new
+kept_if P true made old new holds was is = subst P (sym is) holds
+kept_if P false made old new holds was is = subst P (sym is) was
+
+-- a change of one keyspace, or none
+pub changed_if : (change : KeyspaceState → KeyspaceState) (keyspaces new : Keyspaces) (name : List ℕ) (state state_new : KeyspaceState) (b : Bool) → keyspace_at keyspaces name ≡ Some state → state_new ≡ (if b then change state else state) → new ≡ set_value (same_text name) keyspaces state_new
+    → new ≡ (if b then with_keyspace_state change keyspaces name else keyspaces)
+changed_if change keyspaces new name state state_new true found made is = is ∙ ap (set_value (same_text name) keyspaces) made ∙ sym (with_keyspace_state-found change keyspaces name state found)
+changed_if change keyspaces new name state state_new false found made is = is ∙ ap (set_value (same_text name) keyspaces) made ∙ set_value_same (same_text name) keyspaces state found
+
+-- ---- a place that is there
+
+marks_there : (marks : Marks) (name : List ℕ) → is_some (lookup (same_text name) marks) ≡ true → with_mark_place marks name ≡ marks
+marks_there marks name there = by (lookup (same_text name) marks) there
+  where
+    by : (r : Option Bool) → is_some r ≡ true → option_map_or (λ mark. marks) r (marks ++ (name, false) ∷ []) ≡ marks
+    by None e = absurd (true≢false (sym e))
+    by (Some mark) e = refl
+
+rules_there : (rules : Rules) (key : RuleKey) → is_some (lookup (same_key key) rules) ≡ true → with_rule_place rules key ≡ rules
+rules_there rules key there = by (lookup (same_key key) rules) there
+  where
+    by : (r : Option (Option RuleTarget)) → is_some r ≡ true → option_map_or (λ rule. rules) r (rules ++ (key, None) ∷ []) ≡ rules
+    by None e = absurd (true≢false (sym e))
+    by (Some rule) e = refl
+
+keyspace_there : (change : KeyspaceState → KeyspaceState) (test : KeyspaceState → Bool) (keyspaces : Keyspaces) (name : List ℕ) → ((state : KeyspaceState) → test state ≡ true → change state ≡ state) → option_map_or test (keyspace_at keyspaces name) false ≡ true → with_keyspace_state change keyspaces name ≡ keyspaces
+keyspace_there change test keyspaces name same there = by (keyspace_at keyspaces name) refl there
+  where
+    by : (r : Option KeyspaceState) → keyspace_at keyspaces name ≡ r → option_map_or test r false ≡ true → option_map_or (λ state. set_value (same_text name) keyspaces (change state)) r keyspaces ≡ keyspaces
+    by None none e = refl
+    by (Some state) some e = ap (set_value (same_text name) keyspaces) (same state e) ∙ set_value_same (same_text name) keyspaces state some
+
+pub with_place-there : (t : TopologyState) (key : EntryKey) → has_place t key ≡ true → with_place t key ≡ t
+with_place-there t (about.Rule key) there = ap (λ rules. record t { rules = rules }) (rules_there t.rules key there)
+with_place-there t (about.Denied keyspace table) there =
+    ap (λ keyspaces. record t { keyspaces = keyspaces })
+    (keyspace_there (with_denied_place table) (λ state. is_some (lookup (same_text table) state.denied)) t.keyspaces keyspace (λ state e. ap (λ marks. record state { denied = marks }) (marks_there state.denied table e)) there)
+with_place-there t (about.Present keyspace table) there =
+    ap (λ keyspaces. record t { keyspaces = keyspaces })
+    (keyspace_there (with_table_place table) (λ state. is_some (lookup (same_text table) state.tables)) t.keyspaces keyspace (λ state e. ap (λ marks. record state { tables = marks }) (marks_there state.tables table e)) there)
+
+-- where none lacks a place, nothing is made
+pub with_places-there : (t : TopologyState) (keys : List EntryKey) → lacks_a_place t keys ≡ false → with_places t keys ≡ t
+with_places-there t [] none = refl
+with_places-there t (key ∷ keys) none = by (with_places-there t keys) (has_place t key) refl none
+  where
+    by : (lacks_a_place t keys ≡ false → with_places t keys ≡ t) → (b : Bool) → has_place t key ≡ b → lacks_a_place t (key ∷ keys) ≡ false → with_places (with_place t key) keys ≡ t
+    by again true b e = ap (λ u. with_places u keys) (with_place-there t key b) ∙ again (rw b at e)
+    by again false b e = absurd (true≢false (rw b at e))
+
+-- ---- a place that is made and noted
+
+pub made_noted : (t new : TopologyState) (key copy : EntryKey) (made more : List EntryKey) → has_place t key ≡ false → new ≡ with_place t key → copy ≡ key → more ≡ made ++ copy ∷ [] → without_places new (reverse more) ≡ without_places t (reverse made)
+made_noted t new key copy made more lacks is copied noted =
+    ap (λ l. without_places new (reverse l)) (noted ∙ ap (λ k. made ++ k ∷ []) copied)
+    ∙ ap (without_places new) (reverse-append made (key ∷ []))
+    ∙ ap (λ u. without_places u (key ∷ reverse made)) is
+    ∙ ap (λ u. without_places u (reverse made)) (place_back t key lacks)
+
+-- ---- how many rule keys lack a place
+
+length-filter : {A : Type 0} (test : A → Bool) (xs ys : List A) → length (filter test (xs ++ ys)) ≡ length (filter test xs) + length (filter test ys)
+length-filter test [] ys = omega arith
+length-filter {A} test (x ∷ xs) ys = by (length-filter test xs ys) (test x)
+  where
+    by : length (filter test (xs ++ ys)) ≡ length (filter test xs) + length (filter test ys) → (b : Bool) → length (cond b (x ∷ filter test (xs ++ ys)) (filter test (xs ++ ys))) ≡ length (cond b (x ∷ filter test xs) (filter test xs)) + length (filter test ys)
+    by again true = omega (arith, again)
+    by again false = again
+
+pub lacking_rules-append : (rules : Rules) (keys more : List RuleKey) → lacking_rules rules (keys ++ more) ≡ lacking_rules rules keys + lacking_rules rules more
+lacking_rules-append rules keys more = length-filter (λ key. not (is_some (lookup (same_key key) rules))) keys more
+
+-- the keys of the tables that are left: those of the next, and of the others
+pub lacking_left : (rules : Rules) (f : List ℕ → List RuleKey) (tables : List (List ℕ)) (i : ℕ) (table : List ℕ) (keys : List RuleKey) → i < length tables → table ≡ slice_index_or tables i table → keys ≡ f table
+    → lacking_rules rules (flat_map f (drop i tables)) ≡ lacking_rules rules keys + lacking_rules rules (flat_map f (drop (i + 1) tables))
+lacking_left rules f tables i table keys inside is all =
+    ap (λ l. lacking_rules rules (flat_map f l)) (drop_more tables i table inside)
+    ∙ ap (λ t. lacking_rules rules (f t ++ flat_map f (drop (i + 1) tables))) (sym is)
+    ∙ ap (λ k. lacking_rules rules (k ++ flat_map f (drop (i + 1) tables))) (sym all)
+    ∙ lacking_rules-append rules keys (flat_map f (drop (i + 1) tables))
+
+pub no_room : (most all : ℕ) → most < all → false ≡ not (nat_lt most all)
+no_room most all over = ap not (sym (lt-ltb most all over))
+
+-- ---- the tables of a part, one after the other
+
+pub part_keys-more : (source target : List ℕ) (tables : List (List ℕ)) (i : ℕ) (table : List ℕ) (keys : List EntryKey) → i < length tables → table ≡ slice_index_or tables i table → keys ≡ table_part_keys source target table
+    → part_keys source target (take (i + 1) tables) ≡ part_keys source target (take i tables) ++ keys
+part_keys-more source target tables i table keys inside is all =
+    ap (part_keys source target) (take_more tables i table inside)
+    ∙ ap (λ t. part_keys source target (take i tables ++ t ∷ [])) (sym is)
+    ∙ flat_map-append (table_part_keys source target) (take i tables) (table ∷ [])
+    ∙ ap (λ k. part_keys source target (take i tables) ++ k) (append-nil (table_part_keys source target table) ∙ sym all)
+
+pub part-more : (f : TopologyState → EntryKey → TopologyState) (t now new : TopologyState) (source target : List ℕ) (tables : List (List ℕ)) (i : ℕ) (table : List ℕ) (keys : List EntryKey) → i < length tables → table ≡ slice_index_or tables i table → keys ≡ table_part_keys source target table
+    → now ≡ fold f t (part_keys source target (take i tables)) → new ≡ fold f now keys → new ≡ fold f t (part_keys source target (take (i + 1) tables))
+part-more f t now new source target tables i table keys inside is all before after =
+    after ∙ ap (λ u. fold f u keys) before ∙ sym (fold-append f t (part_keys source target (take i tables)) keys) ∙ ap (fold f t) (sym (part_keys-more source target tables i table keys inside is all))
+
+pub lacks-left : (t : TopologyState) (source target : List ℕ) (tables : List (List ℕ)) (i : ℕ) (table : List ℕ) (keys : List EntryKey) → i < length tables → table ≡ slice_index_or tables i table → keys ≡ table_part_keys source target table
+    → lacks_a_place t (part_keys source target (drop i tables)) ≡ (lacks_a_place t keys || lacks_a_place t (part_keys source target (drop (i + 1) tables)))
+lacks-left t source target tables i table keys inside is all =
+    ap (λ l. lacks_a_place t (part_keys source target l)) (drop_more tables i table inside)
+    ∙ ap (λ u. lacks_a_place t (table_part_keys source target u ++ part_keys source target (drop (i + 1) tables))) (sym is)
+    ∙ ap (λ k. lacks_a_place t (k ++ part_keys source target (drop (i + 1) tables))) (sym all)
+    ∙ list_any-append (λ key. not (has_place t key)) keys (part_keys source target (drop (i + 1) tables))

@@ -1,0 +1,46 @@
+-- When the part of a workflow is reserved: what its places lack, and when it is refused.
+use Rattle.std.specs.Prelude.{ℕ, ◌+◌, ◌&&◌, not, nat_lt, Bool, List, length, filter, if◌then◌else◌, Option, None, Some, is_some}
+use Rattle.std.specs.List.{flat_map, list_any}
+use Rattle.std.specs.Map.{lookup}
+use Rattle.std.specs.Option.{option_map_or}
+use Rattle.mt_names.specs.declared.keys.RuleKey.{RuleKey}
+use Rattle.mt_names.specs.Names.{same_text}
+use Rattle.mt_names.specs.Same.{same_key}
+use Rattle.mt_model.specs.declared.entries.EntryKey.{EntryKey}
+use Rattle.mt_model.specs.declared.faults.TopologyFault.{TopologyFault}
+use Rattle.mt_model.specs.declared.faults.TopologyFault.TheVariants.{NoKeyspace, Full}
+use Rattle.mt_model.specs.Limits.{most_rules, most_tables_in_keyspace}
+use Rattle.mt_model.specs.Part.{table_rule_keys}
+use Rattle.mt_model.specs.Topology.{TopologyState, KeyspaceState, Marks, Rules, has_place, keyspace_at}
+
+-- how many of some names lack a place, each counted as often as it is named (this profile's own)
+abbrev pub lacking_marks : Marks → List (List ℕ) → ℕ
+lacking_marks marks names = length (filter (λ name. not (is_some (lookup (same_text name) marks))) names)
+
+-- the same of rule keys (this profile's own)
+abbrev pub lacking_rules : Rules → List RuleKey → ℕ
+lacking_rules rules keys = length (filter (λ key. not (is_some (lookup (same_key key) rules))) keys)
+
+-- there is room for the places that names lack (this profile's own)
+abbrev pub has_mark_room : Marks → List (List ℕ) → Bool
+has_mark_room marks names = not (nat_lt most_tables_in_keyspace (length marks + lacking_marks marks names))
+
+-- there is room for the places that rule keys lack (this profile's own)
+abbrev pub has_rule_room : Rules → List RuleKey → Bool
+has_rule_room rules keys = not (nat_lt most_rules (length rules + lacking_rules rules keys))
+
+-- there is room for a part, between a source and a target that are there (this profile's own)
+abbrev pub has_part_room : Rules → List RuleKey → KeyspaceState → KeyspaceState → List (List ℕ) → Bool
+has_part_room rules keys source target tables =
+    has_rule_room rules keys && has_mark_room source.denied tables && has_mark_room target.denied tables && has_mark_room target.tables tables
+
+-- why a part can't be reserved, if it can't (this profile's own)
+abbrev pub reserve_refusal : TopologyState → List ℕ → List ℕ → List (List ℕ) → Option TopologyFault
+reserve_refusal t source target tables =
+    option_map_or (λ s. option_map_or (λ g.
+    if has_part_room t.rules (flat_map (table_rule_keys source target) tables) s g tables then None else Some Full)
+    (keyspace_at t.keyspaces target) (Some NoKeyspace)) (keyspace_at t.keyspaces source) (Some NoKeyspace)
+
+-- a key lacks a place, so that to reserve the keys takes memory (this profile's own)
+abbrev pub lacks_a_place : TopologyState → List EntryKey → Bool
+lacks_a_place t keys = list_any (λ key. not (has_place t key)) keys
