@@ -18,7 +18,7 @@ pub data StreamName : Type 0 where
   forward : StreamName
   back : StreamName
 
--- an event of the core. Each is one atomic step
+-- an event of the core. Each is one atomic step (this profile's own)
 pub data Event : Type 0 where
   write : (keyspace table : List ℕ) → Op → Event
   read : (keyspace table : List ℕ) → ℕ → TabletType → Event
@@ -47,6 +47,7 @@ pub data Refusal : Type 0 where
   too_long : Refusal
   exists : Refusal
 
+-- how a refusal is printed (this profile's own)
 abbrev pub refusal_text : Refusal → List ℕ
 refusal_text memory = codes "F0 Memory"
 refusal_text no_keyspace = codes "F1 NoKeyspace"
@@ -58,7 +59,7 @@ refusal_text full = codes "F27 Full"
 refusal_text too_long = codes "F29 TooLong"
 refusal_text exists = codes "F30 Exists"
 
--- the answer to an event
+-- the answer to an event (this profile's own)
 pub data Answer : Type 0 where
   done : Answer
   row : Row → Answer
@@ -66,6 +67,7 @@ pub data Answer : Type 0 where
 
 -- ---- the code's words for answers
 
+-- the definitions' word for a refusal of the code (this profile's own)
 abbrev pub refusal_from : code.Refusal → Refusal
 refusal_from from.Memory = memory
 refusal_from from.NoKeyspace = no_keyspace
@@ -76,6 +78,7 @@ refusal_from from.Full = full
 refusal_from from.TooLong = too_long
 refusal_from from.Exists = exists
 
+-- the definitions' word for an answer of the code (this profile's own)
 abbrev pub answer_from : Result Reply code.Refusal → Answer
 answer_from (Ok reply.Done) = done
 answer_from (Ok (reply.Row r)) = row r

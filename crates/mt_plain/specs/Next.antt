@@ -12,24 +12,25 @@ use Rattle.mt_plain.specs.Refuse.{may_grow, refusal_of}
 
 -- ---- the answer of an event that is taken
 
+-- a read answers the row, each other event that it is done (this profile's own)
 abbrev pub reply_of : Plain → Event → Answer
 reply_of p (read keyspace table key tablet_type) = row (row_of p keyspace table key)
 reply_of p other = done
 
 -- ---- the next state
 
--- the row that an operation leaves, where it isn't refused
+-- the row that an operation leaves, where it isn't refused (this profile's own)
 abbrev pub row_left : Result Row PrimaryFault → Row
 row_left (Ok after) = after
 row_left (Err fault) = None
 
--- one acknowledged write more
+-- one acknowledged write more (this profile's own)
 abbrev pub with_write : Plain → (keyspace table : List ℕ) → Op → Plain
 with_write p keyspace table op =
     let after = row_left (op_row op (row_of p keyspace table (op_key op))) in
     record p { writes = p.writes ++ (record { keyspace = keyspace; table = number_of p keyspace table; key = op_key op; after = after }) ∷ [] }
 
--- the state after an event that is taken
+-- the state after an event that is taken (this profile's own)
 abbrev pub next_taken : Plain → Event → Plain
 next_taken p (write keyspace table op) = with_write p keyspace table op
 next_taken p (add_keyspace keyspace) = record p { topology = with_keyspace p.topology keyspace }
@@ -38,7 +39,7 @@ next_taken p (add_table keyspace table) =
 next_taken p (edit_rule key target) = record p { topology = record p.topology { rules = with_rule p.topology.rules key target } }
 next_taken p other = p
 
--- a refused event changes nothing
+-- a refused event changes nothing (this profile's own)
 abbrev pub next : Plain → Event → Answer → Plain
 next p event (refused refusal) = p
 next p event done = next_taken p event
@@ -46,7 +47,7 @@ next p event (row r) = next_taken p event
 
 -- ---- the answers that an event may get
 
--- the commands that have come; no other event is answered
+-- the commands that have come; no other event is answered (this profile's own)
 abbrev pub HasMeaning : Event → Type 0
 HasMeaning (write keyspace table op) = ⊤
 HasMeaning (read keyspace table key tablet_type) = ⊤
@@ -56,31 +57,34 @@ HasMeaning (edit_rule key target) = ⊤
 HasMeaning other = ⊥
 
 -- the refusal comes exactly where its condition holds and none before it does; want of memory is free, where an event
--- that no condition refuses may grow something
+-- that no condition refuses may grow something (this profile's own)
 abbrev pub Refuses : Plain → Event → Refusal → Type 0
 Refuses p event memory = (refusal_of p event ≡ None) × (may_grow event ≡ true)
 Refuses p event refusal = refusal_of p event ≡ Some refusal
 
+-- the answers that an event may get (this profile's own)
 abbrev pub Answers : Plain → Event → Answer → Type 0
 Answers p event (refused refusal) = HasMeaning event × Refuses p event refusal
 Answers p event answer = HasMeaning event × (refusal_of p event ≡ None) × (answer ≡ reply_of p event)
 
--- the one answer where memory is ample
+-- the one answer where memory is ample (this profile's own)
 abbrev pub answer_or : Option Refusal → Answer → Answer
 answer_or None reply = reply
 answer_or (Some refusal) reply = refused refusal
 
+-- the answer where memory is ample (this profile's own)
 abbrev pub answer_of : Plain → Event → Answer
 answer_of p event = answer_or (refusal_of p event) (reply_of p event)
 
 -- ---- runs: a list of events with an answer to each
 
+-- each answer is one that its event may get in the state that the answers before it leave (this profile's own)
 abbrev pub Run : Plain → List Event → List Answer → Type 0
 Run p [] [] = ⊤
 Run p (event ∷ events) (answer ∷ answers) = Answers p event answer × Run (next p event answer) events answers
 Run p events answers = ⊥
 
--- the state after a run
+-- the state after a run (this profile's own)
 abbrev pub after : Plain → List Event → List Answer → Plain
 after p (event ∷ events) (answer ∷ answers) = after (next p event answer) events answers
 after p events answers = p

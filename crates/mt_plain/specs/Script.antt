@@ -20,53 +20,57 @@ use Rattle.mt_plain.specs.Events.{Event, add_keyspace, add_table, edit_rule}
 
 -- ---- bytes and words
 
+-- a line that is read has at most so many bytes (this profile's own)
 abbrev pub MAX_LINE_LENGTH : ℕ
 MAX_LINE_LENGTH = 4096
 
--- a space or a tab
+-- a space or a tab (this profile's own)
 abbrev pub is_blank : ℕ → Bool
 is_blank byte = (byte == 32) || (byte == 9)
 
--- a visible ASCII character, of which words are made
+-- a visible ASCII character, of which words are made (this profile's own)
 abbrev pub is_visible : ℕ → Bool
 is_visible byte = nat_le 33 byte && nat_le byte 126
 
--- whether a line is of blanks and visible characters alone
+-- whether a line is of blanks and visible characters alone (this profile's own)
 abbrev pub is_readable : List ℕ → Bool
 is_readable line = list_all (λ byte. is_blank byte || is_visible byte) line
 
 -- a line that writes nothing, whatever its length: one of blanks alone, and a comment, which begins with `#`
+-- (this profile's own)
 abbrev pub is_silent : List ℕ → Bool
 is_silent line = starts_with nat_eq line (codes "#") || list_all is_blank line
 
--- a word has a byte
+-- a word has a byte (this profile's own)
 abbrev pub is_word : List ℕ → Bool
 is_word [] = false
 is_word (byte ∷ bytes) = true
 
--- the words of a line, which blanks part
+-- the words of a line, which blanks part (this profile's own)
 abbrev pub words_of : List ℕ → List (List ℕ)
 words_of line = filter is_word (slice_split is_blank line)
 
 -- ---- numbers and values
 
--- 1 to 20 digits of a number below 2^64
+-- 1 to 20 digits of a number below 2^64 (this profile's own)
 abbrev pub number_of_digits : List ℕ → ℕ
 number_of_digits digits = fold (λ n digit. 10 * n + (digit - 48)) 0 digits
 
+-- whether a word is such a number (this profile's own)
 abbrev pub is_number : List ℕ → Bool
 is_number word = nat_lt 0 (length word) && nat_le (length word) 20 && list_all is_ascii_digit word && nat_lt (number_of_digits word) (2 ^ 64)
 
+-- the number of a word (this profile's own)
 abbrev pub read_number : List ℕ → Option ℕ
 read_number word = if is_number word then Some (number_of_digits word) else None
 
--- a word of at most 64 bytes
+-- a word of at most 64 bytes (this profile's own)
 abbrev pub read_value : List ℕ → Option RowValue
 read_value word = if nat_le (length word) longest_value then Some (record { items = word }) else None
 
 -- ---- commands
 
--- what a line commands, with its names as they are written
+-- what a line commands, with its names as they are written (this profile's own)
 pub data Command : Type 0 where
   keyspace : List ℕ → Command
   table : (keyspace table : List ℕ) → Command
@@ -74,29 +78,32 @@ pub data Command : Type 0 where
   insert : (name : List ℕ) → ℕ → RowValue → Command
   get : (name : List ℕ) → ℕ → Command
 
--- a name that is written to may be followed by `@primary`, and not by another type
+-- a name that is written to may be followed by `@primary`, and not by another type (this profile's own)
 abbrev pub is_for_reads : Option (List ℕ) → Bool
 is_for_reads None = false
 is_for_reads (Some word) = same_text word (codes "replica") || same_text word (codes "rdonly")
 
+-- an insert, where its number and value are good and its name is no read (this profile's own)
 abbrev pub insert_of : List ℕ → Option ℕ → Option RowValue → Option Command
 insert_of name (Some number) (Some value) = if is_for_reads (after at_sign name) then None else Some (insert name number value)
 insert_of name number value = None
 
--- the words behind a command, where there are just so many
+-- the words behind a command, where there are just so many (this profile's own)
 abbrev pub one_word : List (List ℕ) → Option (List ℕ)
 one_word (word ∷ []) = Some word
 one_word words = None
 
+-- where there are just two (this profile's own)
 abbrev pub two_words : List (List ℕ) → Option (List ℕ × List ℕ)
 two_words (first ∷ second ∷ []) = Some (first, second)
 two_words words = None
 
+-- where there are just three (this profile's own)
 abbrev pub three_words : List (List ℕ) → Option (List ℕ × List ℕ × List ℕ)
 three_words (first ∷ second ∷ third ∷ []) = Some (first, second, third)
 three_words words = None
 
--- the command of a verb and the words behind it; `None` is a bad line
+-- the command of a verb and the words behind it; `None` is a bad line (this profile's own)
 abbrev pub read_command : List ℕ → List (List ℕ) → Option Command
 read_command verb words =
     if same_text verb (codes "keyspace") then option_map keyspace (one_word words)
@@ -108,23 +115,24 @@ read_command verb words =
 
 -- ---- lines
 
--- what a line says: nothing, a command, or that it can't be read
+-- what a line says: nothing, a command, or that it can't be read (this profile's own)
 pub data Line : Type 0 where
   silent : Line
   command : Command → Line
   bad_line : Line
   line_too_long : Line
 
+-- a line is its command, or bad (this profile's own)
 abbrev pub commanded : Option Command → Line
 commanded (Some c) = command c
 commanded None = bad_line
 
--- the command of some words, of which the first is its verb
+-- the command of some words, of which the first is its verb (this profile's own)
 abbrev pub command_of : List (List ℕ) → Option Command
 command_of [] = None
 command_of (verb ∷ words) = read_command verb words
 
--- a line's length is tested before its bytes, these before its words
+-- a line's length is tested before its bytes, these before its words (this profile's own)
 abbrev pub read_line : List ℕ → Line
 read_line line =
     if is_silent line then silent
@@ -134,16 +142,17 @@ read_line line =
 
 -- ---- what a command asks for, once its names are read
 
+-- an event, or a write or a read whose name is looked up first (this profile's own)
 pub data Request : Type 0 where
   event : Event → Request
   write_through : RuleKey → Op → Request
   read_through : RuleKey → ℕ → TabletType → Request
 
--- a rule's target, or `-` for none
+-- a rule's target, or `-` for none (this profile's own)
 abbrev pub read_rule_target : List ℕ → Result (Option RuleTarget) NameFault
 read_rule_target word = if same_text word (dash ∷ []) then Ok None else (read_target word >>= λ target. Ok (Some target))
 
--- names are read from left to right, and the first fault is told
+-- names are read from left to right, and the first fault is told (this profile's own)
 abbrev pub request_of : Command → Result Request NameFault
 request_of (keyspace name) = read_keyspace name >>= λ k. Ok (event (add_keyspace k))
 request_of (table name name') = read_keyspace name >>= λ k. read_table name' >>= λ t. Ok (event (add_table k t))
