@@ -1,8 +1,8 @@
 -- The words of a line: none has a line feed, and a line that isn't silent has one at least.
-use Rattle.std.proofs.Common.{◌≡◌, ◌≢◌, ℕ, Bool, true, false, not, cond, eqb, List, [], ◌∷◌, length, Option, None, Some, codes, refl, sym, ◌∙◌, subst}
+use Rattle.std.proofs.Common.{◌≡◌, ℕ, Bool, true, false, not, cond, eqb, List, [], ◌∷◌, length, Option, None, Some, codes, refl, sym, ◌∙◌, subst}
 use Rattle.std.proofs.lemmas.Bool.{true≢false, eqb-true}
-use Rattle.std.specs.List.{AllByRecursion, filter, list_all, onto_first, slice_split, starts_with}
-use Rattle.std.specs.Prelude.{⊤, ◌&&◌, ◌||◌, nat_lt, option_map, option_and_then}
+use Rattle.std.specs.List.{AllByRecursion, filter, list_all, onto_first, slice_split}
+use Rattle.std.specs.Prelude.{⊤, ◌||◌, nat_lt, option_map, option_and_then}
 use Rattle.mt_names.specs.Names.{same_text}
 use Rattle.mt_model.specs.declared.rows.Op.{Op}
 use Rattle.mt_model.specs.declared.rows.Op.TheVariants.{Insert, Update, Append, Delete}
