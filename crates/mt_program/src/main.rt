@@ -7,6 +7,14 @@ mod fault;
 mod output;
 mod reading;
 mod script;
+#[cfg(test)]
+mod tests;
+#[cfg(test)]
+mod tests_faults;
+#[cfg(test)]
+mod tests_limits;
+#[cfg(test)]
+mod tests_refusals;
 
 use crate::fault::ScriptFault;
 use crate::script::run_script;

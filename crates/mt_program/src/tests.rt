@@ -1,0 +1,212 @@
+//! Scripts and what they print.
+
+use crate::fault::ScriptFault;
+use crate::script::run_script;
+use std::alloc::Global;
+use std::io::Write;
+use std::test::Fail;
+
+/// A script, and what it must print.
+#[derive(Drop)]
+pub struct Case {
+    script: Vec<u8>,
+    want: Vec<u8>,
+}
+
+impl Case {
+    /// A script without lines.
+    pub fn new(alloc: Global) -> Case {
+        Case {
+            script: Vec::new(alloc),
+            want: Vec::new(alloc),
+        }
+    }
+
+    /// More of the script, and of what it must print.
+    pub fn add(&mut self, script: &[u8], want: &[u8]) -> Result<(), Fail> {
+        self.script.extend_from_slice(script)?;
+        self.want.extend_from_slice(want)?;
+        Ok(())
+    }
+
+    /// A line, and the line that answers it.
+    pub fn line(&mut self, line: &str, answer: &str) -> Result<(), Fail> {
+        self.add(line.as_bytes(), answer.as_bytes())?;
+        self.add(b"\n", b"\n")
+    }
+
+    /// Lines, each with the line that answers it.
+    pub fn lines(&mut self, lines: &[(&str, &str)]) -> Result<(), Fail> {
+        for (line, answer) in lines {
+            self.line(line, answer)?;
+        }
+        Ok(())
+    }
+
+    /// A byte of the script again and again. Nothing is printed for it.
+    pub fn repeat(&mut self, byte: u8, count: usize) -> Result<(), Fail> {
+        for _ in 0..count {
+            self.script.push(byte)?;
+        }
+        Ok(())
+    }
+
+    /// How long the script is, in bytes.
+    pub fn len(&self) -> usize {
+        self.script.len()
+    }
+
+    /// The script.
+    pub fn script(&self) -> &[u8] {
+        self.script.as_slice()
+    }
+
+    /// What the script must print.
+    pub fn want(&self) -> &[u8] {
+        self.want.as_slice()
+    }
+
+    /// Whether the script prints what it must.
+    pub fn holds(&self, alloc: Global) -> bool {
+        prints(alloc, self.script(), self.want())
+    }
+}
+
+/// Whether a script ends well, having printed a text.
+pub fn prints(alloc: Global, script: &[u8], want: &[u8]) -> bool {
+    ends(alloc, script, Ok(()), want)
+}
+
+/// Whether a script ends so, having printed a text.
+pub fn ends(alloc: Global, script: &[u8], end: Result<(), ScriptFault>, want: &[u8]) -> bool {
+    let mut reader = script;
+    let mut written = Vec::new(alloc);
+    let result = run_script(alloc, &mut reader, &mut written);
+    result == end && written.as_slice() == want
+}
+
+const GET_WITHOUT_A_RULE: &[u8] = b"keyspace commerce\nkeyspace customer\ntable commerce corder\n\
+insert corder 1 a\nget corder 1";
+
+const AMBIGUOUS_NAME: &[u8] = b"keyspace commerce\nkeyspace customer\ntable commerce corder\n\
+table customer corder\ninsert commerce.corder 1 a\nget corder 1\nget commerce.corder 1\n";
+
+const GET_BACK_THROUGH_A_RULE: &[u8] = b"keyspace commerce\ntable commerce corder\n\
+rule c commerce.corder\ninsert c 1 a\nget c 1\n";
+
+#[test]
+fn worked_rows(rt: HostRuntime) {
+    assert!(rt; prints(rt.alloc(), b"", b""));
+    assert!(rt; prints(rt.alloc(), GET_WITHOUT_A_RULE, b"ok\nok\nok\nok\nrow a\n"));
+    let ambiguous = b"ok\nok\nok\nok\nok\nrefused T3 Ambiguous\nrow a\n";
+    assert!(rt; prints(rt.alloc(), AMBIGUOUS_NAME, ambiguous));
+    assert!(rt;
+        prints(
+            rt.alloc(),
+            GET_BACK_THROUGH_A_RULE,
+            b"ok\nok\nok\nok\nrow a\n"
+        )
+    );
+}
+
+#[test]
+fn ends_of_lines(rt: HostRuntime) {
+    let alloc = rt.alloc();
+    assert!(rt; prints(alloc, b"keyspace a", b"ok\n"));
+    assert!(rt; prints(alloc, b"keyspace a\n", b"ok\n"));
+    assert!(rt; prints(alloc, b"keyspace a\r\nkeyspace b\r\n", b"ok\nok\n"));
+    assert!(rt; prints(alloc, b"keyspace a\r\r\n", b"refused X1 BadLine\n"));
+    assert!(rt; prints(alloc, b"keyspace a\r", b"refused X1 BadLine\n"));
+    assert!(rt; prints(alloc, b"key\rspace a\n", b"refused X1 BadLine\n"));
+    assert!(rt; prints(alloc, b"\r\n\r\n", b""));
+    assert!(rt; prints(alloc, b"\r\r\n", b"refused X1 BadLine\n"));
+    assert!(rt; prints(alloc, b"\n\n\n", b""));
+}
+
+#[test]
+fn blanks_and_comments(rt: HostRuntime) {
+    let alloc = rt.alloc();
+    assert!(rt; prints(alloc, b"\tkeyspace\t \ta\t\n  table  a\tt  \n", b"ok\nok\n"));
+    assert!(rt; prints(alloc, b" \t \n\t\n", b""));
+    assert!(rt; prints(alloc, b"#\n# keyspace a\n#\xff\x00\n", b""));
+    assert!(rt;
+        prints(
+            alloc,
+            b" # keyspace a\nkeyspace a #\n",
+            b"refused X1 BadLine\nrefused X1 BadLine\n"
+        )
+    );
+    assert!(rt;
+        prints(
+            alloc,
+            b"keyspace \xc3\xa9\nkeyspace \x7f\n\x00\n",
+            b"refused X1 BadLine\nrefused X1 BadLine\nrefused X1 BadLine\n"
+        )
+    );
+}
+
+/// Lines of 4,096 and 4,097 bytes, which end in blanks: with a line feed, with a carriage return before it, and without.
+fn long_lines(case: &mut Case) -> Result<(), Fail> {
+    case.add(b"keyspace a", b"ok\n")?;
+    case.repeat(b' ', 4086)?;
+    case.add(b"\nkeyspace b", b"refused X2 LineTooLong\n")?;
+    case.repeat(b' ', 4087)?;
+    case.add(b"\nkeyspace b", b"ok\n")?;
+    case.repeat(b'\t', 4086)?;
+    case.add(b"\r\nkeyspace c", b"refused X2 LineTooLong\n")?;
+    case.repeat(b'\t', 4087)?;
+    case.add(b"\r\nkeyspace c", b"refused X2 LineTooLong\n")?;
+    case.repeat(b' ', 4087)
+}
+
+/// Silent lines of more than 4,096 bytes.
+fn long_silent_lines(case: &mut Case) -> Result<(), Fail> {
+    case.repeat(b' ', 4097)?;
+    case.add(b"\n#", b"")?;
+    case.repeat(b'\xff', 4096)?;
+    case.add(b"\n", b"")
+}
+
+#[test]
+fn lines_at_their_limit(rt: HostRuntime) -> Result<(), Fail> {
+    let mut case = Case::new(rt.alloc());
+    long_lines(&mut case)?;
+    assert!(rt; case.holds(rt.alloc()));
+    let mut silent = Case::new(rt.alloc());
+    long_silent_lines(&mut silent)?;
+    assert!(rt; silent.holds(rt.alloc()));
+    Ok(())
+}
+
+/// A comment of as many bytes as are left to a length, behind a line that is answered.
+fn fill(case: &mut Case, length: usize) -> Result<(), Fail> {
+    case.line("keyspace a", "ok")?;
+    case.repeat(b'#', length.saturating_sub(case.len()))
+}
+
+#[test]
+fn a_script_at_its_limit(rt: HostRuntime) -> Result<(), Fail> {
+    let mut case = Case::new(rt.alloc());
+    fill(&mut case, 1_048_576)?;
+    assert_eq!(rt; case.len(), 1_048_576);
+    assert!(rt; case.holds(rt.alloc()));
+    case.repeat(b'#', 1)?;
+    assert!(rt; ends(rt.alloc(), case.script(), Err(ScriptFault::TooLong), b""));
+    Ok(())
+}
+
+/// Whether a fault is printed so.
+fn is_printed(alloc: Global, fault: ScriptFault, want: &str) -> Result<bool, Fail> {
+    let mut text = Vec::new(alloc);
+    write!(text, "{fault}")?;
+    Ok(text.as_slice() == want.as_bytes())
+}
+
+#[test]
+fn names_of_faults(rt: HostRuntime) -> Result<(), Fail> {
+    assert!(rt; is_printed(rt.alloc(), ScriptFault::Memory, "Memory")?);
+    assert!(rt; is_printed(rt.alloc(), ScriptFault::Read, "Read")?);
+    assert!(rt; is_printed(rt.alloc(), ScriptFault::Write, "Write")?);
+    assert!(rt; is_printed(rt.alloc(), ScriptFault::TooLong, "TooLong")?);
+    Ok(())
+}

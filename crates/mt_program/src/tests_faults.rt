@@ -1,0 +1,279 @@
+//! Readers and writers that give or take little, are interrupted, or fail.
+
+use crate::fault::ScriptFault;
+use crate::script::run_script;
+use crate::tests::Case;
+use std::alloc::Global;
+use std::io;
+use std::io::{ErrorKind, Read, Write};
+use std::test::Fail;
+
+/// Gives one byte a call, after an interruption where it is told to, and fails in place of one call.
+#[derive(Drop)]
+struct Giver<'a> {
+    bytes: &'a [u8],
+    interrupts: bool,
+    interrupted: bool,
+    before_fault: Option<usize>,
+}
+
+impl<'a> Read for Giver<'a> {
+    fn read(&mut self, buf: &mut [u8]) -> io::Result<usize> {
+        if self.interrupts && !self.interrupted {
+            self.interrupted = true;
+            return Err(io::Error::from(ErrorKind::Interrupted));
+        }
+        self.interrupted = false;
+        if self.before_fault == Some(0) {
+            return Err(io::Error::from(ErrorKind::BrokenPipe));
+        }
+        self.before_fault = self.before_fault.map(|count| count.saturating_sub(1));
+        let (Some((&byte, rest)), Some(place)) = (self.bytes.split_first(), buf.first_mut()) else {
+            return Ok(0);
+        };
+        *place = byte;
+        self.bytes = rest;
+        Ok(1)
+    }
+}
+
+/// A reader of some bytes.
+fn reader_of(bytes: &[u8], interrupts: bool, before_fault: Option<usize>) -> Giver<'_> {
+    Giver {
+        bytes,
+        interrupts,
+        interrupted: false,
+        before_fault,
+    }
+}
+
+/// What a writer without room does.
+#[derive(Clone, Copy, Eq, PartialEq)]
+enum NoRoom {
+    Fails,
+    TakesNoByte,
+}
+
+/// Takes a few bytes a call, after an interruption where it is told to, until it has no room.
+#[derive(Drop)]
+struct Taker {
+    held: Vec<u8>,
+    step: usize,
+    room: usize,
+    no_room: NoRoom,
+    interrupts: bool,
+    interrupted: bool,
+}
+
+impl Write for Taker {
+    fn write(&mut self, buf: &[u8]) -> io::Result<usize> {
+        if self.interrupts && !self.interrupted {
+            self.interrupted = true;
+            return Err(io::Error::from(ErrorKind::Interrupted));
+        }
+        self.interrupted = false;
+        let count = buf.len().min(self.step).min(self.room);
+        if count == 0 && self.no_room == NoRoom::Fails {
+            return Err(io::Error::from(ErrorKind::StorageFull));
+        }
+        self.held.extend_from_slice(&buf[..count])?;
+        self.room = self.room.saturating_sub(count);
+        Ok(count)
+    }
+
+    fn flush(&mut self) -> io::Result<()> {
+        Ok(())
+    }
+}
+
+/// A writer that takes so many bytes a call, and as many as it has room for.
+fn writer_with(alloc: Global, step: usize, room: usize, no_room: NoRoom) -> Taker {
+    Taker {
+        held: Vec::new(alloc),
+        step,
+        room,
+        no_room,
+        interrupts: false,
+        interrupted: false,
+    }
+}
+
+const SCRIPT: &[u8] = b"keyspace a\ntable a t\ninsert t 1 v\nget t 1\nget t 2\n";
+
+const OUTPUT: &[u8] = b"ok\nok\nok\nrow v\nnone\n";
+
+/// Whether a script read so ends so, and what was written is this.
+fn reads(alloc: Global, mut reader: Giver<'_>, end: Result<(), ScriptFault>, want: &[u8]) -> bool {
+    let mut written = Vec::new(alloc);
+    let result = run_script(alloc, &mut reader, &mut written);
+    result == end && written.as_slice() == want
+}
+
+#[test]
+fn readers_of_one_byte(rt: HostRuntime) {
+    assert!(rt; reads(rt.alloc(), reader_of(SCRIPT, false, None), Ok(()), OUTPUT));
+    assert!(rt; reads(rt.alloc(), reader_of(SCRIPT, true, None), Ok(()), OUTPUT));
+}
+
+#[test]
+fn readers_that_fail(rt: HostRuntime) {
+    for place in 0..=SCRIPT.len() {
+        let reader = reader_of(SCRIPT, false, Some(place));
+        assert!(rt;
+            reads(rt.alloc(), reader, Err(ScriptFault::Read), b""),
+            "at {place}"
+        );
+        let interrupted = reader_of(SCRIPT, true, Some(place));
+        assert!(rt;
+            reads(rt.alloc(), interrupted, Err(ScriptFault::Read), b""),
+            "at {place}"
+        );
+    }
+    let late = reader_of(SCRIPT, false, Some(SCRIPT.len() + 1));
+    assert!(rt; reads(rt.alloc(), late, Ok(()), OUTPUT));
+}
+
+/// A comment of so many bytes.
+fn comment(case: &mut Case, length: usize) -> Result<(), Fail> {
+    case.repeat(b'#', length)
+}
+
+#[test]
+fn a_script_that_comes_too_slowly(rt: HostRuntime) -> Result<(), Fail> {
+    let mut case = Case::new(rt.alloc());
+    comment(&mut case, 1_048_575)?;
+    assert!(rt;
+        reads(
+            rt.alloc(),
+            reader_of(case.script(), true, None),
+            Ok(()),
+            b""
+        )
+    );
+    comment(&mut case, 1)?;
+    let slow = reader_of(case.script(), true, None);
+    assert!(rt; reads(rt.alloc(), slow, Err(ScriptFault::Read), b""));
+    assert!(rt;
+        reads(
+            rt.alloc(),
+            reader_of(case.script(), false, None),
+            Ok(()),
+            b""
+        )
+    );
+    Ok(())
+}
+
+#[test]
+fn a_fault_behind_a_long_script(rt: HostRuntime) -> Result<(), Fail> {
+    let mut case = Case::new(rt.alloc());
+    comment(&mut case, 1_048_577)?;
+    let too_long = reader_of(case.script(), false, Some(1_048_577));
+    assert!(rt; reads(rt.alloc(), too_long, Err(ScriptFault::TooLong), b""));
+    let fails = reader_of(case.script(), false, Some(1_048_576));
+    assert!(rt; reads(rt.alloc(), fails, Err(ScriptFault::Read), b""));
+    Ok(())
+}
+
+/// Whether a script written so ends so, and what was written is this.
+fn writes(
+    alloc: Global,
+    script: &[u8],
+    writer: &mut Taker,
+    end: Result<(), ScriptFault>,
+    want: &[u8],
+) -> bool {
+    let mut reader = script;
+    let result = run_script(alloc, &mut reader, writer);
+    result == end && writer.held.as_slice() == want
+}
+
+/// Whether writers that take so many bytes a call, and have room for the beginning of an output, hold just that, and end
+/// the run with a fault.
+fn is_cut(alloc: Global, script: &[u8], beginning: &[u8], step: usize) -> bool {
+    let room = beginning.len();
+    let mut failing = writer_with(alloc, step, room, NoRoom::Fails);
+    let mut taking_none = writer_with(alloc, step, room, NoRoom::TakesNoByte);
+    writes(
+        alloc,
+        script,
+        &mut failing,
+        Err(ScriptFault::Write),
+        beginning,
+    ) && writes(
+        alloc,
+        script,
+        &mut taking_none,
+        Err(ScriptFault::Write),
+        beginning,
+    )
+}
+
+#[test]
+fn writers_that_take_little(rt: HostRuntime) {
+    let alloc = rt.alloc();
+    let mut one = writer_with(alloc, 1, OUTPUT.len(), NoRoom::Fails);
+    assert!(rt; writes(alloc, SCRIPT, &mut one, Ok(()), OUTPUT));
+    let mut interrupted = writer_with(alloc, 3, OUTPUT.len(), NoRoom::TakesNoByte);
+    interrupted.interrupts = true;
+    assert!(rt; writes(alloc, SCRIPT, &mut interrupted, Ok(()), OUTPUT));
+    let mut unused = writer_with(alloc, 1, 0, NoRoom::Fails);
+    assert!(rt; writes(alloc, b"# nothing\n", &mut unused, Ok(()), b""));
+}
+
+#[test]
+fn writers_that_fail(rt: HostRuntime) {
+    for place in 0..OUTPUT.len() {
+        assert!(rt;
+            is_cut(rt.alloc(), SCRIPT, &OUTPUT[..place], 1),
+            "at {place}"
+        );
+        assert!(rt;
+            is_cut(rt.alloc(), SCRIPT, &OUTPUT[..place], 4096),
+            "at {place}"
+        );
+    }
+}
+
+/// The first bytes of an output.
+fn beginning(output: &[u8], length: usize) -> &[u8] {
+    output.split_at(length.min(output.len())).0
+}
+
+/// The line of the longest value.
+const LONGEST: &str = "row aaaaaaaaaaaaaaaaaaaaaaaaaaaaaaaaaaaaaaaaaaaaaaaaaaaaaaaaaaaaaaaa";
+
+/// A script whose output is longer than what waits at once.
+fn long_output(case: &mut Case) -> Result<(), Fail> {
+    case.lines(&[("keyspace a", "ok"), ("table a t", "ok")])?;
+    case.line(
+        "insert t 1 aaaaaaaaaaaaaaaaaaaaaaaaaaaaaaaaaaaaaaaaaaaaaaaaaaaaaaaaaaaaaaaa",
+        "ok",
+    )?;
+    for _ in 0..300u32 {
+        case.line("get t 1", LONGEST)?;
+    }
+    Ok(())
+}
+
+#[test]
+fn output_in_pieces(rt: HostRuntime) -> Result<(), Fail> {
+    let mut case = Case::new(rt.alloc());
+    long_output(&mut case)?;
+    assert!(rt; case.holds(rt.alloc()));
+    for place in (0..20_709usize).step_by(97) {
+        assert!(rt;
+            is_cut(
+                rt.alloc(),
+                case.script(),
+                beginning(case.want(), place),
+                1000
+            ),
+            "at {place}"
+        );
+    }
+    let mut slow = writer_with(rt.alloc(), 7, case.want().len(), NoRoom::Fails);
+    slow.interrupts = true;
+    assert!(rt; writes(rt.alloc(), case.script(), &mut slow, Ok(()), case.want()));
+    Ok(())
+}
