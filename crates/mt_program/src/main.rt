@@ -19,32 +19,44 @@ mod tests_refusals;
 use crate::fault::ScriptFault;
 use crate::script::run_script;
 use std::io;
+use std::io::ErrorKind;
 use std::process::ExitCode;
 
 /// What a command line that isn't understood is answered with.
 const USAGE: &str =
     "usage: mt run [KEYSPACE].. | mt rules | mt topology | mt race [--clients N] [--writes N]";
 
-/// Whether the words of a command line, without the program's own, are `run` alone.
-fn is_run(rt: &HostRuntime) -> bool {
-    let Ok(mut words) = std::env::args(rt) else {
-        return false;
+/// Whether the words of a command line, without the program's own, are `run` alone. Words that are no UTF-8 are not.
+fn is_run(rt: &HostRuntime) -> Result<bool, ScriptFault> {
+    let mut words = match std::env::args(rt) {
+        Ok(words) => words,
+        Err(error) if error.kind() == ErrorKind::OutOfMemory => return Err(ScriptFault::Memory),
+        Err(_) => return Ok(false),
     };
     words.next();
     let Some(word) = words.next() else {
-        return false;
+        return Ok(false);
     };
-    word.as_str() == "run" && words.next().is_none()
+    Ok(word.as_str() == "run" && words.next().is_none())
+}
+
+/// Runs the script of standard input.
+fn run(rt: &HostRuntime) -> Result<(), ScriptFault> {
+    let mut reader = rt.reader();
+    let mut writer = io::writer(rt);
+    run_script(rt.alloc(), &mut reader, &mut writer)
 }
 
 fn main(rt: HostRuntime) -> io::Result<ExitCode> {
-    if !is_run(&rt) {
-        eprintln!(rt; "{USAGE}")?;
-        return Ok(ExitCode::from(2));
-    }
-    let mut reader = rt.reader();
-    let mut writer = io::writer(&rt);
-    match run_script(rt.alloc(), &mut reader, &mut writer) {
+    let ended = match is_run(&rt) {
+        Ok(true) => run(&rt),
+        Ok(false) => {
+            eprintln!(rt; "{USAGE}")?;
+            return Ok(ExitCode::from(2));
+        }
+        Err(fault) => Err(fault),
+    };
+    match ended {
         Ok(()) => Ok(ExitCode::SUCCESS),
         Err(fault) => {
             eprintln!(rt; "fault {fault}")?;
