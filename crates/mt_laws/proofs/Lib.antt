@@ -1,6 +1,5 @@
 pub mod AnswerLemmas
-pub mod FeedLemmas
-pub mod LineLemmas
+pub mod NumberLemmas
 pub mod OutputLemmas
 pub mod RunLemmas
-pub mod WordLemmas
+pub mod TableLemmas

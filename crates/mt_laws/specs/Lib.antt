@@ -1,3 +1,2 @@
 pub mod Acknowledged
-pub mod Lines
 pub mod Numbers

@@ -10,10 +10,8 @@ pub use events::{
     answers_are_determined, limits_are_told_last, reads_answer_the_row,
     refused_events_change_nothing,
 };
-pub use runs::reads_answer_the_acknowledged_writes;
-pub use scripts::{
-    each_line_that_writes_writes_one_line, output_is_what_is_written_where_memory_is_ample,
-};
+pub use runs::{reads_answer_the_acknowledged_writes, tables_are_told_apart};
+pub use scripts::output_is_what_is_written_where_memory_is_ample;
 pub use tables::{
     an_answer_changes_a_row_by_its_operation_alone, tables_keep_numbers_of_their_own,
 };

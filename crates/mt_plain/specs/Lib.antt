@@ -1,6 +1,12 @@
+pub mod Answers
+pub mod Documents
+pub mod Drive
 pub mod Events
 pub mod Next
 pub mod Output
 pub mod Plain
 pub mod Refuse
 pub mod Script
+pub mod Serve
+pub mod Slots
+pub mod Writes

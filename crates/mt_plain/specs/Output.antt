@@ -1,134 +1,233 @@
--- The output of a script: the text of each line that writes. The texts are this profile's own.
-use Rattle.std.specs.Prelude.{◌≡◌, ℕ, ◌<◌, List, [], ◌∷◌, ◌++◌, length, codes, Option, None, Some, Result, Ok, Err}
+-- The output of a script: the text of each line that writes. All of this page is this profile's own, unless a comment names a
+-- page of Vitess's documentation.
+use Rattle.std.specs.Prelude.{◌≡◌, ℕ, zero, suc, ◌<◌, if◌then◌else◌, List, [], ◌∷◌, ◌++◌, length, map, codes, Option, None, Some, Result, Ok, Err}
 use Rattle.std.specs.Str.Lines.{lines}
 use Rattle.mt_names.specs.declared.fault.NameFault.{NameFault}
-use Rattle.mt_names.specs.declared.keys.RuleKey.{RuleKey}
 use Rattle.mt_names.specs.declared.keys.RuleTarget.{RuleTarget}
-use Rattle.mt_names.specs.declared.types.TabletType.{TabletType}
 use Rattle.mt_names.specs.declared.types.TabletType.TheVariants.{Primary}
 use Rattle.mt_names.specs.Faults.{fault_text}
+use Rattle.mt_names.specs.Tables.{table_list_text}
+use Rattle.mt_names.specs.Types.{type_set_text}
+use Rattle.mt_model.specs.declared.entries.Scope.{Scope}
+use Rattle.mt_model.specs.declared.entries.Scope.TheVariants as scope
 use Rattle.mt_model.specs.declared.faults.TopologyFault.{TopologyFault}
-use Rattle.mt_model.specs.declared.rows.Op.{Op}
 use Rattle.mt_model.specs.Faults.{topology_fault_text}
 use Rattle.mt_model.specs.Rows.{Row}
 use Rattle.mt_model.specs.Topology.{resolution}
-use Rattle.mt_plain.specs.Events.{Event, write, read, Answer, done, row, refused, Refusal, refusal_text}
-use Rattle.mt_plain.specs.Next.{Answers, answer_of, next}
-use Rattle.mt_plain.specs.Plain.{Plain, opening}
-use Rattle.mt_plain.specs.Script.{Command, Line, silent, command, bad_line, line_too_long, Request, event, write_through, read_through, read_line, request_of}
+use Rattle.mt_plain.specs.Answers.{Answers, answer_of}
+use Rattle.mt_plain.specs.Documents.{dump_text, number_text, rules_text}
+use Rattle.mt_plain.specs.Drive.{Driving, begins, Heard, goes_on, ends, event_of, heard, most_turns}
+use Rattle.mt_plain.specs.Events.{Event, write, read, Way, StreamState, running, stopped, frozen, Slot, Shown, Answer, done, row, advanced, shown, refused, refusal_text}
+use Rattle.mt_plain.specs.Next.{next}
+use Rattle.mt_plain.specs.Plain.{Plain, changed_types, opening}
+use Rattle.mt_plain.specs.Script.{Line, silent, command, bad_line, line_too_long, Request, event, write_through, read_through, drive, rules_document, dump_document, read_line, request_of}
+use Rattle.mt_plain.specs.Serve.{served}
 
--- a script has at most this many bytes, and is read in at most twice as many reads (this profile's own)
+-- a script has at most this many bytes, and is read in at most twice as many reads
 abbrev pub MAX_SCRIPT_LENGTH : ℕ
 MAX_SCRIPT_LENGTH = 1048576
 
--- and is read in at most so many reads (this profile's own)
+-- how many reads read it
 abbrev pub MAX_READS : ℕ
 MAX_READS = 2097152
 
 -- ---- texts
 
--- the end of a line of output (this profile's own)
+-- the end of a line
 abbrev pub line_feed : List ℕ
 line_feed = 10 ∷ []
 
--- a line that tells a refusal (this profile's own)
+-- a refusal of a line
 abbrev pub refused_text : List ℕ → List ℕ
 refused_text refusal = codes "refused " ++ refusal
 
--- a row as a read tells it (this profile's own)
+-- the row that was read
 abbrev pub row_text : Row → List ℕ
 row_text None = codes "none"
 row_text (Some value) = codes "row " ++ value.items
 
--- an answer as it is printed (this profile's own)
+-- words parted by spaces
+abbrev pub spaced : List ℕ → List ℕ → List ℕ
+spaced first others = first ++ codes " " ++ others
+
+-- the state of a stream (MoveTables: Show)
+abbrev pub state_text : StreamState → List ℕ
+state_text running = codes "running"
+state_text stopped = codes "stopped"
+state_text frozen = codes "frozen"
+
+-- a stream with its position
+abbrev pub slot_text : Slot → List ℕ
+slot_text slot = spaced (state_text slot.state) (number_text slot.position)
+
+-- the back stream, if there is one
+abbrev pub back_text : Option Slot → List ℕ
+back_text None = codes "none"
+back_text (Some slot) = slot_text slot
+
+-- the open way: its direction, the types that it changes, how many of its steps stand done
+abbrev pub way_text : Option Way → List ℕ
+way_text None = codes "none"
+way_text (Some way) =
+    spaced (if way.back then codes "back" else codes "forward") (spaced (type_set_text (changed_types way)) (number_text way.done))
+    ++ (if way.undoing then codes " undoing" else [])
+
+-- what Show tells (MoveTables: Show)
+abbrev pub shown_text : Shown → List ℕ
+shown_text s =
+    spaced s.workflow (spaced s.source (spaced s.target (spaced (table_list_text s.tables)
+    (spaced (codes "switched") (spaced (type_set_text s.switched)
+    (spaced (codes "way") (spaced (way_text s.way)
+    (spaced (codes "forward") (spaced (slot_text s.forward) (spaced (if s.copied then codes "copied" else codes "copying")
+    (spaced (codes "back") (back_text s.back))))))))))))
+
+-- the answer to an event
 abbrev pub answer_text : Answer → List ℕ
 answer_text done = codes "ok"
 answer_text (row r) = row_text r
+answer_text (advanced events rows) = spaced (codes "events") (spaced (number_text events) (spaced (codes "rows") (number_text rows)))
+answer_text (shown s) = shown_text s
 answer_text (refused refusal) = refused_text (refusal_text refusal)
 
 -- ---- what a line asks for
 
--- a line tells nothing, tells a text that the state decides, or asks the core for an event, whose answer it tells
--- (this profile's own)
+-- a line tells nothing, tells a text that the state decides, asks the core for an event, whose answer it tells, or drives a switch
+-- or a reversal of traffic, whose end it tells
 pub data Told : Type 0 where
   nothing : Told
   says : List ℕ → Told
   asks : Event → Told
+  drives : Driving → Told
 
--- a table that is looked up, and what is asked of it there (this profile's own)
+-- a table that is looked up, and what is asked of it there
 abbrev pub asked_there : Result RuleTarget TopologyFault → ((keyspace table : List ℕ) → Event) → Told
 asked_there (Ok target) ask = asks (ask target.keyspace target.table)
 asked_there (Err fault) ask = says (refused_text (topology_fault_text fault))
 
--- what a request tells in a state (this profile's own)
+-- what a request tells in a state
 abbrev pub told_request : Plain → Result Request NameFault → Told
 told_request p (Err fault) = says (refused_text (fault_text fault))
 told_request p (Ok (event e)) = asks e
-told_request p (Ok (write_through key op)) = asked_there (resolution p.topology key Primary) (λ keyspace table. write keyspace table op)
+told_request p (Ok (write_through key op)) = asked_there (resolution (served p) key Primary) (λ keyspace table. write keyspace table op)
 told_request p (Ok (read_through key number tablet_type)) =
-    asked_there (resolution p.topology key tablet_type) (λ keyspace table. read keyspace table number tablet_type)
+    asked_there (resolution (served p) key tablet_type) (λ keyspace table. read keyspace table number tablet_type)
+told_request p (Ok (drive workflow types backward)) = drives (begins workflow types backward)
+told_request p (Ok rules_document) = says (rules_text (served p))
+told_request p (Ok dump_document) = says (dump_text (served p))
 
--- what a line that was read tells in a state (this profile's own)
+-- what a line tells in a state
 abbrev pub told_line : Plain → Line → Told
 told_line p silent = nothing
 told_line p bad_line = says (refused_text (codes "X1 BadLine"))
 told_line p line_too_long = says (refused_text (codes "X2 LineTooLong"))
 told_line p (command c) = told_request p (request_of c)
 
--- what the bytes of a line tell in a state (this profile's own)
-abbrev pub told : Plain → List ℕ → Told
-told p line = told_line p (read_line line)
+-- how lines are read
+abbrev pub Reading : Type 0
+Reading = List ℕ → Line
 
--- ---- the output, as a relation: the core may answer that it wants memory
+-- the same of its bytes, by how lines are read
+abbrev pub told : Reading → Plain → List ℕ → Told
+told reading p line = told_line p (reading line)
 
--- a rule by which the core answers (this profile's own)
+-- the watchers of a program that is started with some keyspaces: one for the routers, and one for each keyspace's primary
+abbrev pub watchers_of : List (List ℕ) → List Scope
+watchers_of keyspaces = scope.Routes ∷ map scope.Primary keyspaces
+
+-- ---- the output, as a relation: want of memory, a watcher's refusal and a cut advance are free
+
+-- a rule by which the core answers
 abbrev pub AnswerRule : Type 1
 AnswerRule = Plain → Event → Answer → Type 0
 
--- what a line adds to the output, and then the rest from the state that it leaves (this profile's own)
-abbrev pub Adds : AnswerRule → Plain → Told → (Plain → List ℕ → Type 0) → List ℕ → Type 0
-Adds rule p nothing Rest out = Rest p out
-Adds rule p (says text) Rest out = (rest : List ℕ) × (out ≡ text ++ line_feed ++ rest) × Rest p rest
-Adds rule p (asks e) Rest out =
-    (answer : Answer) × (rest : List ℕ) × rule p e answer × (out ≡ answer_text answer ++ line_feed ++ rest) × Rest (next p e answer) rest
+-- what the rest of a script may be, from the state in which it begins
+abbrev pub Rest : Type 1
+Rest = Plain → List ℕ → Type 0
 
--- the outputs of some lines from a state on (this profile's own)
-abbrev pub Output : AnswerRule → Plain → List (List ℕ) → List ℕ → Type 0
-Output rule p [] out = out ≡ []
-Output rule p (line ∷ lines) out = Adds rule p (told p line) (λ q rest. Output rule q lines rest) out
+-- a text in a line of its own, and then the rest
+abbrev pub Says : Plain → List ℕ → Rest → List ℕ → Type 0
+Says p text Then out = (rest : List ℕ) × (out ≡ text ++ line_feed ++ rest) × Then p rest
 
--- an output of a script: the texts of its lines over one run of the core from its opening (this profile's own)
-abbrev pub IsOutput : (input output : List ℕ) → Type 0
-IsOutput input out = Output Answers opening (lines input) out
+-- a drive goes on, or its end is told
+abbrev pub GoesOn : (Driving → Rest) → Plain → Heard → Rest → List ℕ → Type 0
+GoesOn Again p (goes_on driving) Then out = Again driving p out
+GoesOn Again p (ends text) Then out = Says p text Then out
 
--- the beginning of an output (this profile's own)
-abbrev pub BeginsOutput : (input written : List ℕ) → Type 0
-BeginsOutput input written = (out : List ℕ) × (rest : List ℕ) × IsOutput input out × (written ++ rest ≡ out)
+-- the events of a drive, each answered in the state that the one before it leaves; none asks for as many as the turns
+abbrev pub Drives : AnswerRule → (turns : ℕ) → Rest → Driving → Rest
+Drives rule zero Then driving p out = Then p out
+Drives rule (suc turns) Then driving p out =
+    (answer : Answer) × rule p (event_of p driving) answer
+    × (let q = next p (event_of p driving) answer in GoesOn (Drives rule turns Then) q (heard q driving answer) Then out)
 
--- ---- the output, as a function: memory is ample
+-- what a line adds to the output, and then the rest from the state that it leaves
+abbrev pub Adds : AnswerRule → Plain → Told → Rest → List ℕ → Type 0
+Adds rule p nothing Then out = Then p out
+Adds rule p (says text) Then out = Says p text Then out
+Adds rule p (asks e) Then out =
+    (answer : Answer) × (rest : List ℕ) × rule p e answer × (out ≡ answer_text answer ++ line_feed ++ rest) × Then (next p e answer) rest
+Adds rule p (drives driving) Then out = Drives rule most_turns Then driving p out
 
--- what a line adds, and then the rest (this profile's own)
+-- the outputs of some lines from a state on
+abbrev pub Output : AnswerRule → Reading → Plain → List (List ℕ) → List ℕ → Type 0
+Output rule reading p [] out = out ≡ []
+Output rule reading p (line ∷ lines) out = Adds rule p (told reading p line) (λ q rest. Output rule reading q lines rest) out
+
+-- an output of a script: the texts of its lines over one run of the core from its opening, with watchers of these scopes
+abbrev pub IsOutputBy : Reading → List Scope → (input output : List ℕ) → Type 0
+IsOutputBy reading scopes input out = Output Answers reading (opening scopes) (lines input) out
+
+-- the same of the whole language
+abbrev pub IsOutput : List Scope → (input output : List ℕ) → Type 0
+IsOutput = IsOutputBy read_line
+
+-- the beginning of an output
+abbrev pub BeginsOutput : Reading → List Scope → (input written : List ℕ) → Type 0
+BeginsOutput reading scopes input written =
+    (out : List ℕ) × (rest : List ℕ) × IsOutputBy reading scopes input out × (written ++ rest ≡ out)
+
+-- ---- the output, as a function: nothing is free
+
+-- the text of a drive that goes on or ends, and the rest
+abbrev pub goes_then : (Driving → Plain → List ℕ) → Plain → Heard → (Plain → List ℕ) → List ℕ
+goes_then again p (goes_on driving) rest = again driving p
+goes_then again p (ends text) rest = text ++ line_feed ++ rest p
+
+-- the text that a drive ends with, and the rest
+abbrev pub drive_then : (turns : ℕ) → (Plain → List ℕ) → Driving → Plain → List ℕ
+drive_then zero rest driving p = rest p
+drive_then (suc turns) rest driving p =
+    let answer = answer_of p (event_of p driving) in
+    let q = next p (event_of p driving) answer in
+    goes_then (drive_then turns rest) q (heard q driving answer) rest
+
+-- what a line adds, and the rest
 abbrev pub told_then : Plain → Told → (Plain → List ℕ) → List ℕ
 told_then p nothing rest = rest p
 told_then p (says text) rest = text ++ line_feed ++ rest p
 told_then p (asks e) rest = let answer = answer_of p e in answer_text answer ++ line_feed ++ rest (next p e answer)
+told_then p (drives driving) rest = drive_then most_turns rest driving p
 
--- the output of some lines from a state on (this profile's own)
-abbrev pub output_from : Plain → List (List ℕ) → List ℕ
-output_from p [] = []
-output_from p (line ∷ lines) = told_then p (told p line) (λ q. output_from q lines)
+-- the output of some lines from a state on
+abbrev pub output_from : Reading → Plain → List (List ℕ) → List ℕ
+output_from reading p [] = []
+output_from reading p (line ∷ lines) = told_then p (told reading p line) (λ q. output_from reading q lines)
 
--- the output of a script where memory is ample (this profile's own)
-abbrev pub output : List ℕ → List ℕ
-output input = output_from opening (lines input)
+-- the output of a script, by how lines are read
+abbrev pub output_by : Reading → List Scope → List ℕ → List ℕ
+output_by reading scopes input = output_from reading (opening scopes) (lines input)
 
--- the rule of a core that never wants memory (this profile's own)
+-- the output of a script
+abbrev pub output : List Scope → List ℕ → List ℕ
+output = output_by read_line
+
+-- the rule of a core that wants no memory, and whose watchers don't refuse
 abbrev pub AnswersWithMemory : AnswerRule
 AnswersWithMemory p e answer = answer ≡ answer_of p e
 
 -- ---- why a script may end early, and what it leaves written
 
--- a fault of a run: memory, reading, writing, or a script that is too long (this profile's own)
+-- no memory, a reader or a writer that fails, a script that is too long
 pub data ScriptFault : Type 0 where
   memory : ScriptFault
   read_fault : ScriptFault
@@ -136,9 +235,8 @@ pub data ScriptFault : Type 0 where
   too_long : ScriptFault
 
 -- a script is read whole before its first line: a fault of reading, or a script that is too long, leaves nothing written
--- (this profile's own)
-abbrev pub Leaves : ScriptFault → (input written : List ℕ) → Type 0
-Leaves memory input written = BeginsOutput input written
-Leaves read_fault input written = written ≡ []
-Leaves write_fault input written = BeginsOutput input written
-Leaves too_long input written = (MAX_SCRIPT_LENGTH < length input) × (written ≡ [])
+abbrev pub Leaves : Reading → List Scope → ScriptFault → (input written : List ℕ) → Type 0
+Leaves reading scopes memory input written = BeginsOutput reading scopes input written
+Leaves reading scopes read_fault input written = written ≡ []
+Leaves reading scopes write_fault input written = BeginsOutput reading scopes input written
+Leaves reading scopes too_long input written = (MAX_SCRIPT_LENGTH < length input) × (written ≡ [])

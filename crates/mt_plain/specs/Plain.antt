@@ -1,31 +1,73 @@
--- The plain state: the topology, and the client tables as one list of acknowledged writes (this profile's own).
-use Rattle.std.specs.Prelude.{ℕ, Bool, List, [], ◌∷◌, ◌++◌, length, fold, filter, count_by, if◌then◌else◌, ◌&&◌, ◌==◌, Option, None, Some, unwrap_or, is_some}
+-- The plain state: the topology as if no workflow were live, the client tables as one list of acknowledged writes, the live
+-- workflows, and what the logs list (this profile's own; topology, workflows and streams are Vitess's).
+use Rattle.std.specs.Prelude.{ℕ, ◌+◌, Bool, true, not, ◌&&◌, ◌||◌, nat_le, nat_lt, if◌then◌else◌, List, [], ◌∷◌, ◌++◌, find, flat_map, map, Option, None, Some, unwrap_or, is_some}
+use Rattle.std.specs.List.{list_any}
 use Rattle.std.specs.Map.{lookup}
+use Rattle.std.specs.Option.{option_map_or}
+use Rattle.mt_names.specs.declared.keys.RuleKey.{RuleKey}
 use Rattle.mt_names.specs.declared.keys.RuleTarget.{RuleTarget}
+use Rattle.mt_names.specs.declared.types.TabletType.TheVariants.{Primary, Replica, Rdonly}
+use Rattle.mt_names.specs.declared.types.TypeSet.{TypeSet}
 use Rattle.mt_names.specs.Names.{same_text}
 use Rattle.mt_names.specs.Same.{same_target}
+use Rattle.mt_model.specs.declared.entries.EntryKey.{EntryKey}
+use Rattle.mt_model.specs.declared.entries.EntryKey.TheVariants as about
+use Rattle.mt_model.specs.declared.entries.Scope.{Scope}
 use Rattle.mt_model.specs.Rows.{Row}
-use Rattle.mt_model.specs.Topology.{TopologyState, empty_topology, is_present, keyspace_at}
+use Rattle.mt_model.specs.Topology.{TopologyState, empty_topology, keyspace_at}
+use Rattle.mt_plain.specs.Events.{Way}
 
--- an acknowledged write: the keyspace whose primary took it, the number of its table, the key, and the row that it left
--- (this profile's own; a primary's log in Vitess is its binary log)
+-- an acknowledged write: the number of its table, the key, and the row that it left (this profile's own)
 pub record Write : Type 0 where
-  pub keyspace : List ℕ
   pub table : ℕ
   pub key : ℕ
   pub after : Row
 
--- the topology as if no workflow were live; the number that each table got when it was made; how many tables were ever
--- made; and all acknowledged writes in their order (this profile's own)
+-- an entry of a primary's log, without its rows (this profile's own; in Vitess it is a row event of the binary log)
+pub record LogEntry : Type 0 where
+  pub keyspace : List ℕ
+  pub table : List ℕ
+  pub key : ℕ
+
+-- how far a copy has come: nothing yet, up to a row, or to its end (MoveTables: the copy phase, in primary key order)
+pub data Copied : Type 0 where
+  not_begun : Copied
+  up_to : (table : List ℕ) → ℕ → Copied
+  ended : Copied
+
+-- a live workflow: its sides and tables, the types whose traffic it has switched, the way that is open, how many of the
+-- acknowledged writes to its tables have reached the side that is not the owner, how far its copy has come, and the positions of
+-- its forward stream, its back stream, and the one that the open way has made (MoveTables)
+pub record Live : Type 0 where
+  pub name : List ℕ
+  pub source : List ℕ
+  pub target : List ℕ
+  pub tables : List (List ℕ)
+  pub switched : TypeSet
+  pub way : Option Way
+  pub fed : ℕ
+  pub copied : Copied
+  pub forward_at : ℕ
+  pub back_at : ℕ
+  pub fresh_at : ℕ
+
+-- the plain state (this profile's own): the topology as if no workflow were live; the number that each table got when it was
+-- made, and how many were ever made; all acknowledged writes, and the entries of all logs, each in their order; the live
+-- workflows; whom each watcher keeps up to date; how many ways were begun, and how many entries the journal has
 pub record Plain : Type 0 where
   pub topology : TopologyState
   pub numbers : List (RuleTarget × ℕ)
   pub made : ℕ
   pub writes : List Write
+  pub log : List LogEntry
+  pub lives : List Live
+  pub scopes : List Scope
+  pub ways : ℕ
+  pub journal : ℕ
 
--- no keyspace, no table, no write (this profile's own)
-abbrev pub opening : Plain
-opening = record { topology = empty_topology; numbers = []; made = 0; writes = [] }
+-- no keyspace, no table, no write, no workflow; and the watchers of these scopes (this profile's own)
+abbrev pub opening : List Scope → Plain
+opening scopes = record { topology = empty_topology; numbers = []; made = 0; writes = []; log = []; lives = []; scopes = scopes; ways = 0; journal = 0 }
 
 -- a table of a keyspace (Routing Rules: the to-table)
 abbrev pub in_keyspace : (keyspace table : List ℕ) → RuleTarget
@@ -35,26 +77,144 @@ in_keyspace keyspace table = record { keyspace = keyspace; table = table }
 abbrev pub has_keyspace : Plain → List ℕ → Bool
 has_keyspace p keyspace = is_some (keyspace_at p.topology.keyspaces keyspace)
 
--- whether a keyspace has a table (this profile's own)
-abbrev pub has_table : Plain → (keyspace table : List ℕ) → Bool
-has_table p keyspace table = is_present p.topology.keyspaces keyspace table
-
 -- the number of a table; where there is none, one that no table has yet (this profile's own)
 abbrev pub number_of : Plain → (keyspace table : List ℕ) → ℕ
 number_of p keyspace table = unwrap_or (lookup (same_target (in_keyspace keyspace table)) p.numbers) p.made
 
--- the row after one write more (this profile's own)
-abbrev pub row_after_write : (table key : ℕ) → Row → Write → Row
-row_after_write table key before w = if (w.table == table) && (w.key == key) then w.after else before
+-- ---- the live workflows
 
--- the row that a list of writes leaves at a key of the table with a number (this profile's own)
-abbrev pub row_after_writes : List Write → (table key : ℕ) → Row
-row_after_writes writes table key = fold (row_after_write table key) None writes
+-- the live workflow of a name (MoveTables: the workflow's name)
+abbrev pub live_at : Plain → List ℕ → Option Live
+live_at p name = find (λ w. same_text w.name name) p.lives
 
--- the row of a table: what its acknowledged writes leave, each applied once, in their order (this profile's own)
-abbrev pub row_of : Plain → (keyspace table : List ℕ) → ℕ → Row
-row_of p keyspace table key = row_after_writes p.writes (number_of p keyspace table) key
+-- whether a workflow moves a table of that name (MoveTables: the tables)
+abbrev pub moves : Live → List ℕ → Bool
+moves w table = list_any (λ t. same_text t table) w.tables
 
--- how many entries the log of a keyspace's primary has (this profile's own)
-abbrev pub log_length : Plain → List ℕ → ℕ
-log_length p keyspace = count_by (λ w. same_text w.keyspace keyspace) p.writes
+-- the live workflow that moves a table of that name; there is one at most (this profile's own)
+abbrev pub mover : Plain → List ℕ → Option Live
+mover p table = find (λ w. moves w table) p.lives
+
+-- whether a keyspace is one of a workflow's sides (MoveTables: source and target keyspace)
+abbrev pub is_side : Live → List ℕ → Bool
+is_side w keyspace = same_text w.source keyspace || same_text w.target keyspace
+
+-- the side that owns the moved tables once these types are switched (MoveTables: writes go to the primary)
+abbrev pub owner_by : Live → TypeSet → List ℕ
+owner_by w types = if types.primary then w.target else w.source
+
+-- the owner (MoveTables)
+abbrev pub owner : Live → List ℕ
+owner w = owner_by w w.switched
+
+-- the switched types before the way that is open, or now where none is (MoveTables)
+abbrev pub before_way : Live → TypeSet
+before_way w = option_map_or (λ way. way.before) w.way w.switched
+
+-- ---- the part of a workflow
+
+-- the four keys of a name: for all types, and for each (Routing Rules: the from-table, plain or with a tablet type)
+abbrev pub keys_of_name : Option (List ℕ) → (table : List ℕ) → List RuleKey
+keys_of_name keyspace table = map (λ type. record { keyspace = keyspace; table = table; tablet_type = type }) (None ∷ Some Primary ∷ Some Replica ∷ Some Rdonly ∷ [])
+
+-- the twelve rule keys of a table that moves: its name alone, at the source, at the target (MoveTables: the routing rules)
+abbrev pub twelve_keys : (source target table : List ℕ) → List RuleKey
+twelve_keys source target table = keys_of_name None table ++ keys_of_name (Some source) table ++ keys_of_name (Some target) table
+
+-- the rule keys of a workflow's part (MoveTables: the routing rules of its tables)
+abbrev pub rule_keys : Live → List RuleKey
+rule_keys w = flat_map (twelve_keys w.source w.target) w.tables
+
+-- whether an entry lies in a workflow's part: the twelve keys, the denial at either side and the presence at the target of
+-- each of its tables (this profile's own)
+abbrev pub has_part : Live → EntryKey → Bool
+has_part w (about.Rule key) = moves w key.table && option_map_or (is_side w) key.keyspace true
+has_part w (about.Denied keyspace table) = moves w table && is_side w keyspace
+has_part w (about.Present keyspace table) = moves w table && same_text w.target keyspace
+
+-- the live workflow in whose part an entry lies; there is one at most (this profile's own)
+abbrev pub part_owner : Plain → EntryKey → Option Live
+part_owner p key = find (λ w. has_part w key) p.lives
+
+-- ---- the steps of a way (How traffic is switched; the numbers are this profile's own)
+
+-- the reads of the changed types go to the side that will serve them
+abbrev pub switch_reads : ℕ
+switch_reads = 0
+
+-- the topology denies the tables at the owner
+abbrev pub deny_source : ℕ
+deny_source = 1
+
+-- the owner's primary takes that over
+abbrev pub refresh_source : ℕ
+refresh_source = 2
+
+-- a test that nothing is left to be fed
+abbrev pub catch_up : ℕ
+catch_up = 3
+
+-- the feeding stream stops
+abbrev pub stop_feeding : ℕ
+stop_feeding = 4
+
+-- a stream the other way is made
+abbrev pub create_back : ℕ
+create_back = 5
+
+-- the journal: the other side owns the tables from here
+abbrev pub write_journal : ℕ
+write_journal = 6
+
+-- the topology allows the tables at the new owner
+abbrev pub allow_target : ℕ
+allow_target = 7
+
+-- the new owner's primary takes that over
+abbrev pub refresh_target : ℕ
+refresh_target = 8
+
+-- the plain rules lead to the new owner
+abbrev pub switch_write_rules : ℕ
+switch_write_rules = 9
+
+-- the stream the other way starts
+abbrev pub start_back : ℕ
+start_back = 10
+
+-- the old feeding stream is frozen, or ends
+abbrev pub freeze_old : ℕ
+freeze_old = 11
+
+-- whether one has what the other lacks
+abbrev pub differ : Bool → Bool → Bool
+differ a b = if a then not b else b
+
+-- the types that a way changes (SwitchTraffic, ReverseTraffic: the tablet types)
+abbrev pub changed_types : Way → TypeSet
+changed_types way = record { primary = differ way.before.primary way.after.primary; replica = differ way.before.replica way.after.replica; rdonly = differ way.before.rdonly way.after.rdonly }
+
+-- whether a way changes reads (How traffic is switched: reads)
+abbrev pub changes_reads : Way → Bool
+changes_reads way = (changed_types way).replica || (changed_types way).rdonly
+
+-- whether a way changes writes (How traffic is switched: writes)
+abbrev pub changes_primary : Way → Bool
+changes_primary way = (changed_types way).primary
+
+-- the first step of a way, and the one behind its last: steps 0 to 11, 1 to 11 without reads, 0 alone without primary
+-- (How traffic is switched: reads first, then writes)
+abbrev pub first_step : Way → ℕ
+first_step way = if changes_reads way then switch_reads else deny_source
+
+-- the number behind its last step
+abbrev pub behind_last : Way → ℕ
+behind_last way = if changes_primary way then 12 else 1
+
+-- the step that is next (this profile's own)
+abbrev pub next_step : Way → ℕ
+next_step way = first_step way + way.done
+
+-- a step stands done where it is among the first `done` of the way (this profile's own)
+abbrev pub stands_done : Way → ℕ → Bool
+stands_done way step = nat_le (first_step way) step && nat_lt step (next_step way)

@@ -17,12 +17,13 @@ use Rattle.mt_model.proofs.TopologyLemmas.{value_of-with_keyspace, value_of-with
 use Rattle.mt_topology.specs.Edits.{add_keyspace_refusal, add_table_refusal, edit_rule_grows, edit_rule_refusal}
 use Rattle.mt_primary.specs.Primary.{PrimaryState, empty_primary, has_table}
 use Rattle.mt_plain.specs.Events.{add_keyspace, add_table, edit_rule}
+use Rattle.mt_laws.specs.Numbers.{calm}
 use Rattle.mt_program.specs.Commands.{AddsKeyspace, AddsTable, EditsRule, MakesKeyspace, MakesRule, MakesTable, Steps}
 use Rattle.mt_program.specs.Core.{CoreState, IsCore, IsWithinLimits, primary_at, primary_of}
 use Rattle.mt_program.proofs.CoreLemmas.{is_some-push_both, is_some-set_value, primary_of-found, primary_of-push, primary_of-set_elsewhere, primary_of-set_here, same_name}
 use Rattle.mt_program.proofs.RefusalLemmas.{none_told}
 use Rattle.mt_program.proofs.LimitLemmas.{within-keyspace, within-rule, within-table}
-use Rattle.mt_program.proofs.StepLemmas.{does_keeps, does_step, free_name, keyspace_making, keyspace_refusing, no_primary, rule_growing, rule_making, rule_refusing, table_making, table_refusing}
+use Rattle.mt_program.proofs.StepLemmas.{does_keeps, does_step, free_name, keyspace_making, keyspace_refusing, no_primary, rule_growing, rule_making, rule_refusing, steps_from_calm, table_making, table_refusing}
 
 -- the mark of a table's entry
 abbrev pub mark_of : Entry → Bool
@@ -41,8 +42,8 @@ table_of other = []
 -- ---- a keyspace more
 
 pub keyspace_steps : (old new : CoreState) (name : List ℕ) (result : Result Reply code.Refusal) → IsCore old → AddsKeyspace old name result new → Steps old (add_keyspace name) result new
-keyspace_steps old new name result is did p stands =
-    does_step p old (add_keyspace name) (add_keyspace_refusal old.topology.keyspaces name) true (MakesKeyspace old name) tt refl (λ e. refl) (keyspace_refusing p old name is stands) stands (keyspace_making p old name is stands) result new did
+keyspace_steps old new name result is did = steps_from_calm old new (add_keyspace name) result (λ p stands.
+    does_step (calm p) old (add_keyspace name) (add_keyspace_refusal old.topology.keyspaces name) true (MakesKeyspace old name) refl (λ e. refl) (keyspace_refusing p old name is stands) stands (keyspace_making p old name is stands) result new did)
 
 none_from : {A : Type 0} (o : Option A) → is_some o ≡ false → o ≡ None
 none_from None e = refl
@@ -66,8 +67,8 @@ keyspace_keeps old new name result is did =
 -- ---- a rule edited
 
 pub rule_steps : (old new : CoreState) (key : RuleKey) (target : Option RuleTarget) (result : Result Reply code.Refusal) → IsCore old → EditsRule old key target result new → Steps old (edit_rule key target) result new
-rule_steps old new key target result is did p stands =
-    does_step p old (edit_rule key target) (edit_rule_refusal old.topology.rules key target) (edit_rule_grows old.topology.rules key target) (MakesRule old key target) tt refl (rule_growing old key target) (rule_refusing p old key target is stands) stands (rule_making p old key target stands) result new did
+rule_steps old new key target result is did = steps_from_calm old new (edit_rule key target) result (λ p stands.
+    does_step (calm p) old (edit_rule key target) (edit_rule_refusal old.topology.rules key target) (edit_rule_grows old.topology.rules key target) (MakesRule old key target) refl (rule_growing p old key target) (rule_refusing p old key target is stands) stands (rule_making p old key target stands) result new did)
 
 pub rule_keeps : (old new : CoreState) (key : RuleKey) (target : Option RuleTarget) (result : Result Reply code.Refusal) → IsCore old → EditsRule old key target result new → IsCore new
 rule_keeps old new key target result is did =
@@ -92,10 +93,10 @@ table_absent core keyspace table is free =
         unmarked true e = absurd (let h = rw (at, e) at free in cc)
 
 pub table_steps : (old new : CoreState) (keyspace table : List ℕ) (result : Result Reply code.Refusal) → IsCore old → AddsTable old keyspace table result new → Steps old (add_table keyspace table) result new
-table_steps old new keyspace table result is did p stands =
+table_steps old new keyspace table result is did = steps_from_calm old new (add_table keyspace table) result (λ p stands.
     let refusing = table_refusing p old keyspace table is stands in
-    does_step p old (add_table keyspace table) (add_table_refusal old.topology.keyspaces keyspace table) true (MakesTable old keyspace table) tt refl (λ e. refl) refusing stands
-    (λ s none. table_making p old keyspace table is stands s none (table_absent old keyspace table is (none_told (add_table_refusal old.topology.keyspaces keyspace table) (sym refusing ∙ none))).2) result new did
+    does_step (calm p) old (add_table keyspace table) (add_table_refusal old.topology.keyspaces keyspace table) true (MakesTable old keyspace table) refl (λ e. refl) refusing stands
+    (λ s none. table_making p old keyspace table is stands s none (table_absent old keyspace table is (none_told (add_table_refusal old.topology.keyspaces keyspace table) (sym refusing ∙ none))).2) result new did)
 
 is_some-changed : (change : KeyspaceState → KeyspaceState) (keyspaces : Keyspaces) (name other : List ℕ) → is_some (keyspace_at (with_keyspace_state change keyspaces name) other) ≡ is_some (keyspace_at keyspaces other)
 is_some-changed change keyspaces name other = by (keyspace_at keyspaces name)

@@ -13,10 +13,12 @@ use Rattle.mt_names.specs.Same.{same_key}
 use Rattle.mt_model.specs.declared.faults.TopologyFault.{TopologyFault}
 use Rattle.mt_model.specs.declared.faults.TopologyFault.TheVariants as topology
 use Rattle.mt_model.specs.Limits.{most_keyspaces, most_rules, most_tables_in_keyspace}
-use Rattle.mt_model.specs.Topology.{Keyspaces, KeyspaceState, Marks, Rules, TopologyState, is_marked, keyspace_at}
+use Rattle.mt_model.specs.Topology.{Keyspaces, KeyspaceState, Marks, TopologyState, is_marked, keyspace_at}
 use Rattle.mt_topology.specs.Edits.{add_keyspace_refusal, add_table_refusal, edit_rule_refusal, new_table_refusal}
 use Rattle.mt_plain.specs.Events.{Refusal, exists, full, no_keyspace, refusal_from}
+use Rattle.mt_plain.specs.Plain.{Plain}
 use Rattle.mt_plain.specs.Refuse.{or_else, refuse_if, rule_refusal}
+use Rattle.mt_laws.specs.Numbers.{calm}
 use Rattle.mt_program.specs.Commands.{refusal_by_topology}
 use Rattle.mt_program.specs.Core.{HasTables, IsWithinLimits}
 
@@ -93,9 +95,9 @@ table_told t keyspace table within = by (keyspace_at t.keyspaces keyspace) refl
 
 -- ---- rules
 
-pub rule_told : (rules : Rules) (key : RuleKey) (target : Option RuleTarget) → length rules ≤ most_rules → rule_refusal rules key target ≡ told (edit_rule_refusal rules key target)
-rule_told rules key None within = refl
-rule_told rules key (Some target) within = rw (at_limit (length rules) most_rules within) (by (is_some (lookup (same_key key) rules)) (eqb (length rules) most_rules))
+pub rule_told : (p : Plain) (key : RuleKey) (target : Option RuleTarget) → length p.topology.rules ≤ most_rules → rule_refusal (calm p) key target ≡ told (edit_rule_refusal p.topology.rules key target)
+rule_told p key None within = refl
+rule_told p key (Some target) within = rw (at_limit (length p.topology.rules) most_rules within) (by (is_some (lookup (same_key key) p.topology.rules)) (eqb (length p.topology.rules) most_rules))
   where
     by : (there at : Bool) → cond there None (refuse_if at full) ≡ told (cond (not there && at) (Some topology.Full) None)
     by true at = refl

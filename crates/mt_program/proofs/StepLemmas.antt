@@ -1,5 +1,5 @@
 -- A command leads from a plain state that the core stands for to the next one.
-use Rattle.std.proofs.Common.{◌≡◌, ◌≢◌, ℕ, Bool, true, false, List, length, Option, None, Some, Result, Ok, Err, refl, sym, ap, ◌∙◌, subst, ⊎_elim, is_some}
+use Rattle.std.proofs.Common.{◌≤◌, [], ◌≡◌, ◌≢◌, ℕ, Bool, true, false, List, length, Option, None, Some, Result, Ok, Err, refl, sym, ap, ◌∙◌, subst, ⊎_elim, is_some}
 use Rattle.std.proofs.lemmas.Bool.{true≢false}
 use Rattle.std.specs.Option.{option_map, option_map_or}
 use Rattle.std.specs.Result.{OnErr}
@@ -10,16 +10,19 @@ use Rattle.mt_model.specs.declared.answers.Refusal.TheVariants as refusal
 use Rattle.mt_model.specs.declared.answers.Reply.{Reply}
 use Rattle.mt_model.specs.declared.answers.Reply.TheVariants as reply
 use Rattle.mt_model.specs.declared.faults.TopologyFault.{TopologyFault}
+use Rattle.mt_model.specs.Limits.{most_rules}
 use Rattle.mt_model.specs.Topology.{TopologyState, keyspace_at, with_keyspace, with_rule, with_table}
 use Rattle.mt_topology.specs.Edits.{add_keyspace_refusal, add_table_refusal, edit_rule_grows, edit_rule_refusal}
 use Rattle.mt_primary.specs.Primary.{PrimaryState, TableState, has_table, row_at, row_in, table_at}
 use Rattle.mt_primary.specs.Writes.{IsTableMade}
 use Rattle.mt_plain.specs.Events.{Event, add_keyspace, add_table, edit_rule, done, refusal_from, answer_from}
-use Rattle.mt_plain.specs.Next.{Answers, HasMeaning, Refuses, next, next_taken, reply_of}
-use Rattle.mt_plain.specs.Plain.{Plain, opening}
+use Rattle.mt_plain.specs.Answers.{Answers, Refuses, reply_of}
+use Rattle.mt_plain.specs.Next.{next, next_taken}
+use Rattle.mt_plain.specs.Plain.{Live, Plain, opening}
 use Rattle.mt_plain.specs.Refuse.{may_grow, refusal_of}
-use Rattle.mt_laws.proofs.RunLemmas.{next_is_reached, opening_is_reached, row_step}
-use Rattle.mt_program.specs.Commands.{Becomes, Does, MakesKeyspace, MakesRule, MakesTable, refusal_by_topology}
+use Rattle.mt_laws.specs.Numbers.{calm}
+use Rattle.mt_laws.proofs.TableLemmas.{done_at, done_has_numbers, opening_has_numbers}
+use Rattle.mt_program.specs.Commands.{Becomes, Does, MakesKeyspace, MakesRule, MakesTable, Steps, refusal_by_topology}
 use Rattle.mt_program.specs.Core.{CoreState, IsCore, Stands, empty_core, primary_at, primary_of}
 use Rattle.mt_program.proofs.CoreLemmas.{primary_of-found, primary_of-push, primary_of-set_elsewhere, primary_of-set_here, same_name}
 use Rattle.mt_program.proofs.RefusalLemmas.{keyspace_told, none_told, rule_told, table_told, told}
@@ -43,20 +46,20 @@ told_some None r e = absurd cc
 told_some (Some f) r e = let is : refusal_by_topology f ≡ r = cc in ap (λ x. Some (refusal_from x)) is
 
 module _ (p : Plain) (old : CoreState) (event : Event) (fault : Option TopologyFault) (grows : Bool) (Makes : CoreState → Type 0)
-    (meaning : HasMeaning event) (answered : reply_of p event ≡ done) (growing : grows ≡ true → may_grow event ≡ true)
+    (answered : reply_of p event ≡ done) (growing : grows ≡ true → may_grow p event ≡ true)
     (refusing : refusal_of p event ≡ told fault) (stands : Stands p old)
     (making : (s : CoreState) → refusal_of p event ≡ None → Makes s → Stands (next_taken p event) s) where
   refused_step : (r : code.Refusal) (new : CoreState) → r ≢ refusal.Memory → (option_map refusal_by_topology fault ≡ Some r) × (new ≡ old)
       → Answers p event (answer_from (Err r)) × Stands (next p event (answer_from (Err r))) new
-  refused_step r new other is = ((meaning, refuses p event r other (refusing ∙ told_some fault r is.0)), subst (Stands p) (sym is.1) stands)
+  refused_step r new other is = (refuses p event r other (refusing ∙ told_some fault r is.0), subst (Stands p) (sym is.1) stands)
 
   pub does_step : (result : Result Reply code.Refusal) (new : CoreState) → Does old fault grows Makes result new
       → Answers p event (answer_from result) × Stands (next p event (answer_from result)) new
   does_step (Ok reply.Done) new is =
       let none : refusal_of p event ≡ None = refusing ∙ ap told is.1 in
-      ((meaning, none, sym answered), making new none is.2)
+      ((none, sym answered), making new none is.2)
   does_step (Ok (reply.Row r)) new is = absurd (let e = is.0 in cc)
-  does_step (Err refusal.Memory) new is = ((meaning, (refusing ∙ ap told is.0, growing is.1)), subst (Stands p) (sym is.2) stands)
+  does_step (Err refusal.Memory) new is = ((refusing ∙ ap told is.0, growing is.1), subst (Stands p) (sym is.2) stands)
   does_step (Err refusal.NoKeyspace) new is = refused_step refusal.NoKeyspace new (λ e. absurd cc) is
   does_step (Err refusal.NoTable) new is = refused_step refusal.NoTable new (λ e. absurd cc) is
   does_step (Err refusal.RowExists) new is = refused_step refusal.RowExists new (λ e. absurd cc) is
@@ -88,12 +91,12 @@ does_keeps P old new fault grows Makes (Err r) was made is = subst P (sym (does_
 
 -- ---- the opening
 
-pub opening_stands : Stands opening empty_core
-opening_stands = record { topology = refl; rows = λ keyspace table key. refl; log = λ keyspace. refl; numbers = opening_is_reached }
+pub opening_stands : Stands (opening []) empty_core
+opening_stands = record { lives = refl; topology = refl; rows = λ keyspace table key. refl; log = λ keyspace. refl; numbers = opening_has_numbers [] }
 
 -- ---- a keyspace more
 
-pub keyspace_refusing : (p : Plain) (core : CoreState) (name : List ℕ) → IsCore core → Stands p core → refusal_of p (add_keyspace name) ≡ told (add_keyspace_refusal core.topology.keyspaces name)
+pub keyspace_refusing : (p : Plain) (core : CoreState) (name : List ℕ) → IsCore core → Stands (calm p) core → refusal_of (calm p) (add_keyspace name) ≡ told (add_keyspace_refusal core.topology.keyspaces name)
 keyspace_refusing p core name is stands = rw (← stands.topology) (keyspace_told core.topology.keyspaces name is.within.keyspaces)
 
 -- no primary yet where there is no keyspace
@@ -112,38 +115,41 @@ module _ (core : CoreState) (name : List ℕ) (is : IsCore core) (free : add_key
       by None e = refl
       by (Some s) e = absurd (true≢false e)
 
-pub keyspace_making : (p : Plain) (core : CoreState) (name : List ℕ) → IsCore core → Stands p core → (s : CoreState) → refusal_of p (add_keyspace name) ≡ None → MakesKeyspace core name s → Stands (next_taken p (add_keyspace name)) s
+pub keyspace_making : (p : Plain) (core : CoreState) (name : List ℕ) → IsCore core → Stands (calm p) core → (s : CoreState) → refusal_of (calm p) (add_keyspace name) ≡ None → MakesKeyspace core name s → Stands (next_taken (calm p) (add_keyspace name)) s
 keyspace_making p core name is stands s none made =
     let told_none : told (add_keyspace_refusal core.topology.keyspaces name) ≡ None = sym (keyspace_refusing p core name is stands) ∙ none in
     let free : add_keyspace_refusal core.topology.keyspaces name ≡ None = none_told (add_keyspace_refusal core.topology.keyspaces name) told_none in
     let absent = no_primary core name is free in
     rw made (record {
+      lives = refl;
       topology = ap (λ (t : TopologyState). with_keyspace t name) stands.topology;
       rows = λ keyspace table key. ap (λ s. row_at s table key) (primary_of-push core.primaries name keyspace absent) ∙ stands.rows keyspace table key;
       log = λ keyspace. ap (λ (s : PrimaryState). length s.log) (primary_of-push core.primaries name keyspace absent) ∙ stands.log keyspace;
-      numbers = next_is_reached p (add_keyspace name) done stands.numbers (tt, none, refl);
+      numbers = done_has_numbers (calm p) (add_keyspace name) tt stands.numbers none;
     })
 
 -- ---- a rule edited
 
-pub rule_refusing : (p : Plain) (core : CoreState) (key : RuleKey) (target : Option RuleTarget) → IsCore core → Stands p core → refusal_of p (edit_rule key target) ≡ told (edit_rule_refusal core.topology.rules key target)
-rule_refusing p core key target is stands = rw (← stands.topology) (rule_told core.topology.rules key target is.within.rules)
+pub rule_refusing : (p : Plain) (core : CoreState) (key : RuleKey) (target : Option RuleTarget) → IsCore core → Stands (calm p) core → refusal_of (calm p) (edit_rule key target) ≡ told (edit_rule_refusal core.topology.rules key target)
+rule_refusing p core key target is stands =
+    rule_told p key target (subst (λ (t : TopologyState). length t.rules ≤ most_rules) stands.topology is.within.rules) ∙ ap (λ (t : TopologyState). told (edit_rule_refusal t.rules key target)) (sym stands.topology)
 
-pub rule_growing : (core : CoreState) (key : RuleKey) (target : Option RuleTarget) → edit_rule_grows core.topology.rules key target ≡ true → may_grow (edit_rule key target) ≡ true
-rule_growing core key None grows = grows
-rule_growing core key (Some target) grows = refl
+pub rule_growing : (p : Plain) (core : CoreState) (key : RuleKey) (target : Option RuleTarget) → edit_rule_grows core.topology.rules key target ≡ true → may_grow (calm p) (edit_rule key target) ≡ true
+rule_growing p core key None grows = grows
+rule_growing p core key (Some target) grows = refl
 
-pub rule_making : (p : Plain) (core : CoreState) (key : RuleKey) (target : Option RuleTarget) → Stands p core → (s : CoreState) → refusal_of p (edit_rule key target) ≡ None → MakesRule core key target s → Stands (next_taken p (edit_rule key target)) s
+pub rule_making : (p : Plain) (core : CoreState) (key : RuleKey) (target : Option RuleTarget) → Stands (calm p) core → (s : CoreState) → refusal_of (calm p) (edit_rule key target) ≡ None → MakesRule core key target s → Stands (next_taken (calm p) (edit_rule key target)) s
 rule_making p core key target stands s none made = rw made (record {
+  lives = refl;
   topology = ap (λ (t : TopologyState). record t { rules = with_rule t.rules key target }) stands.topology;
   rows = stands.rows;
   log = stands.log;
-  numbers = next_is_reached p (edit_rule key target) done stands.numbers (tt, none, refl);
+  numbers = done_has_numbers (calm p) (edit_rule key target) tt stands.numbers none;
 })
 
 -- ---- a table more
 
-pub table_refusing : (p : Plain) (core : CoreState) (keyspace table : List ℕ) → IsCore core → Stands p core → refusal_of p (add_table keyspace table) ≡ told (add_table_refusal core.topology.keyspaces keyspace table)
+pub table_refusing : (p : Plain) (core : CoreState) (keyspace table : List ℕ) → IsCore core → Stands (calm p) core → refusal_of (calm p) (add_table keyspace table) ≡ told (add_table_refusal core.topology.keyspaces keyspace table)
 table_refusing p core keyspace table is stands = rw (← stands.topology) (table_told core.topology keyspace table is.within)
 
 -- a table that is made has no rows, and the other tables keep theirs
@@ -164,18 +170,16 @@ module _ (before after : PrimaryState) (table : List ℕ) (absent : has_table be
       there : table ≢ other → row_at after other key ≡ row_at before other key
       there apart = ap (λ (o : Option TableState). option_map_or (λ t. row_in t key) o None) (made.others other (λ e. apart (sym e)))
 
-pub table_making : (p : Plain) (core : CoreState) (keyspace table : List ℕ) → IsCore core → Stands p core → (s : CoreState) → refusal_of p (add_table keyspace table) ≡ None → has_table (primary_of core.primaries keyspace) table ≡ false
-    → MakesTable core keyspace table s → Stands (next_taken p (add_table keyspace table)) s
+pub table_making : (p : Plain) (core : CoreState) (keyspace table : List ℕ) → IsCore core → Stands (calm p) core → (s : CoreState) → refusal_of (calm p) (add_table keyspace table) ≡ None → has_table (primary_of core.primaries keyspace) table ≡ false
+    → MakesTable core keyspace table s → Stands (next_taken (calm p) (add_table keyspace table)) s
 table_making p core keyspace table is stands s none absent made = record {
+  lives = refl;
   topology = made.0 ∙ ap (λ t. with_table t keyspace table) stands.topology;
-  rows = λ k t key. row_kept k t key ∙ stands.rows k t key ∙ sym (row_step p (add_table keyspace table) done stands.numbers answered k t key);
+  rows = λ k t key. row_kept k t key ∙ stands.rows k t key ∙ sym (done_at (calm p) (add_table keyspace table) tt stands.numbers none k t key);
   log = λ k. ap (λ n. n) (log_kept k) ∙ stands.log k;
-  numbers = next_is_reached p (add_table keyspace table) done stands.numbers answered;
+  numbers = done_has_numbers (calm p) (add_table keyspace table) tt stands.numbers none;
 }
   where
-    answered : Answers p (add_table keyspace table) done
-    answered = (tt, none, refl)
-
     before : PrimaryState
     before = made.1.0
 
@@ -215,3 +219,15 @@ table_making p core keyspace table is stands s none absent made = record {
 
         there : keyspace ≢ k → length (primary_of s.primaries k).log ≡ length (primary_of core.primaries k).log
         there apart = ap (λ (x : PrimaryState). length x.log) (elsewhere k apart)
+
+-- ---- a state without live workflows
+
+-- what holds of each state without live workflows holds of those that a core stands for
+pub is_calm : (p : Plain) (core : CoreState) → Stands p core → p ≡ calm p
+is_calm p core stands = let with_lives : List Live → Plain = λ lives. record p { lives = lives } in ap with_lives stands.lives
+
+pub steps_from_calm : (old new : CoreState) (event : Event) (result : Result Reply code.Refusal)
+    → ((p : Plain) → Stands (calm p) old → Answers (calm p) event (answer_from result) × Stands (next (calm p) event (answer_from result)) new) → Steps old event result new
+steps_from_calm old new event result steps p stands =
+    let calm_is = is_calm p old stands in
+    subst (λ q. Answers q event (answer_from result) × Stands (next q event (answer_from result)) new) (sym calm_is) (steps p (subst (λ q. Stands q old) calm_is stands))

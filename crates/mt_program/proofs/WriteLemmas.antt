@@ -28,16 +28,21 @@ use Rattle.mt_model.specs.Topology.{TopologyState, is_present, keyspace_at}
 use Rattle.mt_primary.specs.Primary.{PrimaryState, TableState, has_table, row_at, table_at}
 use Rattle.mt_primary.specs.Writes.{IsWritten, Writes, unless_full, written_row}
 use Rattle.mt_plain.specs.Events.{Refusal, read, write, done, full, no_table, row, refusal_from, answer_from}
-use Rattle.mt_plain.specs.Next.{Answers, next, next_taken, row_left}
-use Rattle.mt_plain.specs.Plain as plain
-use Rattle.mt_plain.specs.Plain.{Plain, Write, has_keyspace, log_length, number_of, row_of}
-use Rattle.mt_plain.specs.Refuse.{or_else, refusal_of, refuse_if, row_refusal}
-use Rattle.mt_laws.specs.Acknowledged.{acknowledged_by, row_with_op}
-use Rattle.mt_laws.proofs.RunLemmas.{next_is_reached, row_step}
+use Rattle.mt_plain.specs.Answers.{Answers}
+use Rattle.mt_plain.specs.Next.{next, next_taken}
+use Rattle.mt_plain.specs.Serve as plain
+use Rattle.mt_plain.specs.Plain.{LogEntry, Plain, has_keyspace}
+use Rattle.mt_plain.specs.Slots.{log_length}
+use Rattle.mt_plain.specs.Writes.{row_of}
+use Rattle.mt_plain.specs.Refuse.{denied_read, or_else, refusal_of, refuse_if, row_refusal}
+use Rattle.mt_names.specs.declared.types.TabletType.TheVariants.{Primary, Replica, Rdonly}
+use Rattle.mt_laws.specs.Acknowledged.{row_with_op}
+use Rattle.mt_laws.specs.Numbers.{acknowledged_at, calm}
+use Rattle.mt_laws.proofs.TableLemmas.{done_at, done_has_numbers}
 use Rattle.mt_program.specs.Commands.{Steps, WritesAt, WritesRow, read_at, refusal_by_primary}
 use Rattle.mt_program.specs.Core.{CoreState, IsCore, IsWithinLimits, Primaries, Stands, primary_at, primary_of}
 use Rattle.mt_program.proofs.CoreLemmas.{is_some-set_value, primary_of-found, primary_of-set_elsewhere, primary_of-set_here, same_name}
-use Rattle.mt_program.proofs.StepLemmas.{refuses}
+use Rattle.mt_program.proofs.StepLemmas.{refuses, steps_from_calm}
 
 -- ---- the refusals of a write
 
@@ -76,7 +81,7 @@ row_told (Delete key) None log = refl
 row_told (Delete key) (Some old) log = left_told None log
 
 -- a keyspace that is there is told as its primary tells
-module _ (p : Plain) (core : CoreState) (keyspace : List ℕ) (is : IsCore core) (stands : Stands p core) where
+module _ (p : Plain) (core : CoreState) (keyspace : List ℕ) (is : IsCore core) (stands : Stands (calm p) core) where
   pub keyspace_there : (state : PrimaryState) → primary_at core.primaries keyspace ≡ Some state → has_keyspace p keyspace ≡ true
   keyspace_there state found = sym (ap (λ (t : TopologyState). is_some (keyspace_at t.keyspaces keyspace)) stands.topology) ∙ sym (is.keyspaces keyspace) ∙ ap is_some found
 
@@ -84,18 +89,18 @@ module _ (p : Plain) (core : CoreState) (keyspace : List ℕ) (is : IsCore core)
   keyspace_absent found = sym (ap (λ (t : TopologyState). is_some (keyspace_at t.keyspaces keyspace)) stands.topology) ∙ sym (is.keyspaces keyspace) ∙ ap is_some found
 
   module _ (state : PrimaryState) (found : primary_at core.primaries keyspace ≡ Some state) where
-    pub table_there : (table : List ℕ) → plain.has_table p keyspace table ≡ has_table state table
+    pub table_there : (table : List ℕ) → plain.has_table (calm p) keyspace table ≡ has_table state table
     table_there table =
         sym (ap (λ (t : TopologyState). is_present t.keyspaces keyspace table) stands.topology) ∙ sym (is.tables keyspace table)
         ∙ ap (λ s. has_table s table) (primary_of-found core.primaries keyspace state found)
 
-    pub row_there : (table : List ℕ) (key : ℕ) → row_of p keyspace table key ≡ row_at state table key
+    pub row_there : (table : List ℕ) (key : ℕ) → row_of (calm p) keyspace table key ≡ row_at state table key
     row_there table key = sym (stands.rows keyspace table key) ∙ ap (λ s. row_at s table key) (primary_of-found core.primaries keyspace state found)
 
-    pub log_there : log_length p keyspace ≡ length state.log
+    pub log_there : log_length (calm p) keyspace ≡ length state.log
     log_there = sym (stands.log keyspace) ∙ ap (λ (s : PrimaryState). length s.log) (primary_of-found core.primaries keyspace state found)
 
-    write_told : (table : List ℕ) (op : Op) → refusal_of p (write keyspace table op) ≡ told_row (written_row state table op)
+    write_told : (table : List ℕ) (op : Op) → refusal_of (calm p) (write keyspace table op) ≡ told_row (written_row state table op)
     write_told table op =
         rw (keyspace_there state found, table_there table, row_there table (op_key op), log_there)
         (by (has_table state table))
@@ -127,7 +132,7 @@ written_by state table op after e = by (has_table state table) e
 
 -- a row that the operation acknowledged there makes of the one before
 module _ (before after : PrimaryState) (table : List ℕ) (op : Op) (position : ℕ) (written : IsWritten before table op position after) where
-  row_changed : (keyspace other : List ℕ) (key : ℕ) → row_at after other key ≡ fold row_with_op (row_at before other key) (acknowledged_by keyspace other key (write keyspace table op) done)
+  row_changed : (keyspace other : List ℕ) (key : ℕ) → row_at after other key ≡ fold row_with_op (row_at before other key) (acknowledged_at keyspace other key (write keyspace table op) done)
   row_changed keyspace other key = rw (same_itself same_text same_text_decides keyspace) (by (same_text table other) refl (eqb (op_key op) key) refl)
     where
       elsewhere : ¬ ((other ≡ table) × (key ≡ op_key op)) → row_at after other key ≡ row_at before other key
@@ -169,32 +174,30 @@ module _ (old new : CoreState) (keyspace table : List ℕ) (op : Op) (is : IsCor
   elsewhere : (k : List ℕ) → keyspace ≢ k → primary_of new.primaries k ≡ primary_of old.primaries k
   elsewhere k apart = ap (λ ps. primary_of ps k) becomes ∙ primary_of-set_elsewhere old.primaries keyspace k after apart
 
-  write_stands : (p : Plain) → Stands p old → (position : ℕ) → refusal_of p (write keyspace table op) ≡ None → IsWritten before table op position after → Stands (next_taken p (write keyspace table op)) new
+  write_stands : (p : Plain) → Stands (calm p) old → (position : ℕ) → refusal_of (calm p) (write keyspace table op) ≡ None → IsWritten before table op position after → Stands (next_taken (calm p) (write keyspace table op)) new
   write_stands p stands position none written = record {
+    lives = refl;
     topology = topology ∙ stands.topology;
-    rows = λ k t key. row_now k t key ∙ ap (λ r. fold row_with_op r (acknowledged_by k t key (write keyspace table op) done)) (stands.rows k t key) ∙ sym (row_step p (write keyspace table op) done stands.numbers answered k t key);
+    rows = λ k t key. row_now k t key ∙ ap (λ r. fold row_with_op r (acknowledged_at k t key (write keyspace table op) done)) (stands.rows k t key) ∙ sym (done_at (calm p) (write keyspace table op) tt stands.numbers none k t key);
     log = λ k.
-        let more : log_length (next_taken p (write keyspace table op)) k ≡ log_length p k + (0 + cond (same_text keyspace k) 1 0) = sum_by-append (λ (w : Write). cond (same_text w.keyspace k) 1 0) p.writes (entry ∷ []) in
+        let more : log_length (next_taken (calm p) (write keyspace table op)) k ≡ log_length p k + (0 + cond (same_text keyspace k) 1 0) = sum_by-append (λ (e : LogEntry). cond (same_text e.keyspace k) 1 0) p.log (entry ∷ []) in
         let now = log_now k in
         omega (arith, more, now);
-    numbers = next_is_reached p (write keyspace table op) done stands.numbers answered;
+    numbers = done_has_numbers (calm p) (write keyspace table op) tt stands.numbers none;
   }
     where
-      answered : Answers p (write keyspace table op) done
-      answered = (tt, none, refl)
+      entry : LogEntry
+      entry = record { keyspace = keyspace; table = table; key = op_key op }
 
-      entry : Write
-      entry = record { keyspace = keyspace; table = number_of p keyspace table; key = op_key op; after = row_left (op_row op (row_of p keyspace table (op_key op))) }
-
-      row_now : (k t : List ℕ) (key : ℕ) → row_at (primary_of new.primaries k) t key ≡ fold row_with_op (row_at (primary_of old.primaries k) t key) (acknowledged_by k t key (write keyspace table op) done)
+      row_now : (k t : List ℕ) (key : ℕ) → row_at (primary_of new.primaries k) t key ≡ fold row_with_op (row_at (primary_of old.primaries k) t key) (acknowledged_at k t key (write keyspace table op) done)
       row_now k t key = ⊎_elim here there (same_name keyspace k)
         where
-          here : keyspace ≡ k → row_at (primary_of new.primaries k) t key ≡ fold row_with_op (row_at (primary_of old.primaries k) t key) (acknowledged_by k t key (write keyspace table op) done)
-          here at = subst (λ x. row_at (primary_of new.primaries x) t key ≡ fold row_with_op (row_at (primary_of old.primaries x) t key) (acknowledged_by x t key (write keyspace table op) done)) at
+          here : keyspace ≡ k → row_at (primary_of new.primaries k) t key ≡ fold row_with_op (row_at (primary_of old.primaries k) t key) (acknowledged_at k t key (write keyspace table op) done)
+          here at = subst (λ x. row_at (primary_of new.primaries x) t key ≡ fold row_with_op (row_at (primary_of old.primaries x) t key) (acknowledged_at x t key (write keyspace table op) done)) at
               (ap (λ s. row_at s t key) now ∙ row_changed before after table op position written keyspace t key
-              ∙ sym (ap (λ s. fold row_with_op (row_at s t key) (acknowledged_by keyspace t key (write keyspace table op) done)) was))
+              ∙ sym (ap (λ s. fold row_with_op (row_at s t key) (acknowledged_at keyspace t key (write keyspace table op) done)) was))
 
-          there : keyspace ≢ k → row_at (primary_of new.primaries k) t key ≡ fold row_with_op (row_at (primary_of old.primaries k) t key) (acknowledged_by k t key (write keyspace table op) done)
+          there : keyspace ≢ k → row_at (primary_of new.primaries k) t key ≡ fold row_with_op (row_at (primary_of old.primaries k) t key) (acknowledged_at k t key (write keyspace table op) done)
           there apart = rw (other (same_text keyspace k) refl) (ap (λ s. row_at s t key) (elsewhere k apart))
             where
               other : (b : Bool) → same_text keyspace k ≡ b → same_text keyspace k ≡ false
@@ -262,21 +265,21 @@ refused_by before after table op primary.LogFull did = (did.1, inr ((λ e. absur
 
 -- what a write does to the core, by its answer
 module _ (old new : CoreState) (keyspace table : List ℕ) (op : Op) (is : IsCore old) (topology : new.topology ≡ old.topology) where
-  pub write_at : (p : Plain) → Stands p old → (o : Option PrimaryState) → primary_at old.primaries keyspace ≡ o → (result : Result Reply code.Refusal) → WritesAt o old.primaries keyspace table op result new.primaries
-      → Answers p (write keyspace table op) (answer_from result) × Stands (next p (write keyspace table op) (answer_from result)) new
+  pub write_at : (p : Plain) → Stands (calm p) old → (o : Option PrimaryState) → primary_at old.primaries keyspace ≡ o → (result : Result Reply code.Refusal) → WritesAt o old.primaries keyspace table op result new.primaries
+      → Answers (calm p) (write keyspace table op) (answer_from result) × Stands (next (calm p) (write keyspace table op) (answer_from result)) new
   write_at p stands None found result did =
       let absent = keyspace_absent p old keyspace is stands found in
-      rw did.0 ((tt, rw absent refl), subst (Stands p) (sym (same_core old new topology did.1)) stands)
+      rw did.0 (rw absent refl, subst (Stands (calm p)) (sym (same_core old new topology did.1)) stands)
   write_at p stands (Some before) found result (Ok position, after, written, is_result, becomes) =
-      let none : refusal_of p (write keyspace table op) ≡ None = write_told p old keyspace is stands before found table op ∙ ap told_row written.row in
-      rw is_result ((tt, none, refl), write_stands old new keyspace table op is before after found topology becomes p stands position none written)
+      let none : refusal_of (calm p) (write keyspace table op) ≡ None = write_told p old keyspace is stands before found table op ∙ ap told_row written.row in
+      rw is_result ((none, refl), write_stands old new keyspace table op is before after found topology becomes p stands position none written)
   write_at p stands (Some before) found result (Err fault, after, did, is_result, becomes) =
       let by = refused_by before after table op fault did in
       let same = refused_same old new keyspace before after found topology becomes by.0 in
       let told = write_told p old keyspace is stands before found table op in
       rw is_result (⊎_elim
-      (λ memory. rw memory.0 ((tt, (told ∙ memory.1, refl)), subst (Stands p) (sym same) stands))
-      (λ other. ((tt, refuses p (write keyspace table op) (refusal_by_primary fault) other.0 (told ∙ ap told_row other.1)), subst (Stands p) (sym same) stands))
+      (λ memory. rw memory.0 ((told ∙ memory.1, refl), subst (Stands (calm p)) (sym same) stands))
+      (λ other. (refuses (calm p) (write keyspace table op) (refusal_by_primary fault) other.0 (told ∙ ap told_row other.1), subst (Stands (calm p)) (sym same) stands))
       by.1)
 
   keeps_at : (o : Option PrimaryState) → primary_at old.primaries keyspace ≡ o → (result : Result Reply code.Refusal) → WritesAt o old.primaries keyspace table op result new.primaries → IsCore new
@@ -293,7 +296,7 @@ module _ (old new : CoreState) (keyspace table : List ℕ) (op : Op) (is : IsCor
 
   module _ (result : Result Reply code.Refusal) (did : WritesRow old.primaries keyspace table op result new.primaries) where
     pub write_steps : Steps old (write keyspace table op) result new
-    write_steps p stands = write_at p stands (primary_at old.primaries keyspace) refl result did
+    write_steps = steps_from_calm old new (write keyspace table op) result (λ p stands. write_at p stands (primary_at old.primaries keyspace) refl result did)
 
     pub write_keeps : IsCore new
     write_keeps = keeps_at (primary_at old.primaries keyspace) refl result did
@@ -303,23 +306,31 @@ module _ (old new : CoreState) (keyspace table : List ℕ) (op : Op) (is : IsCor
 
 -- ---- a read
 
+module _ (p : Plain) (core : CoreState) (keyspace table : List ℕ) (key : ℕ) (is : IsCore core) (stands : Stands (calm p) core) where
+  -- no list denies a table that no workflow moves
+  read_none : (tablet_type : TabletType) → denied_read (calm p) keyspace table tablet_type ≡ None
+  read_none Primary = refl
+  read_none Replica = refl
+  read_none Rdonly = refl
+
+  read_calm : (tablet_type : TabletType) (o : Option PrimaryState) → primary_at core.primaries keyspace ≡ o
+      → Answers (calm p) (read keyspace table key tablet_type) (answer_from (read_at o table key)) × Stands (next (calm p) (read keyspace table key tablet_type) (answer_from (read_at o table key))) core
+  read_calm tablet_type None found = (rw (keyspace_absent p core keyspace is stands found) refl, stands)
+  read_calm tablet_type (Some state) found = here (has_table state table) refl
+    where
+      there : has_keyspace p keyspace ≡ true
+      there = keyspace_there p core keyspace is stands state found
+
+      here : (t : Bool) → has_table state table ≡ t
+          → Answers (calm p) (read keyspace table key tablet_type) (answer_from (cond t (Ok (reply.Row (row_at state table key))) (Err refusal.NoTable)))
+          × Stands (next (calm p) (read keyspace table key tablet_type) (answer_from (cond t (Ok (reply.Row (row_at state table key))) (Err refusal.NoTable)))) core
+      here true has = (
+        (rw (there, table_there p core keyspace is stands state found table, has) (read_none tablet_type), ap row (sym (row_there p core keyspace is stands state found table key))),
+        stands,
+      )
+      here false has = (rw (there, table_there p core keyspace is stands state found table, has) refl, stands)
+
 pub read_steps : (core : CoreState) (keyspace table : List ℕ) (key : ℕ) (tablet_type : TabletType) (result : Result Reply code.Refusal) → IsCore core
     → result ≡ read_at (primary_at core.primaries keyspace) table key → Steps core (read keyspace table key tablet_type) result core
-read_steps core keyspace table key tablet_type result is answer p stands = rw answer (by (primary_at core.primaries keyspace) refl)
-  where
-    by : (o : Option PrimaryState) → primary_at core.primaries keyspace ≡ o
-        → Answers p (read keyspace table key tablet_type) (answer_from (read_at o table key)) × Stands (next p (read keyspace table key tablet_type) (answer_from (read_at o table key))) core
-    by None found = ((tt, rw (keyspace_absent p core keyspace is stands found) refl), stands)
-    by (Some state) found = here (has_table state table) refl
-      where
-        there : has_keyspace p keyspace ≡ true
-        there = keyspace_there p core keyspace is stands state found
-
-        here : (t : Bool) → has_table state table ≡ t
-            → Answers p (read keyspace table key tablet_type) (answer_from (cond t (Ok (reply.Row (row_at state table key))) (Err refusal.NoTable)))
-            × Stands (next p (read keyspace table key tablet_type) (answer_from (cond t (Ok (reply.Row (row_at state table key))) (Err refusal.NoTable)))) core
-        here true has = (
-          (tt, rw (there, table_there p core keyspace is stands state found table, has) refl, ap row (sym (row_there p core keyspace is stands state found table key))),
-          stands,
-        )
-        here false has = ((tt, rw (there, table_there p core keyspace is stands state found table, has) refl), stands)
+read_steps core keyspace table key tablet_type result is answer = steps_from_calm core core (read keyspace table key tablet_type) result
+    (λ p stands. rw answer (read_calm p core keyspace table key is stands tablet_type (primary_at core.primaries keyspace) refl))

@@ -20,7 +20,8 @@ use Rattle.mt_primary.specs.Primary.{PrimaryState, empty_primary, row_at}
 use Rattle.mt_primary.specs.Primary as found
 use Rattle.mt_primary.specs.Writes.{IsTableMade, Writes}
 use Rattle.mt_plain.specs.Events.{Event, answer_from}
-use Rattle.mt_plain.specs.Next.{Answers, next}
+use Rattle.mt_plain.specs.Answers.{Answers}
+use Rattle.mt_plain.specs.Next.{next}
 use Rattle.mt_plain.specs.Plain.{Plain}
 use Rattle.mt_program.specs.Core.{CoreState, Primaries, Stands, primary_at}
 

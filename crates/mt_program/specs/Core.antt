@@ -6,7 +6,9 @@ use Rattle.mt_names.specs.Names.{same_text}
 use Rattle.mt_model.specs.Limits.{most_keyspaces, most_rules, most_tables_in_keyspace}
 use Rattle.mt_model.specs.Topology.{KeyspaceState, TopologyState, empty_topology, is_present, keyspace_at}
 use Rattle.mt_primary.specs.Primary.{PrimaryState, empty_primary, has_table, row_at}
-use Rattle.mt_plain.specs.Plain.{Plain, log_length, row_of}
+use Rattle.mt_plain.specs.Plain.{Plain}
+use Rattle.mt_plain.specs.Slots.{log_length}
+use Rattle.mt_plain.specs.Writes.{row_of}
 use Rattle.mt_laws.specs.Numbers.{HasNumbers}
 
 -- primaries by the names of their keyspaces
@@ -48,9 +50,10 @@ pub record IsCore (core : CoreState) : Type 0 where
 
 -- ---- the plain state that a core stands for
 
--- the topology is that of the plain state; each row is what the acknowledged writes leave; and the log of a primary has
+-- no workflow is live; the topology is that of the plain state; each row is what the acknowledged writes leave; and the log of a primary has
 -- an entry for each write that its keyspace acknowledged
 pub record Stands (p : Plain) (core : CoreState) : Type 0 where
+  pub lives : p.lives ≡ []
   pub topology : core.topology ≡ p.topology
   pub rows : (keyspace table : List ℕ) (key : ℕ) → row_at (primary_of core.primaries keyspace) table key ≡ row_of p keyspace table key
   pub log : (keyspace : List ℕ) → length (primary_of core.primaries keyspace).log ≡ log_length p keyspace

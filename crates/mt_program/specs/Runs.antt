@@ -3,11 +3,14 @@ use Rattle.std.specs.Prelude.{◌≡◌, ◌≢◌, ℕ, ◌≤◌, ◌<◌, Lis
 use Rattle.std.specs.Str.Lines.{lines}
 use Rattle.std.specs.Io.KnownBytes.{Appends, Consumes, IsAtEnd, Keeps}
 use Rattle.mt_plain.specs.Events.{Answer}
-use Rattle.mt_plain.specs.Next.{Answers, next}
+use Rattle.mt_plain.specs.Answers.{Answers}
+use Rattle.mt_plain.specs.Next.{next}
 use Rattle.mt_plain.specs.Output as plain
-use Rattle.mt_plain.specs.Output.{IsOutput, Leaves, MAX_SCRIPT_LENGTH, Told, answer_text, asks, Output, line_feed, nothing, says, told}
+use Rattle.mt_plain.specs.Output.{IsOutputBy, Leaves, MAX_SCRIPT_LENGTH, Told, answer_text, asks, drives, Output, line_feed, nothing, says, told}
 use Rattle.mt_plain.specs.Plain.{Plain}
+use Rattle.mt_script.specs.Requests.{reading_so_far}
 use Rattle.mt_program.specs.declared.reading.Progress.{Progress}
+use Rattle.mt_script.specs.Requests.{reading_so_far}
 use Rattle.mt_program.specs.declared.reading.Progress.TheVariants as progress
 use Rattle.mt_program.specs.declared.fault.ScriptFault.{ScriptFault}
 use Rattle.mt_program.specs.declared.fault.ScriptFault.TheVariants as fault
@@ -39,12 +42,13 @@ Reads left left' script (Err f) =
 
 -- ---- a line
 
--- what a line tells becomes a text, or none, and the core stands for the state after it
+-- what a line tells becomes a text, or none, and the core stands for the state after it. No line drives a switch yet
 abbrev pub Tells : Plain → Told → Option (List ℕ) → CoreState → Type 0
 Tells p nothing text core = (text ≡ None) × Stands p core
 Tells p (says words) text core = (text ≡ Some (words ++ line_feed)) × Stands p core
 Tells p (asks event) text core =
     (answer : Answer) × Answers p event answer × (text ≡ Some (answer_text answer ++ line_feed)) × Stands (next p event answer) core
+Tells p (drives driving) text core = ⊥
 
 -- ---- writing
 
@@ -70,13 +74,13 @@ bytes_of (Some text) = text
 -- a line is answered, and its text is written behind what waited
 abbrev pub RunsLine : Plain → (line : List ℕ) → CoreState → Known → Known → (waiting waiting' : List ℕ) → Result Unit ScriptFault → Type 0
 RunsLine p line core held held' waiting waiting' result =
-    (text : Option (List ℕ)) × Tells p (told p line) text core × Writes held held' (waiting ++ bytes_of text) waiting' result
+    (text : Option (List ℕ)) × Tells p (told reading_so_far p line) text core × Writes held held' (waiting ++ bytes_of text) waiting' result
 
 -- the answers to the lines of a script, from a state on: an output of them, of which a write fault leaves the beginning
 abbrev pub RunsLines : Plain → (script : List ℕ) → Known → Known → Result Unit ScriptFault → Type 0
-RunsLines p script held held' (Ok done) = (written : List ℕ) × Appends held held' written × Output Answers p (lines script) written
+RunsLines p script held held' (Ok done) = (written : List ℕ) × Appends held held' written × Output Answers reading_so_far p (lines script) written
 RunsLines p script held held' (Err f) =
-    (f ≡ fault.Write) × ((out : List ℕ) × (rest : List ℕ) × Output Answers p (lines script) out × GoesOut held held' out rest)
+    (f ≡ fault.Write) × ((out : List ℕ) × (rest : List ℕ) × Output Answers reading_so_far p (lines script) out × GoesOut held held' out rest)
 
 -- ---- the whole run
 
@@ -90,6 +94,6 @@ fault_of fault.TooLong = plain.too_long
 -- the definitions say of it
 abbrev pub Runs : (left left' held held' : Known) → Result Unit ScriptFault → Type 0
 Runs left left' held held' (Ok done) =
-    (input : List ℕ) × (written : List ℕ) × Consumes left left' input × IsAtEnd left' × Appends held held' written × IsOutput input written
+    (input : List ℕ) × (written : List ℕ) × Consumes left left' input × IsAtEnd left' × Appends held held' written × IsOutputBy reading_so_far [] input written
 Runs left left' held held' (Err f) =
-    (input : List ℕ) × (written : List ℕ) × Consumes left left' input × Appends held held' written × Leaves (fault_of f) input written
+    (input : List ℕ) × (written : List ℕ) × Consumes left left' input × Appends held held' written × Leaves reading_so_far [] (fault_of f) input written

@@ -1,9 +1,10 @@
 //! The core: the topology, and a primary for each of its keyspaces.
-ghost use Rattle.std.specs.Prelude.{◌≡◌, OnErr, OnOk, Some, Ok};
+ghost use Rattle.std.specs.Prelude.{◌≡◌, [], OnErr, OnOk, Some, Ok};
 ghost use Rattle.mt_names.specs.declared.types.TabletType.{TabletType};
 ghost use Rattle.mt_model.specs.Topology.{resolution};
 ghost use Rattle.mt_plain.specs.Events.{add_keyspace, add_table, edit_rule, read, write};
 ghost use Rattle.mt_plain.specs.Plain.{Plain, opening};
+ghost use Rattle.mt_plain.specs.Serve.{served};
 ghost use Rattle.mt_program.specs.Commands.{Steps};
 ghost use Rattle.mt_program.specs.Core.{CoreState, Stands};
 
@@ -36,7 +37,7 @@ impl Model for Core {
 impl Core {
     /// A core without keyspaces.
     pub fn new(alloc: Global) -> Self
-        ensures { Stands opening result }
+        ensures { Stands (opening []) result }
     {
         Core {
             alloc,
@@ -51,7 +52,7 @@ impl Core {
         key: &RuleKey,
         tablet_type: TabletType,
     ) -> Result<RuleTarget, TopologyFault>
-        ensures { (p : Plain) → Stands p self.now → result ≡ resolution p.topology key.now tablet_type }
+        ensures { (p : Plain) → Stands p self.now → result ≡ resolution (served p) key.now tablet_type }
     {
         self.topology.resolve(key, tablet_type)
     }

@@ -1,9 +1,9 @@
 //! Running a script: a line is read, asked of the core, and its answer written, one after the other.
 ghost use Rattle.std.specs.Prelude.{◌≡◌, Ok, Some, option_map};
 ghost use Rattle.mt_plain.specs.Output.{told, told_request};
-ghost use Rattle.mt_plain.specs.Plain.{Plain, opening};
+ghost use Rattle.mt_plain.specs.Plain.{Plain};
 ghost use Rattle.mt_plain.specs.Script.{read_through, write_through};
-ghost use Rattle.mt_script.specs.Requests.{request_from};
+ghost use Rattle.mt_script.specs.Requests.{reading_so_far, request_from};
 ghost use Rattle.mt_program.specs.Core.{Stands};
 ghost use Rattle.mt_program.specs.Runs.{Runs, RunsLine, RunsLines, Tells};
 
@@ -54,7 +54,7 @@ fn answer_request(core: &mut Core, request: Request) -> LineText
 
 /// The line that answers a line of a script, which may write none.
 fn answer_to(core: &mut Core, line: &[u8]) -> Option<LineText>
-    ensures { (p : Plain) → Stands p core.old → Tells p (told p line.now) (option_map (λ text. text.items) result) core.new }
+    ensures { (p : Plain) → Stands p core.old → Tells p (told reading_so_far p line.now) (option_map (λ text. text.items) result) core.new }
 {
     match read_line(line) {
         Line::Silent => None,

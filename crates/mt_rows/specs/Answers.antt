@@ -1,12 +1,10 @@
 -- Answers that an event gets, and answers that it doesn't get: for each refusal one of each, and for each kind of wrong answer.
-use Rattle.std.specs.Prelude.{◌≡◌, ℕ, List, [], ◌∷◌, ◌++◌, codes, replicate, map, Option, None, Some}
-use Rattle.mt_names.specs.declared.keys.RuleKey.{RuleKey}
-use Rattle.mt_names.specs.declared.keys.RuleTarget.{RuleTarget}
-use Rattle.mt_names.specs.declared.types.TabletType.TheVariants.{Primary, Replica}
-use Rattle.mt_model.specs.declared.rows.Op.TheVariants.{Insert, Update, Append, Delete}
+use Rattle.std.specs.Prelude.{ℕ, List, [], ◌∷◌, ◌++◌, codes, None, Some}
+use Rattle.mt_names.specs.declared.types.TabletType.TheVariants.{Primary}
+use Rattle.mt_model.specs.declared.rows.Op.TheVariants.{Insert}
 use Rattle.mt_model.specs.Rows.{RowValue}
-use Rattle.mt_plain.specs.Events.{Event, write, read, add_keyspace, add_table, edit_rule, cancel, Answer, done, row, refused, Refusal, memory, no_keyspace, no_table, denied, row_exists, no_row, full, too_long, exists}
-use Rattle.mt_plain.specs.Next.{Run}
+use Rattle.mt_plain.specs.Events.{Event, write, read, add_keyspace, add_table, cancel, Answer, done, row, refused, memory, no_keyspace, no_table, denied, row_exists, exists}
+use Rattle.mt_plain.specs.Answers.{Run}
 use Rattle.mt_plain.specs.Plain.{opening}
 
 abbrev pub commerce : List ℕ
@@ -30,7 +28,7 @@ begun = done ∷ done ∷ done ∷ done ∷ []
 
 -- after the beginning, the event gets the answer
 abbrev pub Gets : Event → Answer → Type 0
-Gets event answer = Run opening (begin ++ event ∷ []) (begun ++ answer ∷ [])
+Gets event answer = Run (opening []) (begin ++ event ∷ []) (begun ++ answer ∷ [])
 
 -- ---- each refusal, where its condition holds and where it doesn't
 
@@ -93,5 +91,5 @@ a_read_wants_no_memory = ¬ (Gets (read commerce corder 1 Primary) (refused memo
 abbrev pub no_memory_where_a_refusal_is_due : Type 0
 no_memory_where_a_refusal_is_due = ¬ (Gets (add_keyspace commerce) (refused memory))
 
-abbrev pub no_command_that_has_not_come : Type 0
-no_command_that_has_not_come = ¬ (Gets (cancel (codes "mv")) done)
+abbrev pub no_workflow_is_ended_twice : Type 0
+no_workflow_is_ended_twice = ¬ (Gets (cancel (codes "mv")) done)

@@ -1,5 +1,5 @@
 //! Answers that events get, and answers that they don't.
-ghost use Rattle.mt_rows.specs.Answers.{a_read_wants_no_memory, a_row_is_not_changed, a_row_is_not_invented, a_row_is_not_lost, keyspace_exists, keyspace_is_new, keyspace_is_there, memory_may_be_wanted, no_command_that_has_not_come, no_keyspace_there, no_memory_where_a_refusal_is_due, no_refusal_where_none_is_due, no_table_there, not_taken_where_a_refusal_is_due, not_the_later_of_two_refusals, row_is_not_there, row_is_there, table_exists, table_is_new, table_is_there};
+ghost use Rattle.mt_rows.specs.Answers.{a_read_wants_no_memory, a_row_is_not_changed, a_row_is_not_invented, a_row_is_not_lost, keyspace_exists, keyspace_is_new, keyspace_is_there, memory_may_be_wanted, no_workflow_is_ended_twice, no_keyspace_there, no_memory_where_a_refusal_is_due, no_refusal_where_none_is_due, no_table_there, not_taken_where_a_refusal_is_due, not_the_later_of_two_refusals, row_is_not_there, row_is_there, table_exists, table_is_new, table_is_there};
 
 /// Each refusal comes where its condition holds and not where it doesn't, and no wrong answer is legal.
 pub fn events_get_their_answers()
@@ -22,5 +22,5 @@ pub fn events_get_their_answers()
     ensures not_taken_where_a_refusal_is_due { not_taken_where_a_refusal_is_due }
     ensures a_read_wants_no_memory { a_read_wants_no_memory }
     ensures no_memory_where_a_refusal_is_due { no_memory_where_a_refusal_is_due }
-    ensures no_command_that_has_not_come { no_command_that_has_not_come }
+    ensures no_workflow_is_ended_twice { no_workflow_is_ended_twice }
 {}

@@ -3,8 +3,8 @@ ghost use Rattle.std.specs.Prelude.{◌≡◌, true, option_copied, option_map};
 ghost use Rattle.std.specs.Char.{is_ascii_digit};
 ghost use Rattle.std.specs.List.{list_all};
 ghost use Rattle.mt_names.specs.Keys.{after, at_sign};
-ghost use Rattle.mt_plain.specs.Script.{command_of, get, insert, insert_of, is_for_reads, is_readable, keyspace, read_number, read_rule_target, read_value, request_of, rule, table, words_of};
-ghost use Rattle.mt_script.specs.Requests.{read_from};
+ghost use Rattle.mt_plain.specs.Script.{change, change_of, get, is_for_reads, is_readable, keyspace, op_of, read_number, read_rule_target, read_value, request_of, rule, table, words_of};
+ghost use Rattle.mt_script.specs.Requests.{command_so_far, read_from};
 
 use crate::lines::Request;
 use crate::words::{first_word, one_word, text_of, three_words, two_words};
@@ -88,7 +88,7 @@ fn rule_request(key: &str, target: &str) -> Result<Request, NameFault>
 }
 
 fn insert_request(name: &str, number: u64, value: Value) -> Result<Request, NameFault>
-    ensures { read_from result ≡ request_of (insert name.now number value) }
+    ensures { read_from result ≡ request_of (change name.now (Op.Insert number value)) }
 {
     let key = RuleKey::parse(name)?;
     Ok(Request::Write(key, Op::Insert(number, value)))
@@ -104,7 +104,7 @@ fn get_request(name: &str, number: u64) -> Result<Request, NameFault>
 
 /// The request of an insert, whose numbers and values are read before its name.
 fn insert_command(name: &str, number: &str, value: &str) -> Option<Result<Request, NameFault>>
-    ensures { option_map read_from result ≡ option_map request_of (insert_of name.now (read_number number.now) (read_value value.now)) }
+    ensures { option_map read_from result ≡ option_map request_of (change_of change name.now (op_of Op.Insert (read_number number.now) (read_value value.now))) }
 {
     let number = read_number(number)?;
     let value = read_value(value)?;
@@ -124,7 +124,7 @@ fn get_command(name: &str, number: &str) -> Option<Result<Request, NameFault>>
 /// Reads a command: its verb, its words, and then its names. `None` is a bad line.
 pub fn read_command(line: &[u8]) -> Option<Result<Request, NameFault>>
     requires { is_readable line.now ≡ true }
-    ensures { option_map read_from result ≡ option_map request_of (command_of (words_of line.now)) }
+    ensures { option_map read_from result ≡ option_map request_of (command_so_far (words_of line.now)) }
 {
     let (verb, rest) = first_word(line)?;
     match text_of(verb) {

@@ -4,7 +4,7 @@ ghost use Rattle.std.specs.List.{list_all};
 ghost use Rattle.mt_plain.specs.Plain.{Plain};
 ghost use Rattle.mt_plain.specs.Output.{told};
 ghost use Rattle.mt_plain.specs.Script.{is_blank, is_readable, is_silent};
-ghost use Rattle.mt_script.specs.Requests.{told_of};
+ghost use Rattle.mt_script.specs.Requests.{reading_so_far, told_of};
 
 use crate::commands::read_command;
 use crate::words::{is_blank, is_visible};
@@ -74,7 +74,7 @@ fn is_readable(line: &[u8]) -> bool
 /// Reads a line: what it asks for in every state. The length is tested before the bytes, these before the words, the
 /// words before the names.
 pub fn read_line(line: &[u8]) -> Line
-    ensures { (p : Plain) → told_of p result ≡ told p line.now }
+    ensures { (p : Plain) → told_of p result ≡ told reading_so_far p line.now }
 {
     if is_silent(line) {
         return Line::Silent;

@@ -8,7 +8,7 @@ pub returns-clause-from_each_state : goal.returns-clause-from_each_state
 returns-clause-from_each_state c = output_both_ways
 
 pub returns-clause-of_a_script : goal.returns-clause-of_a_script
-returns-clause-of_a_script c = λ input out. output_both_ways opening (lines input) out
+returns-clause-of_a_script c = λ reading scopes input out. output_both_ways reading (opening scopes) (lines input) out
 
 pub returns-clause-is_an_output : goal.returns-clause-is_an_output
-returns-clause-is_an_output c = λ p lines out written. output_from_memory lines p out written
+returns-clause-is_an_output c = λ reading p lines out written. output_from_memory reading lines p out written

@@ -1,5 +1,5 @@
 -- A script that isn't read has no output; one that is has that of its lines.
-use Rattle.std.proofs.Common.{◌≡◌, subst}
+use Rattle.std.proofs.Common.{◌≡◌, [], subst}
 use Rattle.std.proofs.lemmas.Result.{err_from_is_err_and}
 use Rattle.mt_plain.specs.Plain.{opening}
 use Rattle.mt_program.specs.Runs.{RunsLines}
@@ -15,4 +15,4 @@ returns-in_err-read_script g c =
 pub returns : goal.returns
 returns g c =
     runs_lines _ _ _ _ c.read_script.new.script.items c.run_lines.result c.in_ok-read_script.ensures
-    (subst (λ script. RunsLines opening script (g.W.Write.contents c.args.writer.now) (g.W.Write.contents c.run_lines.new.writer) c.run_lines.result) c.deref.ensures.value (c.run_lines.ensures opening c.new-core.ensures))
+    (subst (λ script. RunsLines (opening []) script (g.W.Write.contents c.args.writer.now) (g.W.Write.contents c.run_lines.new.writer) c.run_lines.result) c.deref.ensures.value (c.run_lines.ensures (opening []) c.new-core.ensures))

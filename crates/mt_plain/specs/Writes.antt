@@ -1,0 +1,72 @@
+-- The client tables: what the acknowledged writes make of a row, at the owner and at the other side of a move.
+use Rattle.std.specs.Prelude.{ℕ, Bool, true, false, not, ◌&&◌, ◌||◌, ◌==◌, nat_le, nat_lt, if◌then◌else◌, List, filter, fold, position, take, Option, None, Some, unwrap_or, length}
+use Rattle.std.specs.List.{list_any}
+use Rattle.mt_names.specs.declared.keys.RuleTarget.{RuleTarget}
+use Rattle.mt_names.specs.Names.{same_text}
+use Rattle.mt_model.specs.Rows.{Row}
+use Rattle.mt_plain.specs.Plain.{Copied, not_begun, up_to, ended, Live, Plain, Write, in_keyspace, is_side, mover, number_of, owner}
+
+-- the row after one write more (this profile's own)
+abbrev pub row_after_write : (table key : ℕ) → Row → Write → Row
+row_after_write table key before w = if (w.table == table) && (w.key == key) then w.after else before
+
+-- the row that a list of writes leaves at a key of the table with a number (this profile's own)
+abbrev pub row_after_writes : List Write → (table key : ℕ) → Row
+row_after_writes writes table key = fold (row_after_write table key) None writes
+
+-- the client table that a name at a keyspace stands for: on both sides of a move it is that of the source, whose list of
+-- acknowledged writes goes on through the move (MoveTables: the tables stay one table for their clients)
+abbrev pub client_table_by : Option Live → (keyspace table : List ℕ) → RuleTarget
+client_table_by None keyspace table = in_keyspace keyspace table
+client_table_by (Some w) keyspace table = in_keyspace (if is_side w keyspace then w.source else keyspace) table
+
+-- its number (this profile's own)
+abbrev pub client_number : Plain → (keyspace table : List ℕ) → ℕ
+client_number p keyspace table = let t = client_table_by (mover p table) keyspace table in number_of p t.keyspace t.table
+
+-- the row of a client table: what its acknowledged writes leave, each applied once, in their order (this profile's own)
+abbrev pub client_row : Plain → (keyspace table : List ℕ) → ℕ → Row
+client_row p keyspace table key = row_after_writes p.writes (client_number p keyspace table) key
+
+-- whether a write is to a table that a workflow moves, and all those that were acknowledged, those before Create included
+-- (this profile's own)
+abbrev pub is_write_to : Plain → Live → Write → Bool
+is_write_to p w write = list_any (λ table. number_of p w.source table == write.table) w.tables
+
+-- all acknowledged writes to the tables that a workflow moves, those before Create included (this profile's own)
+abbrev pub writes_to : Plain → Live → List Write
+writes_to p w = filter (is_write_to p w) p.writes
+
+-- ---- the other copy
+
+-- whether a row lies in the copied range: not behind the last row copied, by the order of the tables named and then of keys;
+-- always once the copy has ended (MoveTables: the copy phase)
+abbrev pub place_of : Live → List ℕ → ℕ
+place_of w table = unwrap_or (position (λ t. same_text t table) w.tables) (length w.tables)
+
+-- whether a row lies in a range
+abbrev pub in_range : Live → Copied → (table : List ℕ) → ℕ → Bool
+in_range w not_begun table key = false
+in_range w (up_to last last_key) table key =
+    nat_lt (place_of w table) (place_of w last) || (same_text table last && nat_le key last_key)
+in_range w ended table key = true
+
+-- whether a row lies in the copied range (MoveTables: the copy phase)
+abbrev pub is_copied : Live → (table : List ℕ) → ℕ → Bool
+is_copied w table key = in_range w w.copied table key
+
+-- the row at the side that is not the owner: in the copied range what the writes fed up to now leave, elsewhere none
+-- (MoveTables: the stream applies what was committed, in its order)
+abbrev pub other_row : Plain → Live → (table : List ℕ) → ℕ → Row
+other_row p w table key =
+    if is_copied w table key then row_after_writes (take w.fed (writes_to p w)) (number_of p w.source table) key else None
+
+-- the row of a table at a keyspace (MoveTables)
+abbrev pub row_by_mover : Plain → Option Live → (keyspace table : List ℕ) → ℕ → Row
+row_by_mover p None keyspace table key = client_row p keyspace table key
+row_by_mover p (Some w) keyspace table key =
+    if is_side w keyspace && not (same_text (owner w) keyspace) then other_row p w table key else client_row p keyspace table key
+
+-- the row of a table at a keyspace, by the workflow that moves it (MoveTables)
+abbrev pub row_of : Plain → (keyspace table : List ℕ) → ℕ → Row
+row_of p keyspace table key = row_by_mover p (mover p table) keyspace table key
