@@ -1,6 +1,7 @@
 pub mod CommandLemmas
 pub mod CoreLemmas
 pub mod KnownLemmas
+pub mod ReadLemmas
 pub mod LimitLemmas
 pub mod MadeLemmas
 pub mod RefusalLemmas

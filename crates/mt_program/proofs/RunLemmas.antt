@@ -1,5 +1,6 @@
 -- Whatever completes the output of the lines that are left completes that of the script.
 use Rattle.std.proofs.Common.{◌≡◌, ℕ, true, ◌==◌, List, [], ◌∷◌, ◌++◌, length, take, drop, Option, Some, Result, Ok, Err, refl, sym, ap, ◌∙◌, subst, append-nil, append_assoc}
+use Rattle.std.proofs.KnownBytes.{Appends-nil, Appends-trans}
 use Rattle.std.proofs.lemmas.Bool.{eqb-true}
 use Rattle.std.proofs.lemmas.List.{nil_from_length, take-append-drop}
 use Rattle.std.specs.Io.KnownBytes.{Appends}
@@ -18,18 +19,18 @@ use Rattle.mt_program.specs.declared.fault.ScriptFault.{ScriptFault}
 use Rattle.mt_program.specs.declared.fault.ScriptFault.TheVariants as fault
 use Rattle.mt_program.specs.Core.{CoreState, Stands}
 use Rattle.mt_program.specs.Runs.{GoesOut, Known, Reads, Runs, RunsLine, RunsLines, Tells, Writes, bytes_of}
-use Rattle.mt_program.proofs.KnownLemmas.{appends_nothing, appends_then}
+
 
 -- ---- bytes that go out
 
 pub nothing_out : (held : Known) (waiting : List ℕ) → GoesOut held held waiting waiting
-nothing_out held waiting = ([], appends_nothing held, refl)
+nothing_out held waiting = ([], Appends-nil held, refl)
 
 -- first some of the bytes, then more of them
 pub goes_on : (a b c : Known) (all waiting more rest : List ℕ) → GoesOut a b all waiting → GoesOut b c (waiting ++ more) rest → GoesOut a c (all ++ more) rest
 goes_on a b c all waiting more rest (first, went, is) (second, went_then, is_then) = (
   first ++ second,
-  appends_then a b c first second went went_then,
+  Appends-trans a b c first second went went_then,
   ap (λ (t : List ℕ). t ++ more) is ∙ append_assoc first waiting more ∙ ap (λ (t : List ℕ). first ++ t) is_then ∙ sym (append_assoc first second rest),
 )
 
@@ -37,12 +38,12 @@ goes_on a b c all waiting more rest (first, went, is) (second, went_then, is_the
 pub goes_more : (a b c : Known) (all rest : List ℕ) (count : ℕ) → GoesOut a b all rest → Appends b c (take count rest) → GoesOut a c all (drop count rest)
 goes_more a b c all rest count (first, went, is) went_then = (
   first ++ take count rest,
-  appends_then a b c first (take count rest) went went_then,
+  Appends-trans a b c first (take count rest) went went_then,
   is ∙ ap (λ (t : List ℕ). first ++ t) (sym (take-append-drop count rest)) ∙ sym (append_assoc first (take count rest) (drop count rest)),
 )
 
 pub goes_none : (a b c : Known) (all rest : List ℕ) → GoesOut a b all rest → Appends b c [] → GoesOut a c all rest
-goes_none a b c all rest (first, went, is) none = (first ++ [], appends_then a b c first [] went none, is ∙ ap (λ (t : List ℕ). t ++ rest) (sym (append-nil first)))
+goes_none a b c all rest (first, went, is) none = (first ++ [], Appends-trans a b c first [] went none, is ∙ ap (λ (t : List ℕ). t ++ rest) (sym (append-nil first)))
 
 -- what didn't go out may be longer
 pub goes_short : (a b : Known) (all rest more : List ℕ) → GoesOut a b all rest → GoesOut a b (all ++ more) (rest ++ more)
@@ -134,13 +135,13 @@ ends p script rest core held held' held'' waiting waiting' (Err f) (q, stands, (
 -- ---- the whole run
 
 pub runs_read : (left left' held : Known) (script : List ℕ) (f : ScriptFault) → Reads left left' script (Err f) → Runs left left' held held (Err f)
-runs_read left left' held script fault.Memory (input, consumed, not_write, long) =
-    (input, [], consumed, appends_nothing held, (plain.output_by reading_so_far [] input, plain.output_by reading_so_far [] input, has_output (opening []) (lines input), refl))
-runs_read left left' held script fault.Read (input, consumed, not_write, long) = (input, [], consumed, appends_nothing held, refl)
-runs_read left left' held script fault.Write (input, consumed, not_write, long) = absurd (not_write refl)
-runs_read left left' held script fault.TooLong (input, consumed, not_write, long) = (input, [], consumed, appends_nothing held, (long refl, refl))
+runs_read left left' held script fault.Memory (input, consumed, most) =
+    (input, [], consumed, most, Appends-nil held, (plain.output_by reading_so_far [] input, plain.output_by reading_so_far [] input, has_output (opening []) (lines input), refl))
+runs_read left left' held script fault.Read (input, consumed, most) = (input, [], consumed, most, Appends-nil held, refl)
+runs_read left left' held script fault.Write (input, consumed, impossible) = absurd impossible
+runs_read left left' held script fault.TooLong (input, consumed, long) = (input, [], consumed, long, Appends-nil held, (long.0, refl))
 
 pub runs_lines : (left left' held held' : Known) (script : List ℕ) (result : Result Unit ScriptFault) → Reads left left' script (Ok tt) → RunsLines (opening []) script held held' result → Runs left left' held held' result
-runs_lines left left' held held' script (Ok done) read (written, went, is) = (script, written, read.0, read.1, went, is)
+runs_lines left left' held held' script (Ok done) read (written, went, is) = (script, written, read.0, (read.1, read.2), went, is)
 runs_lines left left' held held' script (Err f) read (is_write, (out, rest, is, (written, went, all))) =
-    rw is_write (script, written, read.0, went, (out, rest, is, sym all))
+    rw is_write (script, written, read.0, (read.1, read.2), went, (out, rest, is, sym all))

@@ -1,5 +1,5 @@
 -- What a run of a script does to its reader and its writer.
-use Rattle.std.specs.Prelude.{◌≡◌, ◌≢◌, ℕ, ◌≤◌, ◌<◌, List, [], ◌++◌, length, take, codes, Option, None, Some, Result, Ok, Err}
+use Rattle.std.specs.Prelude.{◌≡◌, ℕ, ◌+◌, ◌≤◌, ◌<◌, List, [], ◌++◌, length, take, codes, Option, None, Some, Result, Ok, Err}
 use Rattle.std.specs.Str.Lines.{lines}
 use Rattle.std.specs.Io.KnownBytes.{Appends, Consumes, IsAtEnd, Keeps}
 use Rattle.mt_plain.specs.Events.{Answer}
@@ -10,7 +10,6 @@ use Rattle.mt_plain.specs.Output.{IsOutputBy, Leaves, MAX_SCRIPT_LENGTH, Told, a
 use Rattle.mt_plain.specs.Plain.{Plain}
 use Rattle.mt_script.specs.Requests.{reading_so_far}
 use Rattle.mt_program.specs.declared.reading.Progress.{Progress}
-use Rattle.mt_script.specs.Requests.{reading_so_far}
 use Rattle.mt_program.specs.declared.reading.Progress.TheVariants as progress
 use Rattle.mt_program.specs.declared.fault.ScriptFault.{ScriptFault}
 use Rattle.mt_program.specs.declared.fault.ScriptFault.TheVariants as fault
@@ -28,17 +27,34 @@ Known = Option (List ℕ)
 
 -- ---- reading
 
+-- the most bytes that one read gives
+abbrev pub longest_piece : ℕ
+longest_piece = 16384
+
+-- a fault of one read: nothing was read where the reader failed, a piece where no memory was left for it
+abbrev pub HasReadMore : ScriptFault → List ℕ → Type 0
+HasReadMore fault.Memory more = length more ≤ longest_piece
+HasReadMore fault.Read more = more ≡ []
+HasReadMore fault.Write more = ⊥
+HasReadMore fault.TooLong more = ⊥
+
 -- one read adds to the script what it gave, which is nothing at the end
 abbrev pub ReadsMore : Known → Known → (old new : List ℕ) → Result Progress ScriptFault → Type 0
 ReadsMore left left' old new (Ok progress.Whole) = (new ≡ old) × Keeps left left' × IsAtEnd left'
-ReadsMore left left' old new (Ok progress.More) = (more : List ℕ) × Consumes left left' more × (new ≡ old ++ more)
-ReadsMore left left' old new (Err f) = (more : List ℕ) × Consumes left left' more × (f ≢ fault.Write) × (f ≢ fault.TooLong)
+ReadsMore left left' old new (Ok progress.More) = (more : List ℕ) × Consumes left left' more × (length more ≤ longest_piece) × (new ≡ old ++ more)
+ReadsMore left left' old new (Err f) = (more : List ℕ) × Consumes left left' more × HasReadMore f more
 
--- the whole script was read; or some of it, which is too long already where the fault says so
+-- how much was read where a script isn't read whole: reading ends with the piece that makes the script too long
+abbrev pub HasRead : ScriptFault → List ℕ → Type 0
+HasRead fault.Memory input = length input ≤ MAX_SCRIPT_LENGTH + longest_piece
+HasRead fault.Read input = length input ≤ MAX_SCRIPT_LENGTH
+HasRead fault.Write input = ⊥
+HasRead fault.TooLong input = (MAX_SCRIPT_LENGTH < length input) × (length input ≤ MAX_SCRIPT_LENGTH + longest_piece)
+
+-- the whole script was read; or a part of it
 abbrev pub Reads : Known → Known → (script : List ℕ) → Result Unit ScriptFault → Type 0
 Reads left left' script (Ok done) = Consumes left left' script × IsAtEnd left' × (length script ≤ MAX_SCRIPT_LENGTH)
-Reads left left' script (Err f) =
-    (input : List ℕ) × Consumes left left' input × (f ≢ fault.Write) × (f ≡ fault.TooLong → MAX_SCRIPT_LENGTH < length input)
+Reads left left' script (Err f) = (input : List ℕ) × Consumes left left' input × HasRead f input
 
 -- ---- a line
 
@@ -90,10 +106,19 @@ fault_of fault.Read = plain.read_fault
 fault_of fault.Write = plain.write_fault
 fault_of fault.TooLong = plain.too_long
 
+-- a script that was read to its end
+abbrev pub IsWhole : Known → List ℕ → Type 0
+IsWhole left' input = IsAtEnd left' × (length input ≤ MAX_SCRIPT_LENGTH)
+
+-- how much of a script was read where a run of it ends early: all of it where the writer failed
+abbrev pub HasRun : Known → ScriptFault → List ℕ → Type 0
+HasRun left' fault.Write input = IsWhole left' input
+HasRun left' f input = HasRead f input
+
 -- the bytes read are a script, and those written are an output of it and nothing else; a fault leaves written what
 -- the definitions say of it
 abbrev pub Runs : (left left' held held' : Known) → Result Unit ScriptFault → Type 0
 Runs left left' held held' (Ok done) =
-    (input : List ℕ) × (written : List ℕ) × Consumes left left' input × IsAtEnd left' × Appends held held' written × IsOutputBy reading_so_far [] input written
+    (input : List ℕ) × (written : List ℕ) × Consumes left left' input × IsWhole left' input × Appends held held' written × IsOutputBy reading_so_far [] input written
 Runs left left' held held' (Err f) =
-    (input : List ℕ) × (written : List ℕ) × Consumes left left' input × Appends held held' written × Leaves reading_so_far [] (fault_of f) input written
+    (input : List ℕ) × (written : List ℕ) × Consumes left left' input × HasRun left' f input × Appends held held' written × Leaves reading_so_far [] (fault_of f) input written

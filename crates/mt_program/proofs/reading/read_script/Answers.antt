@@ -1,7 +1,9 @@
 -- What was read so far, and what a fault left.
-use Rattle.std.proofs.Common.{◌≡◌, ◌++◌, sym, ◌∙◌}
+use Rattle.std.proofs.Common.{◌≡◌, ◌++◌, sym, subst}
+use Rattle.std.proofs.KnownBytes.{Consumes-trans}
 use Rattle.std.proofs.lemmas.Result.{err_from_is_err_and}
-use Rattle.mt_program.proofs.KnownLemmas.{consumes_then}
+use Rattle.mt_program.specs.Runs.{HasRead}
+use Rattle.mt_program.proofs.ReadLemmas.{has_read_more}
 use Rattle.mt_program.proofs.reading.read_script.Goals as goal
 
 pub returns-in_err-read_more : goal.returns-in_err-read_more
@@ -11,7 +13,6 @@ returns-in_err-read_more g c =
     let failed = c.in_err-read_more.ensures in
     rw p.1 (
       c.loop.script.items ++ failed.0,
-      consumes_then _ _ _ c.loop.script.items failed.0 c.loop.invariant.0 failed.1,
-      (λ e. failed.2 (sym same ∙ e)),
-      λ e. absurd (failed.3 (sym same ∙ e)),
+      Consumes-trans _ _ _ c.loop.script.items failed.0 c.loop.invariant.0 failed.1,
+      subst (λ f. HasRead f (c.loop.script.items ++ failed.0)) (sym same) (has_read_more c.in_err-read_more.field-0.0 c.loop.script.items failed.0 c.loop.invariant.1 failed.2),
     )
