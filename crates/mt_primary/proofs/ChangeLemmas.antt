@@ -30,7 +30,7 @@ op_row-told (Append key value) (Some old) e = appended-told old value e
 op_row-told (Delete key) None e = absurd cc
 op_row-told (Delete key) (Some old) e = absurd cc
 
-module _ (old : LoggedTable) (name : List ℕ) (op : Op) where
+module _ (old : LoggedTable) (name : List ℕ) (op : Op) (allowed : old.table.denied ≡ false) where
   -- a test that refuses, or a row that no test refuses
   abbrev Told : PrimaryFault → Type 0
   Told fault = ((fault ≢ Memory) × (changed_row old op ≡ Err fault)) ⊎ ((fault ≡ Memory) × ((row : Row) × (changed_row old op ≡ Ok row)))
@@ -46,16 +46,16 @@ module _ (old : LoggedTable) (name : List ℕ) (op : Op) where
       → ((made >>= λ left. room >>= λ done. Ok left) ≡ Err fault) ⊎ ((fault ≡ Memory) × ((row : Row) × ((made >>= λ left. room >>= λ done. Ok left) ≡ Ok row))) → Told fault
   told_by (Err first) room fault at tells (inl e) =
       let same : first ≡ fault = cc in
-      inl ((λ h. op_row-told op (row_in old.table (op_key op)) (at ∙ e ∙ ap Err h)), rw at e)
+      inl ((λ h. op_row-told op (row_in old.table (op_key op)) (at ∙ e ∙ ap Err h)), rw (allowed, at) e)
   told_by (Err first) room fault at tells (inr h) = absurd (let e = h.1.1 in cc)
   told_by (Ok left) (Ok done) fault at tells (inl e) = absurd cc
-  told_by (Ok left) (Ok done) fault at tells (inr h) = inr (h.0, (left, rw (at, tells) refl))
+  told_by (Ok left) (Ok done) fault at tells (inr h) = inr (h.0, (left, rw (allowed, at, tells) refl))
   told_by (Ok left) (Err full) fault at tells (inr h) = absurd (let e = h.1.1 in cc)
   told_by (Ok left) (Err full) fault at tells (inl e) = by (nat_lt (length old.log) longest_log) refl
     where
       by : (b : Bool) → nat_lt (length old.log) longest_log ≡ b → Told fault
-      by true below = let t = rw below at tells in let m : fault ≡ Memory = cc in inr (m, (left, rw (at, below) refl))
-      by false above = let t = rw above at tells in let f : fault ≡ LogFull = cc in rw f (inl ((λ h. absurd cc), rw (at, above) refl))
+      by true below = let t = rw below at tells in let m : fault ≡ Memory = cc in inr (m, (left, rw (allowed, at, below) refl))
+      by false above = let t = rw above at tells in let f : fault ≡ LogFull = cc in rw f (inl ((λ h. absurd cc), rw (allowed, at, above) refl))
 
   pub change_refused : (new : LoggedTable) (room : Result ⊤ PrimaryFault) (made : Result RowChange PrimaryFault) (answer : Result ℕ PrimaryFault) (fault : PrimaryFault)
       → made ≡ Err fault → answer ≡ Err fault → TellsRoom old.log room → MakesChange old.table name op room made new.table → new.log ≡ old.log → ChangesRow old name op answer new

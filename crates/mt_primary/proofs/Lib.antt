@@ -1,4 +1,5 @@
 pub mod ChangeLemmas
+pub mod DenialLemmas
 pub mod LogLemmas
 pub mod PrimaryLemmas
 pub mod TableLemmas

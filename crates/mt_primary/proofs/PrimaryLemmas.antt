@@ -14,7 +14,7 @@ use Rattle.mt_model.specs.declared.faults.PrimaryFault.TheVariants.{Memory}
 use Rattle.mt_model.specs.declared.rows.Op.{Op}
 use Rattle.mt_model.specs.declared.rows.RowChange.{RowChange}
 use Rattle.mt_model.specs.Rows.{op_key, row_since, row_with}
-use Rattle.mt_primary.specs.Primary.{IsInKeyOrder, IsPrimary, PrimaryState, TableState, made_at, new_table, row_at, row_in, table_at}
+use Rattle.mt_primary.specs.Primary.{IsInKeyOrder, IsPrimary, PrimaryState, TableState, is_denied_at, made_at, new_table, row_at, row_in, table_at}
 use Rattle.mt_primary.specs.Tables.{ChangesRow, IsRowPut, LoggedTable, changed_row}
 use Rattle.mt_primary.specs.Writes.{IsTableMade, IsWritten, Writes, written_row}
 use Rattle.mt_primary.proofs.LogLemmas.{row_since-end, row_since-push, row_with-here, row_with-other_key, row_with-other_table, slice_get_push}
@@ -22,11 +22,11 @@ use Rattle.mt_primary.proofs.LogLemmas.{row_since-end, row_since-push, row_with-
 -- ---- each table by itself
 
 -- a table that the log leads to
-record IsLogged (log : List RowChange) (name : List ℕ) (table : TableState) : Type 0 where
-  ordered : IsInKeyOrder table
-  made : table.made ≤ length log
-  rows : (key : ℕ) → row_in table key ≡ row_since log table.made name key
-  befores : (i : ℕ) (change : RowChange) → table.made ≤ i → slice_get log i ≡ Some change → change.table ≡ name → change.before ≡ row_since (take i log) table.made name change.key
+pub record IsLogged (log : List RowChange) (name : List ℕ) (table : TableState) : Type 0 where
+  pub ordered : IsInKeyOrder table
+  pub made : table.made ≤ length log
+  pub rows : (key : ℕ) → row_in table key ≡ row_since log table.made name key
+  pub befores : (i : ℕ) (change : RowChange) → table.made ≤ i → slice_get log i ≡ Some change → change.table ≡ name → change.before ≡ row_since (take i log) table.made name change.key
 
 -- a table is there where its position is known
 table_from_made : (p : PrimaryState) (name : List ℕ) (made : ℕ) → made_at p name ≡ Some made → (table : TableState) × (table_at p name ≡ Some table) × (table.made ≡ made)
@@ -36,7 +36,7 @@ table_from_made p name made e = by (table_at p name) refl
     by None at = absurd (let h = rw at at e in cc)
     by (Some table) at = (table, at, let h = rw at at e in cc)
 
-logged : (p : PrimaryState) (name : List ℕ) (table : TableState) → IsPrimary p → table_at p name ≡ Some table → IsLogged p.log name table
+pub logged : (p : PrimaryState) (name : List ℕ) (table : TableState) → IsPrimary p → table_at p name ≡ Some table → IsLogged p.log name table
 logged p name table is found =
     let at : made_at p name ≡ Some table.made = ap (option_map (λ (t : TableState). t.made)) found in
     record {
@@ -46,7 +46,7 @@ logged p name table is found =
       befores = λ i change within here of. is.befores name table.made i change at within here of;
     }
 
-primary_from : (p : PrimaryState) → IsDistinct same_text (keys_of p.tables) → ((name : List ℕ) (table : TableState) → table_at p name ≡ Some table → IsLogged p.log name table) → IsPrimary p
+pub primary_from : (p : PrimaryState) → IsDistinct same_text (keys_of p.tables) → ((name : List ℕ) (table : TableState) → table_at p name ≡ Some table → IsLogged p.log name table) → IsPrimary p
 primary_from p distinct each = record {
   distinct = distinct;
   ordered = λ name table found. (each name table found).ordered;
@@ -94,14 +94,14 @@ module _ (old : PrimaryState) (name : List ℕ) (table put : TableState) (found 
   abbrev pub with_table : List RowChange → PrimaryState
   with_table log = record { tables = set_value (same_text name) old.tables put; log = log }
 
-  here : (log : List RowChange) → table_at (with_table log) name ≡ Some put
+  pub here : (log : List RowChange) → table_at (with_table log) name ≡ Some put
   here log = lookup-set_value_here same_text same_text_decides old.tables name put table found
 
-  elsewhere : (log : List RowChange) (other : List ℕ) → name ≢ other → table_at (with_table log) other ≡ table_at old other
+  pub elsewhere : (log : List RowChange) (other : List ℕ) → name ≢ other → table_at (with_table log) other ≡ table_at old other
   elsewhere log other apart = lookup-set_value_elsewhere same_text same_text_decides old.tables name other put apart
 
   -- a table is this one, or one that stood before
-  table_cases : (log : List RowChange) (other : List ℕ) (t : TableState) → table_at (with_table log) other ≡ Some t → ((name ≡ other) × (put ≡ t)) ⊎ ((name ≢ other) × (table_at old other ≡ Some t))
+  pub table_cases : (log : List RowChange) (other : List ℕ) (t : TableState) → table_at (with_table log) other ≡ Some t → ((name ≡ other) × (put ≡ t)) ⊎ ((name ≢ other) × (table_at old other ≡ Some t))
   table_cases log other t at = by (same_text name other) refl
     where
       by : (b : Bool) → same_text name other ≡ b → ((name ≡ other) × (put ≡ t)) ⊎ ((name ≢ other) × (table_at old other ≡ Some t))
@@ -166,6 +166,18 @@ module _ (old : PrimaryState) (name : List ℕ) (table put : TableState) (found 
             rw (now, was) (ap Some is_put.made)
         by false same = rw (elsewhere log other (λ at. true≢false (sym ((same_text_decides name other).1 at) ∙ same))) refl
 
+    -- and so do the denials
+    denied_stays : (log : List RowChange) (other : List ℕ) → is_denied_at (with_table log) other ≡ is_denied_at old other
+    denied_stays log other = by (same_text name other) refl
+      where
+        by : (b : Bool) → same_text name other ≡ b → is_denied_at (with_table log) other ≡ is_denied_at old other
+        by true same =
+            let at : name ≡ other = (same_text_decides name other).0 same in
+            let now : table_at (with_table log) other ≡ Some put = ap (table_at (with_table log)) (sym at) ∙ here log in
+            let was : table_at old other ≡ Some table = ap (table_at old) (sym at) ∙ found in
+            rw (now, was) is_put.denied
+        by false same = rw (elsewhere log other (λ at. true≢false (sym ((same_text_decides name other).1 at) ∙ same))) refl
+
     others_stay : (log : List RowChange) (other : List ℕ) (k : ℕ) → ¬ ((other ≡ name) × (k ≡ key)) → row_at (with_table log) other k ≡ row_at old other k
     others_stay log other k apart = by (same_text name other) refl
       where
@@ -202,6 +214,7 @@ module _ (old : PrimaryState) (name : List ℕ) (table put : TableState) (found 
           row = written-changed op ∙ h.row ∙ ap Ok (sym (row_at-here l key));
           others = others_stay key is h.put l;
           made = made_stays key is h.put l;
+          denied = denied_stays key is h.put l;
           log = rw (row_at-here l key, row_at-old key) is_l;
           position = at;
         },

@@ -20,11 +20,12 @@ lookup-nat_cmp key (e ∷ es) = rw (unsigned_tied key e.0) (ap (cond (eqb key e.
 
 pub row_put : (old new : TableState) (key : ℕ) (row : Row)
     → ((q : ℕ) → lookup (is_at (nat_cmp q)) new.rows ≡ cond (is_at (nat_cmp key) q) row (lookup (is_at (nat_cmp q)) old.rows))
-    → new.made ≡ old.made → IsInKeyOrder new → IsRowPut old key row new
-row_put old new key row updates made ordered = record {
+    → new.made ≡ old.made → new.denied ≡ old.denied → IsInKeyOrder new → IsRowPut old key row new
+row_put old new key row updates made denied ordered = record {
   here = at key ∙ rw (eq-eqb key key refl) refl;
   others = λ other apart. at other ∙ rw (ne_eqb key other (λ h. apart (sym h))) refl;
   made = made;
+  denied = denied;
   ordered = ordered;
 }
   where
@@ -52,4 +53,4 @@ change_made old new name op room change table key before row put = record {
 
 -- a row that isn't there is taken away
 pub row_put-same : (old : TableState) (key : ℕ) → row_in old key ≡ None → IsInKeyOrder old → IsRowPut old key None old
-row_put-same old key absent ordered = record { here = absent; others = λ other apart. refl; made = refl; ordered = ordered }
+row_put-same old key absent ordered = record { here = absent; others = λ other apart. refl; made = refl; denied = refl; ordered = ordered }

@@ -1,3 +1,5 @@
+pub mod Denials
 pub mod Primary
+pub mod Reads
 pub mod Tables
 pub mod Writes

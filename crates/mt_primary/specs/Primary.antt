@@ -1,5 +1,5 @@
--- A primary: its tables with their rows, and its log. What is found in it, and what holds of every one.
-use Rattle.std.specs.Prelude.{◌≡◌, ℕ, ◌≤◌, Bool, List, [], length, take, slice_get, Option, None, Some, is_some, nat_eq}
+-- A primary: its tables with their rows, its own denied list, and its log. What is found in it, and what holds of every one.
+use Rattle.std.specs.Prelude.{◌≡◌, ℕ, ◌≤◌, Bool, false, List, [], length, take, slice_get, Option, None, Some, is_some, nat_eq}
 use Rattle.std.specs.List.{IsDistinct}
 use Rattle.std.specs.List.Sorted.{IsStrictlySortedBy}
 use Rattle.std.specs.Map.{keys_of, lookup}
@@ -9,9 +9,10 @@ use Rattle.mt_names.specs.Names.{same_text}
 use Rattle.mt_model.specs.declared.rows.RowChange.{RowChange}
 use Rattle.mt_model.specs.Rows.{Row, RowValue, row_since}
 
--- a table: the position of the log at which it was made, and its rows by their keys
+-- a table: the position of the log at which it was made, whether the primary's own list has it, and its rows by their keys
 pub record TableState : Type 0 where
   pub made : ℕ
+  pub denied : Bool
   pub rows : List (ℕ × RowValue)
 
 pub record PrimaryState : Type 0 where
@@ -21,9 +22,9 @@ pub record PrimaryState : Type 0 where
 abbrev pub empty_primary : PrimaryState
 empty_primary = record { tables = []; log = [] }
 
--- a table without rows
+-- a table without rows, which is not denied
 abbrev pub new_table : ℕ → TableState
-new_table position = record { made = position; rows = [] }
+new_table position = record { made = position; denied = false; rows = [] }
 
 -- ---- what is found
 
@@ -36,6 +37,10 @@ has_table p name = is_some (table_at p name)
 -- the position at which a table was made
 abbrev pub made_at : PrimaryState → List ℕ → Option ℕ
 made_at p name = option_map (λ table. table.made) (table_at p name)
+
+-- whether the primary's own list has a table; one that isn't there is not on it
+abbrev pub is_denied_at : PrimaryState → List ℕ → Bool
+is_denied_at p name = option_map_or (λ table. table.denied) (table_at p name) false
 
 -- the row of a key in a table
 abbrev pub row_in : TableState → ℕ → Row

@@ -2,7 +2,7 @@
 use Rattle.std.specs.Prelude.{◌≡◌, ◌≢◌, ◌⊎◌, ℕ, true, List, [], ◌∷◌, ◌++◌, length, nat_lt, if◌then◌else◌, ⊤, Result, Ok, Err}
 use Rattle.mt_names.specs.Results.{◌>>=◌}
 use Rattle.mt_model.specs.declared.faults.PrimaryFault.{PrimaryFault}
-use Rattle.mt_model.specs.declared.faults.PrimaryFault.TheVariants.{Memory, LogFull}
+use Rattle.mt_model.specs.declared.faults.PrimaryFault.TheVariants.{Memory, Denied, LogFull}
 use Rattle.mt_model.specs.Limits.{longest_log}
 use Rattle.mt_model.specs.declared.rows.Op.{Op}
 use Rattle.mt_model.specs.declared.rows.RowChange.{RowChange}
@@ -15,6 +15,7 @@ pub record IsRowPut (old : TableState) (key : ℕ) (row : Row) (new : TableState
   pub here : row_in new key ≡ row
   pub others : (other : ℕ) → other ≢ key → row_in new other ≡ row_in old other
   pub made : new.made ≡ old.made
+  pub denied : new.denied ≡ old.denied
   pub ordered : IsInKeyOrder new
 
 -- a table and the log, before or after
@@ -24,7 +25,7 @@ pub record LoggedTable : Type 0 where
 
 -- the row that an operation leaves, or the first test that refuses it
 abbrev pub changed_row : LoggedTable → Op → Result Row PrimaryFault
-changed_row old op = op_row op (row_in old.table (op_key op)) >>= unless_full old.log
+changed_row old op = if old.table.denied then Err Denied else op_row op (row_in old.table (op_key op)) >>= unless_full old.log
 
 -- one row is what the operation makes of it, and the log has one entry more
 pub record IsRowChanged (old : LoggedTable) (name : List ℕ) (op : Op) (answer : ℕ) (new : LoggedTable) : Type 0 where

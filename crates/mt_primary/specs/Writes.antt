@@ -2,16 +2,16 @@
 use Rattle.std.specs.Prelude.{◌≡◌, ◌≢◌, ℕ, List, [], ◌∷◌, ◌++◌, length, nat_lt, if◌then◌else◌, Some, Result, Ok, Err, ⊤}
 use Rattle.mt_names.specs.Results.{◌>>=◌}
 use Rattle.mt_model.specs.declared.faults.PrimaryFault.{PrimaryFault}
-use Rattle.mt_model.specs.declared.faults.PrimaryFault.TheVariants.{Memory, NoTable, LogFull}
+use Rattle.mt_model.specs.declared.faults.PrimaryFault.TheVariants.{Memory, NoTable, Denied, LogFull}
 use Rattle.mt_model.specs.Limits.{longest_log}
 use Rattle.mt_model.specs.declared.rows.Op.{Op}
 use Rattle.mt_model.specs.declared.rows.RowChange.{RowChange}
 use Rattle.mt_model.specs.Rows.{Row, op_key, op_row}
-use Rattle.mt_primary.specs.Primary.{PrimaryState, has_table, made_at, new_table, row_at, table_at}
+use Rattle.mt_primary.specs.Primary.{PrimaryState, has_table, is_denied_at, made_at, new_table, row_at, table_at}
 
 -- ---- a table made
 
--- the table is there without a row, and all else is as it was
+-- the table is there, without a row and not denied, and all else is as it was
 pub record IsTableMade (old : PrimaryState) (name : List ℕ) (new : PrimaryState) : Type 0 where
   pub table : table_at new name ≡ Some (new_table (length old.log))
   pub others : (other : List ℕ) → other ≢ name → table_at new other ≡ table_at old other
@@ -27,16 +27,18 @@ Creates old name (Err fault) new = (fault ≡ Memory) × (new ≡ old)
 abbrev pub unless_full : List RowChange → Row → Result Row PrimaryFault
 unless_full log row = if nat_lt (length log) longest_log then Ok row else Err LogFull
 
--- the row that a write leaves, or the first test that refuses it
+-- the row that a write leaves, or the first test that refuses it: the table, the own list, the row, the log's room
 abbrev pub written_row : PrimaryState → List ℕ → Op → Result Row PrimaryFault
 written_row p name op =
-    if has_table p name then op_row op (row_at p name (op_key op)) >>= unless_full p.log else Err NoTable
+    if has_table p name then (if is_denied_at p name then Err Denied else op_row op (row_at p name (op_key op)) >>= unless_full p.log)
+    else Err NoTable
 
 -- one row is what the operation makes of it, the log has one entry more, and all else is as it was
 pub record IsWritten (old : PrimaryState) (name : List ℕ) (op : Op) (answer : ℕ) (new : PrimaryState) : Type 0 where
   pub row : written_row old name op ≡ Ok (row_at new name (op_key op))
   pub others : (other : List ℕ) (key : ℕ) → ¬ ((other ≡ name) × (key ≡ op_key op)) → row_at new other key ≡ row_at old other key
   pub made : (other : List ℕ) → made_at new other ≡ made_at old other
+  pub denied : (other : List ℕ) → is_denied_at new other ≡ is_denied_at old other
   pub log : new.log ≡ old.log ++ record { table = name; key = op_key op; before = row_at old name (op_key op); after = row_at new name (op_key op) } ∷ []
   pub position : answer ≡ length new.log
 

@@ -1,17 +1,23 @@
 //! A primary.
-ghost use Rattle.std.specs.Prelude.{◌≡◌, false, length};
-ghost use Rattle.std.specs.Option.{option_copied};
-ghost use Rattle.mt_primary.specs.Primary.{empty_primary, has_table, row_at, IsPrimary};
+ghost use Rattle.std.specs.Prelude.{◌≡◌, ◌≤◌, false, None, length};
+ghost use Rattle.mt_names.specs.Tables.{most_tables};
+ghost use Rattle.mt_primary.specs.Denials.{AreDenialsSet, marks_of, told_by_mark, told_by_marks, told_by_refresh};
+ghost use Rattle.mt_primary.specs.Primary.{empty_primary, has_table, is_denied_at, IsPrimary};
+ghost use Rattle.mt_primary.specs.Reads.{read_row};
 ghost use Rattle.mt_primary.specs.Writes.{Creates, Writes};
 
+use crate::before::{Before, Mark};
 use crate::table::{Table, change_row};
+use arrayvec::ArrayVec;
 use indexmap::IndexMap;
-use mt_model::{Op, PrimaryFault, RowChange};
-use mt_names::{Position, TableName, Value};
+use mt_model::{Entry, Op, PrimaryFault, RowChange};
+use mt_names::{KeyspaceName, Position, TableName, TabletType, Value, copied_value};
+use mt_watch::Notice;
 use std::alloc::Global;
 use std::marker::Model;
 
-/// A keyspace's primary: its tables with their rows, and the log of every change.
+/// A keyspace's primary: its tables with their rows, its own denied list, and the log of every change. (Vitess: the
+/// denied tables that a primary tablet has in its memory, which it reads anew on RefreshState.)
 #[derive(Drop)]
 pub struct Primary {
     tables: IndexMap<TableName, Table>,
@@ -54,7 +60,8 @@ impl Primary {
         self.tables.contains_key(table)
     }
 
-    /// Makes a table without rows, which begins at this position of the log. It is refused with `P0 Memory` alone.
+    /// Makes a table without rows, which begins at this position of the log, and its place on the own list, where it
+    /// is not denied. It is refused with `P0 Memory` alone.
     pub fn create_table(&mut self, table: &TableName) -> Result<(), PrimaryFault>
         requires absent { has_table self.old table.now ≡ false }
         ensures { Creates self.old table.now result self.new }
@@ -68,8 +75,8 @@ impl Primary {
     }
 
     /// Does an operation on a row of a table, and answers the position behind its entry in the log. The first of
-    /// these that holds is answered: `P1 NoTable`, `P3 RowExists` or `P4 NoRow`, `P5 TooLong`, `P6 LogFull`,
-    /// `P0 Memory`.
+    /// these that holds is answered: `P1 NoTable`, `P2 Denied`, `P3 RowExists` or `P4 NoRow`, `P5 TooLong`,
+    /// `P6 LogFull`, `P0 Memory`.
     pub fn write(&mut self, table: &TableName, op: Op) -> Result<Position, PrimaryFault>
         ensures { Writes self.old table.now op result self.new }
     {
@@ -79,87 +86,91 @@ impl Primary {
         }
     }
 
-    /// The row of a table and a key. It takes no memory.
-    pub fn read(&self, table: &TableName, key: u64) -> Option<&Value>
-        ensures { option_copied result ≡ row_at self.now table.now key }
+    /// The row of a table and a key, as a tablet of this type has it: replicas see the rows of the primary. `P1 NoTable`,
+    /// then `P2 Denied` of type primary alone, where the own list has the table. It takes no memory.
+    pub fn read(
+        &self,
+        table: &TableName,
+        key: u64,
+        tablet_type: TabletType,
+    ) -> Result<Option<Value>, PrimaryFault>
+        ensures { result ≡ read_row self.now table.now key tablet_type }
     {
-        self.tables.get(table)?.row(key)
-    }
-}
-
-#[cfg(test)]
-mod tests {
-    use super::*;
-    use std::test::Fail;
-
-    fn value(bytes: &[u8]) -> Value {
-        let mut value = Value::new();
-        let _fits = value.try_extend_from_slice(bytes);
-        value
-    }
-
-    #[test]
-    fn a_row_is_written_and_read(rt: HostRuntime) -> Result<(), Fail> {
-        let mut primary = Primary::new(rt.alloc());
-        let customer = TableName::parse("customer")?;
-        assert_eq!(rt; primary.position(), 0);
-        assert!(rt; !primary.has_table(&customer));
-        primary.create_table(&customer)?;
-        assert!(rt; primary.has_table(&customer));
-        assert_eq!(rt; primary.read(&customer, 1), None);
-        assert_eq!(rt; primary.write(&customer, Op::Insert(1, value(b"a"))), Ok(1));
-        assert_eq!(rt; primary.read(&customer, 1), Some(&value(b"a")));
-        assert_eq!(rt; primary.read(&customer, 2), None);
-        assert_eq!(rt; primary.position(), 1);
-        Ok(())
-    }
-
-    #[test]
-    fn each_refusal_leaves_the_primary(rt: HostRuntime) -> Result<(), Fail> {
-        let mut primary = Primary::new(rt.alloc());
-        let customer = TableName::parse("customer")?;
-        let orders = TableName::parse("orders")?;
-        assert!(rt; !primary.has_table(&customer));
-        primary.create_table(&customer)?;
-        let full = [b'x'; 64];
-        primary.write(&customer, Op::Insert(7, value(&full)))?;
-        for (op, want) in [
-            (Op::Insert(7, value(b"b")), PrimaryFault::RowExists),
-            (Op::Update(8, value(b"b")), PrimaryFault::NoRow),
-            (Op::Append(8, value(b"b")), PrimaryFault::NoRow),
-            (Op::Delete(8), PrimaryFault::NoRow),
-            (Op::Append(7, value(b"b")), PrimaryFault::TooLong),
-        ] {
-            assert_eq!(rt;
-                primary.write(&orders, op.copied()),
-                Err(PrimaryFault::NoTable)
-            );
-            assert_eq!(rt; primary.write(&customer, op), Err(want));
+        match self.tables.get(table) {
+            None => Err(PrimaryFault::NoTable),
+            Some(rows) if tablet_type == TabletType::Primary && rows.is_denied() => {
+                Err(PrimaryFault::Denied)
+            }
+            Some(rows) => Ok(rows.row(key).map(|value| copied_value(value))),
         }
-        assert_eq!(rt; primary.read(&orders, 7), None);
-        assert_eq!(rt; primary.read(&customer, 7), Some(&value(&full)));
-        assert_eq!(rt; primary.position(), 1);
-        Ok(())
     }
 
-    #[test]
-    fn tables_have_rows_of_their_own(rt: HostRuntime) -> Result<(), Fail> {
-        let mut primary = Primary::new(rt.alloc());
-        let customer = TableName::parse("customer")?;
-        let orders = TableName::parse("orders")?;
-        assert!(rt; !primary.has_table(&customer));
-        primary.create_table(&customer)?;
-        primary.write(&customer, Op::Insert(1, value(b"a")))?;
-        assert!(rt; !primary.has_table(&orders));
-        primary.create_table(&orders)?;
-        assert_eq!(rt; primary.read(&orders, 1), None);
-        primary.write(&orders, Op::Insert(1, value(b"b")))?;
-        primary.write(&customer, Op::Append(1, value(b"c")))?;
-        assert_eq!(rt; primary.read(&customer, 1), Some(&value(b"ac")));
-        assert_eq!(rt; primary.write(&customer, Op::Delete(1)), Ok(4));
-        assert_eq!(rt; primary.read(&customer, 1), None);
-        assert_eq!(rt; primary.write(&orders, Op::Update(1, value(b""))), Ok(5));
-        assert_eq!(rt; primary.read(&orders, 1), Some(&value(b"")));
-        Ok(())
+    /// Whether the own list has a table.
+    fn is_denied(&self, table: &TableName) -> bool
+        ensures { result ≡ is_denied_at self.now table.now }
+    {
+        match self.tables.get(table) {
+            Some(rows) => rows.is_denied(),
+            None => false,
+        }
+    }
+
+    /// Sets or clears the denial of a table. A table that isn't there has none.
+    fn set_denied(&mut self, table: &TableName, denied: bool)
+        ensures { AreDenialsSet self.old (λ name. told_by_mark name None (table.now, denied)) self.new }
+    {
+        if let Some(rows) = self.tables.get_mut(table) {
+            rows.set_denied(denied);
+        }
+    }
+
+    /// What stands on the own list for these tables.
+    fn stands(&self, tables: &[TableName]) -> Before
+        requires { length tables.now ≤ most_tables }
+        ensures { result ≡ marks_of self.now tables.now }
+    {
+        let mut marks = ArrayVec::new_in(());
+        for table in tables {
+            marks.push(Mark {
+                table: table.copied(),
+                denied: self.is_denied(table),
+            });
+        }
+        Before { marks }
+    }
+
+    /// Takes over what a notice says of the denials of these tables at this keyspace, the primary's own, and answers
+    /// what stood on the own list for them. A table of which the notice has no entry keeps what stands, and so does each
+    /// table that isn't named. Of several entries for a table the last one counts. At most 16 tables. It takes no
+    /// memory. (Vitess: RefreshState)
+    pub fn take_denied(
+        &mut self,
+        keyspace: &KeyspaceName,
+        notice: &Notice,
+        tables: &[TableName],
+    ) -> Before
+        requires { length tables.now ≤ most_tables }
+        ensures before { result ≡ marks_of self.old tables.now }
+        ensures taken { AreDenialsSet self.old (told_by_refresh keyspace.now notice.now tables.now) self.new }
+    {
+        let before = self.stands(tables);
+        for entry in notice.as_slice() {
+            if let Entry::Denied(at, table, denied) = entry {
+                if at == keyspace && tables.contains(table) {
+                    self.set_denied(table, *denied);
+                }
+            }
+        }
+        before
+    }
+
+    /// Gives the tables that a refresh named what stood for them before it, and leaves the others as they are now. It
+    /// takes no memory.
+    pub fn put_denied(&mut self, before: Before)
+        ensures { AreDenialsSet self.old (told_by_marks before) self.new }
+    {
+        for mark in before.marks.iter() {
+            self.set_denied(&mark.table, mark.denied);
+        }
     }
 }

@@ -13,10 +13,12 @@ use std::collections::BTreeMap;
 use std::collections::btree_map::Entry;
 use std::marker::Model;
 
-/// A table: its rows by their keys, and the position of the log at which it was made.
+/// A table: its rows by their keys, the position of the log at which it was made, and whether the primary's own list
+/// has it.
 #[derive(Drop)]
 pub struct Table {
     made: Position,
+    denied: bool,
     rows: BTreeMap<u64, Value>,
 }
 
@@ -25,21 +27,37 @@ impl Model for Table {
 
     ghost Value = { TableState };
 
-    ghost view = { λ t. record { made = t.made; rows = t.rows.entries } };
+    ghost view = { λ t. record { made = t.made; denied = t.denied; rows = t.rows.entries } };
 
-    ghost invariant = { λ t. IsInKeyOrder (record { made = t.made; rows = t.rows.entries }) };
+    ghost invariant = { λ t. IsInKeyOrder (record { made = t.made; denied = t.denied; rows = t.rows.entries }) };
 }
 
 impl Table {
-    /// A table without rows.
+    /// A table without rows, which is not denied.
     pub fn new(alloc: Global, made: Position) -> Self
         ensures value { result ≡ new_table made }
         ensures ordered { IsInKeyOrder result }
     {
         Table {
             made,
+            denied: false,
             rows: BTreeMap::new(alloc),
         }
+    }
+
+    /// Whether it is denied.
+    pub fn is_denied(&self) -> bool
+        ensures { result ≡ self.now.denied }
+    {
+        self.denied
+    }
+
+    /// Denies it or not.
+    pub fn set_denied(&mut self, denied: bool)
+        ensures value { self.new ≡ record self.old { denied = denied } }
+        ensures ordered { IsInKeyOrder self.new }
+    {
+        self.denied = denied;
     }
 
     /// The row of a key.
@@ -140,8 +158,8 @@ fn make_room(log: &mut Vec<RowChange>) -> Result<(), PrimaryFault>
     log.reserve(1).map_err(|_| PrimaryFault::Memory)
 }
 
-/// Does the operation on its row, and enters the change into the log. The tests come in this order: `P3 RowExists`
-/// or `P4 NoRow`, `P5 TooLong`, `P6 LogFull`, and last `P0 Memory`.
+/// Does the operation on its row, and enters the change into the log. The tests come in this order: `P2 Denied`,
+/// `P3 RowExists` or `P4 NoRow`, `P5 TooLong`, `P6 LogFull`, and last `P0 Memory`.
 pub fn change_row(
     table: &mut Table,
     log: &mut Vec<RowChange>,
@@ -150,6 +168,9 @@ pub fn change_row(
 ) -> Result<Position, PrimaryFault>
     ensures { ChangesRow (record { table = table.old; log = log.old.items }) name.now op result (record { table = table.new; log = log.new.items }) }
 {
+    if table.is_denied() {
+        return Err(PrimaryFault::Denied);
+    }
     let room = make_room(log);
     let change = table.change(name, op, room)?;
     log.push_reserved(change);

@@ -5,4 +5,4 @@ use Rattle.mt_primary.proofs.table.change_row.Goals as goal
 
 pub returns-in_err-change : goal.returns-in_err-change
 returns-in_err-change c =
-    change_refused _ _ _ _ _ _ _ _ c.in_err-change.was (search rules) c.make_room-room.ensures.told c.change.ensures c.make_room-room.ensures.entries
+    change_refused _ _ _ (search rules) _ _ _ _ _ c.in_err-change.was (search rules) c.make_room-room.ensures.told c.change.ensures c.make_room-room.ensures.entries

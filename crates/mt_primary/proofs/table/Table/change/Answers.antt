@@ -17,11 +17,11 @@ pub returns : goal.returns
 returns c =
     elim c.match-entry-2.branch [
       | in-Ok-Occupied+in_ok-after-in-Ok-Occupied w ↦ elim w.match-after.branch [
-        | in-Some w' ↦ change_made _ _ _ _ _ _ (search rules) (search rules) (search (rules, lookup-nat_cmp)) (search (rules, lookup-nat_cmp)) (row_put _ _ _ _ (search rules) (search rules) (search rules))
-        | in-None w' ↦ change_made _ _ _ _ _ _ (search rules) (search rules) (search (rules, lookup-nat_cmp)) (search (rules, lookup-nat_cmp)) (row_put _ _ _ _ (search rules) (search rules) (search rules))
+        | in-Some w' ↦ change_made _ _ _ _ _ _ (search rules) (search rules) (search (rules, lookup-nat_cmp)) (search (rules, lookup-nat_cmp)) (row_put _ _ _ _ (search rules) (search rules) (search rules) (search rules))
+        | in-None w' ↦ change_made _ _ _ _ _ _ (search rules) (search rules) (search (rules, lookup-nat_cmp)) (search (rules, lookup-nat_cmp)) (row_put _ _ _ _ (search rules) (search rules) (search rules) (search rules))
       ]
       | in-Ok-Vacant+in_ok-after-in-Ok-Vacant w ↦ elim w.match-after-2.branch [
-        | in-Some-after w' ↦ change_made _ _ _ _ _ _ (search rules) (search rules) (search (rules, lookup-nat_cmp)) (search (rules, lookup-nat_cmp)) (row_put _ _ _ _ (search rules) (search rules) (search rules))
+        | in-Some-after w' ↦ change_made _ _ _ _ _ _ (search rules) (search rules) (search (rules, lookup-nat_cmp)) (search (rules, lookup-nat_cmp)) (row_put _ _ _ _ (search rules) (search rules) (search rules) (search rules))
         | in_default w' ↦ change_made _ _ _ _ _ _ (search rules) (search rules) (search (rules, lookup-nat_cmp)) (search (rules, lookup-nat_cmp)) (search (rules, lookup-nat_cmp, row_put-same))
       ]
     ]
