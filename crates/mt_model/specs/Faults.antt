@@ -32,6 +32,7 @@ abbrev pub refusal_text : Refusal → List ℕ
 refusal_text refusal.Memory = codes "F0 Memory"
 refusal_text refusal.NoKeyspace = codes "F1 NoKeyspace"
 refusal_text refusal.NoTable = codes "F2 NoTable"
+refusal_text refusal.Denied = codes "F3 Denied"
 refusal_text refusal.RowExists = codes "F4 RowExists"
 refusal_text refusal.NoRow = codes "F5 NoRow"
 refusal_text refusal.Full = codes "F27 Full"

@@ -23,6 +23,8 @@ pub enum Refusal {
     NoKeyspace,
     /// The keyspace doesn't have the table.
     NoTable,
+    /// The keyspace's primary refuses the table: its own denied list has it.
+    Denied,
     /// An insert of a key that is there.
     RowExists,
     /// An update, an append or a delete of a key that isn't there.
@@ -47,6 +49,7 @@ impl Refusal {
             Refusal::Memory => "F0 Memory",
             Refusal::NoKeyspace => "F1 NoKeyspace",
             Refusal::NoTable => "F2 NoTable",
+            Refusal::Denied => "F3 Denied",
             Refusal::RowExists => "F4 RowExists",
             Refusal::NoRow => "F5 NoRow",
             Refusal::Full => "F27 Full",

@@ -150,6 +150,7 @@ abbrev pub refusal_from : code.Refusal → Refusal
 refusal_from from.Memory = memory
 refusal_from from.NoKeyspace = no_keyspace
 refusal_from from.NoTable = no_table
+refusal_from from.Denied = denied
 refusal_from from.RowExists = row_exists
 refusal_from from.NoRow = no_row
 refusal_from from.Full = full

@@ -13,7 +13,7 @@ use Rattle.mt_model.specs.declared.faults.TopologyFault.{TopologyFault}
 use Rattle.mt_model.specs.Limits.{most_rules}
 use Rattle.mt_model.specs.Topology.{TopologyState, keyspace_at, with_keyspace, with_rule, with_table}
 use Rattle.mt_topology.specs.Edits.{add_keyspace_refusal, add_table_refusal, edit_rule_grows, edit_rule_refusal}
-use Rattle.mt_primary.specs.Primary.{PrimaryState, TableState, has_table, row_at, row_in, table_at}
+use Rattle.mt_primary.specs.Primary.{PrimaryState, TableState, has_table, is_denied_at, row_at, row_in, table_at}
 use Rattle.mt_primary.specs.Writes.{IsTableMade}
 use Rattle.mt_plain.specs.Events.{Event, add_keyspace, add_table, edit_rule, done, refusal_from, answer_from}
 use Rattle.mt_plain.specs.Answers.{Answers, Refuses, reply_of}
@@ -34,6 +34,7 @@ pub refuses : (p : Plain) (event : Event) (r : code.Refusal) → r ≢ refusal.M
 refuses p event refusal.Memory other is = absurd (other refl)
 refuses p event refusal.NoKeyspace other is = is
 refuses p event refusal.NoTable other is = is
+refuses p event refusal.Denied other is = is
 refuses p event refusal.RowExists other is = is
 refuses p event refusal.NoRow other is = is
 refuses p event refusal.Full other is = is
@@ -62,6 +63,7 @@ module _ (p : Plain) (old : CoreState) (event : Event) (fault : Option TopologyF
   does_step (Err refusal.Memory) new is = ((refusing ∙ ap told is.0, growing is.1), subst (Stands p) (sym is.2) stands)
   does_step (Err refusal.NoKeyspace) new is = refused_step refusal.NoKeyspace new (λ e. absurd cc) is
   does_step (Err refusal.NoTable) new is = refused_step refusal.NoTable new (λ e. absurd cc) is
+  does_step (Err refusal.Denied) new is = refused_step refusal.Denied new (λ e. absurd cc) is
   does_step (Err refusal.RowExists) new is = refused_step refusal.RowExists new (λ e. absurd cc) is
   does_step (Err refusal.NoRow) new is = refused_step refusal.NoRow new (λ e. absurd cc) is
   does_step (Err refusal.Full) new is = refused_step refusal.Full new (λ e. absurd cc) is
@@ -73,6 +75,7 @@ pub does_unchanged : (old new : CoreState) (fault : Option TopologyFault) (grows
 does_unchanged old new fault grows Makes refusal.Memory is = is.2
 does_unchanged old new fault grows Makes refusal.NoKeyspace is = is.1
 does_unchanged old new fault grows Makes refusal.NoTable is = is.1
+does_unchanged old new fault grows Makes refusal.Denied is = is.1
 does_unchanged old new fault grows Makes refusal.RowExists is = is.1
 does_unchanged old new fault grows Makes refusal.NoRow is = is.1
 does_unchanged old new fault grows Makes refusal.Full is = is.1
@@ -92,7 +95,7 @@ does_keeps P old new fault grows Makes (Err r) was made is = subst P (sym (does_
 -- ---- the opening
 
 pub opening_stands : Stands (opening []) empty_core
-opening_stands = record { lives = refl; topology = refl; rows = λ keyspace table key. refl; log = λ keyspace. refl; numbers = opening_has_numbers [] }
+opening_stands = record { lives = refl; topology = refl; rows = λ keyspace table key. refl; log = λ keyspace. refl; denials = λ keyspace table. refl; numbers = opening_has_numbers [] }
 
 -- ---- a keyspace more
 
@@ -125,6 +128,7 @@ keyspace_making p core name is stands s none made =
       topology = ap (λ (t : TopologyState). with_keyspace t name) stands.topology;
       rows = λ keyspace table key. ap (λ s. row_at s table key) (primary_of-push core.primaries name keyspace absent) ∙ stands.rows keyspace table key;
       log = λ keyspace. ap (λ (s : PrimaryState). length s.log) (primary_of-push core.primaries name keyspace absent) ∙ stands.log keyspace;
+      denials = λ keyspace table. ap (λ s. is_denied_at s table) (primary_of-push core.primaries name keyspace absent) ∙ stands.denials keyspace table;
       numbers = done_has_numbers (calm p) (add_keyspace name) tt stands.numbers none;
     })
 
@@ -144,6 +148,7 @@ rule_making p core key target stands s none made = rw made (record {
   topology = ap (λ (t : TopologyState). record t { rules = with_rule t.rules key target }) stands.topology;
   rows = stands.rows;
   log = stands.log;
+  denials = stands.denials;
   numbers = done_has_numbers (calm p) (edit_rule key target) tt stands.numbers none;
 })
 
@@ -170,13 +175,31 @@ module _ (before after : PrimaryState) (table : List ℕ) (absent : has_table be
       there : table ≢ other → row_at after other key ≡ row_at before other key
       there apart = ap (λ (o : Option TableState). option_map_or (λ t. row_in t key) o None) (made.others other (λ e. apart (sym e)))
 
+  -- nor is it denied
+  denials_stay : (other : List ℕ) → is_denied_at after other ≡ is_denied_at before other
+  denials_stay other = ⊎_elim here there (same_name table other)
+    where
+      denied_in : Option TableState → Bool
+      denied_in o = option_map_or (λ t. t.denied) o false
+
+      here : table ≡ other → is_denied_at after other ≡ is_denied_at before other
+      here at = subst (λ x. is_denied_at after x ≡ is_denied_at before x) at (ap denied_in made.table ∙ sym (by (table_at before table) absent))
+        where
+          by : (o : Option TableState) → is_some o ≡ false → denied_in o ≡ false
+          by None e = refl
+          by (Some t) e = absurd (true≢false e)
+
+      there : table ≢ other → is_denied_at after other ≡ is_denied_at before other
+      there apart = ap denied_in (made.others other (λ e. apart (sym e)))
+
 pub table_making : (p : Plain) (core : CoreState) (keyspace table : List ℕ) → IsCore core → Stands (calm p) core → (s : CoreState) → refusal_of (calm p) (add_table keyspace table) ≡ None → has_table (primary_of core.primaries keyspace) table ≡ false
     → MakesTable core keyspace table s → Stands (next_taken (calm p) (add_table keyspace table)) s
 table_making p core keyspace table is stands s none absent made = record {
   lives = refl;
   topology = made.0 ∙ ap (λ t. with_table t keyspace table) stands.topology;
   rows = λ k t key. row_kept k t key ∙ stands.rows k t key ∙ sym (done_at (calm p) (add_table keyspace table) tt stands.numbers none k t key);
-  log = λ k. ap (λ n. n) (log_kept k) ∙ stands.log k;
+  log = λ k. log_kept k ∙ stands.log k;
+  denials = λ k t. denied_kept k t ∙ stands.denials k t;
   numbers = done_has_numbers (calm p) (add_table keyspace table) tt stands.numbers none;
 }
   where
@@ -209,6 +232,15 @@ table_making p core keyspace table is stands s none absent made = record {
 
         there : keyspace ≢ k → row_at (primary_of s.primaries k) t key ≡ row_at (primary_of core.primaries k) t key
         there apart = ap (λ x. row_at x t key) (elsewhere k apart)
+
+    denied_kept : (k t : List ℕ) → is_denied_at (primary_of s.primaries k) t ≡ is_denied_at (primary_of core.primaries k) t
+    denied_kept k t = ⊎_elim here (λ apart. ap (λ x. is_denied_at x t) (elsewhere k apart)) (same_name keyspace k)
+      where
+        here : keyspace ≡ k → is_denied_at (primary_of s.primaries k) t ≡ is_denied_at (primary_of core.primaries k) t
+        here at =
+            let stay = denials_stay before after table (subst (λ x. has_table x table ≡ false) was absent) made.1.3 t in
+            subst (λ x. is_denied_at (primary_of s.primaries x) t ≡ is_denied_at (primary_of core.primaries x) t) at
+            (ap (λ x. is_denied_at x t) now ∙ stay ∙ sym (ap (λ x. is_denied_at x t) was))
 
     log_kept : (k : List ℕ) → length (primary_of s.primaries k).log ≡ length (primary_of core.primaries k).log
     log_kept k = ⊎_elim here there (same_name keyspace k)

@@ -25,7 +25,8 @@ use Rattle.mt_model.specs.declared.rows.RowChange.{RowChange}
 use Rattle.mt_model.specs.Limits.{longest_log, longest_value}
 use Rattle.mt_model.specs.Rows.{Row, op_key, op_row}
 use Rattle.mt_model.specs.Topology.{TopologyState, is_present, keyspace_at}
-use Rattle.mt_primary.specs.Primary.{PrimaryState, TableState, has_table, row_at, table_at}
+use Rattle.mt_primary.specs.Primary.{PrimaryState, TableState, has_table, is_denied_at, row_at, table_at}
+use Rattle.mt_primary.specs.Reads.{read_row, refuses_type}
 use Rattle.mt_primary.specs.Writes.{IsWritten, Writes, unless_full, written_row}
 use Rattle.mt_plain.specs.Events.{Refusal, read, write, done, full, no_table, row, refusal_from, answer_from}
 use Rattle.mt_plain.specs.Answers.{Answers}
@@ -39,7 +40,7 @@ use Rattle.mt_names.specs.declared.types.TabletType.TheVariants.{Primary, Replic
 use Rattle.mt_laws.specs.Acknowledged.{row_with_op}
 use Rattle.mt_laws.specs.Numbers.{acknowledged_at, calm}
 use Rattle.mt_laws.proofs.TableLemmas.{done_at, done_has_numbers}
-use Rattle.mt_program.specs.Commands.{Steps, WritesAt, WritesRow, read_at, refusal_by_primary}
+use Rattle.mt_program.specs.Commands.{Steps, WritesAt, WritesRow, read_at, refusal_by_primary, reply_by_read}
 use Rattle.mt_program.specs.Core.{CoreState, IsCore, IsWithinLimits, Primaries, Stands, primary_at, primary_of}
 use Rattle.mt_program.proofs.CoreLemmas.{is_some-set_value, primary_of-found, primary_of-set_elsewhere, primary_of-set_here, same_name}
 use Rattle.mt_program.proofs.StepLemmas.{refuses, steps_from_calm}
@@ -100,9 +101,13 @@ module _ (p : Plain) (core : CoreState) (keyspace : List ℕ) (is : IsCore core)
     pub log_there : log_length (calm p) keyspace ≡ length state.log
     log_there = sym (stands.log keyspace) ∙ ap (λ (s : PrimaryState). length s.log) (primary_of-found core.primaries keyspace state found)
 
+    -- no list denies a table that no workflow moves
+    pub not_denied : (table : List ℕ) → is_denied_at state table ≡ false
+    not_denied table = sym (ap (λ s. is_denied_at s table) (primary_of-found core.primaries keyspace state found)) ∙ stands.denials keyspace table
+
     write_told : (table : List ℕ) (op : Op) → refusal_of (calm p) (write keyspace table op) ≡ told_row (written_row state table op)
     write_told table op =
-        rw (keyspace_there state found, table_there table, row_there table (op_key op), log_there)
+        rw (keyspace_there state found, table_there table, row_there table (op_key op), log_there, not_denied table)
         (by (has_table state table))
       where
         by : (t : Bool) → or_else (refuse_if (not t) no_table) (or_else (row_refusal (op_row op (row_at state table (op_key op)))) (refuse_if (nat_le longest_log (length state.log)) full))
@@ -124,11 +129,13 @@ row_left_by (Ok left) log after e = by (nat_lt (length log) longest_log) e
     by false e = absurd cc
 
 written_by : (state : PrimaryState) (table : List ℕ) (op : Op) (after : Row) → written_row state table op ≡ Ok after → op_row op (row_at state table (op_key op)) ≡ Ok after
-written_by state table op after e = by (has_table state table) e
+written_by state table op after e = by (has_table state table) (is_denied_at state table) e
   where
-    by : (t : Bool) → cond t (op_row op (row_at state table (op_key op)) >>= unless_full state.log) (Err primary.NoTable) ≡ Ok after → op_row op (row_at state table (op_key op)) ≡ Ok after
-    by true e = row_left_by (op_row op (row_at state table (op_key op))) state.log after e
-    by false e = absurd cc
+    by : (t d : Bool) → cond t (cond d (Err primary.Denied) (op_row op (row_at state table (op_key op)) >>= unless_full state.log)) (Err primary.NoTable) ≡ Ok after
+        → op_row op (row_at state table (op_key op)) ≡ Ok after
+    by true true e = absurd cc
+    by true false e = row_left_by (op_row op (row_at state table (op_key op))) state.log after e
+    by false d e = absurd cc
 
 -- a row that the operation acknowledged there makes of the one before
 module _ (before after : PrimaryState) (table : List ℕ) (op : Op) (position : ℕ) (written : IsWritten before table op position after) where
@@ -183,9 +190,17 @@ module _ (old new : CoreState) (keyspace table : List ℕ) (op : Op) (is : IsCor
         let more : log_length (next_taken (calm p) (write keyspace table op)) k ≡ log_length p k + (0 + cond (same_text keyspace k) 1 0) = sum_by-append (λ (e : LogEntry). cond (same_text e.keyspace k) 1 0) p.log (entry ∷ []) in
         let now = log_now k in
         omega (arith, more, now);
+    denials = λ k t. denied_now k t ∙ stands.denials k t;
     numbers = done_has_numbers (calm p) (write keyspace table op) tt stands.numbers none;
   }
     where
+      denied_now : (k t : List ℕ) → is_denied_at (primary_of new.primaries k) t ≡ is_denied_at (primary_of old.primaries k) t
+      denied_now k t = ⊎_elim here (λ apart. ap (λ s. is_denied_at s t) (elsewhere k apart)) (same_name keyspace k)
+        where
+          here : keyspace ≡ k → is_denied_at (primary_of new.primaries k) t ≡ is_denied_at (primary_of old.primaries k) t
+          here at = subst (λ x. is_denied_at (primary_of new.primaries x) t ≡ is_denied_at (primary_of old.primaries x) t) at
+              (ap (λ s. is_denied_at s t) now ∙ written.denied t ∙ sym (ap (λ s. is_denied_at s t) was))
+
       entry : LogEntry
       entry = record { keyspace = keyspace; table = table; key = op_key op }
 
@@ -313,17 +328,22 @@ module _ (p : Plain) (core : CoreState) (keyspace table : List ℕ) (key : ℕ) 
   read_none Replica = refl
   read_none Rdonly = refl
 
+  refuses_none : (tablet_type : TabletType) → refuses_type false tablet_type ≡ false
+  refuses_none Primary = refl
+  refuses_none Replica = refl
+  refuses_none Rdonly = refl
+
   read_calm : (tablet_type : TabletType) (o : Option PrimaryState) → primary_at core.primaries keyspace ≡ o
-      → Answers (calm p) (read keyspace table key tablet_type) (answer_from (read_at o table key)) × Stands (next (calm p) (read keyspace table key tablet_type) (answer_from (read_at o table key))) core
+      → Answers (calm p) (read keyspace table key tablet_type) (answer_from (read_at o table key tablet_type)) × Stands (next (calm p) (read keyspace table key tablet_type) (answer_from (read_at o table key tablet_type))) core
   read_calm tablet_type None found = (rw (keyspace_absent p core keyspace is stands found) refl, stands)
-  read_calm tablet_type (Some state) found = here (has_table state table) refl
+  read_calm tablet_type (Some state) found = rw (not_denied p core keyspace is stands state found table, refuses_none tablet_type) (here (has_table state table) refl)
     where
       there : has_keyspace p keyspace ≡ true
       there = keyspace_there p core keyspace is stands state found
 
       here : (t : Bool) → has_table state table ≡ t
-          → Answers (calm p) (read keyspace table key tablet_type) (answer_from (cond t (Ok (reply.Row (row_at state table key))) (Err refusal.NoTable)))
-          × Stands (next (calm p) (read keyspace table key tablet_type) (answer_from (cond t (Ok (reply.Row (row_at state table key))) (Err refusal.NoTable)))) core
+          → Answers (calm p) (read keyspace table key tablet_type) (answer_from (reply_by_read (cond t (Ok (row_at state table key)) (Err primary.NoTable))))
+          × Stands (next (calm p) (read keyspace table key tablet_type) (answer_from (reply_by_read (cond t (Ok (row_at state table key)) (Err primary.NoTable))))) core
       here true has = (
         (rw (there, table_there p core keyspace is stands state found table, has) (read_none tablet_type), ap row (sym (row_there p core keyspace is stands state found table key))),
         stands,
@@ -331,6 +351,6 @@ module _ (p : Plain) (core : CoreState) (keyspace table : List ℕ) (key : ℕ) 
       here false has = (rw (there, table_there p core keyspace is stands state found table, has) refl, stands)
 
 pub read_steps : (core : CoreState) (keyspace table : List ℕ) (key : ℕ) (tablet_type : TabletType) (result : Result Reply code.Refusal) → IsCore core
-    → result ≡ read_at (primary_at core.primaries keyspace) table key → Steps core (read keyspace table key tablet_type) result core
+    → result ≡ read_at (primary_at core.primaries keyspace) table key tablet_type → Steps core (read keyspace table key tablet_type) result core
 read_steps core keyspace table key tablet_type result is answer = steps_from_calm core core (read keyspace table key tablet_type) result
     (λ p stands. rw answer (read_calm p core keyspace table key is stands tablet_type (primary_at core.primaries keyspace) refl))

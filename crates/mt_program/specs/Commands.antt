@@ -3,6 +3,7 @@ use Rattle.std.specs.Prelude.{◌≡◌, ℕ, Bool, true, false, if◌then◌els
 use Rattle.std.specs.Map.{set_value}
 use Rattle.mt_names.specs.declared.keys.RuleKey.{RuleKey}
 use Rattle.mt_names.specs.declared.keys.RuleTarget.{RuleTarget}
+use Rattle.mt_names.specs.declared.types.TabletType.{TabletType}
 use Rattle.mt_names.specs.Names.{same_text}
 use Rattle.mt_model.specs.declared.answers.Refusal.{Refusal}
 use Rattle.mt_model.specs.declared.answers.Refusal.TheVariants as refusal
@@ -14,10 +15,11 @@ use Rattle.mt_model.specs.declared.faults.TopologyFault.{TopologyFault}
 use Rattle.mt_model.specs.declared.faults.TopologyFault.TheVariants as topology
 use Rattle.mt_model.specs.declared.rows.Op.{Op}
 use Rattle.mt_model.specs.declared.entries.Entry.TheVariants.{Present}
+use Rattle.mt_model.specs.Rows as rows
 use Rattle.mt_model.specs.Topology.{TopologyState, with_entry, with_keyspace, with_keyspace_state, with_rule, with_table, without_table_place}
 use Rattle.mt_topology.specs.Edits.{add_keyspace_refusal, add_table_refusal, edit_rule_grows, edit_rule_refusal}
-use Rattle.mt_primary.specs.Primary.{PrimaryState, empty_primary, row_at}
-use Rattle.mt_primary.specs.Primary as found
+use Rattle.mt_primary.specs.Primary.{PrimaryState, empty_primary}
+use Rattle.mt_primary.specs.Reads.{read_row}
 use Rattle.mt_primary.specs.Writes.{IsTableMade, Writes}
 use Rattle.mt_plain.specs.Events.{Event, answer_from}
 use Rattle.mt_plain.specs.Answers.{Answers}
@@ -40,7 +42,8 @@ refusal_by_primary primary.RowExists = refusal.RowExists
 refusal_by_primary primary.NoRow = refusal.NoRow
 refusal_by_primary primary.TooLong = refusal.TooLong
 refusal_by_primary primary.LogFull = refusal.Full
-refusal_by_primary other = refusal.NoTable
+refusal_by_primary primary.Denied = refusal.Denied
+refusal_by_primary primary.NoTable = refusal.NoTable
 
 abbrev pub reply_by_primary : Result ℕ PrimaryFault → Result Reply Refusal
 reply_by_primary (Ok position) = Ok Done
@@ -103,10 +106,15 @@ WritesAt (Some before) old keyspace table op result new =
 abbrev pub WritesRow : Primaries → (keyspace table : List ℕ) → Op → Result Reply Refusal → Primaries → Type 0
 WritesRow old keyspace table op result new = WritesAt (primary_at old keyspace) old keyspace table op result new
 
+-- a row that a primary read, as the core answers it
+abbrev pub reply_by_read : Result rows.Row PrimaryFault → Result Reply Refusal
+reply_by_read (Ok row) = Ok (Row row)
+reply_by_read (Err fault) = Err (refusal_by_primary fault)
+
 -- a read is answered by the primary of its keyspace
-abbrev pub read_at : Option PrimaryState → (table : List ℕ) → ℕ → Result Reply Refusal
-read_at None table key = Err refusal.NoKeyspace
-read_at (Some state) table key = if found.has_table state table then Ok (Row (row_at state table key)) else Err refusal.NoTable
+abbrev pub read_at : Option PrimaryState → (table : List ℕ) → ℕ → TabletType → Result Reply Refusal
+read_at None table key tablet_type = Err refusal.NoKeyspace
+read_at (Some state) table key tablet_type = reply_by_read (read_row state table key tablet_type)
 
 -- ---- a command as an event
 

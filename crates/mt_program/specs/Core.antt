@@ -5,8 +5,9 @@ use Rattle.std.specs.Map.{lookup}
 use Rattle.mt_names.specs.Names.{same_text}
 use Rattle.mt_model.specs.Limits.{most_keyspaces, most_rules, most_tables_in_keyspace}
 use Rattle.mt_model.specs.Topology.{KeyspaceState, TopologyState, empty_topology, is_present, keyspace_at}
-use Rattle.mt_primary.specs.Primary.{PrimaryState, empty_primary, has_table, row_at}
+use Rattle.mt_primary.specs.Primary.{PrimaryState, empty_primary, has_table, row_at, is_denied_at}
 use Rattle.mt_plain.specs.Plain.{Plain}
+use Rattle.mt_plain.specs.Serve.{refuses}
 use Rattle.mt_plain.specs.Slots.{log_length}
 use Rattle.mt_plain.specs.Writes.{row_of}
 use Rattle.mt_laws.specs.Numbers.{HasNumbers}
@@ -57,5 +58,7 @@ pub record Stands (p : Plain) (core : CoreState) : Type 0 where
   pub topology : core.topology ≡ p.topology
   pub rows : (keyspace table : List ℕ) (key : ℕ) → row_at (primary_of core.primaries keyspace) table key ≡ row_of p keyspace table key
   pub log : (keyspace : List ℕ) → length (primary_of core.primaries keyspace).log ≡ log_length p keyspace
+  -- and its own list has the tables that it refuses
+  pub denials : (keyspace table : List ℕ) → is_denied_at (primary_of core.primaries keyspace) table ≡ refuses p keyspace table
   -- as in each state that a run reaches
   pub numbers : HasNumbers p

@@ -7,7 +7,7 @@ ghost use Rattle.mt_program.specs.Core.{IsCore, Primaries, primary_at, primary_o
 
 use indexmap::IndexMap;
 use mt_model::{Entry, EntryKey, MAX_KEYSPACES, Op, PrimaryFault, Refusal, Reply, TopologyFault};
-use mt_names::{KeyspaceName, RuleKey, RuleTarget, TableName, copied_value};
+use mt_names::{KeyspaceName, RuleKey, RuleTarget, TableName, TabletType};
 use mt_primary::Primary;
 use mt_topology::Topology;
 use std::alloc::Global;
@@ -34,7 +34,8 @@ fn refusal_by_primary(fault: PrimaryFault) -> Refusal
 {
     match fault {
         PrimaryFault::Memory => Refusal::Memory,
-        PrimaryFault::NoTable | PrimaryFault::Denied => Refusal::NoTable,
+        PrimaryFault::NoTable => Refusal::NoTable,
+        PrimaryFault::Denied => Refusal::Denied,
         PrimaryFault::RowExists => Refusal::RowExists,
         PrimaryFault::NoRow => Refusal::NoRow,
         PrimaryFault::TooLong => Refusal::TooLong,
@@ -152,21 +153,21 @@ pub fn write_row(
     }
 }
 
-/// Reads a row at the primary of its keyspace.
+/// Reads a row at the primary of its keyspace, as a tablet of this type has it.
 pub fn read_row(
     primaries: &Primaries,
     keyspace: &KeyspaceName,
     table: &TableName,
     key: u64,
+    tablet_type: TabletType,
 ) -> Result<Reply, Refusal>
-    ensures { result ≡ read_at (primary_at primaries.now.entries keyspace.now) table.now key }
+    ensures { result ≡ read_at (primary_at primaries.now.entries keyspace.now) table.now key tablet_type }
 {
-    let Some(primary) = primaries.get(keyspace) else {
-        return Err(Refusal::NoKeyspace);
-    };
-    if !primary.has_table(table) {
-        return Err(Refusal::NoTable);
+    match primaries.get(keyspace) {
+        None => Err(Refusal::NoKeyspace),
+        Some(primary) => match primary.read(table, key, tablet_type) {
+            Ok(row) => Ok(Reply::Row(row)),
+            Err(fault) => Err(refusal_by_primary(fault)),
+        },
     }
-    let row = primary.read(table, key);
-    Ok(Reply::Row(row.map(|value| copied_value(value))))
 }

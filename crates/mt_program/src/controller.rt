@@ -85,7 +85,7 @@ impl Core {
         edit_rule(&mut self.topology, key, target)
     }
 
-    /// Writes a row: `F1 NoKeyspace`, `F2 NoTable`, `F4 RowExists` or `F5 NoRow`, `F29 TooLong`, `F27 Full`, `F0 Memory`.
+    /// Writes a row: `F1 NoKeyspace`, `F2 NoTable`, `F3 Denied`, `F4 RowExists` or `F5 NoRow`, `F29 TooLong`, `F27 Full`, `F0 Memory`.
     pub fn write(
         &mut self,
         keyspace: &KeyspaceName,
@@ -98,15 +98,16 @@ impl Core {
         write_row(&mut self.primaries, keyspace, table, op)
     }
 
-    /// Reads a row: `F1 NoKeyspace`, `F2 NoTable`. It takes no memory.
+    /// Reads a row: `F1 NoKeyspace`, `F2 NoTable`, and of type primary `F3 Denied`. It takes no memory.
     pub fn read(
         &self,
         keyspace: &KeyspaceName,
         table: &TableName,
         key: u64,
+        tablet_type: TabletType,
     ) -> Result<Reply, Refusal>
-        ensures { (tablet_type : TabletType) → Steps self.now (read keyspace.now table.now key tablet_type) result self.now }
+        ensures { Steps self.now (read keyspace.now table.now key tablet_type) result self.now }
     {
-        read_row(&self.primaries, keyspace, table, key)
+        read_row(&self.primaries, keyspace, table, key, tablet_type)
     }
 }

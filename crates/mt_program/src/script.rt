@@ -34,7 +34,12 @@ fn answer_read(core: &Core, key: &RuleKey, number: u64, tablet_type: TabletType)
     ensures { (p : Plain) → Stands p core.now → Tells p (told_request p (Ok (read_through key.now number tablet_type))) (Some result.items) core.now }
 {
     match core.resolve(key, tablet_type) {
-        Ok(target) => answer_line(&core.read(&target.keyspace, &target.table, number)),
+        Ok(target) => answer_line(&core.read(
+            &target.keyspace,
+            &target.table,
+            number,
+            tablet_type,
+        )),
         Err(fault) => look_up_line(fault),
     }
 }
@@ -49,6 +54,10 @@ fn answer_request(core: &mut Core, request: Request) -> LineText
         Request::EditRule(key, target) => answer_line(&core.edit_rule(&key, target)),
         Request::Write(key, op) => answer_write(core, &key, op),
         Request::Read(key, number, tablet_type) => answer_read(core, &key, number, tablet_type),
+        Request::WriteAt(keyspace, table, op) => answer_line(&core.write(&keyspace, &table, op)),
+        Request::ReadAt(keyspace, table, number, tablet_type) => {
+            answer_line(&core.read(&keyspace, &table, number, tablet_type))
+        }
     }
 }
 

@@ -1,5 +1,5 @@
 -- The code's words for what lines ask, and the definitions' words.
-use Rattle.std.specs.Prelude.{ℕ, Bool, ◌||◌, if◌then◌else◌, List, [], ◌∷◌, codes, Option, None, Some, Result, Ok, Err, option_map}
+use Rattle.std.specs.Prelude.{ℕ, Bool, ◌==◌, ◌||◌, if◌then◌else◌, List, [], ◌∷◌, codes, Option, None, Some, Result, Ok, Err, option_and_then, option_map}
 use Rattle.std.specs.Result.{result_map_both}
 use Rattle.mt_names.specs.declared.fault.NameFault.{NameFault}
 use Rattle.mt_names.specs.Faults.{fault_text}
@@ -10,16 +10,22 @@ use Rattle.mt_script.specs.declared.lines.LineRefusal.{LineRefusal}
 use Rattle.mt_script.specs.declared.lines.LineRefusal.TheVariants as refusal
 use Rattle.mt_script.specs.declared.lines.Request as code
 use Rattle.mt_script.specs.declared.lines.Request.TheVariants as request
-use Rattle.mt_plain.specs.Events.{add_keyspace, add_table, edit_rule}
+use Rattle.mt_script.specs.declared.commands.RowWork.{RowWork}
+use Rattle.mt_script.specs.declared.commands.RowWork.TheVariants as work
+use Rattle.mt_names.specs.Keys.{after, at_sign, dot}
+use Rattle.mt_model.specs.declared.rows.Op.{Op}
+use Rattle.mt_model.specs.declared.rows.Op.TheVariants.{Insert, Update, Append, Delete}
+use Rattle.mt_model.specs.Rows.{RowValue}
+use Rattle.mt_plain.specs.Events.{add_keyspace, add_table, edit_rule, read, write}
 use Rattle.mt_plain.specs.Output.{Reading, Told, nothing, says, refused_text, told_request}
 use Rattle.mt_plain.specs.Plain.{Plain}
-use Rattle.mt_plain.specs.Script.{Command, Request, event, write_through, read_through, read_command, read_line_by}
+use Rattle.mt_plain.specs.Script.{Command, Request, event, write_through, read_through, is_for_reads, is_row_verb, one_word, read_command, read_line_by, read_number, read_value, two_words}
 
 -- the verbs of the commands that are read up to now
 abbrev pub has_come : List ℕ → Bool
 has_come verb =
-    same_text verb (codes "keyspace") || same_text verb (codes "table") || same_text verb (codes "rule") || same_text verb (codes "insert")
-    || same_text verb (codes "get")
+    same_text verb (codes "keyspace") || same_text verb (codes "table") || same_text verb (codes "rule") || same_text verb (codes "at")
+    || is_row_verb verb
 
 -- the command of some words, of which the first is its verb; a command that hasn't come yet is a bad line
 abbrev pub command_so_far : List (List ℕ) → Option Command
@@ -30,6 +36,38 @@ command_so_far (verb ∷ words) = if has_come verb then read_command verb words 
 abbrev pub reading_so_far : Reading
 reading_so_far line = read_line_by command_so_far line
 
+-- what is done to a row, behind a name
+abbrev pub work_of : (List ℕ → Op → Command) → (List ℕ → ℕ → Command) → (name : List ℕ) → RowWork → Option Command
+work_of make ask name (work.Write op) = if is_for_reads (after at_sign name) then None else Some (make name op)
+work_of make ask name (work.Read number) = Some (ask name number)
+
+-- a number and a value, of two words
+abbrev pub read_number_and_value : List (List ℕ) → Option (ℕ × RowValue)
+read_number_and_value words =
+    option_and_then (λ w. option_and_then (λ number. option_map (λ value. (number, value)) (read_value w.1)) (read_number w.0)) (two_words words)
+
+-- an operation with a value
+abbrev pub work_with_value : (ℕ → RowValue → Op) → List (List ℕ) → Option RowWork
+work_with_value make words = option_map (λ w. work.Write (make w.0 w.1)) (read_number_and_value words)
+
+-- the number that is the last word
+abbrev pub read_last_number : List (List ℕ) → Option ℕ
+read_last_number words = option_and_then read_number (one_word words)
+
+-- what is done to a row, by the verb and the words behind the name
+abbrev pub read_work : (verb : List ℕ) → List (List ℕ) → Option RowWork
+read_work verb words =
+    if same_text verb (codes "insert") then work_with_value Insert words
+    else if same_text verb (codes "update") then work_with_value Update words
+    else if same_text verb (codes "append") then work_with_value Append words
+    else if same_text verb (codes "delete") then option_map (λ n. work.Write (Delete n)) (read_last_number words)
+    else if same_text verb (codes "get") then option_map work.Read (read_last_number words)
+    else None
+
+-- the marks of a name: a dot, behind which its table stands, and an at sign, behind which its type stands
+abbrev pub is_mark : ℕ → Bool
+is_mark byte = (byte == dot) || (byte == at_sign)
+
 -- what a request asks for
 abbrev pub request_from : code.Request → Request
 request_from (request.AddKeyspace keyspace) = event (add_keyspace keyspace)
@@ -37,6 +75,8 @@ request_from (request.AddTable keyspace table) = event (add_table keyspace table
 request_from (request.EditRule key target) = event (edit_rule key target)
 request_from (request.Write key op) = write_through key op
 request_from (request.Read key number tablet_type) = read_through key number tablet_type
+request_from (request.WriteAt keyspace table op) = event (write keyspace table op)
+request_from (request.ReadAt keyspace table number tablet_type) = event (read keyspace table number tablet_type)
 
 -- the same of a request whose names are read, or in fault
 abbrev pub read_from : Result code.Request NameFault → Result Request NameFault

@@ -1,13 +1,13 @@
 //! Commands: a verb, and the words behind it.
-ghost use Rattle.std.specs.Prelude.{◌≡◌, true, option_copied, option_map};
+ghost use Rattle.std.specs.Prelude.{◌≡◌, true, find, option_copied, option_map};
 ghost use Rattle.std.specs.Char.{is_ascii_digit};
 ghost use Rattle.std.specs.List.{list_all};
 ghost use Rattle.mt_names.specs.Keys.{after, at_sign};
-ghost use Rattle.mt_plain.specs.Script.{change, change_of, get, is_for_reads, is_readable, keyspace, op_of, read_number, read_rule_target, read_value, request_of, rule, table, words_of};
-ghost use Rattle.mt_script.specs.Requests.{command_so_far, read_from};
+ghost use Rattle.mt_plain.specs.Script.{change, change_at, get, get_at, is_for_reads, is_qualified, is_readable, keyspace, read_at, read_number, read_row_command, read_rule_target, read_value, request_of, rule, table, words_of};
+ghost use Rattle.mt_script.specs.Requests.{command_so_far, is_mark, read_from, read_last_number, read_number_and_value, read_work, work_of};
 
 use crate::lines::Request;
-use crate::words::{first_word, one_word, text_of, three_words, two_words};
+use crate::words::{first_word, one_word, text_of, two_words};
 use mt_model::Op;
 use mt_names::{KeyspaceName, NameFault, RuleKey, RuleTarget, TableName, TabletType, Value};
 
@@ -87,11 +87,64 @@ fn rule_request(key: &str, target: &str) -> Result<Request, NameFault>
     Ok(Request::EditRule(key, target))
 }
 
-fn insert_request(name: &str, number: u64, value: Value) -> Result<Request, NameFault>
-    ensures { read_from result ≡ request_of (change name.now (Op.Insert number value)) }
+/// What is done to a row: the table's name stands apart.
+#[derive(Debug, Drop)]
+pub enum RowWork {
+    /// An operation changes it.
+    Write(Op),
+    /// The row of a key is read.
+    Read(u64),
+}
+
+/// Reads a number and a value.
+fn number_and_value(words: &[u8]) -> Option<(u64, Value)>
+    requires { is_readable words.now ≡ true }
+    ensures { result ≡ read_number_and_value (words_of words.now) }
+{
+    let (number, value) = two_words(words)?;
+    let number = read_number(number)?;
+    let value = read_value(value)?;
+    Some((number, value))
+}
+
+/// Reads the number that is the last word.
+fn last_number(words: &[u8]) -> Option<u64>
+    requires { is_readable words.now ≡ true }
+    ensures { result ≡ read_last_number (words_of words.now) }
+{
+    let word = one_word(words)?;
+    read_number(word)
+}
+
+/// Reads what is done to a row: the verb, and the words behind the name.
+fn row_work(verb: &str, words: &[u8]) -> Option<RowWork>
+    requires { is_readable words.now ≡ true }
+    ensures { result ≡ read_work verb.now (words_of words.now) }
+{
+    match verb {
+        "insert" => {
+            let (number, value) = number_and_value(words)?;
+            Some(RowWork::Write(Op::Insert(number, value)))
+        }
+        "update" => {
+            let (number, value) = number_and_value(words)?;
+            Some(RowWork::Write(Op::Update(number, value)))
+        }
+        "append" => {
+            let (number, value) = number_and_value(words)?;
+            Some(RowWork::Write(Op::Append(number, value)))
+        }
+        "delete" => Some(RowWork::Write(Op::Delete(last_number(words)?))),
+        "get" => Some(RowWork::Read(last_number(words)?)),
+        _ => None,
+    }
+}
+
+fn write_request(name: &str, op: Op) -> Result<Request, NameFault>
+    ensures { read_from result ≡ request_of (change name.now op) }
 {
     let key = RuleKey::parse(name)?;
-    Ok(Request::Write(key, Op::Insert(number, value)))
+    Ok(Request::Write(key, op))
 }
 
 fn get_request(name: &str, number: u64) -> Result<Request, NameFault>
@@ -102,23 +155,106 @@ fn get_request(name: &str, number: u64) -> Result<Request, NameFault>
     Ok(Request::Read(key, number, tablet_type))
 }
 
-/// The request of an insert, whose numbers and values are read before its name.
-fn insert_command(name: &str, number: &str, value: &str) -> Option<Result<Request, NameFault>>
-    ensures { option_map read_from result ≡ option_map request_of (change_of change name.now (op_of Op.Insert (read_number number.now) (read_value value.now))) }
+/// The request of some work on a table that is looked up by its name.
+fn work_by_name(name: &str, work: RowWork) -> Option<Result<Request, NameFault>>
+    ensures { option_map read_from result ≡ option_map request_of (work_of change get name.now work) }
 {
-    let number = read_number(number)?;
-    let value = read_value(value)?;
-    if is_for_reads(name) {
-        return None;
+    match work {
+        RowWork::Read(number) => Some(get_request(name, number)),
+        RowWork::Write(op) => {
+            if is_for_reads(name) {
+                return None;
+            }
+            Some(write_request(name, op))
+        }
     }
-    Some(insert_request(name, number, value))
 }
 
-fn get_command(name: &str, number: &str) -> Option<Result<Request, NameFault>>
-    ensures { option_map read_from result ≡ option_map request_of (option_map (get name.now) (read_number number.now)) }
+/// Reads an operation on a row, behind its verb: the name of its table, which is looked up, and the work.
+fn row_command(verb: &str, words: &[u8]) -> Option<Result<Request, NameFault>>
+    requires { is_readable words.now ≡ true }
+    ensures { option_map read_from result ≡ option_map request_of (read_row_command change get verb.now (words_of words.now)) }
 {
-    let number = read_number(number)?;
-    Some(get_request(name, number))
+    let (name, rest) = first_word(words)?;
+    let work = row_work(verb, rest)?;
+    work_by_name(text_of(name), work)
+}
+
+/// The first byte of a name that is a dot or an at sign.
+fn first_mark(name: &str) -> Option<&u8>
+    ensures { option_copied result ≡ find is_mark name.now }
+{
+    name.as_bytes().iter().find(|&&byte| byte == b'.' || byte == b'@')
+}
+
+/// Whether a name has a keyspace: a dot before its first at sign.
+fn is_qualified(name: &str) -> bool
+    ensures { result ≡ is_qualified name.now }
+{
+    match first_mark(name) {
+        Some(mark) => *mark == b'.',
+        None => false,
+    }
+}
+
+fn write_at_request(name: &str, op: Op) -> Result<Request, NameFault>
+    requires { is_qualified name.now ≡ true }
+    ensures { read_from result ≡ request_of (change_at name.now op) }
+{
+    let RuleKey {
+        keyspace, table, ..
+    } = RuleKey::parse(name)?;
+    match keyspace {
+        Some(keyspace) => Ok(Request::WriteAt(keyspace, table, op)),
+        None => unreachable!(),
+    }
+}
+
+fn get_at_request(name: &str, number: u64) -> Result<Request, NameFault>
+    requires { is_qualified name.now ≡ true }
+    ensures { read_from result ≡ request_of (get_at name.now number) }
+{
+    let RuleKey {
+        keyspace,
+        table,
+        tablet_type,
+    } = RuleKey::parse(name)?;
+    let tablet_type = tablet_type.unwrap_or(TabletType::Primary);
+    match keyspace {
+        Some(keyspace) => Ok(Request::ReadAt(keyspace, table, number, tablet_type)),
+        None => unreachable!(),
+    }
+}
+
+/// The request of some work on a table of its keyspace.
+fn work_there(name: &str, work: RowWork) -> Option<Result<Request, NameFault>>
+    requires { is_qualified name.now ≡ true }
+    ensures { option_map read_from result ≡ option_map request_of (work_of change_at get_at name.now work) }
+{
+    match work {
+        RowWork::Read(number) => Some(get_at_request(name, number)),
+        RowWork::Write(op) => {
+            if is_for_reads(name) {
+                return None;
+            }
+            Some(write_at_request(name, op))
+        }
+    }
+}
+
+/// Reads what stands behind `at`: the qualified name of a table, a verb, and the work.
+fn at_command(words: &[u8]) -> Option<Result<Request, NameFault>>
+    requires { is_readable words.now ≡ true }
+    ensures { option_map read_from result ≡ option_map request_of (read_at (words_of words.now)) }
+{
+    let (name, rest) = first_word(words)?;
+    let (verb, rest) = first_word(rest)?;
+    let name = text_of(name);
+    let work = row_work(text_of(verb), rest)?;
+    if !is_qualified(name) {
+        return None;
+    }
+    work_there(name, work)
 }
 
 /// Reads a command: its verb, its words, and then its names. `None` is a bad line.
@@ -137,14 +273,7 @@ pub fn read_command(line: &[u8]) -> Option<Result<Request, NameFault>>
             let (key, target) = two_words(rest)?;
             Some(rule_request(key, target))
         }
-        "insert" => {
-            let (name, number, value) = three_words(rest)?;
-            insert_command(name, number, value)
-        }
-        "get" => {
-            let (name, number) = two_words(rest)?;
-            get_command(name, number)
-        }
-        _ => None,
+        "at" => at_command(rest),
+        verb => row_command(verb, rest),
     }
 }

@@ -23,10 +23,14 @@ pub enum Request {
     AddTable(KeyspaceName, TableName),
     /// `rule KEY TARGET`: sets a routing rule, or takes it away where the target is `-`.
     EditRule(RuleKey, Option<RuleTarget>),
-    /// `insert NAME N V`: looks the name up for the primary, and writes there.
+    /// `insert NAME N V`, or `update`, `append`, `delete`: looks the name up for the primary, and writes there.
     Write(RuleKey, Op),
     /// `get NAME N`: looks the name up for its type, which is the primary where none is given, and reads there.
     Read(RuleKey, u64, TabletType),
+    /// `at K.T insert N V`, or `update`, `append`, `delete`: writes to the table of the keyspace, without a look-up.
+    WriteAt(KeyspaceName, TableName, Op),
+    /// `at K.T get N`: reads the table of the keyspace for the name's type, without a look-up.
+    ReadAt(KeyspaceName, TableName, u64, TabletType),
 }
 
 /// Why a line is refused before it asks for anything.

@@ -1,5 +1,5 @@
 -- The answer is that of the core.
-use Rattle.mt_plain.specs.Events.{add_keyspace, add_table, edit_rule}
+use Rattle.mt_plain.specs.Events.{add_keyspace, add_table, edit_rule, read, write}
 use Rattle.mt_program.proofs.RunLemmas.{asks_told}
 use Rattle.mt_program.proofs.script.answer_request.Goals as goal
 
@@ -14,3 +14,11 @@ returns-in-AddTable c = λ p stands. rw c.in-AddTable.is
 pub returns-in-EditRule : goal.returns-in-EditRule
 returns-in-EditRule c = λ p stands. rw c.in-EditRule.is
     (asks_told p (edit_rule c.in-EditRule.key c.in-EditRule.target) c.edit_rule.result c.answer_line-in-EditRule.result.items c.edit_rule.new.self c.answer_line-in-EditRule.ensures (c.edit_rule.ensures.steps p stands))
+
+pub returns-in-WriteAt : goal.returns-in-WriteAt
+returns-in-WriteAt c = λ p stands. rw c.in-WriteAt.is
+    (asks_told p (write c.in-WriteAt.keyspace c.in-WriteAt.table c.in-WriteAt.op) c.write.result c.answer_line-in-WriteAt.result.items c.write.new.self c.answer_line-in-WriteAt.ensures (c.write.ensures.steps p stands))
+
+pub returns-in-ReadAt : goal.returns-in-ReadAt
+returns-in-ReadAt c = λ p stands. rw c.in-ReadAt.is
+    (asks_told p (read c.in-ReadAt.keyspace c.in-ReadAt.table c.in-ReadAt.number c.in-ReadAt.tablet_type) c.read.result c.answer_line-in-ReadAt.result.items c.args.core.now c.answer_line-in-ReadAt.ensures (c.read.ensures p stands))
