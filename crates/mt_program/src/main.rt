@@ -14,6 +14,8 @@ mod tests_faults;
 #[cfg(test)]
 mod tests_limits;
 #[cfg(test)]
+mod tests_operations;
+#[cfg(test)]
 mod tests_refusals;
 
 use crate::fault::ScriptFault;

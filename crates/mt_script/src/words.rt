@@ -1,7 +1,7 @@
 //! The words of a line.
 ghost use Rattle.std.specs.Prelude.{◌≡◌, ◌≤◌, ◌∷◌, [], ◌++◌, not, length, position, drop, take, MatchOption, IfSome, option_copied, option_map, true};
 ghost use Rattle.std.specs.List.{list_all};
-ghost use Rattle.mt_plain.specs.Script.{is_blank, is_readable, is_visible, one_word, three_words, two_words, words_of};
+ghost use Rattle.mt_plain.specs.Script.{is_blank, is_readable, is_visible, one_word, two_words, words_of};
 
 use std::str;
 
@@ -77,14 +77,4 @@ pub fn two_words(line: &[u8]) -> Option<(&str, &str)>
     let (first, rest) = first_word(line)?;
     let second = one_word(rest)?;
     Some((text_of(first), second))
-}
-
-/// The words of a line that has just three.
-pub fn three_words(line: &[u8]) -> Option<(&str, &str, &str)>
-    requires { is_readable line.now ≡ true }
-    ensures { option_map (λ w. (w.0.now, w.1.now, w.2.now)) result ≡ three_words (words_of line.now) }
-{
-    let (first, rest) = first_word(line)?;
-    let (second, third) = two_words(rest)?;
-    Some((text_of(first), second, third))
 }
