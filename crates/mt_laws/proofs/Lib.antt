@@ -1,5 +1,14 @@
 pub mod AnswerLemmas
+pub mod CleanLemmas
+pub mod DocumentLemmas
+pub mod DriveLemmas
+pub mod FeedLemmas
+pub mod LineLemmas
+pub mod ListLemmas
 pub mod NumberLemmas
 pub mod OutputLemmas
 pub mod RunLemmas
 pub mod TableLemmas
+pub mod TextLemmas
+pub mod WayLemmas
+pub mod WordLemmas

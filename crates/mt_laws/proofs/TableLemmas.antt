@@ -1,29 +1,25 @@
 -- Where no workflow is live: each table has a number of its own, and an answer changes a row by its operation alone.
-use Rattle.std.proofs.Common.{◌≡◌, ◌≢◌, ℕ, suc, ◌+◌, ◌<◌, ◌≤◌, ◌⊎◌, Bool, true, false, not, cond, eqb, List, [], ◌∷◌, ◌++◌, Option, None, Some, Ok, Err, refl, sym, ap, ◌∙◌, subst, arith, unwrap_or, length, inl, inr}
+use Rattle.std.proofs.Common.{◌≡◌, ◌≢◌, ℕ, suc, ◌<◌, ◌≤◌, ◌⊎◌, Bool, true, false, not, cond, eqb, List, [], ◌∷◌, ◌++◌, Option, None, Some, refl, sym, ap, ◌∙◌, subst, arith, unwrap_or, inl, inr}
 use Rattle.std.proofs.lemmas.Bool.{true≢false, eqb-true, eq-eqb, ne_eqb}
 use Rattle.std.proofs.lemmas.List.Sums.{fold-append}
 use Rattle.std.specs.List.{fold}
 use Rattle.std.specs.Map.{lookup, set_value}
 use Rattle.std.specs.Option.{option_map_or}
-use Rattle.std.specs.Prelude.{◌&&◌, nat_le, nat_lt}
-use Rattle.mt_names.specs.declared.keys.RuleKey.{RuleKey}
+use Rattle.std.specs.Prelude.{◌&&◌}
 use Rattle.mt_names.specs.declared.keys.RuleTarget.{RuleTarget}
 use Rattle.mt_names.specs.Names.{same_text}
 use Rattle.mt_names.specs.Same.{same_target}
 use Rattle.mt_names.proofs.EntryLemmas.{lookup-push_elsewhere, lookup-set_value_elsewhere, lookup-set_value_here}
 use Rattle.mt_names.proofs.SameLemmas.{same_target_decides, same_text_decides}
-use Rattle.mt_model.specs.Limits.{longest_log}
 use Rattle.mt_model.specs.declared.entries.Scope.{Scope}
 use Rattle.mt_model.specs.declared.rows.Op.{Op}
 use Rattle.mt_model.specs.Rows.{Row, op_key, op_row}
 use Rattle.mt_model.specs.Topology.{KeyspaceState, Marks, TopologyState, is_marked, is_present, keyspace_at, with_keyspace, with_keyspace_state, with_mark_place, with_new_table, with_table}
-use Rattle.mt_plain.specs.Answers.{Answers}
-use Rattle.mt_plain.specs.Events.{Event, write, read, add_keyspace, add_table, edit_rule, create, advance, Refusal, denied, no_keyspace, no_table, full, Answer, done, row, advanced, shown, refused}
+use Rattle.mt_plain.specs.Events.{Event, write, read, add_keyspace, add_table, edit_rule, Refusal, no_keyspace, no_table, done}
 use Rattle.mt_plain.specs.Next.{next, next_taken, row_left}
 use Rattle.mt_plain.specs.Plain.{Plain, Write, has_keyspace, in_keyspace, number_of, opening}
-use Rattle.mt_plain.specs.Refuse.{or_else, refusal_of, refuse_if, row_refusal, unknown_table}
-use Rattle.mt_plain.specs.Serve.{has_table, refuses}
-use Rattle.mt_plain.specs.Writes.{client_row, row_after_write, row_after_writes, row_of}
+use Rattle.mt_plain.specs.Refuse.{refusal_of, refuse_if}
+use Rattle.mt_plain.specs.Writes.{row_after_write, row_after_writes, row_of}
 use Rattle.mt_laws.specs.Acknowledged.{row_with_op}
 use Rattle.mt_laws.specs.Numbers.{Below, HasNumbers, IsByHand, Numbers, acknowledged_at, calm, number_at}
 use Rattle.mt_laws.proofs.RunLemmas.{op_left, or_else-none, row_is_left}

@@ -11,7 +11,10 @@ pub use events::{
     refused_events_change_nothing,
 };
 pub use runs::{reads_answer_the_acknowledged_writes, tables_are_told_apart};
-pub use scripts::output_is_what_is_written_where_memory_is_ample;
+pub use scripts::{
+    drives_end_within_their_turns, each_line_that_writes_writes_one_line,
+    output_is_what_is_written_where_memory_is_ample,
+};
 pub use tables::{
     an_answer_changes_a_row_by_its_operation_alone, tables_keep_numbers_of_their_own,
 };

@@ -1,10 +1,25 @@
 //! Laws on the output of a script.
-ghost use Rattle.std.specs.Prelude.{◌≡◌, ◌↔◌, ℕ, List};
+ghost use Rattle.std.specs.Prelude.{◌≡◌, ◌↔◌, ℕ, Bool, List, ◌++◌, Option};
 ghost use Rattle.std.specs.Str.Lines.{lines};
+ghost use Rattle.mt_names.specs.declared.types.TypeSet.{TypeSet};
 ghost use Rattle.mt_model.specs.declared.entries.Scope.{Scope};
+ghost use Rattle.mt_laws.specs.Lines.{KnowsSome, line_feeds, writing_lines};
 ghost use Rattle.mt_plain.specs.Answers.{Answers};
-ghost use Rattle.mt_plain.specs.Output.{AnswersWithMemory, Output, Reading, output_by, output_from};
+ghost use Rattle.mt_plain.specs.Drive.{begins, most_turns};
+ghost use Rattle.mt_plain.specs.Output.{
+  AnswersWithMemory,
+  Drives,
+  IsOutput,
+  IsOutputBy,
+  Output,
+  Reading,
+  line_feed,
+  output,
+  output_by,
+  output_from,
+};
 ghost use Rattle.mt_plain.specs.Plain.{Plain, opening};
+ghost use Rattle.mt_plain.specs.Script.{Command, read_line_by};
 
 /// Where no answer is free, a script has one output, the function `output`; and that is one of the outputs that it has anyway.
 pub fn output_is_what_is_written_where_memory_is_ample()
@@ -14,4 +29,24 @@ pub fn output_is_what_is_written_where_memory_is_ample()
         → Output AnswersWithMemory reading (opening scopes) (lines input) out ↔ (out ≡ output_by reading scopes input) }
     ensures is_an_output { (reading : Reading) (p : Plain) (lines : List (List ℕ)) (out : List ℕ)
         → Output AnswersWithMemory reading p lines out → Output Answers reading p lines out }
+{}
+
+/// Each line that isn't silent writes one line, and a silent one none: where no answer is free, and in each output. So it is for
+/// the whole language, and for a reading that knows some of its commands and takes each other line for a bad one. No text that is
+/// written has a line feed in it, the documents included; and a drive writes one line however it ends.
+pub fn each_line_that_writes_writes_one_line()
+    ensures where_memory_is_ample { (scopes : List Scope) (input : List ℕ)
+        → line_feeds (output scopes input) ≡ writing_lines (lines input) }
+    ensures in_each_output { (scopes : List Scope) (input out : List ℕ) → IsOutput scopes input out
+        → line_feeds out ≡ writing_lines (lines input) }
+    ensures of_some_commands { (read : List (List ℕ) → Option Command) → KnowsSome read → (scopes : List Scope) (input out : List ℕ)
+        → IsOutputBy (read_line_by read) scopes input out → line_feeds out ≡ writing_lines (lines input) }
+{}
+
+/// No drive asks for as many events as its turns are: whatever the answers are, it ends before, by telling one text in a line of
+/// its own, and the rest of the script is written from the state that it leaves.
+pub fn drives_end_within_their_turns()
+    ensures { (p : Plain) (workflow : List ℕ) (types : TypeSet) (backward : Bool) (after : Plain → List ℕ) (out : List ℕ)
+        → Drives Answers most_turns (λ q rest. rest ≡ after q) (begins workflow types backward) p out
+        → (q : Plain) × (text : List ℕ) × (out ≡ text ++ line_feed ++ after q) }
 {}

@@ -1,0 +1,401 @@
+-- Each drive ends within its turns, and tells one text.
+use Rattle.std.proofs.Common.{◌≡◌, ◌≢◌, ◌⊎◌, inl, inr, ℕ, zero, suc, ◌+◌, ◌-◌, ◌*◌, ◌<◌, ◌≤◌, Bool, true, false, not, cond, eqb, leb, List, ◌++◌, codes, Option, None, Some, refl, sym, ap, ◌∙◌, subst, arith}
+use Rattle.std.proofs.lemmas.Bool.{true≢false, eqb-true, eq-eqb}
+use Rattle.std.specs.List.{list_any}
+use Rattle.std.specs.Option.{option_map_or}
+use Rattle.std.specs.Prelude.{◌&&◌, is_some, option_and_then}
+use Rattle.mt_names.specs.declared.types.TypeSet.{TypeSet}
+use Rattle.mt_plain.specs.Answers.{Answers, Refuses}
+use Rattle.mt_plain.specs.Documents.{number_text}
+use Rattle.mt_plain.specs.Drive.{Driving, begins, steps, feeds, gives_up, Heard, goes_on, ends, event_of, fails, feeding_stream, gives_up_or_stops, heard, most_at_once, most_tries, position_of, refused_step, steps_done, tries_again, unless_closed, way_of}
+use Rattle.mt_plain.specs.Events.{begin_switch, begin_reverse, step, undo, Refusal, memory, under_way, nothing_under_way, nothing_to_switch, nothing_to_reverse, not_level, past_journal, watcher_refused, no_watcher, stale, full, undoing, refusal_text, Way, Answer, done, row, advanced, shown, refused}
+use Rattle.mt_plain.specs.Next.{next, with_step, with_undo, with_way_to, types_and, types_without}
+use Rattle.mt_plain.specs.Output.{Drives, GoesOn, Rest, line_feed}
+use Rattle.mt_plain.specs.Plain.{Live, Plain, behind_last, catch_up, changed_types, changes_reads, first_step, live_at, next_step, refresh_source, refresh_target, stands_done, switch_reads, write_journal}
+use Rattle.mt_plain.specs.Refuse.{begin_reverse_refusal, begin_switch_refusal, has_more, in_workflow, is_behind, is_of_primary, most_journal_entries, new_owner, old_owner, or_else, own_refusal, refusal_of, refuse_if, share_type, step_refusal, undo_refusal, will_read_other_side}
+use Rattle.mt_laws.proofs.DocumentLemmas.{refusal-no_feed}
+use Rattle.mt_laws.proofs.ListLemmas.{cond-either, cond-holds}
+use Rattle.mt_laws.proofs.TextLemmas.{NoFeed, no_feed-append, no_feed-number}
+use Rattle.mt_laws.proofs.WayLemmas.{HasWay, backward_has_steps, few_done, few_undone, forward_has_steps, has_steps, has_way, way_of-advance, way_of-begun, way_of-step, way_of-undo}
+
+-- ---- how many turns are enough
+
+-- before a step of a number, with some tries of it left: two steps may be tried again, and eight turns are for an undo
+pub data Enough (turns tries n : ℕ) : Type 0 where
+  at_reads : n ≡ 0 → 2 * tries + 146 ≤ turns → Enough turns tries n
+  before_level : 0 < n → n < 3 → 148 ≤ turns + n → Enough turns tries n
+  at_level : n ≡ 3 → 2 * tries + 17 ≤ turns → Enough turns tries n
+  behind_level : 3 < n → 21 ≤ turns + n → Enough turns tries n
+
+-- a step is done: the next one has all its tries
+enough-step : (turns tries n m : ℕ) → 0 < tries → m ≡ suc n → Enough (suc turns) tries n → Enough turns most_tries m
+enough-step turns tries n m some is (at_reads at few) = before_level (omega arith) (omega arith) (omega arith)
+enough-step turns tries n m some is (before_level past at few) = by n past at few is
+  where
+    by : (n : ℕ) → 0 < n → n < 3 → 148 ≤ suc turns + n → m ≡ suc n → Enough turns most_tries m
+    by zero past at few is = absurd (omega arith)
+    by (suc zero) past at few is = before_level (omega arith) (omega arith) (omega arith)
+    by (suc (suc zero)) past at few is = at_level (omega arith) (omega arith)
+    by (suc (suc (suc n))) past at few is = absurd (omega arith)
+enough-step turns tries n m some is (at_level at few) = behind_level (omega arith) (omega arith)
+enough-step turns tries n m some is (behind_level past few) = behind_level (omega arith) (omega arith)
+
+-- a step is tried again, behind an advance
+enough-again : (turns left n : ℕ) → (n ≡ 0) ⊎ (n ≡ 3) → Enough (suc turns) (suc (suc left)) n → (t : ℕ) × (turns ≡ suc t) × Enough t (suc left) n
+enough-again zero left n at (at_reads is few) = absurd (omega arith)
+enough-again (suc t) left n at (at_reads is few) = (t, refl, at_reads is (omega arith))
+enough-again turns left n (inl at) (before_level past before few) = absurd (omega arith)
+enough-again turns left n (inr at) (before_level past before few) = absurd (omega arith)
+enough-again zero left n at (at_level is few) = absurd (omega arith)
+enough-again (suc t) left n at (at_level is few) = (t, refl, at_level is (omega arith))
+enough-again turns left n (inl at) (behind_level past few) = absurd (omega arith)
+enough-again turns left n (inr at) (behind_level past few) = absurd (omega arith)
+
+-- an undo has its turns
+enough-undo : (turns tries n : ℕ) → n ≤ 6 → Enough (suc turns) tries n → 6 ≤ turns
+enough-undo turns tries n few (at_reads is enough) = omega arith
+enough-undo turns tries n few (before_level past before enough) = omega arith
+enough-undo turns tries n few (at_level is enough) = omega arith
+enough-undo turns tries n few (behind_level past enough) = omega arith
+
+enough-fewer : (turns tries n : ℕ) → Enough turns tries n → Enough (suc turns) tries n
+enough-fewer turns tries n (at_reads is enough) = at_reads is (omega arith)
+enough-fewer turns tries n (before_level past before enough) = before_level past before (omega arith)
+enough-fewer turns tries n (at_level is enough) = at_level is (omega arith)
+enough-fewer turns tries n (behind_level past enough) = behind_level past (omega arith)
+
+enough-some : (turns tries n : ℕ) → n < 12 → Enough turns tries n → 0 < turns
+enough-some turns tries n below (at_reads is enough) = omega arith
+enough-some turns tries n below (before_level past before enough) = omega arith
+enough-some turns tries n below (at_level is enough) = omega arith
+enough-some turns tries n below (behind_level past enough) = omega arith
+
+enough-begun : (reads : Bool) (turns : ℕ) → 300 ≤ turns → Enough turns most_tries (cond {A = ℕ} reads 0 1 + 0)
+enough-begun true turns many = at_reads (omega arith) (omega arith)
+enough-begun false turns many = before_level (omega arith) (omega arith) (omega arith)
+
+-- ---- a drive that ends within some turns
+
+-- a way with a step left, and turns enough for it
+pub record Goes (turns tries : ℕ) (p : Plain) (workflow : List ℕ) : Type 0 where
+  pub way : Way
+  pub is : way_of p workflow ≡ Some way
+  pub left : next_step way < behind_last way
+  pub tried : 0 < tries
+  pub enough : Enough turns tries (next_step way)
+
+-- a way whose journal does not stand done, and turns enough to undo it
+pub record Undoes (turns : ℕ) (p : Plain) (workflow : List ℕ) : Type 0 where
+  pub way : Way
+  pub is : way_of p workflow ≡ Some way
+  pub no_journal : stands_done way write_journal ≡ false
+  pub enough : way.done ≤ turns
+  pub some : 0 < turns
+
+abbrev pub Fits : ℕ → Plain → Driving → Type 0
+Fits turns p (begins workflow types backward) = 300 < turns
+Fits turns p (steps workflow tries) = Goes turns tries p workflow
+Fits turns p (feeds workflow tries) = (t : ℕ) × (turns ≡ suc t) × Goes t tries p workflow
+Fits turns p (gives_up workflow refusal) = Undoes turns p workflow
+
+-- what was heard: a drive that fits in the turns left, or a text
+abbrev pub FitsHeard : ℕ → Plain → Heard → Type 0
+FitsHeard turns p (goes_on driving) = Fits turns p driving
+FitsHeard turns p (ends text) = NoFeed text
+
+few_steps : (way : Way) → behind_last way ≤ 12
+few_steps way = cond-either (λ n. n ≤ 12) _ 12 1 (omega arith) (omega arith)
+
+-- ---- a drive that can't go on
+
+fails-fits : (turns tries : ℕ) (p : Plain) (workflow : List ℕ) (refusal : Refusal) → Goes (suc turns) tries p workflow → FitsHeard turns p (fails p workflow refusal)
+fails-fits turns tries p workflow refusal goes = subst (λ o. FitsHeard turns p (gives_up_or_stops workflow refusal o)) (sym goes.is) by
+  where
+    by : FitsHeard turns p (gives_up_or_stops workflow refusal (Some goes.way))
+    by =
+        let text = codes "stopped " ++ refusal_text refusal ++ codes " " ++ number_text goes.way.done in
+        cond-holds (FitsHeard turns p) (stands_done goes.way write_journal) (ends text) (goes_on (gives_up workflow refusal))
+        (λ past. no_feed-append (codes "stopped " ++ refusal_text refusal ++ codes " ") (number_text goes.way.done)
+        (no_feed-append (codes "stopped " ++ refusal_text refusal) (codes " ") (no_feed-append (codes "stopped ") (refusal_text refusal) (record { all = refl }) (refusal-no_feed refusal)) (record { all = refl })) (no_feed-number goes.way.done))
+        (λ before.
+        let few : next_step goes.way ≤ 6 = few_done goes.way before in
+        let many : 6 ≤ turns = enough-undo turns tries (next_step goes.way) few goes.enough in
+        let of_way : goes.way.done ≤ next_step goes.way = omega arith in
+        record { way = goes.way; is = goes.is; no_journal = before; enough = omega (arith, few, many, of_way); some = omega (arith, many) })
+
+-- ---- a step
+
+-- only two steps are refused for a side that is not level
+abbrev LevelAt : ℕ → Option Refusal → Type 0
+LevelAt n o = o ≡ Some not_level → (n ≡ 0) ⊎ (n ≡ 3)
+
+refuse_if-level : (n : ℕ) (test : Bool) (refusal : Refusal) → refusal ≢ not_level → LevelAt n (refuse_if test refusal)
+refuse_if-level n true refusal other e = absurd (other cc)
+refuse_if-level n false refusal other e = absurd cc
+
+or_else-level : (n : ℕ) (o next : Option Refusal) → LevelAt n o → LevelAt n next → LevelAt n (or_else o next)
+or_else-level n None next first second = second
+or_else-level n (Some refusal) next first second = first
+
+own_refusal-level : (p : Plain) (w : Live) (way : Way) (n : ℕ) → LevelAt n (own_refusal p w way n)
+own_refusal-level p w way n =
+    let at_target = refuse_if (not (list_any (is_of_primary (new_owner w)) p.scopes)) no_watcher in
+    let target_or = cond (eqb n refresh_target) at_target None in
+    let at_journal = refuse_if (leb most_journal_entries p.journal) full in
+    let journal_or = cond (eqb n write_journal) at_journal target_or in
+    let at_catch_up = refuse_if (is_behind p w) not_level in
+    let catch_up_or = cond (eqb n catch_up) at_catch_up journal_or in
+    let at_source = refuse_if (not (list_any (is_of_primary (old_owner w)) p.scopes)) no_watcher in
+    let source_or = cond (eqb n refresh_source) at_source catch_up_or in
+    cond-holds (LevelAt n) (eqb n switch_reads) (refuse_if (will_read_other_side w way && is_behind p w) not_level) source_or (λ t e. inl (eqb-true n 0 t))
+    (λ f. cond-either (LevelAt n) (eqb n refresh_source) at_source catch_up_or (refuse_if-level n (not (list_any (is_of_primary (old_owner w)) p.scopes)) no_watcher (λ e. cc))
+    (cond-holds (LevelAt n) (eqb n catch_up) at_catch_up journal_or (λ t e. inr (eqb-true n 3 t))
+    (λ f'. cond-either (LevelAt n) (eqb n write_journal) at_journal target_or (refuse_if-level n (leb most_journal_entries p.journal) full (λ e. cc))
+    (cond-either (LevelAt n) (eqb n refresh_target) at_target None (refuse_if-level n (not (list_any (is_of_primary (new_owner w)) p.scopes)) no_watcher (λ e. cc)) (λ e. absurd cc)))))
+
+step-level : (p : Plain) (workflow : List ℕ) (at : ℕ) (way : Way) → HasWay p workflow way → LevelAt (next_step way) (refusal_of p (step workflow at))
+step-level p workflow at way has = subst (λ o. LevelAt (next_step way) (in_workflow o (step_refusal p at))) (sym has.found) (by has.live has.way_is)
+  where
+    refused_on_way : Live → Option Refusal
+    refused_on_way w = or_else (refuse_if way.undoing undoing) (or_else (refuse_if (not (eqb at way.done)) (stale way.done)) (own_refusal p w way (next_step way)))
+
+    by : (w : Live) → w.way ≡ Some way → LevelAt (next_step way) (step_refusal p at w)
+    by w is = subst (λ o. LevelAt (next_step way) (option_map_or (λ v. or_else (refuse_if v.undoing undoing) (or_else (refuse_if (not (eqb at v.done)) (stale v.done)) (own_refusal p w v (next_step v)))) o (Some nothing_under_way))) (sym is)
+        (or_else-level (next_step way) (refuse_if way.undoing undoing) _ (refuse_if-level (next_step way) way.undoing undoing (λ e. cc))
+        (or_else-level (next_step way) (refuse_if (not (eqb at way.done)) (stale way.done)) (own_refusal p w way (next_step way)) (refuse_if-level (next_step way) (not (eqb at way.done)) (stale way.done) (λ e. cc))
+        (own_refusal-level p w way (next_step way))))
+
+tries_again-fits : (turns tries : ℕ) (p : Plain) (workflow : List ℕ) (goes : Goes (suc turns) tries p workflow) → (next_step goes.way ≡ 0) ⊎ (next_step goes.way ≡ 3) → FitsHeard turns p (tries_again p workflow tries)
+tries_again-fits turns zero p workflow goes at = fails-fits turns zero p workflow not_level goes
+tries_again-fits turns (suc zero) p workflow goes at = fails-fits turns (suc zero) p workflow not_level goes
+tries_again-fits turns (suc (suc left)) p workflow goes at =
+    let (t, is, enough) = enough-again turns left (next_step goes.way) at goes.enough in
+    (t, is, record { way = goes.way; is = goes.is; left = goes.left; tried = omega arith; enough = enough })
+
+refused_step-fits : (turns tries : ℕ) (p : Plain) (workflow : List ℕ) (refusal : Refusal) → Goes (suc turns) tries p workflow → Refuses p (step workflow (steps_done p workflow)) refusal → FitsHeard turns p (refused_step p workflow tries refusal)
+refused_step-fits turns tries p workflow not_level goes a =
+    tries_again-fits turns tries p workflow goes (step-level p workflow (steps_done p workflow) goes.way (has_way p workflow goes.way goes.is) a)
+refused_step-fits turns tries p workflow other goes a = fails-fits turns tries p workflow other goes
+
+stepped-fits : (turns tries : ℕ) (p : Plain) (workflow : List ℕ) → Goes (suc turns) tries p workflow → FitsHeard turns (with_step p workflow) (unless_closed (way_of (with_step p workflow) workflow) (codes "ok") (steps workflow most_tries))
+stepped-fits turns tries p workflow goes = by (eqb (suc (next_step way)) (behind_last way)) refl
+  where
+    way : Way
+    way = goes.way
+
+    q : Plain
+    q = with_step p workflow
+
+    is : way_of q workflow ≡ cond (eqb (suc (next_step way)) (behind_last way)) None (Some (record way { done = suc way.done }))
+    is = way_of-step p workflow way (has_way p workflow way goes.is)
+
+    by : (t : Bool) → eqb (suc (next_step way)) (behind_last way) ≡ t → FitsHeard turns q (unless_closed (way_of q workflow) (codes "ok") (steps workflow most_tries))
+    by true t = subst (λ o. FitsHeard turns q (unless_closed o (codes "ok") (steps workflow most_tries))) (sym (is ∙ ap (λ b. cond b None (Some (record way { done = suc way.done }))) t)) (record { all = refl })
+    by false t =
+        let next : way_of q workflow ≡ Some (record way { done = suc way.done }) = is ∙ ap (λ b. cond b None (Some (record way { done = suc way.done }))) t in
+        let more : suc (next_step way) ≢ behind_last way = λ e. true≢false (sym (eq-eqb (suc (next_step way)) (behind_last way) e) ∙ t) in
+        let goes_next : Goes turns most_tries q workflow = record {
+          way = record way { done = suc way.done };
+          is = next;
+          left = omega (arith, more, goes.left);
+          tried = omega arith;
+          enough = enough-step turns tries (next_step way) (next_step (record way { done = suc way.done })) goes.tried (omega arith) goes.enough;
+        } in
+        subst (λ o. FitsHeard turns q (unless_closed o (codes "ok") (steps workflow most_tries))) (sym next) goes_next
+
+-- ---- an undo
+
+-- it isn't refused, as long as the journal does not stand done
+undo-is_taken : (p : Plain) (workflow : List ℕ) (way : Way) → HasWay p workflow way → stands_done way write_journal ≡ false → refusal_of p (undo workflow (steps_done p workflow)) ≡ None
+undo-is_taken p workflow way has none =
+    ap (λ o. in_workflow o (undo_refusal (steps_done p workflow))) has.found
+    ∙ ap (λ o. option_map_or (λ v. or_else (refuse_if (stands_done v write_journal) past_journal) (refuse_if (not (eqb (steps_done p workflow) v.done)) (stale v.done))) o (Some nothing_under_way)) has.way_is
+    ∙ ap (λ b. or_else (refuse_if b past_journal) (refuse_if (not (eqb (steps_done p workflow) way.done)) (stale way.done))) none
+    ∙ ap (λ b. refuse_if (not b) (stale way.done)) (eq-eqb (steps_done p workflow) way.done (ap (λ o. option_map_or (λ v. v.done) o 0) is))
+  where
+    is : way_of p workflow ≡ Some way
+    is = ap (λ o. option_and_then (λ w. w.way) o) has.found ∙ has.way_is
+
+undo-not_refused : (p : Plain) (workflow : List ℕ) (at : ℕ) (refusal : Refusal) → refusal_of p (undo workflow at) ≡ None → ¬ (Refuses p (undo workflow at) refusal)
+undo-not_refused p workflow at memory none a = true≢false (sym a.1)
+undo-not_refused p workflow at (watcher_refused index) none a = true≢false (sym a.1)
+undo-not_refused p workflow at other none a = absurd (let h = sym none ∙ a in cc)
+
+undone-fits : (turns : ℕ) (p : Plain) (workflow : List ℕ) (refusal : Refusal) → Undoes (suc turns) p workflow → FitsHeard turns (with_undo p workflow) (unless_closed (way_of (with_undo p workflow) workflow) (codes "abandoned " ++ refusal_text refusal) (gives_up workflow refusal))
+undone-fits turns p workflow refusal undoes = by (eqb (way.done - 1) 0) refl
+  where
+    way : Way
+    way = undoes.way
+
+    q : Plain
+    q = with_undo p workflow
+
+    text : List ℕ
+    text = codes "abandoned " ++ refusal_text refusal
+
+    is : way_of q workflow ≡ cond (eqb (way.done - 1) 0) None (Some (record way { done = way.done - 1; undoing = true }))
+    is = way_of-undo p workflow way (has_way p workflow way undoes.is)
+
+    by : (t : Bool) → eqb (way.done - 1) 0 ≡ t → FitsHeard turns q (unless_closed (way_of q workflow) text (gives_up workflow refusal))
+    by true t =
+        subst (λ o. FitsHeard turns q (unless_closed o text (gives_up workflow refusal))) (sym (is ∙ ap (λ b. cond b None (Some (record way { done = way.done - 1; undoing = true }))) t))
+        (no_feed-append (codes "abandoned ") (refusal_text refusal) (record { all = refl }) (refusal-no_feed refusal))
+    by false t =
+        let next : way_of q workflow ≡ Some (record way { done = way.done - 1; undoing = true }) = is ∙ ap (λ b. cond b None (Some (record way { done = way.done - 1; undoing = true }))) t in
+        let more : way.done - 1 ≢ 0 = λ e. true≢false (sym (eq-eqb (way.done - 1) 0 e) ∙ t) in
+        let few : next_step way ≤ 6 = few_done way undoes.no_journal in
+        let undoes_next : Undoes turns q workflow = record {
+          way = record way { done = way.done - 1; undoing = true };
+          is = next;
+          no_journal = few_undone (record way { done = way.done - 1; undoing = true }) (omega (arith, few));
+          enough = omega (arith, undoes.enough, more);
+          some = omega (arith, undoes.enough, more);
+        } in
+        subst (λ o. FitsHeard turns q (unless_closed o text (gives_up workflow refusal))) (sym next) undoes_next
+
+-- ---- the beginning
+
+begun-fits : (turns : ℕ) (p : Plain) (workflow : List ℕ) (backward : Bool) (change : TypeSet → TypeSet) (w : Live) → 300 ≤ turns → live_at p workflow ≡ Some w → (way : Way) → (with_way_to backward change w).way ≡ Some way → way.done ≡ 0 → next_step way < behind_last way → (q : Plain) → way_of q workflow ≡ (with_way_to backward change w).way → Goes turns most_tries q workflow
+begun-fits turns p workflow backward change w many found way is none left q next = record {
+  way = way;
+  is = next ∙ is;
+  left = left;
+  tried = omega arith;
+  enough = subst (λ n. Enough turns most_tries (first_step way + n)) (sym none) (enough-begun (changes_reads way) turns many);
+}
+
+-- a test that does not refuse
+refuse_if-taken : (test : Bool) (refusal : Refusal) (next : Option Refusal) → or_else (refuse_if test refusal) next ≡ None → (test ≡ false) × (next ≡ None)
+refuse_if-taken true refusal next e = absurd cc
+refuse_if-taken false refusal next e = (refl, e)
+
+not_false : (test : Bool) → not test ≡ false → test ≡ true
+not_false true e = refl
+not_false false e = sym e
+
+-- a live workflow that does not refuse
+pub record Takes (p : Plain) (workflow : List ℕ) (refusal : Live → Option Refusal) : Type 0 where
+  pub live : Live
+  pub found : live_at p workflow ≡ Some live
+  pub none : refusal live ≡ None
+
+takes : (p : Plain) (workflow : List ℕ) (refusal : Live → Option Refusal) → in_workflow (live_at p workflow) refusal ≡ None → Takes p workflow refusal
+takes p workflow refusal is = by (live_at p workflow) refl
+  where
+    by : (o : Option Live) → live_at p workflow ≡ o → Takes p workflow refusal
+    by None e = absurd (let h = rw e at is in cc)
+    by (Some w) e = record { live = w; found = e; none = rw e at is }
+
+begun_switch-fits : (turns : ℕ) (p : Plain) (workflow : List ℕ) (types : TypeSet) → 300 ≤ turns → refusal_of p (begin_switch workflow types) ≡ None → Goes turns most_tries (next p (begin_switch workflow types) done) workflow
+begun_switch-fits turns p workflow types many none =
+    let t = takes p workflow (begin_switch_refusal p types) none in
+    let w = t.live in
+    let at_rest_is = refuse_if-taken (is_some w.way) under_way _ t.none in
+    let more_is = refuse_if-taken (not (has_more types w.switched)) nothing_to_switch _ at_rest_is.1 in
+    let more : has_more types w.switched ≡ true = not_false (has_more types w.switched) more_is.0 in
+    let change = types_and_with types in
+    let way : Way = record { back = false; before = w.switched; after = types_and w.switched types; done = 0; undoing = false } in
+    begun-fits turns p workflow false change w many t.found way refl refl
+    (has_steps (changed_types way).primary (changed_types way).replica (changed_types way).rdonly (forward_has_steps w.switched types more))
+    (next p (begin_switch workflow types) done) (way_of-begun p workflow false change w t.found)
+  where
+    types_and_with : TypeSet → TypeSet → TypeSet
+    types_and_with types switched = types_and switched types
+
+begun_reverse-fits : (turns : ℕ) (p : Plain) (workflow : List ℕ) (types : TypeSet) → 300 ≤ turns → refusal_of p (begin_reverse workflow types) ≡ None → Goes turns most_tries (next p (begin_reverse workflow types) done) workflow
+begun_reverse-fits turns p workflow types many none =
+    let t = takes p workflow (begin_reverse_refusal p types) none in
+    let w = t.live in
+    let at_rest_is = refuse_if-taken (is_some w.way) under_way _ t.none in
+    let more_is = refuse_if-taken (not (share_type types w.switched)) nothing_to_reverse _ at_rest_is.1 in
+    let more : share_type types w.switched ≡ true = not_false (share_type types w.switched) more_is.0 in
+    let change = types_without_those types in
+    let way : Way = record { back = true; before = w.switched; after = types_without w.switched types; done = 0; undoing = false } in
+    begun-fits turns p workflow true change w many t.found way refl refl
+    (has_steps (changed_types way).primary (changed_types way).replica (changed_types way).rdonly (backward_has_steps w.switched types more))
+    (next p (begin_reverse workflow types) done) (way_of-begun p workflow true change w t.found)
+  where
+    types_without_those : TypeSet → TypeSet → TypeSet
+    types_without_those types switched = types_without switched types
+
+-- ---- each event of a drive
+
+begins-fits : (turns : ℕ) (p : Plain) (workflow : List ℕ) (types : TypeSet) (backward : Bool) (answer : Answer) → 300 ≤ turns → Answers p (event_of p (begins workflow types backward)) answer → FitsHeard turns (next p (event_of p (begins workflow types backward)) answer) (heard (next p (event_of p (begins workflow types backward)) answer) (begins workflow types backward) answer)
+begins-fits turns p workflow types backward (refused refusal) many a = no_feed-append (codes "refused ") (refusal_text refusal) (record { all = refl }) (refusal-no_feed refusal)
+begins-fits turns p workflow types true done many a = begun_reverse-fits turns p workflow types many a.0
+begins-fits turns p workflow types false done many a = begun_switch-fits turns p workflow types many a.0
+begins-fits turns p workflow types true (row r) many a = absurd (let h = a.1 in cc)
+begins-fits turns p workflow types false (row r) many a = absurd (let h = a.1 in cc)
+begins-fits turns p workflow types true (advanced events rows) many (none, inl is) = absurd cc
+begins-fits turns p workflow types true (advanced events rows) many (none, inr cut) = absurd cut
+begins-fits turns p workflow types false (advanced events rows) many (none, inl is) = absurd cc
+begins-fits turns p workflow types false (advanced events rows) many (none, inr cut) = absurd cut
+begins-fits turns p workflow types true (shown s) many a = absurd (let h = a.1 in cc)
+begins-fits turns p workflow types false (shown s) many a = absurd (let h = a.1 in cc)
+
+steps-fits : (turns : ℕ) (p : Plain) (workflow : List ℕ) (tries : ℕ) (answer : Answer) → Goes (suc turns) tries p workflow → Answers p (event_of p (steps workflow tries)) answer → FitsHeard turns (next p (event_of p (steps workflow tries)) answer) (heard (next p (event_of p (steps workflow tries)) answer) (steps workflow tries) answer)
+steps-fits turns p workflow tries (refused refusal) goes a = refused_step-fits turns tries p workflow refusal goes a
+steps-fits turns p workflow tries done goes a = stepped-fits turns tries p workflow goes
+steps-fits turns p workflow tries (row r) goes a = absurd (let h = a.1 in cc)
+steps-fits turns p workflow tries (advanced events rows) goes (none, inl is) = absurd cc
+steps-fits turns p workflow tries (advanced events rows) goes (none, inr cut) = absurd cut
+steps-fits turns p workflow tries (shown s) goes a = absurd (let h = a.1 in cc)
+
+feeds-fits : (turns : ℕ) (p : Plain) (workflow : List ℕ) (tries : ℕ) (answer : Answer) → Goes turns tries p workflow → Answers p (event_of p (feeds workflow tries)) answer → FitsHeard turns (next p (event_of p (feeds workflow tries)) answer) (heard (next p (event_of p (feeds workflow tries)) answer) (feeds workflow tries) answer)
+feeds-fits turns p workflow tries (refused refusal) goes a =
+    fails-fits turns tries p workflow refusal (record { way = goes.way; is = goes.is; left = goes.left; tried = goes.tried; enough = enough-fewer turns tries (next_step goes.way) goes.enough })
+feeds-fits turns p workflow tries done goes a = goes
+feeds-fits turns p workflow tries (row r) goes a = goes
+feeds-fits turns p workflow tries (shown s) goes a = goes
+feeds-fits turns p workflow tries (advanced events rows) goes a =
+    let name = feeding_stream p workflow in
+    let same = way_of-advance p workflow name (position_of p workflow name) most_at_once events rows (live_at p workflow) in
+    record { way = goes.way; is = same ∙ goes.is; left = goes.left; tried = goes.tried; enough = goes.enough }
+
+gives_up-fits : (turns : ℕ) (p : Plain) (workflow : List ℕ) (refusal : Refusal) (answer : Answer) → Undoes (suc turns) p workflow → Answers p (event_of p (gives_up workflow refusal)) answer → FitsHeard turns (next p (event_of p (gives_up workflow refusal)) answer) (heard (next p (event_of p (gives_up workflow refusal)) answer) (gives_up workflow refusal) answer)
+gives_up-fits turns p workflow refusal (refused other) undoes a =
+    absurd (undo-not_refused p workflow (steps_done p workflow) other (undo-is_taken p workflow undoes.way (has_way p workflow undoes.way undoes.is) undoes.no_journal) a)
+gives_up-fits turns p workflow refusal done undoes a = undone-fits turns p workflow refusal undoes
+gives_up-fits turns p workflow refusal (row r) undoes a = absurd (let h = a.1 in cc)
+gives_up-fits turns p workflow refusal (advanced events rows) undoes (none, inl is) = absurd cc
+gives_up-fits turns p workflow refusal (advanced events rows) undoes (none, inr cut) = absurd cut
+gives_up-fits turns p workflow refusal (shown s) undoes a = absurd (let h = a.1 in cc)
+
+heard-fits : (turns : ℕ) (p : Plain) (d : Driving) (answer : Answer) → Fits (suc turns) p d → Answers p (event_of p d) answer → FitsHeard turns (next p (event_of p d) answer) (heard (next p (event_of p d) answer) d answer)
+heard-fits turns p (begins workflow types backward) answer fits a = begins-fits turns p workflow types backward answer (omega (arith, fits)) a
+heard-fits turns p (steps workflow tries) answer fits a = steps-fits turns p workflow tries answer fits a
+heard-fits turns p (feeds workflow tries) answer (t, is, goes) a = feeds-fits turns p workflow tries answer (subst (λ n. Goes n tries p workflow) (omega (arith, is)) goes) a
+heard-fits turns p (gives_up workflow refusal) answer fits a = gives_up-fits turns p workflow refusal answer fits a
+
+-- turns are left, as long as a drive goes on
+fits-turns : (p : Plain) (d : Driving) → ¬ (Fits 0 p d)
+fits-turns p (begins workflow types backward) fits = absurd (omega arith)
+fits-turns p (steps workflow tries) fits =
+    let some = enough-some 0 tries (next_step fits.way) (omega (arith, fits.left, few_steps fits.way)) fits.enough in absurd (omega (arith, some))
+fits-turns p (feeds workflow tries) (t, is, goes) = absurd (omega (arith, is))
+fits-turns p (gives_up workflow refusal) fits = absurd (omega (arith, fits.some))
+
+-- ---- the end
+
+-- one text in a line of its own, and then the rest, from a state that keeps what each event keeps
+pub record Ends (Keeps : Plain → Type 0) (Then : Rest) (out : List ℕ) : Type 0 where
+  pub left : Plain
+  pub text : List ℕ
+  pub rest : List ℕ
+  pub keeps : Keeps left
+  pub one_line : NoFeed text
+  pub is : out ≡ text ++ line_feed ++ rest
+  pub goes_on : Then left rest
+
+module _ (Keeps : Plain → Type 0) (kept : (p : Plain) (d : Driving) (answer : Answer) → Keeps p → Keeps (next p (event_of p d) answer)) (Then : Rest) where
+  pub drive_ends : (turns : ℕ) (p : Plain) (d : Driving) (out : List ℕ) → Fits turns p d → Keeps p → Drives Answers turns Then d p out → Ends Keeps Then out
+  drive_ends zero p d out fits keeps drove = absurd (fits-turns p d fits)
+  drive_ends (suc turns) p d out fits keeps drove =
+      by (drive_ends turns) (heard q d drove.0) (heard-fits turns p d drove.0 fits drove.1) drove.2
+    where
+      q : Plain
+      q = next p (event_of p d) drove.0
+
+      by : ((r : Plain) (e : Driving) (o : List ℕ) → Fits turns r e → Keeps r → Drives Answers turns Then e r o → Ends Keeps Then o) → (h : Heard) → FitsHeard turns q h → GoesOn (Drives Answers turns Then) q h Then out → Ends Keeps Then out
+      by again (goes_on e) fits' goes = again q e out fits' (kept p d drove.0 keeps) goes
+      by again (ends text) none said = record { left = q; text = text; rest = said.0; keeps = kept p d drove.0 keeps; one_line = none; is = said.1; goes_on = said.2 }
