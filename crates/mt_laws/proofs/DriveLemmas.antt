@@ -16,7 +16,7 @@ use Rattle.mt_plain.specs.Refuse.{begin_reverse_refusal, begin_switch_refusal, h
 use Rattle.mt_laws.proofs.DocumentLemmas.{refusal-no_feed}
 use Rattle.mt_laws.proofs.ListLemmas.{cond-either, cond-holds}
 use Rattle.mt_laws.proofs.TextLemmas.{NoFeed, no_feed-append, no_feed-number}
-use Rattle.mt_laws.proofs.WayLemmas.{HasWay, backward_has_steps, few_done, few_undone, forward_has_steps, has_steps, has_way, way_of-advance, way_of-begun, way_of-step, way_of-undo}
+use Rattle.mt_laws.proofs.StepCountLemmas.{HasWay, backward_has_steps, few_done, few_undone, forward_has_steps, has_steps, has_way, way_of-advance, way_of-begun, way_of-step, way_of-undo}
 
 -- ---- how many turns are enough
 

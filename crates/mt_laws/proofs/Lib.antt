@@ -8,7 +8,7 @@ pub mod ListLemmas
 pub mod NumberLemmas
 pub mod OutputLemmas
 pub mod RunLemmas
+pub mod StepCountLemmas
 pub mod TableLemmas
 pub mod TextLemmas
-pub mod WayLemmas
 pub mod WordLemmas
