@@ -1,6 +1,6 @@
 -- How much was read where a read fails.
 use native.Mathlib.Omega.{arith}
-use Rattle.std.proofs.Common.{◌≡◌, ℕ, ◌+◌, ◌≤◌, List, [], ◌++◌, length, append-nil, subst, sym}
+use Rattle.std.proofs.Common.{ℕ, ◌+◌, ◌≤◌, List, ◌++◌, length, append-nil}
 use Rattle.std.proofs.lemmas.List.{length-append}
 use Rattle.mt_plain.specs.Output.{MAX_SCRIPT_LENGTH}
 use Rattle.mt_program.specs.declared.fault.ScriptFault.{ScriptFault}

@@ -7,6 +7,7 @@ use Rattle.std.specs.Io.KnownBytes.{Appends}
 use Rattle.std.specs.Str.Lines.{lines}
 use Rattle.mt_model.specs.declared.answers.Refusal as code
 use Rattle.mt_model.specs.declared.answers.Reply.{Reply}
+use Rattle.mt_model.specs.declared.entries.Scope.{Scope}
 use Rattle.mt_plain.specs.Events.{Event, answer_from}
 use Rattle.mt_plain.specs.Answers.{Answers}
 use Rattle.mt_plain.specs.Next.{next}
@@ -134,14 +135,15 @@ ends p script rest core held held' held'' waiting waiting' (Err f) (q, stands, (
 
 -- ---- the whole run
 
-pub runs_read : (left left' held : Known) (script : List ℕ) (f : ScriptFault) → Reads left left' script (Err f) → Runs left left' held held (Err f)
-runs_read left left' held script fault.Memory (input, consumed, most) =
-    (input, [], consumed, most, Appends-nil held, (plain.output_by reading_so_far [] input, plain.output_by reading_so_far [] input, has_output (opening []) (lines input), refl))
-runs_read left left' held script fault.Read (input, consumed, most) = (input, [], consumed, most, Appends-nil held, refl)
-runs_read left left' held script fault.Write (input, consumed, impossible) = absurd impossible
-runs_read left left' held script fault.TooLong (input, consumed, long) = (input, [], consumed, long, Appends-nil held, (long.0, refl))
+pub runs_read : (scopes : List Scope) (left left' held : Known) (script : List ℕ) (f : ScriptFault) → Reads left left' script (Err f) → Runs scopes left left' held held (Err f)
+runs_read scopes left left' held script fault.Memory (input, consumed, most) =
+    (input, [], consumed, most, Appends-nil held, (plain.output_by reading_so_far scopes input, plain.output_by reading_so_far scopes input, has_output (opening scopes) (lines input), refl))
+runs_read scopes left left' held script fault.Read (input, consumed, most) = (input, [], consumed, most, Appends-nil held, refl)
+runs_read scopes left left' held script fault.Write (input, consumed, impossible) = absurd impossible
+runs_read scopes left left' held script fault.TooLong (input, consumed, long) = (input, [], consumed, long, Appends-nil held, (long.0, refl))
 
-pub runs_lines : (left left' held held' : Known) (script : List ℕ) (result : Result Unit ScriptFault) → Reads left left' script (Ok tt) → RunsLines (opening []) script held held' result → Runs left left' held held' result
-runs_lines left left' held held' script (Ok done) read (written, went, is) = (script, written, read.0, (read.1, read.2), went, is)
-runs_lines left left' held held' script (Err f) read (is_write, (out, rest, is, (written, went, all))) =
+pub runs_lines : (scopes : List Scope) (left left' held held' : Known) (script : List ℕ) (result : Result Unit ScriptFault) → Reads left left' script (Ok tt)
+    → RunsLines (opening scopes) script held held' result → Runs scopes left left' held held' result
+runs_lines scopes left left' held held' script (Ok done) read (written, went, is) = (script, written, read.0, (read.1, read.2), went, is)
+runs_lines scopes left left' held held' script (Err f) read (is_write, (out, rest, is, (written, went, all))) =
     rw is_write (script, written, read.0, (read.1, read.2), went, (out, rest, is, sym all))

@@ -1,5 +1,5 @@
 -- A command leads from a plain state that the core stands for to the next one.
-use Rattle.std.proofs.Common.{◌≤◌, [], ◌≡◌, ◌≢◌, ℕ, Bool, true, false, List, length, Option, None, Some, Result, Ok, Err, refl, sym, ap, ◌∙◌, subst, ⊎_elim, is_some}
+use Rattle.std.proofs.Common.{◌≤◌, ◌≡◌, ◌≢◌, ℕ, Bool, true, false, List, length, Option, None, Some, Result, Ok, Err, refl, sym, ap, ◌∙◌, subst, ⊎_elim, is_some}
 use Rattle.std.proofs.lemmas.Bool.{true≢false}
 use Rattle.std.specs.Option.{option_map, option_map_or}
 use Rattle.std.specs.Result.{OnErr}
@@ -10,6 +10,7 @@ use Rattle.mt_model.specs.declared.answers.Refusal.TheVariants as refusal
 use Rattle.mt_model.specs.declared.answers.Reply.{Reply}
 use Rattle.mt_model.specs.declared.answers.Reply.TheVariants as reply
 use Rattle.mt_model.specs.declared.faults.TopologyFault.{TopologyFault}
+use Rattle.mt_model.specs.declared.entries.Scope.{Scope}
 use Rattle.mt_model.specs.Limits.{most_rules}
 use Rattle.mt_model.specs.Topology.{TopologyState, keyspace_at, with_keyspace, with_rule, with_table}
 use Rattle.mt_topology.specs.Edits.{add_keyspace_refusal, add_table_refusal, edit_rule_grows, edit_rule_refusal}
@@ -94,8 +95,8 @@ does_keeps P old new fault grows Makes (Err r) was made is = subst P (sym (does_
 
 -- ---- the opening
 
-pub opening_stands : Stands (opening []) empty_core
-opening_stands = record { lives = refl; topology = refl; rows = λ keyspace table key. refl; log = λ keyspace. refl; denials = λ keyspace table. refl; numbers = opening_has_numbers [] }
+pub opening_stands : (scopes : List Scope) → Stands (opening scopes) empty_core
+opening_stands scopes = record { lives = refl; topology = refl; rows = λ keyspace table key. refl; log = λ keyspace. refl; denials = λ keyspace table. refl; numbers = opening_has_numbers scopes }
 
 -- ---- a keyspace more
 

@@ -16,7 +16,6 @@ use Rattle.mt_names.proofs.SameLemmas.{same_text_decides}
 use Rattle.mt_model.specs.declared.answers.Refusal as code
 use Rattle.mt_model.specs.declared.answers.Refusal.TheVariants as refusal
 use Rattle.mt_model.specs.declared.answers.Reply.{Reply}
-use Rattle.mt_model.specs.declared.answers.Reply.TheVariants as reply
 use Rattle.mt_model.specs.declared.faults.PrimaryFault.{PrimaryFault}
 use Rattle.mt_model.specs.declared.faults.PrimaryFault.TheVariants as primary
 use Rattle.mt_model.specs.declared.rows.Op.{Op}
@@ -26,7 +25,7 @@ use Rattle.mt_model.specs.Limits.{longest_log, longest_value}
 use Rattle.mt_model.specs.Rows.{Row, op_key, op_row}
 use Rattle.mt_model.specs.Topology.{TopologyState, is_present, keyspace_at}
 use Rattle.mt_primary.specs.Primary.{PrimaryState, TableState, has_table, is_denied_at, row_at, table_at}
-use Rattle.mt_primary.specs.Reads.{read_row, refuses_type}
+use Rattle.mt_primary.specs.Reads.{refuses_type}
 use Rattle.mt_primary.specs.Writes.{IsWritten, Writes, unless_full, written_row}
 use Rattle.mt_plain.specs.Events.{Refusal, read, write, done, full, no_table, row, refusal_from, answer_from}
 use Rattle.mt_plain.specs.Answers.{Answers}

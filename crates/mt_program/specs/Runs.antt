@@ -2,6 +2,7 @@
 use Rattle.std.specs.Prelude.{◌≡◌, ℕ, ◌+◌, ◌≤◌, ◌<◌, List, [], ◌++◌, length, take, codes, Option, None, Some, Result, Ok, Err}
 use Rattle.std.specs.Str.Lines.{lines}
 use Rattle.std.specs.Io.KnownBytes.{Appends, Consumes, IsAtEnd, Keeps}
+use Rattle.mt_model.specs.declared.entries.Scope.{Scope}
 use Rattle.mt_plain.specs.Events.{Answer}
 use Rattle.mt_plain.specs.Answers.{Answers}
 use Rattle.mt_plain.specs.Next.{next}
@@ -115,10 +116,10 @@ abbrev pub HasRun : Known → ScriptFault → List ℕ → Type 0
 HasRun left' fault.Write input = IsWhole left' input
 HasRun left' f input = HasRead f input
 
--- the bytes read are a script, and those written are an output of it and nothing else; a fault leaves written what
--- the definitions say of it
-abbrev pub Runs : (left left' held held' : Known) → Result Unit ScriptFault → Type 0
-Runs left left' held held' (Ok done) =
-    (input : List ℕ) × (written : List ℕ) × Consumes left left' input × IsWhole left' input × Appends held held' written × IsOutputBy reading_so_far [] input written
-Runs left left' held held' (Err f) =
-    (input : List ℕ) × (written : List ℕ) × Consumes left left' input × HasRun left' f input × Appends held held' written × Leaves reading_so_far [] (fault_of f) input written
+-- the bytes read are a script, and those written are an output of it, with watchers of these scopes, and nothing else; a
+-- fault leaves written what the definitions say of it
+abbrev pub Runs : List Scope → (left left' held held' : Known) → Result Unit ScriptFault → Type 0
+Runs scopes left left' held held' (Ok done) =
+    (input : List ℕ) × (written : List ℕ) × Consumes left left' input × IsWhole left' input × Appends held held' written × IsOutputBy reading_so_far scopes input written
+Runs scopes left left' held held' (Err f) =
+    (input : List ℕ) × (written : List ℕ) × Consumes left left' input × HasRun left' f input × Appends held held' written × Leaves reading_so_far scopes (fault_of f) input written

@@ -1,6 +1,7 @@
 //! The core: the topology, and a primary for each of its keyspaces.
-ghost use Rattle.std.specs.Prelude.{◌≡◌, [], OnErr, OnOk, Some, Ok};
+ghost use Rattle.std.specs.Prelude.{◌≡◌, List, OnErr, OnOk, Some, Ok};
 ghost use Rattle.mt_names.specs.declared.types.TabletType.{TabletType};
+ghost use Rattle.mt_model.specs.declared.entries.Scope.{Scope};
 ghost use Rattle.mt_model.specs.Topology.{resolution};
 ghost use Rattle.mt_plain.specs.Events.{add_keyspace, add_table, edit_rule, read, write};
 ghost use Rattle.mt_plain.specs.Plain.{Plain, opening};
@@ -37,7 +38,7 @@ impl Model for Core {
 impl Core {
     /// A core without keyspaces.
     pub fn new(alloc: Global) -> Self
-        ensures { Stands (opening []) result }
+        ensures { (scopes : List Scope) → Stands (opening scopes) result }
     {
         Core {
             alloc,

@@ -1,5 +1,8 @@
 //! The program `mt`: it runs scripts that make keyspaces, tables and routing rules, and write and read rows through them.
 #![tactic(auto)]
+ghost use Rattle.std.specs.Prelude.{◌≡◌, IfOk};
+ghost use Rattle.mt_watch.specs.Notices.{notice_of};
+ghost use Rattle.mt_model.specs.declared.entries.Scope.TheVariants.{Routes};
 
 mod commands;
 mod controller;
@@ -20,6 +23,7 @@ mod tests_refusals;
 
 use crate::fault::ScriptFault;
 use crate::script::run_script;
+use mt_watch::{Callback, Change, Notice, Scope, WatchFault, Watcher, Watchers};
 use std::io;
 use std::io::ErrorKind;
 use std::process::ExitCode;
@@ -42,11 +46,25 @@ fn is_run(rt: &HostRuntime) -> Result<bool, ScriptFault> {
     Ok(word.as_str() == "run" && words.next().is_none())
 }
 
-/// Runs the script of standard input.
+/// Runs the script of standard input, with a watcher for the routers, which tells itself what concerns them.
 fn run(rt: &HostRuntime) -> Result<(), ScriptFault> {
+    let alloc = rt.alloc();
+    let call: Callback = match Box::new(
+        alloc,
+        move |change: &Change| -> Result<Notice, WatchFault>
+            ensures { IfOk result (λ notice. notice ≡ notice_of Routes change.now) }
+        { Notice::of(alloc, &Scope::Routes, change).map_err(|_| WatchFault(0)) },
+    ) {
+        Ok(call) => call,
+        Err(_) => return Err(ScriptFault::Memory),
+    };
+    let mut watchers = Watchers::new(alloc);
+    if watchers.add(Watcher::new(Scope::Routes, call)).is_err() {
+        return Err(ScriptFault::Memory);
+    }
     let mut reader = rt.reader();
     let mut writer = io::writer(rt);
-    run_script(rt.alloc(), &mut reader, &mut writer)
+    run_script(alloc, &mut reader, &mut writer, &watchers)
 }
 
 fn main(rt: HostRuntime) -> io::Result<ExitCode> {

@@ -16,6 +16,7 @@ use mt_names::{RuleKey, TabletType};
 use mt_script::{
     Line, LineText, Request, answer_line, first_line, look_up_line, read_line, refusal_line,
 };
+use mt_watch::Asks;
 use std::alloc::Global;
 use std::io::{Read, Write};
 
@@ -103,13 +104,15 @@ fn run_lines<W: Write>(core: &mut Core, script: &[u8], writer: &mut W) -> Result
 
 /// Runs a script: reads it whole, in at most 2,097,152 reads, and then writes a line for each of its lines that isn't
 /// silent. It begins with a topology without keyspaces, and ends with the last line. An event that finds no memory is
-/// answered `refused F0 Memory`; a fault ends the run.
-pub fn run_script<R: Read, W: Write>(
+/// answered `refused F0 Memory`; a fault ends the run. The watchers are those that an event asks: no command that is read
+/// so far asks one.
+pub fn run_script<R: Read, W: Write, A: Asks>(
     alloc: Global,
     reader: &mut R,
     writer: &mut W,
+    _watchers: &A,
 ) -> Result<(), ScriptFault>
-    ensures { Runs (R.remaining reader.old) (R.remaining reader.new) (W.contents writer.old) (W.contents writer.new) result }
+    ensures { Runs (A.scopes _watchers.now) (R.remaining reader.old) (R.remaining reader.new) (W.contents writer.old) (W.contents writer.new) result }
 {
     let mut script = Vec::new(alloc);
     read_script(&mut script, reader)?;

@@ -2,6 +2,7 @@
 
 use crate::fault::ScriptFault;
 use crate::script::run_script;
+use mt_watch::Watchers;
 use std::alloc::Global;
 use std::io::Write;
 use std::test::Fail;
@@ -81,7 +82,7 @@ pub fn prints(alloc: Global, script: &[u8], want: &[u8]) -> bool {
 pub fn ends(alloc: Global, script: &[u8], end: Result<(), ScriptFault>, want: &[u8]) -> bool {
     let mut reader = script;
     let mut written = Vec::new(alloc);
-    let result = run_script(alloc, &mut reader, &mut written);
+    let result = run_script(alloc, &mut reader, &mut written, &Watchers::new(alloc));
     result == end && written.as_slice() == want
 }
 

@@ -2,6 +2,7 @@
 
 use crate::fault::ScriptFault;
 use crate::script::run_script;
+use mt_watch::Watchers;
 use crate::tests::Case;
 use std::alloc::Global;
 use std::io;
@@ -105,7 +106,7 @@ const OUTPUT: &[u8] = b"ok\nok\nok\nrow v\nnone\n";
 /// Whether a script read so ends so, and what was written is this.
 fn reads(alloc: Global, mut reader: Giver<'_>, end: Result<(), ScriptFault>, want: &[u8]) -> bool {
     let mut written = Vec::new(alloc);
-    let result = run_script(alloc, &mut reader, &mut written);
+    let result = run_script(alloc, &mut reader, &mut written, &Watchers::new(alloc));
     result == end && written.as_slice() == want
 }
 
@@ -184,7 +185,7 @@ fn writes(
     want: &[u8],
 ) -> bool {
     let mut reader = script;
-    let result = run_script(alloc, &mut reader, writer);
+    let result = run_script(alloc, &mut reader, writer, &Watchers::new(alloc));
     result == end && writer.held.as_slice() == want
 }
 
