@@ -4,9 +4,14 @@ pub mod Drives
 pub mod Edges
 pub mod ExamplesOne
 pub mod ExamplesTwo
+pub mod FreeAnswers
+pub mod Growth
 pub mod Limits
 pub mod Lines
+pub mod Orders
+pub mod Publications
 pub mod Watched
+pub mod Ways
 pub mod WholeEight
 pub mod WholeFive
 pub mod WholeFour
