@@ -1,14 +1,15 @@
 -- What a workflow adds to what is counted, and what is taken at a limit beside one.
 use Rattle.std.specs.Prelude.{◌≡◌, ℕ, true, [], ◌∷◌, ◌++◌, map, replicate, codes, Option, Some}
 use Rattle.mt_names.specs.declared.keys.RuleTarget.{RuleTarget}
-use Rattle.mt_plain.specs.Events.{Event, add_table, edit_rule, create, cancel, done, refused, full, rule_owned}
+use Rattle.mt_names.specs.Types.{all_types}
+use Rattle.mt_plain.specs.Events.{Event, add_table, edit_rule, create, begin_switch, begin_reverse, step, undo, cancel, done, refused, full, rule_owned}
 use Rattle.mt_plain.specs.Next.{next}
 use Rattle.mt_plain.specs.Output.{output}
 use Rattle.mt_plain.specs.Plain.{Plain, in_keyspace}
 use Rattle.mt_rows.specs.Answers.{commerce, customer, corder}
 use Rattle.mt_rows.specs.Drives.{with_other_rules}
 use Rattle.mt_rows.specs.Limits.{names}
-use Rattle.mt_rows.specs.Workflows.{Gets, after_events, begun, made, mv, plain}
+use Rattle.mt_rows.specs.Workflows.{Gets, after_events, before_journal, begun, copied, made, mv, plain}
 
 -- the source has two tables, the target has so many
 abbrev pub with_target_tables : ℕ → Plain
@@ -72,3 +73,9 @@ a_value_of_64_bytes = output [] (codes "keyspace k\ntable k t\ninsert t 1 " ++ r
 
 abbrev pub a_value_of_65_bytes : Type 0
 a_value_of_65_bytes = output [] (codes "keyspace k\ntable k t\ninsert t 1 " ++ replicate 65 97) ≡ codes "ok\nok\nrefused X1 BadLine\n"
+
+abbrev pub a_way_takes_a_number_whether_it_ends_or_not : Type 0
+a_way_takes_a_number_whether_it_ends_or_not = Gets (after_events (record copied { ways = 0x7fff_ffff_ffff_fffe }) (begin_switch mv all_types ∷ undo mv 0 ∷ [])) (begin_switch mv all_types) (refused full)
+
+abbrev pub a_journal_entry_stays : Type 0
+a_journal_entry_stays = Gets (after_events (record before_journal { journal = 4095 }) (step mv 6 ∷ step mv 7 ∷ step mv 8 ∷ step mv 9 ∷ step mv 10 ∷ step mv 11 ∷ begin_reverse mv all_types ∷ step mv 0 ∷ step mv 1 ∷ step mv 2 ∷ step mv 3 ∷ step mv 4 ∷ step mv 5 ∷ [])) (step mv 6) (refused full)

@@ -1,7 +1,9 @@
 pub mod Answers
 pub mod Copies
+pub mod CopyOrder
 pub mod Drives
 pub mod Edges
+pub mod Ends
 pub mod ExamplesOne
 pub mod ExamplesTwo
 pub mod FreeAnswers

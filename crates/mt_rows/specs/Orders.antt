@@ -26,6 +26,13 @@ replica_key = record { keyspace = None; table = corder; tablet_type = Some Repli
 abbrev pub ruled_twice : Plain
 ruled_twice = after_events ruled (edit_rule replica_key (Some (in_keyspace customer corder)) ∷ [])
 
+-- rules that lead elsewhere: of the name at the source, and at the target
+abbrev pub source_key : RuleKey
+source_key = record { keyspace = Some commerce; table = corder; tablet_type = None }
+
+abbrev pub ruled_at_both : Plain
+ruled_at_both = after_events ruled (edit_rule source_key (Some (in_keyspace customer corder)) ∷ [])
+
 -- the target has a table, and a rule leads elsewhere
 abbrev pub full_and_ruled : Plain
 full_and_ruled = after_events ruled (add_table customer corder ∷ [])
@@ -137,3 +144,6 @@ under_way_before_not_all_switched = Gets opened (complete mv) (refused under_way
 
 abbrev pub no_workflow_before_all_else : Type 0
 no_workflow_before_all_else = Gets opened (complete (codes "m2")) (refused no_workflow)
+
+abbrev pub the_source_key_before_the_target_key : Type 0
+the_source_key_before_the_target_key = Gets ruled_at_both (made mv) (refused (rule_conflict source_key))

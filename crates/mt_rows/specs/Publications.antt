@@ -6,7 +6,8 @@ use Rattle.mt_model.specs.declared.entries.Entry.TheVariants as entry
 use Rattle.mt_model.specs.declared.entries.Scope.TheVariants as scope
 use Rattle.mt_plain.specs.Answers.{HistoryLine, History, IsLegal, Publication, IsPublication}
 use Rattle.mt_plain.specs.Events.{Event, read, add_keyspace, add_table, edit_rule, step, Answer, done, row, refused, no_table, exists}
-use Rattle.mt_plain.specs.Output.{watchers_of}
+use Rattle.mt_plain.specs.Output.{Leaves, read_fault, too_long, watchers_of}
+use Rattle.mt_plain.specs.Script.{read_line}
 use Rattle.mt_plain.specs.Plain.{Plain, in_keyspace, opening}
 use Rattle.mt_plain.specs.Serve.{IsWritable, notice_of}
 use Rattle.mt_rows.specs.Answers.{commerce, customer, corder}
@@ -91,3 +92,12 @@ no_view_is_of_another_front = ¬ (IsPublication start history (front 3 []))
 
 abbrev pub no_front_is_past_the_history : Type 0
 no_front_is_past_the_history = ¬ (IsPublication start history (front 6 (c_entry ∷ table_entry ∷ [])))
+
+abbrev pub a_read_that_fails_leaves_nothing : Type 0
+a_read_that_fails_leaves_nothing = Leaves read_line [] read_fault (codes "keyspace k\n") []
+
+abbrev pub a_read_that_fails_leaves_no_answer : Type 0
+a_read_that_fails_leaves_no_answer = ¬ (Leaves read_line [] read_fault (codes "keyspace k\n") (codes "ok\n"))
+
+abbrev pub a_script_of_a_line_is_not_too_long : Type 0
+a_script_of_a_line_is_not_too_long = ¬ (Leaves read_line [] too_long (codes "keyspace k\n") [])

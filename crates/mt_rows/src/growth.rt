@@ -1,5 +1,5 @@
 //! Limits beside a workflow.
-ghost use Rattle.mt_rows.specs.Growth.{two_tables_past_256_at_the_target, two_tables_up_to_256_at_the_target, one_table_up_to_256_at_the_target, a_table_that_is_moved_in_counts, no_table_counts_behind_cancel, a_new_rule_past_the_keys_of_a_part, a_rule_is_changed_beside_a_part_at_the_limit, rule_owned_before_the_limit, the_keys_of_a_part_count_no_more_behind_cancel, a_17th_table_of_a_list, sixteen_tables_of_a_list, a_limit_of_five_digits, a_value_of_64_bytes, a_value_of_65_bytes};
+ghost use Rattle.mt_rows.specs.Growth.{a_way_takes_a_number_whether_it_ends_or_not, a_journal_entry_stays, two_tables_past_256_at_the_target, two_tables_up_to_256_at_the_target, one_table_up_to_256_at_the_target, a_table_that_is_moved_in_counts, no_table_counts_behind_cancel, a_new_rule_past_the_keys_of_a_part, a_rule_is_changed_beside_a_part_at_the_limit, rule_owned_before_the_limit, the_keys_of_a_part_count_no_more_behind_cancel, a_17th_table_of_a_list, sixteen_tables_of_a_list, a_limit_of_five_digits, a_value_of_64_bytes, a_value_of_65_bytes};
 
 /// The tables and the rule keys of live workflows count to the limits as long as they are live.
 pub fn workflows_count_to_the_limits()
@@ -17,4 +17,6 @@ pub fn workflows_count_to_the_limits()
     ensures a_limit_of_five_digits { a_limit_of_five_digits }
     ensures a_value_of_64_bytes { a_value_of_64_bytes }
     ensures a_value_of_65_bytes { a_value_of_65_bytes }
+    ensures a_way_takes_a_number_whether_it_ends_or_not { a_way_takes_a_number_whether_it_ends_or_not }
+    ensures a_journal_entry_stays { a_journal_entry_stays }
 {}

@@ -3,8 +3,10 @@
 
 mod answers;
 mod copies;
+mod copy_order;
 mod drives;
 mod edges;
+mod ends;
 mod examples_one;
 mod examples_two;
 mod free_answers;
@@ -35,8 +37,10 @@ mod workflow_refusals_more;
 
 pub use answers::events_get_their_answers;
 pub use copies::copies_follow_what_is_read;
+pub use copy_order::rows_are_copied_in_their_order;
 pub use drives::drives_and_limits_of_workflows;
 pub use edges::what_no_other_row_tells;
+pub use ends::cancel_and_complete_leave_what_they_may;
 pub use examples_one::first_twenty_examples;
 pub use examples_two::last_twenty_examples;
 pub use free_answers::free_answers_stand_where_they_may;

@@ -1,0 +1,76 @@
+-- What Cancel and Complete leave, and the streams of a way back.
+use Rattle.std.specs.Prelude.{◌≡◌, ℕ, Bool, true, false, [], ◌∷◌, codes, Option, None, Some}
+use Rattle.mt_names.specs.declared.types.TabletType.TheVariants.{Primary, Replica}
+use Rattle.mt_names.specs.Types.{all_types, no_types}
+use Rattle.mt_model.specs.declared.entries.Entry.TheVariants as entry
+use Rattle.mt_model.specs.declared.entries.EntryKey.TheVariants as about
+use Rattle.mt_model.specs.declared.rows.Op.TheVariants.{Insert, Delete}
+use Rattle.mt_plain.specs.Events.{write, read, add_table, create, advance, begin_reverse, step, undo, cancel, complete, forward, back, Way, stopped, frozen, done, row, advanced, refused, no_table}
+use Rattle.mt_plain.specs.Plain.{Plain}
+use Rattle.mt_plain.specs.Serve.{served_entry}
+use Rattle.mt_rows.specs.Answers.{commerce, customer, corder, value}
+use Rattle.mt_rows.specs.Ways.{Shows, at_position}
+use Rattle.mt_rows.specs.Workflows.{Gets, after_events, at_target, copied, mv, switched}
+
+-- all is switched, and the workflow completed; and then the source gets a table of the same name
+abbrev pub completed : Plain
+completed = after_events switched (complete mv ∷ [])
+
+abbrev pub made_anew : Plain
+made_anew = after_events completed (add_table commerce corder ∷ [])
+
+-- a workflow is cancelled, and made again
+abbrev pub cancelled : Plain
+cancelled = after_events copied (cancel mv ∷ [])
+
+abbrev pub again : Plain
+again = after_events cancelled (write commerce corder (Insert 2 (value (codes "b"))) ∷ create mv commerce customer (corder ∷ []) ∷ [])
+
+-- a way back, up to the stream that it makes; and one step more taken back
+abbrev pub back_made : Plain
+back_made =
+    after_events switched (write customer corder (Insert 2 (value (codes "b"))) ∷ advance mv back 1 100 ∷ begin_reverse mv all_types ∷ step mv 0 ∷ step mv 1 ∷ step mv 2 ∷ step mv 3 ∷ step mv 4 ∷ step mv 5 ∷ [])
+
+abbrev pub back_undone : Plain
+back_undone = after_events back_made (undo mv 6 ∷ [])
+
+abbrev pub back_way : ℕ → Bool → Option Way
+back_way steps is_undone = Some (record { back = true; before = all_types; after = no_types; done = steps; undoing = is_undone })
+
+-- ---- rows
+
+abbrev pub a_table_made_anew_has_no_row : Type 0
+a_table_made_anew_has_no_row = Gets made_anew (read commerce corder 1 Primary) (row None)
+
+abbrev pub the_target_keeps_the_rows : Type 0
+the_target_keeps_the_rows = Gets made_anew (read customer corder 1 Primary) (row (Some (value (codes "a"))))
+
+abbrev pub the_target_is_writable_behind_complete : Type 0
+the_target_is_writable_behind_complete = Gets completed (write customer corder (Delete 1)) done
+
+abbrev pub the_source_has_no_table_behind_complete : Type 0
+the_source_has_no_table_behind_complete = Gets completed (read commerce corder 1 Primary) (refused no_table)
+
+abbrev pub no_rule_is_left_of_the_twelve : Type 0
+no_rule_is_left_of_the_twelve = served_entry completed (about.Rule (at_target corder)) ≡ entry.Rule (at_target corder) None
+
+abbrev pub a_completed_name_is_free : Type 0
+a_completed_name_is_free = Gets completed (create mv commerce customer (codes "other" ∷ [])) done
+
+abbrev pub a_cancelled_workflow_leaves_no_table : Type 0
+a_cancelled_workflow_leaves_no_table = Gets cancelled (read customer corder 1 Replica) (refused no_table)
+
+abbrev pub a_cancelled_workflow_leaves_no_denial : Type 0
+a_cancelled_workflow_leaves_no_denial = served_entry cancelled (about.Denied customer corder) ≡ entry.Denied customer corder false
+
+abbrev pub a_workflow_made_again_begins_at_the_end_of_the_log : Type 0
+a_workflow_made_again_begins_at_the_end_of_the_log = Gets again (advance mv forward 2 100) (advanced 0 2)
+
+abbrev pub a_workflow_made_again_has_copied_nothing : Type 0
+a_workflow_made_again_has_copied_nothing = Gets again (read customer corder 1 Replica) (row None)
+
+abbrev pub a_way_back_makes_a_stream_forward : Type 0
+a_way_back_makes_a_stream_forward = Shows back_made all_types (back_way 6 false) (at_position stopped 2) (Some (at_position stopped 2))
+
+abbrev pub its_undo_shows_the_frozen_one : Type 0
+its_undo_shows_the_frozen_one = Shows back_undone all_types (back_way 5 true) (at_position frozen 1) (Some (at_position stopped 2))
