@@ -3,13 +3,15 @@ use Rattle.std.specs.Prelude.{◌≡◌, ℕ, true, false, List, [], ◌∷◌, 
 use Rattle.mt_names.specs.declared.types.TabletType.TheVariants.{Primary}
 use Rattle.mt_model.specs.declared.entries.Entry.{Entry}
 use Rattle.mt_model.specs.declared.entries.Entry.TheVariants as entry
+use Rattle.mt_model.specs.declared.entries.EntryKey.TheVariants as about
 use Rattle.mt_model.specs.declared.entries.Scope.TheVariants as scope
+use Rattle.mt_model.specs.Topology.{value_of}
 use Rattle.mt_plain.specs.Answers.{HistoryLine, History, IsLegal, Publication, IsPublication}
 use Rattle.mt_plain.specs.Events.{Event, read, add_keyspace, add_table, edit_rule, step, Answer, done, row, refused, no_table, exists}
 use Rattle.mt_plain.specs.Output.{Leaves, read_fault, too_long, watchers_of}
 use Rattle.mt_plain.specs.Script.{read_line}
 use Rattle.mt_plain.specs.Plain.{Plain, in_keyspace, opening}
-use Rattle.mt_plain.specs.Serve.{IsWritable, notice_of}
+use Rattle.mt_plain.specs.Serve.{IsWritable, notice_of, served, served_entry}
 use Rattle.mt_rows.specs.Answers.{commerce, customer, corder}
 use Rattle.mt_rows.specs.Workflows.{after_events, live, mv, plain, stepped, switched}
 
@@ -101,3 +103,15 @@ a_read_that_fails_leaves_no_answer = ¬ (Leaves read_line [] read_fault (codes "
 
 abbrev pub a_script_of_a_line_is_not_too_long : Type 0
 a_script_of_a_line_is_not_too_long = ¬ (Leaves read_line [] too_long (codes "keyspace k\n") [])
+
+abbrev pub the_list_denies_what_the_entry_denies : Type 0
+the_list_denies_what_the_entry_denies = value_of (served live) (about.Denied customer corder) ≡ served_entry live (about.Denied customer corder)
+
+abbrev pub the_list_has_the_table_that_the_entry_has : Type 0
+the_list_has_the_table_that_the_entry_has = value_of (served live) (about.Present customer corder) ≡ entry.Present customer corder true
+
+abbrev pub the_list_leads_where_the_entry_leads : Type 0
+the_list_leads_where_the_entry_leads = value_of (served stepped) (about.Rule (plain corder)) ≡ entry.Rule (plain corder) (Some (in_keyspace commerce corder))
+
+abbrev pub the_list_allows_the_source_before_its_step : Type 0
+the_list_allows_the_source_before_its_step = value_of (served live) (about.Denied commerce corder) ≡ entry.Denied commerce corder false

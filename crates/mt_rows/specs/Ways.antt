@@ -188,3 +188,9 @@ a_change_before_the_copy_is_not_written_twice = Gets (after_events changed_and_s
 
 abbrev pub a_change_before_the_copy_is_fed : Type 0
 a_change_before_the_copy_is_fed = Gets (after_events changed_before_its_copy (begin_switch mv all_types ∷ [])) (step mv 0) done
+
+abbrev pub the_feeding_stream_runs_before_its_step : Type 0
+the_feeding_stream_runs_before_its_step = Shows (after_events refreshed (step mv 3 ∷ [])) no_types (way_with 4 false) (at_position running 1) None
+
+abbrev pub the_feeding_stream_stops_by_its_step : Type 0
+the_feeding_stream_stops_by_its_step = Shows (after_events refreshed (step mv 3 ∷ step mv 4 ∷ [])) no_types (way_with 5 false) (at_position stopped 1) None
