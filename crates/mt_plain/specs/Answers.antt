@@ -1,11 +1,11 @@
 -- The answers that an event may get, runs of events, histories and publications. All of this page is this profile's own, unless
 -- a comment names a page of Vitess's documentation.
-use Rattle.std.specs.Prelude.{◌≡◌, ◌⊎◌, ℕ, ◌≤◌, cond, flat_map, not, true, false, List, [], ◌∷◌, ◌++◌, length, map, take, is_some, Option, None, Some, ⊤}
+use Rattle.std.specs.Prelude.{◌≡◌, ◌⊎◌, ℕ, ◌≤◌, cond, flat_map, not, true, false, List, [], ◌∷◌, ◌++◌, length, map, take, is_some, Option, None, Some, unwrap_or, ⊤}
 use Rattle.std.specs.Option.{option_map_or}
 use Rattle.mt_model.specs.declared.entries.Entry.{Entry}
 use Rattle.mt_model.specs.declared.entries.Entry.TheVariants as entry
 use Rattle.mt_model.specs.Topology.{TopologyState}
-use Rattle.mt_plain.specs.Events.{Event, read, advance, show, StreamName, forward, back, Refusal, memory, watcher_refused, Slot, frozen, Shown, Answer, done, row, advanced, shown, refused}
+use Rattle.mt_plain.specs.Events.{Event, read, advance, show, StreamName, forward, back, Refusal, memory, watcher_refused, frozen, Shown, Answer, done, row, advanced, shown, refused}
 use Rattle.mt_plain.specs.Next.{next}
 use Rattle.mt_plain.specs.Plain.{Live, Plain, live_at}
 use Rattle.mt_plain.specs.Refuse.{is_still_copying, may_grow, may_refuse, refusal_of}
@@ -15,12 +15,7 @@ use Rattle.mt_plain.specs.Writes.{row_of}
 
 -- ---- the answer of an event that is taken
 
--- what Show tells (MoveTables: Show)
-abbrev pub slot_or_none : Live → Option Slot → Slot
-slot_or_none w (Some slot) = slot
-slot_or_none w None = record { state = frozen; position = w.forward_at }
-
--- a forward stream is always there (MoveTables: Show)
+-- what Show tells; a forward stream is always there (MoveTables: Show)
 abbrev pub shown_of : Live → Shown
 shown_of w =
     record {
@@ -30,7 +25,7 @@ shown_of w =
       tables = w.tables;
       switched = w.switched;
       way = w.way;
-      forward = slot_or_none w (slot_of w forward);
+      forward = unwrap_or (slot_of w forward) (record { state = frozen; position = w.forward_at });
       copied = not (is_still_copying w.copied);
       back = slot_of w back;
     }

@@ -1,6 +1,6 @@
 -- A whole switch or reversal of traffic, as one line of a script asks for it: which event it asks for next, and when it ends
 -- (MoveTables: SwitchTraffic, ReverseTraffic; the number of tries is this profile's own).
-use Rattle.std.specs.Prelude.{ℕ, suc, zero, Bool, true, false, if◌then◌else◌, List, ◌++◌, codes, option_and_then, Option, None, Some}
+use Rattle.std.specs.Prelude.{ℕ, suc, Bool, true, false, if◌then◌else◌, List, ◌++◌, codes, option_and_then, Option, None, Some}
 use Rattle.std.specs.Option.{option_map_or}
 use Rattle.mt_names.specs.declared.types.TypeSet.{TypeSet}
 use Rattle.mt_plain.specs.Documents.{number_text}
@@ -58,30 +58,19 @@ pub data Heard : Type 0 where
 
 -- a drive that can't go on undoes what stands done before the journal; past it, it stops, and the way stays open
 -- (How traffic is switched: the journal is the point of no return)
-abbrev pub gives_up_or_stops : (workflow : List ℕ) → Refusal → Option Way → Heard
-gives_up_or_stops workflow refusal None = goes_on (gives_up workflow refusal)
-gives_up_or_stops workflow refusal (Some way) =
-    if stands_done way write_journal then ends (codes "stopped " ++ refusal_text refusal ++ codes " " ++ number_text way.done)
-    else goes_on (gives_up workflow refusal)
-
--- the same, by the way that is open
 abbrev pub fails : Plain → (workflow : List ℕ) → Refusal → Heard
-fails p workflow refusal = gives_up_or_stops workflow refusal (way_of p workflow)
+fails p workflow refusal =
+    if option_map_or (λ way. stands_done way write_journal) (way_of p workflow) false
+    then ends (codes "stopped " ++ refusal_text refusal ++ codes " " ++ number_text (steps_done p workflow)) else goes_on (gives_up workflow refusal)
 
 -- it ends once the way has closed
 abbrev pub unless_closed : Option Way → List ℕ → Driving → Heard
 unless_closed None text driving = ends text
 unless_closed (Some way) text driving = goes_on driving
 
--- a step that finds the stream not level is tried again behind an advance, as long as tries are left
-abbrev pub tries_again : Plain → (workflow : List ℕ) → (tries : ℕ) → Heard
-tries_again p workflow zero = fails p workflow not_level
-tries_again p workflow (suc zero) = fails p workflow not_level
-tries_again p workflow (suc (suc left)) = goes_on (feeds workflow (suc left))
-
--- another refusal ends it
+-- a step that finds the stream not level is tried again behind an advance, as long as tries are left; another refusal ends it
 abbrev pub refused_step : Plain → (workflow : List ℕ) → (tries : ℕ) → Refusal → Heard
-refused_step p workflow tries not_level = tries_again p workflow tries
+refused_step p workflow (suc (suc left)) not_level = goes_on (feeds workflow (suc left))
 refused_step p workflow tries refusal = fails p workflow refusal
 
 -- in the state after the answer; no other answer comes

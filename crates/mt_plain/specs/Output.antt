@@ -23,13 +23,9 @@ use Rattle.mt_plain.specs.Plain.{Plain, changed_types, opening}
 use Rattle.mt_plain.specs.Script.{Line, silent, command, bad_line, line_too_long, Request, event, write_through, read_through, drive, rules_document, dump_document, read_line, request_of}
 use Rattle.mt_plain.specs.Serve.{served}
 
--- a script has at most this many bytes, and is read in at most twice as many reads
+-- a script has at most this many bytes
 abbrev pub MAX_SCRIPT_LENGTH : ℕ
 MAX_SCRIPT_LENGTH = 1048576
-
--- how many reads read it
-abbrev pub MAX_READS : ℕ
-MAX_READS = 2097152
 
 -- ---- texts
 

@@ -194,10 +194,6 @@ differ a b = if a then not b else b
 abbrev pub changed_types : Way → TypeSet
 changed_types way = record { primary = differ way.before.primary way.after.primary; replica = differ way.before.replica way.after.replica; rdonly = differ way.before.rdonly way.after.rdonly }
 
--- whether a way changes reads (How traffic is switched: reads)
-abbrev pub changes_reads : Way → Bool
-changes_reads way = (changed_types way).replica || (changed_types way).rdonly
-
 -- whether a way changes writes (How traffic is switched: writes)
 abbrev pub changes_primary : Way → Bool
 changes_primary way = (changed_types way).primary
@@ -205,7 +201,7 @@ changes_primary way = (changed_types way).primary
 -- the first step of a way, and the one behind its last: steps 0 to 11, 1 to 11 without reads, 0 alone without primary
 -- (How traffic is switched: reads first, then writes)
 abbrev pub first_step : Way → ℕ
-first_step way = if changes_reads way then switch_reads else deny_source
+first_step way = if (changed_types way).replica || (changed_types way).rdonly then switch_reads else deny_source
 
 -- the number behind its last step
 abbrev pub behind_last : Way → ℕ

@@ -1,6 +1,6 @@
 -- Which refusal an event meets: the first in the order of the tests, or none. All of this page is this profile's own: Vitess refuses
 -- in the same cases with other words.
-use Rattle.std.specs.Prelude.{ℕ, ◌+◌, Bool, true, false, not, ◌&&◌, ◌||◌, ◌==◌, List, length, count_by, fold, find, if◌then◌else◌, nat_le, nat_lt, Option, None, Some, is_some, Result, Ok, Err, map, option_map, slice_get}
+use Rattle.std.specs.Prelude.{ℕ, ◌+◌, Bool, true, false, not, ◌&&◌, ◌||◌, ◌==◌, List, length, count_by, fold, find, if◌then◌else◌, nat_le, nat_lt, Option, None, Some, is_some, Result, Ok, Err, map, option_and_then, option_map, slice_get, [], ◌∷◌}
 use Rattle.std.specs.List.{list_any}
 use Rattle.std.specs.Option.{option_map_or}
 use Rattle.std.specs.Map.{lookup}
@@ -21,7 +21,7 @@ use Rattle.mt_model.specs.declared.rows.Op.{Op}
 use Rattle.mt_model.specs.Rows.{Row, op_key, op_row}
 use Rattle.mt_model.specs.Topology.{Rules, keyspace_at, rule_at}
 use Rattle.mt_plain.specs.Events.{Event, write, read, add_keyspace, add_table, edit_rule, create, advance, begin_switch, begin_reverse, step, undo, cancel, complete, show, StreamName, Way, Refusal, no_keyspace, no_table, denied, row_exists, no_row, workflow_exists, no_workflow, table_in_workflow, rule_conflict, target_has_table, same_keyspace, no_tables, under_way, nothing_under_way, nothing_to_switch, nothing_to_reverse, copying, not_level, past_journal, traffic_switched, not_all_switched, rule_owned, no_watcher, stale, stream_stopped, full, undoing, too_long, exists}
-use Rattle.mt_plain.specs.Plain.{Copied, not_begun, up_to, ended, Live, Plain, before_way, catch_up, has_keyspace, in_keyspace, live_at, mover, next_step, owner_by, part_owner, refresh_source, refresh_target, rule_keys, stands_done, switch_reads, twelve_keys, write_journal}
+use Rattle.mt_plain.specs.Plain.{Copied, ended, Live, Plain, before_way, catch_up, has_keyspace, in_keyspace, live_at, mover, next_step, owner_by, part_owner, refresh_source, refresh_target, rule_keys, stands_done, switch_reads, twelve_keys, write_journal}
 use Rattle.mt_plain.specs.Serve.{has_table, refuses}
 use Rattle.mt_plain.specs.Slots.{log_length, room_in_log, running_at, slot_of, writes_any, written_side}
 use Rattle.mt_plain.specs.Writes.{client_row, writes_to}
@@ -128,14 +128,10 @@ watcher_refusal p keyspace = refuse_if (not (list_any (is_of_primary keyspace) p
 -- ---- Create
 
 -- the first of the twelve keys with a rule that leads elsewhere than to the table at the source
-abbrev pub leads_elsewhere : RuleTarget → Option RuleTarget → Bool
-leads_elsewhere here None = false
-leads_elsewhere here (Some target) = not (same_target target here)
-
--- the first of the twelve keys in the way of a table
 abbrev pub conflict_refusal : Plain → (source target table : List ℕ) → Option Refusal
 conflict_refusal p source target table =
-    option_map rule_conflict (find (λ key. leads_elsewhere (in_keyspace source table) (rule_at p.topology.rules key)) (twelve_keys source target table))
+    let leads_elsewhere = λ (key : RuleKey). option_map_or (λ to. not (same_target to (in_keyspace source table))) (rule_at p.topology.rules key) false in
+    option_map rule_conflict (find leads_elsewhere (twelve_keys source target table))
 
 -- a table to move: at the source, in a workflow, at the target, its rules
 abbrev pub moved_table_refusal : Plain → (source target table : List ℕ) → Option Refusal
@@ -202,9 +198,8 @@ share_type types others = types.primary && others.primary || types.replica && ot
 
 -- whether rows are still to be copied
 abbrev pub is_still_copying : Copied → Bool
-is_still_copying not_begun = true
-is_still_copying (up_to table key) = true
 is_still_copying ended = false
+is_still_copying other = true
 
 -- a way forward: a type to switch, a copy at its end, the limit
 abbrev pub begin_switch_refusal : Plain → TypeSet → Live → Option Refusal
@@ -284,21 +279,19 @@ refusal_of p (show workflow) = in_workflow (live_at p workflow) (λ w. None)
 
 -- ---- what is free
 
--- the step that an event is to do
-abbrev pub step_to_do : Option Live → Option (Live × ℕ)
-step_to_do None = None
-step_to_do (Some w) = option_map (λ way. (w, next_step way)) w.way
+-- whether the step of a workflow that is next is this one
+abbrev pub is_next_step : Live → ℕ → Bool
+is_next_step w number = option_map_or (λ way. next_step way == number) w.way false
 
--- the keyspace whose primary's watchers an event asks: Create those of the target, a refresh those of its side
-abbrev pub asked_by_step : Option (Live × ℕ) → Option (List ℕ)
-asked_by_step None = None
-asked_by_step (Some s) =
-    if s.1 == refresh_source then Some (old_owner s.0) else if s.1 == refresh_target then Some (new_owner s.0) else None
+-- the keyspace whose primary's watchers a step asks: a refresh those of its side
+abbrev pub asked_by_step : Live → Option (List ℕ)
+asked_by_step w =
+    if is_next_step w refresh_source then Some (old_owner w) else if is_next_step w refresh_target then Some (new_owner w) else None
 
--- the keyspace that an event asks about
+-- the same of each event: Create asks those of the target
 abbrev pub asked_keyspace : Plain → Event → Option (List ℕ)
 asked_keyspace p (create workflow source target tables) = Some target
-asked_keyspace p (step workflow at) = asked_by_step (step_to_do (live_at p workflow))
+asked_keyspace p (step workflow at) = option_and_then asked_by_step (live_at p workflow)
 asked_keyspace p other = None
 
 -- whether a watcher is asked by an event, and so may refuse it
@@ -307,15 +300,10 @@ may_refuse p event index =
     option_map_or (λ keyspace. option_map_or (is_of_primary keyspace) (slice_get p.scopes index) false) (asked_keyspace p event) false
 
 -- the events that may grow something, and so may want memory
-abbrev pub may_grow_by_step : Option (Live × ℕ) → Bool
-may_grow_by_step None = false
-may_grow_by_step (Some s) = (s.1 == refresh_source) || (s.1 == write_journal) || (s.1 == refresh_target)
-
--- the same of each event
 abbrev pub may_grow : Plain → Event → Bool
 may_grow p (read keyspace table key tablet_type) = false
 may_grow p (edit_rule key None) = false
-may_grow p (step workflow at) = may_grow_by_step (step_to_do (live_at p workflow))
+may_grow p (step workflow at) = option_map_or (λ w. list_any (is_next_step w) (refresh_source ∷ write_journal ∷ refresh_target ∷ [])) (live_at p workflow) false
 may_grow p (undo workflow at) = false
 may_grow p (cancel workflow) = false
 may_grow p (complete workflow) = false

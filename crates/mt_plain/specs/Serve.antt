@@ -19,7 +19,6 @@ use Rattle.mt_model.specs.declared.entries.EntryKey.TheVariants as about
 use Rattle.mt_model.specs.declared.entries.Scope.{Scope}
 use Rattle.mt_model.specs.declared.entries.Scope.TheVariants as scope
 use Rattle.mt_model.specs.Topology.{KeyspaceState, Keyspaces, Marks, TopologyState, is_present, rule_at, value_of, with_keyspace_state}
-use Rattle.mt_plain.specs.Events.{Way}
 use Rattle.mt_plain.specs.Plain.{Live, Plain, allow_target, before_way, deny_source, in_keyspace, is_side, mover, moves, owner_by, part_owner, refresh_source, refresh_target, rule_keys, stands_done, switch_reads, switch_write_rules}
 
 -- ---- the table: what a part serves once some types are switched
@@ -52,13 +51,8 @@ serve u w types (about.Present keyspace table) = entry.Present keyspace table tr
 
 -- the types to read the table with at an entry that changes with a step: those after the way where that step stands done, else
 -- those before it; and the switched ones where no way is open (How traffic is switched)
-abbrev pub types_by_way : TypeSet → Option Way → ℕ → TypeSet
-types_by_way switched None step = switched
-types_by_way switched (Some way) step = if stands_done way step then way.after else way.before
-
--- the same of a live workflow
 abbrev pub types_by : Live → ℕ → TypeSet
-types_by w step = types_by_way w.switched w.way step
+types_by w step = option_map_or (λ way. if stands_done way step then way.after else way.before) w.way w.switched
 
 -- whether a keyspace is the one that owned the tables before the way (MoveTables)
 abbrev pub owned_before : Live → List ℕ → Bool
@@ -92,14 +86,9 @@ Serves p t = (key : EntryKey) → value_of t key ≡ served_entry p key
 
 -- whether a primary's own list refuses a table. It follows the topology's denials with a refresh, a step later; at rest it is the
 -- denial, and no list has a table that no live workflow moves (How traffic is switched: the primary reloads its denied tables)
-abbrev pub refuses_moved : Option Live → (keyspace : List ℕ) → Bool
-refuses_moved None keyspace = false
-refuses_moved (Some w) keyspace =
-    is_side w keyspace && is_denied_at w (types_by w (if owned_before w keyspace then refresh_source else refresh_target)) keyspace
-
--- the same of a table by its name (How traffic is switched)
 abbrev pub refuses : Plain → (keyspace table : List ℕ) → Bool
-refuses p keyspace table = refuses_moved (mover p table) keyspace
+refuses p keyspace table =
+    option_map_or (λ w. is_side w keyspace && is_denied_at w (types_by w (if owned_before w keyspace then refresh_source else refresh_target)) keyspace) (mover p table) false
 
 -- whether a keyspace has a table: one that was made there, or that a live workflow moves there (MoveTables)
 abbrev pub has_table : Plain → (keyspace table : List ℕ) → Bool

@@ -100,14 +100,10 @@ running_at (Some slot) = running_by slot.state slot.position
 abbrev pub past : Plain → Live → StreamName → (position : ℕ) → List LogEntry
 past p w name position = drop position (log_of p (read_side w name))
 
--- whether an entry is of a moved table, and whether the stream writes it: where its row lies in the copied range too
+-- whether the stream writes an entry: it is of a moved table, and its row lies in the copied range
 -- (MoveTables: the catchup between copying is for the rows already copied)
-abbrev pub is_moved : Live → LogEntry → Bool
-is_moved w e = moves w e.table
-
--- whether the stream writes an entry: its row lies in the copied range too (MoveTables: the catchup)
 abbrev pub is_applied : Live → LogEntry → Bool
-is_applied w e = is_moved w e && is_copied w e.table e.key
+is_applied w e = moves w e.table && is_copied w e.table e.key
 
 -- a number put in its place among ascending ones, once
 abbrev pub put_in_order : List ℕ → ℕ → List ℕ
@@ -122,12 +118,8 @@ keys_of_rows p w table =
 
 -- the rows that are still to be copied: those outside the copied range, in the order of the tables named and then of keys
 -- (MoveTables: the copy phase)
-abbrev pub uncopied_in : Plain → Live → (table : List ℕ) → List (List ℕ × ℕ)
-uncopied_in p w table = map (λ key. (table, key)) (filter (λ key. not (is_copied w table key)) (keys_of_rows p w table))
-
--- all rows that are still to be copied, table by table (MoveTables: the copy phase)
 abbrev pub uncopied : Plain → Live → List (List ℕ × ℕ)
-uncopied p w = flat_map (uncopied_in p w) w.tables
+uncopied p w = flat_map (λ table. map (λ key. (table, key)) (filter (λ key. not (is_copied w table key)) (keys_of_rows p w table))) w.tables
 
 -- the rows that an advance may copy: none as long as an entry stands past the position (MoveTables)
 abbrev pub to_copy : Plain → Live → List LogEntry → List (List ℕ × ℕ)
@@ -158,28 +150,21 @@ writes_any p w name position at_most =
 
 -- whether an advance may have been cut to these counts, because a growth was refused: not at its first change, and where the next
 -- thing to do is a change (this profile's own)
-abbrev pub stops_at : Live → (events : ℕ) → List LogEntry → Bool
-stops_at w events entries = list_any (is_applied w) (take events entries) && option_map_or (is_applied w) (slice_get entries events) false
-
--- whether these counts are of an advance that was cut (this profile's own)
 abbrev pub may_be_cut : Plain → Live → StreamName → (position at_most events rows : ℕ) → Bool
 may_be_cut p w name position at_most events rows =
-    (rows == 0) && nat_lt events (most_events p w name position at_most) && stops_at w events (past p w name position)
+    let entries = past p w name position in
+    (rows == 0) && nat_lt events (most_events p w name position at_most)
+    && list_any (is_applied w) (take events entries) && option_map_or (is_applied w) (slice_get entries events) false
     || (events == 0) && nat_lt 0 rows && nat_lt rows (most_rows p w name position at_most)
 
 -- ---- the state after an advance with its counts
 
--- the copied range after some rows: up to the last of them; ended where fewer were copied than allowed, and none is left
--- (MoveTables: the copy phase ends after the last table)
-abbrev pub range_to_last : Copied → List (List ℕ × ℕ) → Copied
-range_to_last range [] = range
-range_to_last range (row ∷ rows) = range_to_last (up_to row.0 row.1) rows
-
--- the range after an advance; reading events does not change it
+-- the copied range after an advance: up to the last of the rows copied; ended where fewer were copied than allowed, and none is left;
+-- reading events does not change it (MoveTables: the copy phase ends after the last table)
 abbrev pub copied_after : Live → List LogEntry → List (List ℕ × ℕ) → (rows at_most : ℕ) → Copied
 copied_after w (e ∷ es) left rows at_most = w.copied
 copied_after w [] left rows at_most =
-    if nat_lt rows at_most && (rows == length left) then ended else range_to_last w.copied (take rows left)
+    if nat_lt rows at_most && (rows == length left) then ended else fold (λ range row. up_to row.0 row.1) w.copied (take rows left)
 
 -- what an advance writes at the other side: the entries that it applied, or the rows that it copied (MoveTables)
 abbrev pub entry_of_row : (keyspace : List ℕ) → List ℕ × ℕ → LogEntry
@@ -196,7 +181,7 @@ live_advanced p w name position at_most events rows =
     let entries = past p w name position in
     let further = with_position w name (is_fresh w.way name) (position + events) in
     record further {
-      fed = w.fed + count_by (is_moved w) (take events entries);
+      fed = w.fed + count_by (λ e. moves w e.table) (take events entries);
       copied = copied_after w entries (to_copy p w entries) rows at_most;
     }
 

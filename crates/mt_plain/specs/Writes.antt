@@ -1,10 +1,10 @@
 -- The client tables: what the acknowledged writes make of a row, at the owner and at the other side of a move.
 use Rattle.std.specs.Prelude.{ℕ, Bool, true, false, not, ◌&&◌, ◌||◌, ◌==◌, nat_le, nat_lt, if◌then◌else◌, List, filter, fold, position, take, Option, None, Some, unwrap_or, length}
 use Rattle.std.specs.List.{list_any}
-use Rattle.mt_names.specs.declared.keys.RuleTarget.{RuleTarget}
+use Rattle.std.specs.Option.{option_map_or}
 use Rattle.mt_names.specs.Names.{same_text}
 use Rattle.mt_model.specs.Rows.{Row}
-use Rattle.mt_plain.specs.Plain.{Copied, not_begun, up_to, ended, Live, Plain, Write, in_keyspace, is_side, mover, number_of, owner}
+use Rattle.mt_plain.specs.Plain.{Copied, not_begun, up_to, ended, Live, Plain, Write, is_side, mover, number_of, owner}
 
 -- the row after one write more (this profile's own)
 abbrev pub row_after_write : (table key : ℕ) → Row → Write → Row
@@ -14,15 +14,10 @@ row_after_write table key before w = if (w.table == table) && (w.key == key) the
 abbrev pub row_after_writes : List Write → (table key : ℕ) → Row
 row_after_writes writes table key = fold (row_after_write table key) None writes
 
--- the client table that a name at a keyspace stands for: on both sides of a move it is that of the source, whose list of
+-- the number of the client table that a name at a keyspace stands for: on both sides of a move it is that of the source, whose list of
 -- acknowledged writes goes on through the move (MoveTables: the tables stay one table for their clients)
-abbrev pub client_table_by : Option Live → (keyspace table : List ℕ) → RuleTarget
-client_table_by None keyspace table = in_keyspace keyspace table
-client_table_by (Some w) keyspace table = in_keyspace (if is_side w keyspace then w.source else keyspace) table
-
--- its number (this profile's own)
 abbrev pub client_number : Plain → (keyspace table : List ℕ) → ℕ
-client_number p keyspace table = let t = client_table_by (mover p table) keyspace table in number_of p t.keyspace t.table
+client_number p keyspace table = number_of p (option_map_or (λ w. if is_side w keyspace then w.source else keyspace) (mover p table) keyspace) table
 
 -- the row of a client table: what its acknowledged writes leave, each applied once, in their order (this profile's own)
 abbrev pub client_row : Plain → (keyspace table : List ℕ) → ℕ → Row

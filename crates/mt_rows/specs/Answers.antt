@@ -1,9 +1,9 @@
 -- Answers that an event gets, and answers that it doesn't get: for each refusal one of each, and for each kind of wrong answer.
-use Rattle.std.specs.Prelude.{ℕ, List, [], ◌∷◌, ◌++◌, codes, None, Some}
+use Rattle.std.specs.Prelude.{ℕ, List, [], ◌∷◌, ◌++◌, codes, replicate, None, Some}
 use Rattle.mt_names.specs.declared.types.TabletType.TheVariants.{Primary}
-use Rattle.mt_model.specs.declared.rows.Op.TheVariants.{Insert}
+use Rattle.mt_model.specs.declared.rows.Op.TheVariants.{Insert, Update, Append, Delete}
 use Rattle.mt_model.specs.Rows.{RowValue}
-use Rattle.mt_plain.specs.Events.{Event, write, read, add_keyspace, add_table, cancel, Answer, done, row, refused, memory, no_keyspace, no_table, denied, row_exists, exists}
+use Rattle.mt_plain.specs.Events.{Event, write, read, add_keyspace, add_table, cancel, Answer, done, row, refused, memory, no_keyspace, no_table, denied, row_exists, no_row, too_long, exists}
 use Rattle.mt_plain.specs.Answers.{Run}
 use Rattle.mt_plain.specs.Plain.{opening}
 
@@ -49,6 +49,21 @@ row_is_there = Gets (write commerce corder (Insert 1 (value (codes "b")))) (refu
 
 abbrev pub row_is_not_there : Type 0
 row_is_not_there = ¬ (Gets (write commerce corder (Insert 2 (value (codes "b")))) (refused row_exists))
+
+abbrev pub a_row_is_missing : Type 0
+a_row_is_missing = Gets (write commerce corder (Update 2 (value (codes "b")))) (refused no_row)
+
+abbrev pub a_row_is_found : Type 0
+a_row_is_found = ¬ (Gets (write commerce corder (Update 1 (value (codes "b")))) (refused no_row))
+
+abbrev pub a_deleted_row_is_missing : Type 0
+a_deleted_row_is_missing = Gets (write commerce corder (Delete 2)) (refused no_row)
+
+abbrev pub a_value_past_64_bytes : Type 0
+a_value_past_64_bytes = Gets (write commerce corder (Append 1 (value (replicate 64 98)))) (refused too_long)
+
+abbrev pub a_value_of_64_bytes : Type 0
+a_value_of_64_bytes = ¬ (Gets (write commerce corder (Append 1 (value (replicate 63 98)))) (refused too_long))
 
 abbrev pub keyspace_exists : Type 0
 keyspace_exists = Gets (add_keyspace commerce) (refused exists)
