@@ -12,7 +12,7 @@ use Rattle.mt_primary.specs.Primary.{PrimaryState, TableState, is_denied_at, tab
 
 -- by one entry more of a notice, which counts where it is a denial of the table at the keyspace
 abbrev pub told_by_entry : List ℕ → List ℕ → Option Bool → Entry → Option Bool
-told_by_entry keyspace name told (entry.Denied at table mark) = if same_text at keyspace && same_text table name then Some mark else told
+told_by_entry keyspace name told (entry.Denied at table mark) = if same_text keyspace at && same_text table name then Some mark else told
 told_by_entry keyspace name told other = told
 
 -- by a notice: of several entries the last one counts, as it was written last
