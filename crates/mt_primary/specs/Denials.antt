@@ -27,10 +27,11 @@ is_named tables name = list_any (λ table. same_text table name) tables
 abbrev pub told_by_refresh : List ℕ → List Entry → List (List ℕ) → List ℕ → Option Bool
 told_by_refresh keyspace notice tables name = if is_named tables name then told_by_notice keyspace notice name else None
 
--- by one mark more, and by marks: the last one counts
+-- by one mark more
 abbrev pub told_by_mark : List ℕ → Option Bool → List ℕ × Bool → Option Bool
 told_by_mark name told mark = if same_text mark.0 name then Some mark.1 else told
 
+-- by marks: of several of a table the last one counts
 abbrev pub told_by_marks : Marks → List ℕ → Option Bool
 told_by_marks marks name = fold (told_by_mark name) None marks
 
