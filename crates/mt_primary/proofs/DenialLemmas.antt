@@ -15,7 +15,7 @@ use Rattle.mt_primary.specs.Primary.{IsPrimary, PrimaryState, TableState, table_
 use Rattle.mt_primary.proofs.PrimaryLemmas.{IsLogged, elsewhere, here, logged, primary_from, table_cases, with_table}
 
 -- a table of which nothing is told stays
-told_none : (o : Option TableState) → option_map (with_told None) o ≡ o
+pub told_none : (o : Option TableState) → option_map (with_told None) o ≡ o
 told_none None = refl
 told_none (Some table) = refl
 
@@ -66,7 +66,6 @@ module _ (old : PrimaryState) (name : List ℕ) (table : TableState) (mark : Boo
       each other t at =
           ⊎_elim (λ same. rw (sym same.0, sym same.1) (ours (logged old name table is found))) (λ apart. logged old other t is apart.1) (table_cases old name table marked found old.log other t at)
 
-
 -- a table that isn't there can't be denied
 pub denials-absent : (p : PrimaryState) (name : List ℕ) (mark : Bool) → table_at p name ≡ None → AreDenialsSet p (λ n. told_by_mark n None (name, mark)) p
 denials-absent p name mark absent = denials-same p (λ n. told_by_mark n None (name, mark)) (λ other. by other (same_text name other) refl)
@@ -87,7 +86,7 @@ told-mark marks mark name = rw (fold_push (told_by_mark name) None marks mark) (
 
 -- whether a refresh takes over an entry
 abbrev pub is_taken : List ℕ → List (List ℕ) → Entry → Bool
-is_taken keyspace tables (entry.Denied at table mark) = same_text at keyspace && is_named tables table
+is_taken keyspace tables (entry.Denied at table mark) = same_text keyspace at && is_named tables table
 is_taken keyspace tables other = false
 
 -- an entry that it passes over
@@ -97,9 +96,9 @@ told-passed keyspace notice tables e passed name = by (is_named tables name) ref
     at_entry : (e : Entry) → is_taken keyspace tables e ≡ false → is_named tables name ≡ true → told_by_entry keyspace name (told_by_notice keyspace notice name) e ≡ told_by_notice keyspace notice name
     at_entry (entry.Rule key target) passed is = refl
     at_entry (entry.Present at table mark) passed is = refl
-    at_entry (entry.Denied at table mark) passed is = at_both (same_text at keyspace) (same_text table name) refl refl
+    at_entry (entry.Denied at table mark) passed is = at_both (same_text keyspace at) (same_text table name) refl refl
       where
-        at_both : (b d : Bool) → same_text at keyspace ≡ b → same_text table name ≡ d → told_by_entry keyspace name (told_by_notice keyspace notice name) (entry.Denied at table mark) ≡ told_by_notice keyspace notice name
+        at_both : (b d : Bool) → same_text keyspace at ≡ b → same_text table name ≡ d → told_by_entry keyspace name (told_by_notice keyspace notice name) (entry.Denied at table mark) ≡ told_by_notice keyspace notice name
         at_both false d is_at is_table = rw is_at refl
         at_both true false is_at is_table = rw (is_at, is_table) refl
         at_both true true is_at is_table =
@@ -119,11 +118,11 @@ pub told-taken : (keyspace : List ℕ) (notice : List Entry) (tables : List (Lis
     → told_by_refresh keyspace (notice ++ entry.Denied at table mark ∷ []) tables name ≡ option_or (told_by_mark name None (table, mark)) (told_by_refresh keyspace notice tables name)
 told-taken keyspace notice tables at table mark taken name = by (same_text table name) refl
   where
-    is_at : same_text at keyspace ≡ true
-    is_at = (both_hold (same_text at keyspace) (is_named tables table) taken).0
+    is_at : same_text keyspace at ≡ true
+    is_at = (both_hold (same_text keyspace at) (is_named tables table) taken).0
 
     named : is_named tables table ≡ true
-    named = (both_hold (same_text at keyspace) (is_named tables table) taken).1
+    named = (both_hold (same_text keyspace at) (is_named tables table) taken).1
 
     by : (b : Bool) → same_text table name ≡ b → told_by_refresh keyspace (notice ++ entry.Denied at table mark ∷ []) tables name ≡ option_or (told_by_mark name None (table, mark)) (told_by_refresh keyspace notice tables name)
     by true same =

@@ -1,5 +1,6 @@
 pub mod ChangeLemmas
 pub mod DenialLemmas
+pub mod LawLemmas
 pub mod LogLemmas
 pub mod PrimaryLemmas
 pub mod TableLemmas

@@ -12,7 +12,7 @@ use Rattle.mt_primary.specs.Primary.{PrimaryState, TableState, is_denied_at, tab
 
 -- by one entry more of a notice, which counts where it is a denial of the table at the keyspace
 abbrev pub told_by_entry : List ℕ → List ℕ → Option Bool → Entry → Option Bool
-told_by_entry keyspace name told (entry.Denied at table mark) = if same_text at keyspace && same_text table name then Some mark else told
+told_by_entry keyspace name told (entry.Denied at table mark) = if same_text keyspace at && same_text table name then Some mark else told
 told_by_entry keyspace name told other = told
 
 -- by a notice: of several entries the last one counts, as it was written last
@@ -27,10 +27,11 @@ is_named tables name = list_any (λ table. same_text table name) tables
 abbrev pub told_by_refresh : List ℕ → List Entry → List (List ℕ) → List ℕ → Option Bool
 told_by_refresh keyspace notice tables name = if is_named tables name then told_by_notice keyspace notice name else None
 
--- by one mark more, and by marks: the last one counts
+-- by one mark more
 abbrev pub told_by_mark : List ℕ → Option Bool → List ℕ × Bool → Option Bool
 told_by_mark name told mark = if same_text mark.0 name then Some mark.1 else told
 
+-- by marks: of several of a table the last one counts
 abbrev pub told_by_marks : Marks → List ℕ → Option Bool
 told_by_marks marks name = fold (told_by_mark name) None marks
 

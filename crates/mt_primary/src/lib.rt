@@ -2,11 +2,16 @@
 #![tactic(auto)]
 
 mod before;
+mod laws;
 mod primary;
 mod table;
 #[cfg(test)]
 mod tests;
 
 pub use before::Before;
+pub use laws::{
+    a_notice_tells_what_its_change_tells, a_refresh_concerns_named_tables, a_refresh_is_taken_back,
+    denials_change_nothing_else,
+};
 pub use mt_model::{Op, PrimaryFault, RowChange};
 pub use primary::Primary;

@@ -156,7 +156,7 @@ impl Primary {
         let before = self.stands(tables);
         for entry in notice.as_slice() {
             if let Entry::Denied(at, table, denied) = entry {
-                if at == keyspace && tables.contains(table) {
+                if keyspace == at && tables.contains(table) {
                     self.set_denied(table, *denied);
                 }
             }

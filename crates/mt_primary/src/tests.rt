@@ -39,7 +39,10 @@ fn a_row_is_written_and_read(rt: HostRuntime) -> Result<(), Fail> {
     assert_eq!(rt; primary.read(&customer, 1, TabletType::Primary), Ok(None));
     assert_eq!(rt; primary.write(&customer, insert(1, b"a")), Ok(1));
     for tablet_type in [TabletType::Primary, TabletType::Replica, TabletType::Rdonly] {
-        assert_eq!(rt; primary.read(&customer, 1, tablet_type), Ok(Some(value(b"a"))));
+        assert_eq!(rt;
+            primary.read(&customer, 1, tablet_type),
+            Ok(Some(value(b"a")))
+        );
         assert_eq!(rt; primary.read(&customer, 2, tablet_type), Ok(None));
     }
     assert_eq!(rt; primary.position(), 1);
@@ -73,7 +76,10 @@ fn each_refusal_leaves_the_primary(rt: HostRuntime) -> Result<(), Fail> {
             primary.read(&orders, 7, tablet_type),
             Err(PrimaryFault::NoTable)
         );
-        assert_eq!(rt; primary.read(&customer, 7, tablet_type), Ok(Some(value(&full))));
+        assert_eq!(rt;
+            primary.read(&customer, 7, tablet_type),
+            Ok(Some(value(&full)))
+        );
     }
     assert_eq!(rt; primary.position(), 1);
     Ok(())
@@ -92,11 +98,17 @@ fn tables_have_rows_of_their_own(rt: HostRuntime) -> Result<(), Fail> {
     assert_eq!(rt; primary.read(&orders, 1, TabletType::Primary), Ok(None));
     primary.write(&orders, insert(1, b"b"))?;
     primary.write(&customer, Op::Append(1, value(b"c")))?;
-    assert_eq!(rt; primary.read(&customer, 1, TabletType::Primary), Ok(Some(value(b"ac"))));
+    assert_eq!(rt;
+        primary.read(&customer, 1, TabletType::Primary),
+        Ok(Some(value(b"ac")))
+    );
     assert_eq!(rt; primary.write(&customer, Op::Delete(1)), Ok(4));
     assert_eq!(rt; primary.read(&customer, 1, TabletType::Primary), Ok(None));
     assert_eq!(rt; primary.write(&orders, Op::Update(1, value(b""))), Ok(5));
-    assert_eq!(rt; primary.read(&orders, 1, TabletType::Primary), Ok(Some(value(b""))));
+    assert_eq!(rt;
+        primary.read(&orders, 1, TabletType::Primary),
+        Ok(Some(value(b"")))
+    );
     Ok(())
 }
 
@@ -113,7 +125,10 @@ fn a_refresh_concerns_the_named_tables(rt: HostRuntime) -> Result<(), Fail> {
     primary.write(&t, insert(1, b"a"))?;
     let notice = notice_of(rt.alloc(), &k, &[(&t, true), (&u, true)])?;
     let before = primary.take_denied(&k, &notice, &[t.copied()]);
-    assert_eq!(rt; primary.write(&t, insert(2, b"b")), Err(PrimaryFault::Denied));
+    assert_eq!(rt;
+        primary.write(&t, insert(2, b"b")),
+        Err(PrimaryFault::Denied)
+    );
     assert_eq!(rt; primary.write(&u, insert(2, b"b")), Ok(2));
     assert_eq!(rt;
         primary.read(&t, 1, TabletType::Primary),
@@ -122,7 +137,10 @@ fn a_refresh_concerns_the_named_tables(rt: HostRuntime) -> Result<(), Fail> {
     for tablet_type in [TabletType::Replica, TabletType::Rdonly] {
         assert_eq!(rt; primary.read(&t, 1, tablet_type), Ok(Some(value(b"a"))));
     }
-    assert_eq!(rt; primary.read(&u, 2, TabletType::Primary), Ok(Some(value(b"b"))));
+    assert_eq!(rt;
+        primary.read(&u, 2, TabletType::Primary),
+        Ok(Some(value(b"b")))
+    );
     primary.put_denied(before);
     assert_eq!(rt; primary.write(&t, insert(2, b"b")), Ok(3));
     Ok(())
@@ -147,12 +165,24 @@ fn an_undo_gives_back_the_named_tables(rt: HostRuntime) -> Result<(), Fail> {
     assert_eq!(rt; primary.write(&t, insert(1, b"a")), Ok(1));
     primary.take_denied(&k, &both, &[u.copied()]);
     primary.put_denied(before);
-    assert_eq!(rt; primary.write(&t, insert(2, b"a")), Err(PrimaryFault::Denied));
-    assert_eq!(rt; primary.write(&u, insert(1, b"a")), Err(PrimaryFault::Denied));
+    assert_eq!(rt;
+        primary.write(&t, insert(2, b"a")),
+        Err(PrimaryFault::Denied)
+    );
+    assert_eq!(rt;
+        primary.write(&u, insert(1, b"a")),
+        Err(PrimaryFault::Denied)
+    );
     primary.take_denied(&k, &elsewhere, &[t.copied(), u.copied()]);
     primary.take_denied(&k, &Notice::new(rt.alloc()), &[t.copied(), u.copied()]);
-    assert_eq!(rt; primary.write(&t, insert(2, b"a")), Err(PrimaryFault::Denied));
-    assert_eq!(rt; primary.write(&u, insert(1, b"a")), Err(PrimaryFault::Denied));
+    assert_eq!(rt;
+        primary.write(&t, insert(2, b"a")),
+        Err(PrimaryFault::Denied)
+    );
+    assert_eq!(rt;
+        primary.write(&u, insert(1, b"a")),
+        Err(PrimaryFault::Denied)
+    );
     Ok(())
 }
 
@@ -178,8 +208,14 @@ fn a_denial_is_told_before_the_row(rt: HostRuntime) -> Result<(), Fail> {
     ] {
         assert_eq!(rt; primary.write(&t, op), Err(PrimaryFault::Denied));
     }
-    assert_eq!(rt; primary.read(&t, 8, TabletType::Primary), Err(PrimaryFault::Denied));
-    assert_eq!(rt; primary.read(&t, 7, TabletType::Replica), Ok(Some(value(&full))));
+    assert_eq!(rt;
+        primary.read(&t, 8, TabletType::Primary),
+        Err(PrimaryFault::Denied)
+    );
+    assert_eq!(rt;
+        primary.read(&t, 7, TabletType::Replica),
+        Ok(Some(value(&full)))
+    );
     assert_eq!(rt; primary.position(), 1);
     Ok(())
 }

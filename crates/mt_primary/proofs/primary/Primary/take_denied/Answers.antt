@@ -1,7 +1,7 @@
 -- Each entry is taken over or passed over.
-use Rattle.std.proofs.Common.{◌≡◌, Bool, true, false, refl, sym, ◌∙◌}
+use Rattle.std.proofs.Common.{◌≡◌, true, false, refl, sym, ◌∙◌}
 use Rattle.mt_names.specs.Names.{same_text}
-use Rattle.mt_primary.proofs.DenialLemmas.{is_taken, passed-other, refresh-passed, refresh-taken}
+use Rattle.mt_primary.proofs.DenialLemmas.{passed-other, refresh-passed, refresh-taken}
 use Rattle.mt_primary.proofs.primary.Primary.take_denied.Goals.{in-Denied+then-eq+then-contains, in-Denied+else-eq, else-eq-via-then-eq+else-contains, else-eq-via-else-eq, in_default}
 use Rattle.mt_primary.proofs.primary.Primary.take_denied.Goals as goal
 
@@ -17,18 +17,18 @@ loop-entry-preserved c =
     let taken = refresh-taken old now keyspace notice tables n c.entry-item.result c.loop-entry-test.true c.entry-item.is c.loop-entry.invariant in
     elim c.match-entry.branch [
       | in-Denied+then-eq+then-contains w ↦
-        let at : same_text w.in-Denied.at keyspace ≡ true = sym w.eq.ensures ∙ w.if-eq.true in
-        let named = sym w.contains.ensures.value ∙ w.if-contains.true in
-        rw w.self-is (taken w.set_denied.new.self w.in-Denied.at w.in-Denied.table w.in-Denied.denied w.in-Denied.is (rw (w.in-Denied.is, at, named) refl) w.set_denied.ensures)
+          let at : same_text keyspace w.in-Denied.at ≡ true = sym w.eq.ensures ∙ w.if-eq.true in
+          let named = sym w.contains.ensures.value ∙ w.if-contains.true in
+          rw w.self-is (taken w.set_denied.new.self w.in-Denied.at w.in-Denied.table w.in-Denied.denied w.in-Denied.is (rw (w.in-Denied.is, at, named) refl) w.set_denied.ensures)
       | in-Denied+else-eq w ↦
-        rw w.self-is (elim w.else-eq.branch [
-          | else-eq-via-then-eq+else-contains w' ↦
-            let at : same_text w.in-Denied.at keyspace ≡ true = sym w.eq.ensures ∙ w'.if-eq.true in
-            let named = sym w'.contains.ensures.value ∙ w'.if-contains.false in
-            passed (rw (w.in-Denied.is, at, named) refl)
-          | else-eq-via-else-eq w' ↦
-            let at : same_text w.in-Denied.at keyspace ≡ false = sym w.eq.ensures ∙ w'.if-eq.false in
-            passed (rw (w.in-Denied.is, at) refl)
-        ])
+          rw w.self-is (elim w.else-eq.branch [
+            | else-eq-via-then-eq+else-contains w' ↦
+                let at : same_text keyspace w.in-Denied.at ≡ true = sym w.eq.ensures ∙ w'.if-eq.true in
+                let named = sym w'.contains.ensures.value ∙ w'.if-contains.false in
+                passed (rw (w.in-Denied.is, at, named) refl)
+            | else-eq-via-else-eq w' ↦
+                let at : same_text keyspace w.in-Denied.at ≡ false = sym w.eq.ensures ∙ w'.if-eq.false in
+                passed (rw (w.in-Denied.is, at) refl)
+          ])
       | in_default w ↦ rw w.self-is (passed (passed-other keyspace tables c.entry-item.result w.in_default.not-Denied))
     ]
