@@ -1,1 +1,3 @@
+pub mod ReadLemmas
 pub mod RulesLemmas
+pub mod SortLemmas
