@@ -1,11 +1,13 @@
 -- The rules as a value of `serde_json`, whose text is their document.
-use Rattle.std.specs.Prelude.{◌≡◌, ℕ, List, [], ◌∷◌, map, fold, flat_map, codes, Ok}
-use Rattle.std.specs.List.{AllByRecursion}
+use Rattle.std.specs.Prelude.{◌≡◌, ◌≤◌, ℕ, List, [], ◌∷◌, length, map, fold, flat_map, codes, Some, Ok}
+use Rattle.std.specs.List.{AllByRecursion, IsDistinct}
+use Rattle.std.specs.Map.{keys_of}
 use Rattle.serde_json.specs.Data.{Data, string, array, object, Items, no_items, item, Members, no_members, member}
 use Rattle.serde_json.specs.View.{items_of}
 use Rattle.mt_names.specs.declared.keys.RuleKey.{RuleKey}
 use Rattle.mt_names.specs.declared.keys.RuleTarget.{RuleTarget}
 use Rattle.mt_names.specs.Keys.{IsRuleKey, IsRuleTarget, key_text, target_text, read_key, read_target}
+use Rattle.mt_names.specs.Same.{same_key}
 use Rattle.mt_model.specs.Topology.{Rules, rule_at}
 use Rattle.mt_rules.specs.Read.{rules_of_text}
 use Rattle.mt_rules.specs.Written.{entries_of, put_by_text, sorted_rules}
@@ -54,7 +56,18 @@ pub record IsNamed (r : RuleKey × RuleTarget) : Type 0 where
   pub key_back : read_key (key_text r.0) ≡ Ok r.0
   pub target_back : read_target (target_text r.1) ≡ Ok r.1
 
--- the members are the rules in their order, with names
+-- places with these rules
+abbrev pub ruled : List (RuleKey × RuleTarget) → Rules
+ruled rs = map (λ r. (r.0, Some r.1)) rs
+
+-- the rules in their order: keys and targets are names, no key stands twice, and they say what the rules say
+pub record IsWellSorted (rules : Rules) : Type 0 where
+  pub named : AllByRecursion IsNamed (sorted_rules rules)
+  pub distinct : IsDistinct same_key (keys_of (ruled (sorted_rules rules)))
+  pub says : (key : RuleKey) → rule_at (ruled (sorted_rules rules)) key ≡ rule_at rules key
+  pub few : length (sorted_rules rules) ≤ length rules
+
+-- the members are the rules in their order
 pub record AreInOrder (ms : Members) (rules : Rules) : Type 0 where
   pub members : ms ≡ members_by (by_text rules)
-  pub named : AllByRecursion (λ x. IsNamed x.1) (by_text rules)
+  pub sorted : IsWellSorted rules

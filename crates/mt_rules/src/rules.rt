@@ -1,17 +1,21 @@
 //! The table of routing rules.
-ghost use Rattle.std.specs.Prelude.{◌≡◌, ◌≤◌, ◌<◌, ◌↔◌, ◌==◌, [], true, false, length, IsTrue, option_copied};
+ghost use Rattle.std.specs.Prelude.{◌≡◌, ◌≤◌, ◌<◌, ◌↔◌, ◌==◌, [], true, false, length, IsTrue, IfOk, IfErr, OnOk, string_bytes, option_copied};
 ghost use Rattle.std.specs.List.{IsDistinct};
 ghost use Rattle.std.specs.Map.{keys_of, set_value};
 ghost use Rattle.mt_names.specs.Same.{same_key};
 ghost use Rattle.mt_model.specs.Limits.{most_rules};
 ghost use Rattle.mt_model.specs.Topology.{rule_at, without_rule_place};
 ghost use Rattle.mt_rules.specs.Read.{IsUnlessMemory, answer_with, rules_of_text, with_one_more};
+ghost use Rattle.serde_json.specs.View.{view};
+ghost use Rattle.mt_rules.specs.Values.{IsWellSorted, Says, rules_value};
+ghost use Rattle.mt_rules.specs.Written.{rules_text};
 ghost use Rattle.mt_rules.specs.Rules.{Reserves, has_rule_place};
 
-use crate::{RulesFault, read};
+use crate::{RulesFault, read, write};
 use indexmap::IndexMap;
 use mt_model::MAX_RULES;
 use mt_names::{RuleKey, RuleTarget};
+use serde_json::Value;
 use std::alloc::Global;
 use std::marker::Model;
 use std::mem;
@@ -57,6 +61,31 @@ impl RoutingRules {
         ensures { IsUnlessMemory result (rules_of_text text.now) }
     {
         read::rules_of_text(alloc, text)
+    }
+
+    /// The document of the rules, which `from_json` reads back: compact, `from_table` before `to_tables`, sorted by the
+    /// bytes of the keys' texts, without the places that have no rule. `R0 Memory`.
+    pub fn to_json(&self, alloc: Global) -> Result<String, RulesFault>
+        ensures text { IfOk result (λ text. string_bytes text ≡ rules_text self.now) }
+        ensures says { IfOk result (λ text. Says (string_bytes text) self.now) }
+        ensures memory { IfErr result (λ fault. fault ≡ RulesFault.Memory) }
+    {
+        match write::text_of_rules(alloc, &self.places) {
+            Ok(text) => Ok(text),
+            Err(_) => Err(RulesFault::Memory),
+        }
+    }
+
+    /// The rules as the value of a list, for a larger document. `R0 Memory`.
+    pub fn to_value(&self, alloc: Global) -> Result<Value, RulesFault>
+        ensures value { IfOk result (λ value. view value ≡ rules_value self.now) }
+        ensures sorted { OnOk result (IsWellSorted self.now) }
+        ensures memory { IfErr result (λ fault. fault ≡ RulesFault.Memory) }
+    {
+        match write::value_of_rules(alloc, &self.places) {
+            Ok(value) => Ok(value),
+            Err(_) => Err(RulesFault::Memory),
+        }
     }
 
     /// How many places there are.

@@ -1,12 +1,14 @@
 //! Writing the document of the rules.
-ghost use Rattle.std.specs.Prelude.{◌≡◌, IfOk, OnOk, string_bytes};
+ghost use Rattle.std.specs.Prelude.{◌≡◌, ◌≤◌, codes, length, IfOk, OnOk, string_bytes};
 ghost use Rattle.std.specs.List.{IsDistinct};
 ghost use Rattle.std.specs.Map.{keys_of};
-ghost use Rattle.serde_json.specs.Data.{array, put};
+ghost use Rattle.serde_json.specs.Data.{Members, array, member, no_members, object, put};
 ghost use Rattle.serde_json.specs.View.{view, members_view};
 ghost use Rattle.mt_names.specs.Keys.{key_text};
 ghost use Rattle.mt_names.specs.Same.{same_key};
-ghost use Rattle.mt_rules.specs.Values.{AreInOrder, IsNamed, rule_value, texts_value, values_in};
+ghost use Rattle.mt_model.specs.Limits.{most_rules};
+ghost use Rattle.mt_rules.specs.Values.{AreInOrder, IsNamed, IsWellSorted, Says, rule_value, rules_value, texts_value, values_in};
+ghost use Rattle.mt_rules.specs.Written.{rules_text};
 
 use indexmap::IndexMap;
 use mt_names::{RuleKey, RuleTarget};
@@ -63,4 +65,39 @@ fn list_of(alloc: Global, values: Map<String, Value>) -> Result<Value, AllocErro
         list.push(value)?;
     }
     Ok(Value::Array(list))
+}
+
+/// The list of the rules, in the order of their keys' texts.
+pub fn value_of_rules(
+    alloc: Global,
+    places: &IndexMap<RuleKey, Option<RuleTarget>>,
+) -> Result<Value, AllocError>
+    requires { IsDistinct same_key (keys_of places.now.entries) }
+    ensures value { IfOk result (λ list. view list ≡ rules_value places.now.entries) }
+    ensures sorted { OnOk result (IsWellSorted places.now.entries) }
+{
+    let values = values_by_text(alloc, places)?;
+    list_of(alloc, values)
+}
+
+/// The document with this list of rules.
+fn document_of(alloc: Global, rules: Value) -> Result<Value, AllocError>
+    ensures { IfOk result (λ document. view document ≡ object (member (codes "rules") (view rules) no_members)) }
+{
+    json!(in alloc; {"rules": rules})
+}
+
+/// The document of the rules.
+pub fn text_of_rules(
+    alloc: Global,
+    places: &IndexMap<RuleKey, Option<RuleTarget>>,
+) -> Result<String, AllocError>
+    requires distinct { IsDistinct same_key (keys_of places.now.entries) }
+    requires few { length places.now.entries ≤ most_rules }
+    ensures text { IfOk result (λ text. string_bytes text ≡ rules_text places.now.entries) }
+    ensures says { IfOk result (λ text. Says (string_bytes text) places.now.entries) }
+{
+    let rules = value_of_rules(alloc, places)?;
+    let document = document_of(alloc, rules)?;
+    document.to_string(alloc)
 }

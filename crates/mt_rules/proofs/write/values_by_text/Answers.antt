@@ -1,8 +1,17 @@
--- One place more, and none left.
+-- At the start, one place more, and none left.
 use Rattle.std.proofs.Common.{rules, ◌≡◌, [], ◌∷◌, None, Some, ap, subst, sym, ◌∙◌}
+use Rattle.serde_json.specs.Data.{no_members}
 use Rattle.serde_json.specs.View.{members_view}
-use Rattle.mt_rules.proofs.SortLemmas.{Completes, Completes-all, Completes-put, Completes-skip}
+use Rattle.mt_rules.proofs.SortLemmas.{Completes, Completes-all, Completes-none, Completes-put, Completes-skip}
 use Rattle.mt_rules.proofs.write.values_by_text.Goals as goal
+
+pub places-init : goal.places-init
+places-init c =
+    let none : members_view c.new-values.result.entries ≡ no_members = ap members_view c.new-values.ensures.empty in
+    let all : c.into_iter-key-iterator.result ≡ c.args.places.now.entries = search rules in
+    let start = Completes-none c.args.places.now.entries c.requires in
+    subst (λ ms. Completes ms c.into_iter-key-iterator.result c.args.places.now.entries) (sym none)
+      (subst (λ l. Completes no_members l c.args.places.now.entries) (sym all) start)
 
 pub places-preserved-in-Continue-1 : goal.places-preserved-in-Continue-1
 places-preserved-in-Continue-1 c =
