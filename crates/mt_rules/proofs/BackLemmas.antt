@@ -93,9 +93,10 @@ pub document_says : (rules : Rules) (d : Data) (text : List ℕ) → d ≡ docum
     → (depth d ≤ max_depth → read text ≡ Some d) → Says text rules
 document_says rules d text is sorted few valid back =
     let few_sorted = sorted.few in
-    let shallow : depth d ≤ max_depth = let deep = ap depth is in let bound = not_deep_document rules in omega (arith, deep, bound) in
-    (ruled (sorted_rules rules),
+    let shallow : depth d ≤ max_depth = let deep = ap depth is in let bound = not_deep_document rules in omega (arith, deep, bound) in (
+      ruled (sorted_rules rules),
       ap (λ v. option_map_or rules_of_value v (Err NotJson)) (value_of_text-some text d valid (back shallow))
-      ∙ ap rules_of_value is
-      ∙ with_rules-back [] (sorted_rules rules) sorted.named (nothing_lacks (keys_of (ruled (sorted_rules rules)))) sorted.distinct (omega (arith, few, few_sorted)),
-      sorted.says)
+          ∙ ap rules_of_value is
+          ∙ with_rules-back [] (sorted_rules rules) sorted.named (nothing_lacks (keys_of (ruled (sorted_rules rules)))) sorted.distinct (omega (arith, few, few_sorted)),
+      sorted.says,
+    )

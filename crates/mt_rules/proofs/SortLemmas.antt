@@ -47,7 +47,7 @@ Apart text xs = AllByRecursion (λ x. text ≢ x.0) xs
 put-at : (o : Ordering) (text : List ℕ) (r : RuleKey × RuleTarget) (y : Named) (ys : List Named) → slice_cmp nat_cmp text y.0 ≡ o → text ≢ y.0
     → put text (rule_value r) (members_by ys) ≡ members_by (put_by_text ys (text, r))
     → match_ordering o (member text (rule_value r) (members_by (y ∷ ys))) (member y.0 (rule_value r) (members_by ys)) (member y.0 (rule_value y.1) (put text (rule_value r) (members_by ys)))
-        ≡ members_by (put_by_text (y ∷ ys) (text, r))
+    ≡ members_by (put_by_text (y ∷ ys) (text, r))
 put-at Less text r y ys is apart later = rw (comes_before-is text y.0, is) refl
 put-at Equal text r y ys is apart later = absurd (apart ((bytes_eq-Decides text y.0).0 (sym (is_eq-slice_cmp text y.0) ∙ ap is_eq is)))
 put-at Greater text r y ys is apart later = rw (comes_before-is text y.0, is) (ap (member y.0 (rule_value y.1)) later)
@@ -126,8 +126,8 @@ unfolding key_or
 other_text key rule left [] back p = tt
 other_text key rule left (x ∷ xs) back p =
     let other : key_text key ≢ x.0 = λ e.
-        let same : Ok x.1.0 ≡ Ok key = sym p.0.named.key_back ∙ ap read_key (sym p.0.text ∙ sym e) ∙ back in
-        true≢false (sym ((same_key_decides x.1.0 key).1 (ap (key_or key) same)) ∙ p.0.apart.0) in
+    let same : Ok x.1.0 ≡ Ok key = sym p.0.named.key_back ∙ ap read_key (sym p.0.text ∙ sym e) ∙ back in
+    true≢false (sym ((same_key_decides x.1.0 key).1 (ap (key_or key) same)) ∙ p.0.apart.0) in
     (other, other_text key rule left xs back p.1)
 
 put_placed : (left : Rules) (x : Named) (xs : List Named) → IsPlaced left x → AllByRecursion (IsPlaced left) xs → AllByRecursion (IsPlaced left) (put_by_text xs x)
@@ -166,7 +166,7 @@ at-put x [] key t e other = at-cons x [] key t e
 at-put x (y ∷ ys) key t e other = by (at-put x ys key t e other.1) (comes_before x.0 y.0) (same_key key y.1.0) refl
   where
     by : at (put_by_text ys x) key ≡ (if t then Some x.1.1 else at ys key) → (b u : Bool) → same_key key y.1.0 ≡ u
-      → at (if b then x ∷ y ∷ ys else (y ∷ put_by_text ys x)) key ≡ (if t then Some x.1.1 else at (y ∷ ys) key)
+        → at (if b then x ∷ y ∷ ys else (y ∷ put_by_text ys x)) key ≡ (if t then Some x.1.1 else at (y ∷ ys) key)
     by later true u f = at-cons x (y ∷ ys) key t e
     by later false true f =
         let not_x : t ≡ false = sym e ∙ ap (λ k. same_key k x.1.0) (same_or key y.1.0 f) ∙ other.0 in
@@ -224,7 +224,12 @@ says-skip found k left key other = ap (option_or found) (by (same_key key k) ref
 pub Completes-skip : (ms : Members) (key : RuleKey) (left rules : Rules) → Completes ms ((key, None) ∷ left) rules → Completes ms left rules
 unfolding IsDistinct
 Completes-skip ms key left rules c = record {
-  found = c.found; members = c.members; placed = fewer (key, None) left c.found c.placed; apart = c.apart; distinct = c.distinct.1; whole = c.whole;
+  found = c.found;
+  members = c.members;
+  placed = fewer (key, None) left c.found c.placed;
+  apart = c.apart;
+  distinct = c.distinct.1;
+  whole = c.whole;
   says = λ k. says-skip (at c.found k) key left k c.distinct.0 ∙ c.says k;
   few = let few = c.few in omega (arith, few);
 }

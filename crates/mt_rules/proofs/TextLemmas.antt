@@ -27,8 +27,16 @@ use Rattle.mt_rules.specs.Written.{quoted, rule_text, rules_text, sorted_rules}
 escape-one : (b : ℕ) → b ≢ 34 → b ≢ 92 → 32 ≤ b → escape_byte b ≡ b ∷ []
 unfolding escape_byte
 escape-one b quote slash high =
-    rw (ne_eqb b 34 quote, ne_eqb b 92 slash, ne_eqb b 8 (λ e. omega (arith, e, high)), ne_eqb b 12 (λ e. omega (arith, e, high)), ne_eqb b 10 (λ e. omega (arith, e, high)),
-      ne_eqb b 13 (λ e. omega (arith, e, high)), ne_eqb b 9 (λ e. omega (arith, e, high)), le-ltb b 32 high) refl
+    rw (
+      ne_eqb b 34 quote,
+      ne_eqb b 92 slash,
+      ne_eqb b 8 (λ e. omega (arith, e, high)),
+      ne_eqb b 12 (λ e. omega (arith, e, high)),
+      ne_eqb b 10 (λ e. omega (arith, e, high)),
+      ne_eqb b 13 (λ e. omega (arith, e, high)),
+      ne_eqb b 9 (λ e. omega (arith, e, high)),
+      le-ltb b 32 high,
+    ) refl
 
 low_is_not_plain : (b : ℕ) → b < 32 → is_plain_byte b ≡ false
 low_is_not_plain b low =
@@ -57,7 +65,7 @@ escape-allowed : (alphabet : Alphabet) (bytes : List ℕ) → AllByRecursion (λ
 escape-allowed alphabet [] each = refl
 escape-allowed alphabet (b ∷ bs) each =
     let one : escape_byte b ≡ b ∷ [] = escape-one b (λ e. true≢false (sym each.0 ∙ ap (allows alphabet) e ∙ quote_is_not_allowed alphabet))
-        (λ e. true≢false (sym each.0 ∙ ap (allows alphabet) e ∙ slash_is_not_allowed alphabet)) (allowed_is_high alphabet b each.0) in
+    (λ e. true≢false (sym each.0 ∙ ap (allows alphabet) e ∙ slash_is_not_allowed alphabet)) (allowed_is_high alphabet b each.0) in
     ap₂ (λ x y. x ++ y) one (escape-allowed alphabet bs each.1)
 
 pub escape-name : (alphabet : Alphabet) (bytes : List ℕ) → IsName alphabet bytes → escape bytes ≡ bytes
@@ -84,7 +92,7 @@ escape-suffix (Some Rdonly) = refl
 pub escape-key : (key : RuleKey) → IsRuleKey key → escape (key_text key) ≡ key_text key
 escape-key key is =
     escape-append (qualifier_text key.keyspace ++ key.table) (suffix_text key.tablet_type)
-      (escape-append (qualifier_text key.keyspace) key.table (escape-qualifier key.keyspace is.keyspace) (escape-name WithDollar key.table is.table)) (escape-suffix key.tablet_type)
+    (escape-append (qualifier_text key.keyspace) key.table (escape-qualifier key.keyspace is.keyspace) (escape-name WithDollar key.table is.table)) (escape-suffix key.tablet_type)
 
 pub escape-target : (target : RuleTarget) → IsRuleTarget target → escape (target_text target) ≡ target_text target
 escape-target target is =
@@ -99,7 +107,7 @@ pub compact_text-rule : (r : RuleKey × RuleTarget) → IsNamed r → compact_te
 unfolding escape_byte
 compact_text-rule r named =
     ap₂ (λ x y. 123 ∷ (quoted (codes "from_table") ++ 58 ∷ ((34 ∷ (x ++ 34 ∷ [])) ++ 44 ∷ (quoted (codes "to_tables") ++ 58 ∷ ((91 ∷ ((34 ∷ (y ++ 34 ∷ [])) ++ 93 ∷ [])) ++ 125 ∷ [])))))
-        (escape-key r.0 named.key) (escape-target r.1 named.target)
+    (escape-key r.0 named.key) (escape-target r.1 named.target)
     ∙ regroup (quoted (codes "from_table")) (quoted (key_text r.0)) (quoted (codes "to_tables")) (quoted (target_text r.1))
 
 pub items_text-rules : (rs : List (RuleKey × RuleTarget)) → AllByRecursion IsNamed rs → items_text false (items_of (map rule_value rs)) ≡ join_with_byte comma (map rule_text rs) ++ 93 ∷ []

@@ -5,7 +5,8 @@ use std::alloc::Global;
 use std::test::Fail;
 
 /// The rules of a fresh workflow.
-const FRESH: &str = "{\"rules\":[{\"from_table\":\"commerce.corder@rdonly\",\"to_tables\":[\"commerce.corder\"]},{\"from_table\":\"commerce.corder@replica\",\"to_tables\":[\"commerce.corder\"]},{\"from_table\":\"corder\",\"to_tables\":[\"commerce.corder\"]},{\"from_table\":\"corder@rdonly\",\"to_tables\":[\"commerce.corder\"]},{\"from_table\":\"corder@replica\",\"to_tables\":[\"commerce.corder\"]},{\"from_table\":\"customer.corder\",\"to_tables\":[\"commerce.corder\"]},{\"from_table\":\"customer.corder@rdonly\",\"to_tables\":[\"commerce.corder\"]},{\"from_table\":\"customer.corder@replica\",\"to_tables\":[\"commerce.corder\"]}]}";
+const FRESH: &str =
+    "{\"rules\":[{\"from_table\":\"commerce.corder@rdonly\",\"to_tables\":[\"commerce.corder\"]},{\"from_table\":\"commerce.corder@replica\",\"to_tables\":[\"commerce.corder\"]},{\"from_table\":\"corder\",\"to_tables\":[\"commerce.corder\"]},{\"from_table\":\"corder@rdonly\",\"to_tables\":[\"commerce.corder\"]},{\"from_table\":\"corder@replica\",\"to_tables\":[\"commerce.corder\"]},{\"from_table\":\"customer.corder\",\"to_tables\":[\"commerce.corder\"]},{\"from_table\":\"customer.corder@rdonly\",\"to_tables\":[\"commerce.corder\"]},{\"from_table\":\"customer.corder@replica\",\"to_tables\":[\"commerce.corder\"]}]}";
 
 /// What a document is read and written as, or the fault that it is refused with.
 fn canon(alloc: Global, text: &[u8]) -> Result<String, RulesFault> {
@@ -32,7 +33,10 @@ fn rules_with_second_spellings(rt: HostRuntime) -> Result<(), Fail> {
 
 #[test]
 fn rules_cut_short(rt: HostRuntime) -> Result<(), Fail> {
-    assert_eq!(rt; fault_of(rt.alloc(), "{\"rules\":["), Some(RulesFault::NotJson));
+    assert_eq!(rt;
+        fault_of(rt.alloc(), "{\"rules\":["),
+        Some(RulesFault::NotJson)
+    );
     Ok(())
 }
 
@@ -41,7 +45,10 @@ fn rules_of_a_fresh_workflow_read_back(rt: HostRuntime) -> Result<(), Fail> {
     let rules = RoutingRules::from_json(rt.alloc(), FRESH.as_bytes())?;
     assert_eq!(rt; rules.len(), 8);
     let key = RuleKey::parse("customer.corder@replica")?;
-    assert_eq!(rt; rules.get(&key), Some(&RuleTarget::parse("commerce.corder")?));
+    assert_eq!(rt;
+        rules.get(&key),
+        Some(&RuleTarget::parse("commerce.corder")?)
+    );
     assert_eq!(rt; rules.to_json(rt.alloc())?.as_str(), FRESH);
     Ok(())
 }
@@ -56,15 +63,42 @@ fn each_refusal(rt: HostRuntime) -> Result<(), Fail> {
         ("{\"rules\":{}}", RulesFault::Shape),
         ("{\"rules\":[1]}", RulesFault::Shape),
         ("{\"rules\":[{\"to_tables\":[\"k.a\"]}]}", RulesFault::Shape),
-        ("{\"rules\":[{\"from_table\":null,\"fromTable\":\"a\",\"to_tables\":[\"k.a\"]}]}", RulesFault::Shape),
-        ("{\"rules\":[{\"from_table\":\"a\",\"to_tables\":\"k.a\"}]}", RulesFault::Shape),
-        ("{\"rules\":[{\"from_table\":\"a\",\"to_tables\":[\"k.a\",1]}]}", RulesFault::Shape),
-        ("{\"rules\":[{\"from_table\":\"a!\",\"to_tables\":[\"k.a\"]}]}", RulesFault::BadName),
-        ("{\"rules\":[{\"from_table\":\"a\",\"to_tables\":[\"a\"]}]}", RulesFault::BadName),
-        ("{\"rules\":[{\"from_table\":\"a\"}]}", RulesFault::NotOneTarget),
-        ("{\"rules\":[{\"from_table\":\"a\",\"to_tables\":null,\"toTables\":[\"k.a\"]}]}", RulesFault::NotOneTarget),
-        ("{\"rules\":[{\"from_table\":\"a\",\"to_tables\":[]}]}", RulesFault::NotOneTarget),
-        ("{\"rules\":[{\"from_table\":\"a!\",\"to_tables\":[\"k.a\",\"k.b\"]}]}", RulesFault::NotOneTarget),
+        (
+            "{\"rules\":[{\"from_table\":null,\"fromTable\":\"a\",\"to_tables\":[\"k.a\"]}]}",
+            RulesFault::Shape,
+        ),
+        (
+            "{\"rules\":[{\"from_table\":\"a\",\"to_tables\":\"k.a\"}]}",
+            RulesFault::Shape,
+        ),
+        (
+            "{\"rules\":[{\"from_table\":\"a\",\"to_tables\":[\"k.a\",1]}]}",
+            RulesFault::Shape,
+        ),
+        (
+            "{\"rules\":[{\"from_table\":\"a!\",\"to_tables\":[\"k.a\"]}]}",
+            RulesFault::BadName,
+        ),
+        (
+            "{\"rules\":[{\"from_table\":\"a\",\"to_tables\":[\"a\"]}]}",
+            RulesFault::BadName,
+        ),
+        (
+            "{\"rules\":[{\"from_table\":\"a\"}]}",
+            RulesFault::NotOneTarget,
+        ),
+        (
+            "{\"rules\":[{\"from_table\":\"a\",\"to_tables\":null,\"toTables\":[\"k.a\"]}]}",
+            RulesFault::NotOneTarget,
+        ),
+        (
+            "{\"rules\":[{\"from_table\":\"a\",\"to_tables\":[]}]}",
+            RulesFault::NotOneTarget,
+        ),
+        (
+            "{\"rules\":[{\"from_table\":\"a!\",\"to_tables\":[\"k.a\",\"k.b\"]}]}",
+            RulesFault::NotOneTarget,
+        ),
         (
             "{\"rules\":[{\"from_table\":\"a\",\"to_tables\":[\"k.a\"]},{\"from_table\":\"a\",\"to_tables\":[\"k.a\"]}]}",
             RulesFault::RepeatedKey,
@@ -141,7 +175,10 @@ fn nested_deep(rt: HostRuntime) -> Result<(), Fail> {
         text.push(']')?;
     }
     text.push('}')?;
-    assert_eq!(rt; fault_of(rt.alloc(), text.as_str()), Some(RulesFault::NotJson));
+    assert_eq!(rt;
+        fault_of(rt.alloc(), text.as_str()),
+        Some(RulesFault::NotJson)
+    );
     Ok(())
 }
 
@@ -153,7 +190,9 @@ fn of_rules(alloc: Global, count: u32) -> Result<String, Fail> {
         if number > 0 {
             text.push(',')?;
         }
-        let rule = format!(in alloc; "{{\"from_table\":\"t{number}\",\"to_tables\":[\"k.t{number}\"]}}")?;
+        let rule = format!(in alloc;
+            "{{\"from_table\":\"t{number}\",\"to_tables\":[\"k.t{number}\"]}}"
+        )?;
         text.push_str(rule.as_str())?;
     }
     text.push_str("]}")?;

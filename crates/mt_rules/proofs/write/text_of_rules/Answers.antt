@@ -19,4 +19,4 @@ returns-clause-says c =
     let rules = c.args.places.now.entries in
     let is : view c.in_ok-document.document ≡ document_value rules = c.in_ok-document.ensures ∙ ap (λ d. object (member (codes "rules") d no_members)) c.in_ok-rules.ensures.value in
     IfOk-weaker c.to_string.result _ _
-      (λ s h. document_says rules (view c.in_ok-document.document) (string_bytes s) is c.in_ok-rules.ensures.sorted c.requires.few (IsUtf8-string_bytes s) h) c.to_string.ensures.reads_back
+    (λ s h. document_says rules (view c.in_ok-document.document) (string_bytes s) is c.in_ok-rules.ensures.sorted c.requires.few (IsUtf8-string_bytes s) h) c.to_string.ensures.reads_back

@@ -11,7 +11,7 @@ places-init c =
     let all : c.into_iter-key-iterator.result ≡ c.args.places.now.entries = search rules in
     let start = Completes-none c.args.places.now.entries c.requires in
     subst (λ ms. Completes ms c.into_iter-key-iterator.result c.args.places.now.entries) (sym none)
-      (subst (λ l. Completes no_members l c.args.places.now.entries) (sym all) start)
+    (subst (λ l. Completes no_members l c.args.places.now.entries) (sym all) start)
 
 pub places-preserved-in-Continue-1 : goal.places-preserved-in-Continue-1
 places-preserved-in-Continue-1 c =
