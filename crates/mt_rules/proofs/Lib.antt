@@ -1,1 +1,5 @@
+pub mod BackLemmas
+pub mod ReadLemmas
 pub mod RulesLemmas
+pub mod SortLemmas
+pub mod TextLemmas

@@ -1,5 +1,5 @@
 -- A place more, at a key that has none.
-use Rattle.std.proofs.Common.{◌≡◌, false, List, [], ◌∷◌, ◌++◌, Option, None, Some, is_some, refl, sym, ap, ◌∙◌}
+use Rattle.std.proofs.Common.{◌≡◌, ◌==◌, false, length, Ok, List, [], ◌∷◌, ◌++◌, Option, None, Some, is_some, refl, sym, ap, ◌∙◌}
 use Rattle.std.proofs.lemmas.Bool.{true≢false}
 use Rattle.std.specs.Map.{lookup}
 use Rattle.indexmap.proofs.CallerLemmas.{insert_entry-new}
@@ -7,7 +7,9 @@ use Rattle.indexmap.specs.IndexMap.{IndexMap, insert_entry}
 use Rattle.mt_names.specs.declared.keys.RuleKey.{RuleKey}
 use Rattle.mt_names.specs.declared.keys.RuleTarget.{RuleTarget}
 use Rattle.mt_names.specs.Same.{same_key}
+use Rattle.mt_model.specs.Limits.{most_rules}
 use Rattle.mt_model.specs.Topology.{Rules, with_rule_place}
+use Rattle.mt_rules.specs.Read.{with_one_more}
 use Rattle.mt_rules.specs.Rules.{has_rule_place}
 
 pub none_from : {A : Type 0} (r : Option A) → is_some r ≡ false → r ≡ None
@@ -23,3 +25,12 @@ insert_entry-place m rules key copy is copied lacks =
     ap (λ k. insert_entry same_key m.entries k None) copied
     ∙ insert_entry-new same_key m key None (ap (lookup (same_key key)) is ∙ none_from (lookup (same_key key) rules) lacks)
     ∙ ap (λ es. es ++ (key, None) ∷ []) is ∙ sym (with_rule_place-new rules key lacks)
+
+-- the same where the place comes with its rule
+pub insert_entry-rule : {S : Type 0} (m : IndexMap RuleKey (Option RuleTarget) S) (rules : Rules) (key : RuleKey) (target : RuleTarget) → m.entries ≡ rules → has_rule_place rules key ≡ false → insert_entry same_key m.entries key (Some target) ≡ rules ++ (key, Some target) ∷ []
+insert_entry-rule m rules key target is lacks =
+    insert_entry-new same_key m key (Some target) (ap (lookup (same_key key)) is ∙ none_from (lookup (same_key key) rules) lacks)
+    ∙ ap (λ es. es ++ (key, Some target) ∷ []) is
+
+pub with_one_more-new : (rules : Rules) (r : RuleKey × RuleTarget) (new : Rules) → has_rule_place rules r.0 ≡ false → (length rules == most_rules) ≡ false → new ≡ rules ++ (r.0, Some r.1) ∷ [] → Ok new ≡ with_one_more rules r
+with_one_more-new rules r new lacks room is = rw (lacks, room) (ap Ok is)

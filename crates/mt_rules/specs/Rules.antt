@@ -7,11 +7,16 @@ use Rattle.mt_names.specs.Same.{same_key}
 use Rattle.mt_model.specs.Limits.{most_rules}
 use Rattle.mt_model.specs.Topology.{Rules, with_rule_place}
 use Rattle.mt_rules.specs.declared.fault.RulesFault.{RulesFault}
-use Rattle.mt_rules.specs.declared.fault.RulesFault.TheVariants.{Memory, Full}
+use Rattle.mt_rules.specs.declared.fault.RulesFault.TheVariants.{Memory, Full, NotJson, Shape, BadName, NotOneTarget, RepeatedKey}
 
 abbrev pub rules_fault_text : RulesFault → List ℕ
 rules_fault_text Memory = codes "R0 Memory"
 rules_fault_text Full = codes "R1 Full"
+rules_fault_text NotJson = codes "R2 NotJson"
+rules_fault_text Shape = codes "R3 Shape"
+rules_fault_text BadName = codes "R4 BadName"
+rules_fault_text NotOneTarget = codes "R5 NotOneTarget"
+rules_fault_text RepeatedKey = codes "R6 RepeatedKey"
 
 -- the key has a place
 abbrev pub has_rule_place : Rules → RuleKey → Bool
@@ -23,3 +28,8 @@ abbrev pub Reserves : Rules → RuleKey → Result Unit RulesFault → Rules →
 Reserves old key (Ok done) new = ((has_rule_place old key ≡ true) ⊎ (length old < most_rules)) × (new ≡ with_rule_place old key)
 Reserves old key (Err Full) new = (has_rule_place old key ≡ false) × (length old ≡ most_rules) × (new ≡ old)
 Reserves old key (Err Memory) new = (has_rule_place old key ≡ false) × (length old < most_rules) × (new ≡ old)
+Reserves old key (Err NotJson) new = ⊥
+Reserves old key (Err Shape) new = ⊥
+Reserves old key (Err BadName) new = ⊥
+Reserves old key (Err NotOneTarget) new = ⊥
+Reserves old key (Err RepeatedKey) new = ⊥

@@ -10,6 +10,16 @@ pub enum RulesFault {
     Memory,
     /// There are as many places as there may be.
     Full,
+    /// A document is no JSON: `serde_json` reads no value, for another cause than memory.
+    NotJson,
+    /// A value in a document is of the wrong kind.
+    Shape,
+    /// A key or a target of a document isn't one.
+    BadName,
+    /// A rule of a document has no target, or several.
+    NotOneTarget,
+    /// A key of a document has two rules.
+    RepeatedKey,
 }
 
 impl RulesFault {
@@ -23,6 +33,11 @@ impl RulesFault {
         match self {
             RulesFault::Memory => "R0 Memory",
             RulesFault::Full => "R1 Full",
+            RulesFault::NotJson => "R2 NotJson",
+            RulesFault::Shape => "R3 Shape",
+            RulesFault::BadName => "R4 BadName",
+            RulesFault::NotOneTarget => "R5 NotOneTarget",
+            RulesFault::RepeatedKey => "R6 RepeatedKey",
         }
     }
 }

@@ -1,16 +1,21 @@
 //! The table of routing rules.
-ghost use Rattle.std.specs.Prelude.{◌≡◌, ◌≤◌, ◌↔◌, [], true, length, IsTrue, option_copied};
+ghost use Rattle.std.specs.Prelude.{◌≡◌, ◌≤◌, ◌<◌, ◌↔◌, ◌==◌, [], true, false, length, IsTrue, IfOk, IfErr, OnOk, string_bytes, option_copied};
 ghost use Rattle.std.specs.List.{IsDistinct};
 ghost use Rattle.std.specs.Map.{keys_of, set_value};
 ghost use Rattle.mt_names.specs.Same.{same_key};
 ghost use Rattle.mt_model.specs.Limits.{most_rules};
 ghost use Rattle.mt_model.specs.Topology.{rule_at, without_rule_place};
+ghost use Rattle.mt_rules.specs.Read.{IsUnlessMemory, answer_with, rules_of_text, with_one_more};
+ghost use Rattle.serde_json.specs.View.{view};
+ghost use Rattle.mt_rules.specs.Values.{IsWellSorted, Says, rules_value};
+ghost use Rattle.mt_rules.specs.Written.{rules_text};
 ghost use Rattle.mt_rules.specs.Rules.{Reserves, has_rule_place};
 
-use crate::RulesFault;
+use crate::{RulesFault, read, write};
 use indexmap::IndexMap;
 use mt_model::MAX_RULES;
 use mt_names::{RuleKey, RuleTarget};
+use serde_json::Value;
 use std::alloc::Global;
 use std::marker::Model;
 use std::mem;
@@ -47,6 +52,42 @@ impl RoutingRules {
         }
     }
 
+    /// Reads the document of the rules: an object, in which `rules` is a list of objects or missing or null. In each of
+    /// them `from_table` (or `fromTable`, where that is missing) is the text of a key, and `to_tables` (or `toTables`) a
+    /// list of one text, that of a target. Other members are ignored; of a member that stands twice the last one counts.
+    /// Of several faults the first in the list's order is told, and in one rule `R3 Shape`, `R5 NotOneTarget`,
+    /// `R4 BadName`, `R6 RepeatedKey`, `R1 Full`. `R2 NotJson` of a text without a value, `R0 Memory`.
+    pub fn from_json(alloc: Global, text: &[u8]) -> Result<Self, RulesFault>
+        ensures { IsUnlessMemory result (rules_of_text text.now) }
+    {
+        read::rules_of_text(alloc, text)
+    }
+
+    /// The document of the rules, which `from_json` reads back: compact, `from_table` before `to_tables`, sorted by the
+    /// bytes of the keys' texts, without the places that have no rule. `R0 Memory`.
+    pub fn to_json(&self, alloc: Global) -> Result<String, RulesFault>
+        ensures text { IfOk result (λ text. string_bytes text ≡ rules_text self.now) }
+        ensures says { IfOk result (λ text. Says (string_bytes text) self.now) }
+        ensures memory { IfErr result (λ fault. fault ≡ RulesFault.Memory) }
+    {
+        match write::text_of_rules(alloc, &self.places) {
+            Ok(text) => Ok(text),
+            Err(_) => Err(RulesFault::Memory),
+        }
+    }
+
+    /// The rules as the value of a list, for a larger document. `R0 Memory`.
+    pub fn to_value(&self, alloc: Global) -> Result<Value, RulesFault>
+        ensures value { IfOk result (λ value. view value ≡ rules_value self.now) }
+        ensures sorted { OnOk result (IsWellSorted self.now) }
+        ensures memory { IfErr result (λ fault. fault ≡ RulesFault.Memory) }
+    {
+        match write::value_of_rules(alloc, &self.places) {
+            Ok(value) => Ok(value),
+            Err(_) => Err(RulesFault::Memory),
+        }
+    }
+
     /// How many places there are.
     pub fn len(&self) -> usize
         ensures len { result ≡ length self.now }
@@ -61,6 +102,15 @@ impl RoutingRules {
         ensures { IsTrue result ↔ (self.now ≡ []) }
     {
         self.places.is_empty()
+    }
+
+    /// Whether there are as many places as there may be.
+    fn is_full(&self) -> bool
+        ensures test { result ≡ (length self.now == most_rules) }
+        ensures full { result ≡ true → length self.now ≡ most_rules }
+        ensures room { result ≡ false → length self.now < most_rules }
+    {
+        self.len() == MAX_RULES
     }
 
     /// The rule of a key, if it has one. It takes no memory.
@@ -85,10 +135,26 @@ impl RoutingRules {
         if self.has_place(key) {
             return Ok(());
         }
-        if self.len() == MAX_RULES {
+        if self.is_full() {
             return Err(RulesFault::Full);
         }
         match self.places.insert(key.copied(), None) {
+            Ok(_) => Ok(()),
+            Err(_) => Err(RulesFault::Memory),
+        }
+    }
+
+    /// Adds the rule of a document, whose key must be new. `R6 RepeatedKey`, then `R1 Full`, then `R0 Memory`.
+    pub(crate) fn add(&mut self, key: RuleKey, target: RuleTarget) -> Result<(), RulesFault>
+        ensures { IsUnlessMemory (answer_with self.new result) (with_one_more self.old (key, target)) }
+    {
+        if self.has_place(&key) {
+            return Err(RulesFault::RepeatedKey);
+        }
+        if self.is_full() {
+            return Err(RulesFault::Full);
+        }
+        match self.places.insert(key, Some(target)) {
             Ok(_) => Ok(()),
             Err(_) => Err(RulesFault::Memory),
         }

@@ -63,7 +63,7 @@ pub fn put_rule(
             Ok(())
         }
         Err(RulesFault::Full) => Err(TopologyFault::Full),
-        Err(RulesFault::Memory) => Err(TopologyFault::Memory),
+        Err(_) => Err(TopologyFault::Memory),
     }
 }
 

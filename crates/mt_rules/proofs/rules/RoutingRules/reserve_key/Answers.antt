@@ -1,5 +1,5 @@
 -- A key without a place goes last.
-use Rattle.std.proofs.Common.{◌≡◌, ◌<◌, false, length, subst, sym, ◌∙◌, inr, arith}
+use Rattle.std.proofs.Common.{◌≡◌, ◌<◌, false, length, subst, sym, ◌∙◌, inr}
 use Rattle.mt_model.specs.Limits.{most_rules}
 use Rattle.mt_rules.specs.Rules.{Reserves, has_rule_place}
 use Rattle.mt_rules.proofs.RulesLemmas.{insert_entry-place}
@@ -11,7 +11,7 @@ returns c =
     let old = c.args.self.now in
     let key = c.args.key.now in
     let lacks : has_rule_place old key ≡ false = sym c.has_place.ensures ∙ c.if-has_place.false in
-    let room : length old < most_rules = omega (arith, c.len.ensures.len, c.len.ensures.within, c.if-len-eq-MAX_RULES.false) in
+    let room : length old < most_rules = c.is_full.ensures.room c.if-is_full.false in
     elim c.match-insert.branch as (λ b. Reserves old key c.match-insert.result c.insert.new.self.entries) [
       | in-Ok w ↦ subst (λ r. Reserves old key r c.insert.new.self.entries) (sym w.result-is)
           (inr room, w.in-Ok.ensures.entries ∙ insert_entry-place c.self.inside.places old key c.copied.result (c.self.view_is) c.copied.ensures lacks)
