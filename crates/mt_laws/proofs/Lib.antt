@@ -1,5 +1,9 @@
 pub mod AnswerLemmas
+pub mod ChangeLemmas
+pub mod LiveLemmas
 pub mod NumberLemmas
+pub mod OpenLemmas
 pub mod OutputLemmas
 pub mod RunLemmas
 pub mod TableLemmas
+pub mod UntouchedLemmas

@@ -1,2 +1,4 @@
 pub mod Acknowledged
+pub mod Changes
 pub mod Numbers
+pub mod WayBack

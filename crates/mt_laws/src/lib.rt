@@ -1,11 +1,16 @@
 //! What follows from the definitions of the plain state, the refusals, the next state and the output alone.
 #![tactic(auto)]
 
+mod changes;
 mod events;
 mod runs;
 mod scripts;
 mod tables;
+mod way_back;
 
+pub use changes::{
+    only_named_events_change_a_workflow, only_named_events_change_the_state,
+};
 pub use events::{
     answers_are_determined, limits_are_told_last, reads_answer_the_row,
     refused_events_change_nothing,
@@ -15,3 +20,4 @@ pub use scripts::output_is_what_is_written_where_memory_is_ample;
 pub use tables::{
     an_answer_changes_a_row_by_its_operation_alone, tables_keep_numbers_of_their_own,
 };
+pub use way_back::a_way_back_is_open_before_the_journal;
