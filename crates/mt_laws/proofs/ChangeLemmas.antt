@@ -91,10 +91,14 @@ sides-next p event other w = sides_same w
 
 -- ---- the live workflows after an event: each changed, one more, or one gone
 
+abbrev pub made_live : Plain → (name source target : List ℕ) → List (List ℕ) → Live
+made_live p name source target tables =
+    let w = created name source target tables (log_length p source) in record w { fed = length (writes_to p w) }
+
 pub data LivesAfter (p q : Plain) (event : Event) (answer : Answer) : Type 0 where
   mapped : q.lives ≡ map (live_next p event answer) p.lives → LivesAfter p q event answer
   made : (name source target : List ℕ) (tables : List (List ℕ)) → event ≡ create name source target tables
-      → q.lives ≡ p.lives ++ (record (created name source target tables (log_length p source)) { fed = length (writes_to p (created name source target tables (log_length p source))) }) ∷ []
+      → q.lives ≡ p.lives ++ made_live p name source target tables ∷ []
       → ((w : Live) → live_next p event answer w ≡ w) → LivesAfter p q event answer
   ended : (name : List ℕ) → (event ≡ cancel name) ⊎ (event ≡ complete name) → q.lives ≡ without_live name p.lives
       → ((w : Live) → live_next p event answer w ≡ w) → LivesAfter p q event answer
@@ -118,7 +122,7 @@ filter-everywhere : (name : List ℕ) (xs : List Live) → ((w : Live) → IsIn 
 filter-everywhere name [] each = refl
 filter-everywhere name (x ∷ xs) each = rw (each x (inl refl)) (ap (λ l. x ∷ l) (filter-everywhere name xs (λ w is. each w (inr is))))
 
-lives-completed : (p : Plain) (workflow : List ℕ) (o : Option Live) → live_at p workflow ≡ o → (with_completed p o).lives ≡ without_live workflow p.lives
+pub lives-completed : (p : Plain) (workflow : List ℕ) (o : Option Live) → live_at p workflow ≡ o → (with_completed p o).lives ≡ without_live workflow p.lives
 lives-completed p workflow None none = filter-everywhere workflow p.lives (find_none (λ w. same_text w.name workflow) p.lives none)
 lives-completed p workflow (Some w) some =
     let is = (find_some (λ v. same_text v.name workflow) p.lives w some).1 in

@@ -1,9 +1,15 @@
 pub mod AnswerLemmas
 pub mod ChangeLemmas
+pub mod EntryValueLemmas
 pub mod LiveLemmas
 pub mod NumberLemmas
 pub mod OpenLemmas
 pub mod OutputLemmas
+pub mod PartLemmas
+pub mod ReachLemmas
+pub mod RefusalLemmas
 pub mod RunLemmas
 pub mod TableLemmas
 pub mod UntouchedLemmas
+pub mod WayLemmas
+pub mod WritableLemmas

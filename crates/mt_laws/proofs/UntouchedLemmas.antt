@@ -138,7 +138,7 @@ module _ {A : Type 0} (field : Live → A) where
   field-on_way w change each (Some way) = each way
 
 -- the traffic, and the copy, of a workflow
-abbrev traffic : Live → TypeSet × Option Way
+abbrev pub traffic : Live → TypeSet × Option Way
 traffic w = (w.switched, w.way)
 
 abbrev copy : Live → ℕ × Copied
@@ -149,7 +149,7 @@ traffic-position w name true position = refl
 traffic-position w forward false position = refl
 traffic-position w back false position = refl
 
-traffic-advanced : (p : Plain) (w : Live) (name : StreamName) (at at_most events rows : ℕ) → traffic (live_advanced p w name at at_most events rows) ≡ traffic w
+pub traffic-advanced : (p : Plain) (w : Live) (name : StreamName) (at at_most events rows : ℕ) → traffic (live_advanced p w name at at_most events rows) ≡ traffic w
 traffic-advanced p w name at at_most events rows = traffic-position w name (is_fresh w.way name) (at + events)
 
 switched-undone : (w : Live) (way : Way) → (live_undone w way).switched ≡ w.switched

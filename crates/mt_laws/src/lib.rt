@@ -3,6 +3,7 @@
 
 mod changes;
 mod events;
+mod parts;
 mod runs;
 mod scripts;
 mod tables;
@@ -15,6 +16,7 @@ pub use events::{
     answers_are_determined, limits_are_told_last, reads_answer_the_row,
     refused_events_change_nothing,
 };
+pub use parts::{a_moved_table_is_never_writable_in_two, parts_are_apart};
 pub use runs::{reads_answer_the_acknowledged_writes, tables_are_told_apart};
 pub use scripts::output_is_what_is_written_where_memory_is_ample;
 pub use tables::{
