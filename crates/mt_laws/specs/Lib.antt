@@ -1,3 +1,5 @@
 pub mod Acknowledged
+pub mod Changes
 pub mod Lines
 pub mod Numbers
+pub mod WayBack

@@ -1,15 +1,22 @@
 //! What follows from the definitions of the plain state, the refusals, the next state and the output alone.
 #![tactic(auto)]
 
+mod changes;
 mod events;
+mod parts;
 mod runs;
 mod scripts;
 mod tables;
+mod way_back;
 
+pub use changes::{
+    only_named_events_change_a_workflow, only_named_events_change_the_state,
+};
 pub use events::{
     answers_are_determined, limits_are_told_last, reads_answer_the_row,
     refused_events_change_nothing,
 };
+pub use parts::{a_moved_table_is_never_writable_in_two, parts_are_apart};
 pub use runs::{reads_answer_the_acknowledged_writes, tables_are_told_apart};
 pub use scripts::{
     drives_end_within_their_turns, each_line_that_writes_writes_one_line,
@@ -18,3 +25,4 @@ pub use scripts::{
 pub use tables::{
     an_answer_changes_a_row_by_its_operation_alone, tables_keep_numbers_of_their_own,
 };
+pub use way_back::a_way_back_is_open_before_the_journal;

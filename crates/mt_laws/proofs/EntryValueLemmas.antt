@@ -1,0 +1,142 @@
+-- What an event leaves of the topology as if no workflow were live.
+use Rattle.std.proofs.Common.{◌≡◌, ◌≢◌, ◌⊎◌, inl, inr, ℕ, Bool, true, false, not, cond, List, [], ◌∷◌, ◌++◌, map, fold, flat_map, Option, None, Some, unwrap_or, refl, sym, ap, ◌∙◌, subst}
+use Rattle.std.proofs.lemmas.Bool.{true≢false}
+use Rattle.std.proofs.lemmas.List.Sums.{fold-append}
+use Rattle.std.specs.Map.{lookup, remove_entry}
+use Rattle.std.specs.Option.{option_map_or}
+use Rattle.mt_names.specs.declared.keys.RuleKey.{RuleKey}
+use Rattle.mt_names.specs.declared.keys.RuleTarget.{RuleTarget}
+use Rattle.mt_names.specs.declared.types.TabletType.{TabletType}
+use Rattle.mt_names.specs.Names.{same_text}
+use Rattle.mt_names.specs.Same.{same_key}
+use Rattle.mt_names.proofs.EntryLemmas.{lookup-remove_entry_elsewhere}
+use Rattle.mt_names.proofs.SameLemmas.{same_key_decides, same_text_decides}
+use Rattle.mt_model.specs.declared.entries.Entry.{Entry}
+use Rattle.mt_model.specs.declared.entries.Entry.TheVariants as entry
+use Rattle.mt_model.specs.declared.entries.EntryKey.{EntryKey}
+use Rattle.mt_model.specs.declared.entries.EntryKey.TheVariants as about
+use Rattle.mt_model.specs.Topology.{KeyspaceState, Keyspaces, Marks, Rules, TopologyState, is_denied, is_marked, is_present, keyspace_at, rule_at, value_of, with_keyspace, with_keyspace_state, with_mark_place, with_new_table, with_rule, with_table}
+use Rattle.mt_model.proofs.TopologyLemmas.{is_marked-set_elsewhere, is_marked-with_mark_place, read_at-unchanged, value_of-rules_changed, value_of-keyspace_changed, value_of-with_keyspace, value_of-with_table_elsewhere, rule_at-with_rule_elsewhere}
+use Rattle.mt_plain.specs.Next.{completed, with_tables, without_tables}
+use Rattle.mt_plain.specs.Plain.{Live, keys_of_name, moves, rule_keys, twelve_keys}
+use Rattle.mt_laws.proofs.LiveLemmas.{IsIn, any-in}
+
+-- the table that an entry is about
+abbrev pub table_of : EntryKey → List ℕ
+table_of (about.Rule key) = key.table
+table_of (about.Denied keyspace table) = table
+table_of (about.Present keyspace table) = table
+
+-- ---- Complete, at another table
+
+rule_at-removed : (rules : Rules) (key other : RuleKey) → key ≢ other → rule_at (remove_entry (same_key key) rules) other ≡ rule_at rules other
+rule_at-removed rules key other apart = ap (λ o. unwrap_or o None) (lookup-remove_entry_elsewhere same_key same_key_decides rules key other apart)
+
+abbrev without_keys : Rules → List RuleKey → Rules
+without_keys rules keys = fold (λ rules key. remove_entry (same_key key) rules) rules keys
+
+-- keys of other tables
+rule_at-without_keys : (keys : List RuleKey) (rules : Rules) (other : RuleKey) → ((key : RuleKey) → IsIn key keys → key ≢ other) → rule_at (without_keys rules keys) other ≡ rule_at rules other
+rule_at-without_keys [] rules other apart = refl
+rule_at-without_keys (key ∷ keys) rules other apart =
+    rule_at-without_keys keys (remove_entry (same_key key) rules) other (λ k is. apart k (inr is)) ∙ rule_at-removed rules key other (apart key (inl refl))
+
+-- each of the twelve keys of a table has that table
+of_name : (keyspace : Option (List ℕ)) (table : List ℕ) (key : RuleKey) → IsIn key (keys_of_name keyspace table) → key.table ≡ table
+of_name keyspace table key (inl e) = ap (λ k. k.table) (sym e)
+of_name keyspace table key (inr (inl e)) = ap (λ k. k.table) (sym e)
+of_name keyspace table key (inr (inr (inl e))) = ap (λ k. k.table) (sym e)
+of_name keyspace table key (inr (inr (inr (inl e)))) = ap (λ k. k.table) (sym e)
+of_name keyspace table key (inr (inr (inr (inr is)))) = absurd is
+
+in-append : {X : Type 0} (xs ys : List X) (x : X) → IsIn x (xs ++ ys) → IsIn x xs ⊎ IsIn x ys
+in-append [] ys x is = inr is
+in-append (y ∷ xs) ys x (inl e) = inl (inl e)
+in-append (y ∷ xs) ys x (inr is) = by (in-append xs ys x is)
+  where
+    by : IsIn x xs ⊎ IsIn x ys → IsIn x (y ∷ xs) ⊎ IsIn x ys
+    by (inl i) = inl (inr i)
+    by (inr i) = inr i
+
+of_twelve : (source target table : List ℕ) (key : RuleKey) → IsIn key (twelve_keys source target table) → key.table ≡ table
+of_twelve source target table key is = by (in-append (keys_of_name None table) (keys_of_name (Some source) table ++ keys_of_name (Some target) table) key is)
+  where
+    later : IsIn key (keys_of_name (Some source) table) ⊎ IsIn key (keys_of_name (Some target) table) → key.table ≡ table
+    later (inl i) = of_name (Some source) table key i
+    later (inr i) = of_name (Some target) table key i
+
+    by : IsIn key (keys_of_name None table) ⊎ IsIn key (keys_of_name (Some source) table ++ keys_of_name (Some target) table) → key.table ≡ table
+    by (inl i) = of_name None table key i
+    by (inr i) = later (in-append (keys_of_name (Some source) table) (keys_of_name (Some target) table) key i)
+
+in-flat_map : {X Y : Type 0} (f : X → List Y) (xs : List X) (y : Y) → IsIn y (flat_map f xs) → (x : X) × IsIn x xs × IsIn y (f x)
+in-flat_map f [] y is = absurd is
+in-flat_map f (x ∷ xs) y is = by (in-flat_map f xs y) (in-append (f x) (flat_map f xs) y is)
+  where
+    by : (IsIn y (flat_map f xs) → (z : _) × IsIn z xs × IsIn y (f z)) → IsIn y (f x) ⊎ IsIn y (flat_map f xs) → (z : _) × IsIn z (x ∷ xs) × IsIn y (f z)
+    by again (inl i) = (x, inl refl, i)
+    by again (inr i) = let r = again i in (r.0, inr r.1, r.2)
+
+in_moved : (w : Live) (table : List ℕ) → IsIn table w.tables → moves w table ≡ true
+in_moved w table is = any-in (λ t. same_text t table) w.tables table is ((same_text_decides table table).1 refl)
+
+not_moved : (w : Live) (table other : List ℕ) → moves w other ≡ false → IsIn table w.tables → table ≢ other
+not_moved w table other unmoved is e = true≢false (sym (in_moved w table is) ∙ ap (moves w) e ∙ unmoved)
+
+is_marked-removed : (marks : Marks) (name other : List ℕ) → name ≢ other → is_marked (remove_entry (same_text name) marks) other ≡ is_marked marks other
+is_marked-removed marks name other apart = ap (λ o. unwrap_or o false) (lookup-remove_entry_elsewhere same_text same_text_decides marks name other apart)
+
+is_marked-without : (tables : List (List ℕ)) (marks : Marks) (other : List ℕ) → ((table : List ℕ) → IsIn table tables → table ≢ other) → is_marked (fold (λ m table. remove_entry (same_text table) m) marks tables) other ≡ is_marked marks other
+is_marked-without [] marks other apart = refl
+is_marked-without (table ∷ tables) marks other apart =
+    is_marked-without tables (remove_entry (same_text table) marks) other (λ t is. apart t (inr is)) ∙ is_marked-removed marks table other (apart table (inl refl))
+
+is_marked-with : (tables : List (List ℕ)) (state : KeyspaceState) (other : List ℕ) → ((table : List ℕ) → IsIn table tables → table ≢ other) → is_marked (with_tables tables state).tables other ≡ is_marked state.tables other
+is_marked-with [] state other apart = refl
+is_marked-with (table ∷ tables) state other apart =
+    is_marked-with tables (with_new_table table state) other (λ t is. apart t (inr is))
+    ∙ is_marked-set_elsewhere (with_mark_place state.tables table) table other true (apart table (inl refl))
+    ∙ is_marked-with_mark_place state.tables table other
+
+denied-with : (tables : List (List ℕ)) (state : KeyspaceState) → (with_tables tables state).denied ≡ state.denied
+denied-with [] state = refl
+denied-with (table ∷ tables) state = denied-with tables (with_new_table table state)
+
+pub is_denied-completed : (u : TopologyState) (w : Live) (keyspace table : List ℕ) → is_denied (completed u w).keyspaces keyspace table ≡ is_denied u.keyspaces keyspace table
+is_denied-completed u w keyspace table =
+    read_at-unchanged (λ state. is_marked state.denied table) false (with_tables w.tables) (with_keyspace_state (without_tables w.tables) u.keyspaces w.source) w.target keyspace
+    (λ state found e. ap (λ marks. is_marked marks table) (denied-with w.tables state))
+    ∙ read_at-unchanged (λ state. is_marked state.denied table) false (without_tables w.tables) u.keyspaces w.source keyspace (λ state found e. refl)
+
+is_present-completed : (u : TopologyState) (w : Live) (keyspace table : List ℕ) → moves w table ≡ false → is_present (completed u w).keyspaces keyspace table ≡ is_present u.keyspaces keyspace table
+is_present-completed u w keyspace table unmoved =
+    read_at-unchanged (λ state. is_marked state.tables table) false (with_tables w.tables) (with_keyspace_state (without_tables w.tables) u.keyspaces w.source) w.target keyspace
+    (λ state found e. is_marked-with w.tables state table (λ t. not_moved w t table unmoved))
+    ∙ read_at-unchanged (λ state. is_marked state.tables table) false (without_tables w.tables) u.keyspaces w.source keyspace
+    (λ state found e. is_marked-without w.tables state.tables table (λ t. not_moved w t table unmoved))
+
+rule_at-completed : (u : TopologyState) (w : Live) (key : RuleKey) → moves w key.table ≡ false → rule_at (completed u w).rules key ≡ rule_at u.rules key
+rule_at-completed u w key unmoved =
+    rule_at-without_keys (rule_keys w) u.rules key
+    (λ k is e. let r = in-flat_map (twelve_keys w.source w.target) w.tables k is in
+    not_moved w r.0 key.table unmoved r.1 (sym (of_twelve w.source w.target r.0 k r.2) ∙ ap (λ x. x.table) e))
+
+pub value_of-completed : (u : TopologyState) (w : Live) (key : EntryKey) → moves w (table_of key) ≡ false → value_of (completed u w) key ≡ value_of u key
+value_of-completed u w (about.Rule key) unmoved = ap (entry.Rule key) (rule_at-completed u w key unmoved)
+value_of-completed u w (about.Denied keyspace table) unmoved = ap (entry.Denied keyspace table) (is_denied-completed u w keyspace table)
+value_of-completed u w (about.Present keyspace table) unmoved = ap (entry.Present keyspace table) (is_present-completed u w keyspace table unmoved)
+
+-- ---- from entries back to what they say
+
+pub rule_from_value : (t u : TopologyState) (key : RuleKey) → value_of t (about.Rule key) ≡ value_of u (about.Rule key) → rule_at t.rules key ≡ rule_at u.rules key
+rule_from_value t u key e = cc
+
+pub denied_from_value : (t u : TopologyState) (keyspace table : List ℕ) → value_of t (about.Denied keyspace table) ≡ value_of u (about.Denied keyspace table) → is_denied t.keyspaces keyspace table ≡ is_denied u.keyspaces keyspace table
+denied_from_value t u keyspace table e = cc
+
+pub present_from_value : (t u : TopologyState) (keyspace table : List ℕ) → value_of t (about.Present keyspace table) ≡ value_of u (about.Present keyspace table) → is_present t.keyspaces keyspace table ≡ is_present u.keyspaces keyspace table
+present_from_value t u keyspace table e = cc
+
+pub value_of-with_rule : (t : TopologyState) (key : RuleKey) (target : Option RuleTarget) (k : EntryKey) → (about.Rule key ≡ k → ⊥) → value_of (record t { rules = with_rule t.rules key target }) k ≡ value_of t k
+value_of-with_rule t key target k apart =
+    value_of-rules_changed t (with_rule t.rules key target) k (λ other is. rule_at-with_rule_elsewhere t.rules key other target (λ e. apart (ap about.Rule e ∙ is)))

@@ -1,0 +1,246 @@
+-- Each state that a run reaches has the parts of its live workflows apart.
+use Rattle.std.proofs.Common.{◌≡◌, ◌≢◌, ◌⊎◌, inl, inr, ℕ, Bool, true, false, not, cond, eqb, leb, List, [], ◌∷◌, ◌++◌, map, filter, find, length, Option, None, Some, is_some, refl, sym, ap, ◌∙◌, subst}
+use Rattle.std.proofs.lemmas.Bool.{true≢false}
+use Rattle.std.specs.List.{list_any}
+use Rattle.std.specs.Prelude.{◌&&◌, ◌||◌, option_map}
+use Rattle.mt_names.specs.Names.{same_text}
+use Rattle.mt_names.proofs.SameLemmas.{same_text_decides}
+use Rattle.mt_model.specs.declared.entries.EntryKey.{EntryKey}
+use Rattle.mt_model.specs.declared.entries.EntryKey.TheVariants as about
+use Rattle.mt_model.specs.declared.entries.Scope.{Scope}
+use Rattle.mt_model.specs.Topology.{TopologyState, is_denied, is_present, value_of, with_keyspace, with_table}
+use Rattle.mt_model.proofs.TopologyLemmas.{value_of-with_keyspace, value_of-with_table_elsewhere}
+use Rattle.mt_plain.specs.Answers.{Answers, Run, after}
+use Rattle.mt_plain.specs.Events.{Event, add_keyspace, add_table, edit_rule, create, advance, cancel, complete, Answer, done, row, advanced, shown, refused, Refusal, full, no_keyspace, no_table, no_tables, same_keyspace, table_in_workflow, target_has_table, workflow_exists, Way}
+use Rattle.mt_plain.specs.Next.{created, next, next_taken, with_completed, without_live}
+use Rattle.mt_plain.specs.Plain.{Live, Plain, has_keyspace, live_at, mover, moves, opening, stands_done, write_journal}
+use Rattle.mt_plain.specs.Refuse.{conflict_refusal, create_is_full, moved_table_refusal, moved_tables_refusal, or_else, refusal_of, refuse_if, watcher_refusal}
+use Rattle.mt_plain.specs.Serve.{has_table}
+use Rattle.mt_laws.specs.Changes.{ChangesTopology, HasSides}
+use Rattle.mt_laws.specs.WayBack.{IsReached, ends_workflow}
+use Rattle.mt_laws.proofs.ChangeLemmas.{LivesAfter, ended, live_next, lives-completed, lives_after, made, made_live, mapped, sides-next}
+use Rattle.mt_laws.proofs.EntryValueLemmas.{denied_from_value, is_denied-completed, present_from_value}
+use Rattle.mt_laws.proofs.LiveLemmas.{Apart, IsApart, IsIn, any-nowhere, apart-filter, apart-map, apart-push, find_none, find_the_one, in-filter, in-map, in-push, sides_same, text_apart}
+use Rattle.mt_laws.proofs.PartLemmas.{HasParts, IsPlaced, IsSettled, opening_has_parts, value-kept}
+use Rattle.mt_laws.proofs.RefusalLemmas.{and-both, fold_or_else-none, not-false, not_some, or_else-none, refuse_if-none}
+use Rattle.mt_laws.proofs.UntouchedLemmas.{same_topology}
+use Rattle.mt_laws.proofs.WayLemmas.{WayChange, abandoned, begun, completed, goes_on, kept, way_change}
+
+-- ---- the workflow that Create makes
+
+pub record IsNew (p : Plain) (name source target : List ℕ) (tables : List (List ℕ)) : Type 0 where
+  pub unnamed : live_at p name ≡ None
+  pub sides : same_text source target ≡ false
+  pub each : (table : List ℕ) → IsIn table tables → (has_table p source table ≡ true) × (mover p table ≡ None)
+
+each_new : (p : Plain) (source target table : List ℕ) → moved_table_refusal p source target table ≡ None → (has_table p source table ≡ true) × (mover p table ≡ None)
+each_new p source target table none =
+    let at_target = refuse_if (has_table p target table) (target_has_table table) in
+    let rest = or_else at_target (conflict_refusal p source target table) in
+    let r = or_else-none (refuse_if (not (has_table p source table)) no_table) (or_else (refuse_if (is_some (mover p table)) table_in_workflow) rest) none in
+    let s = or_else-none (refuse_if (is_some (mover p table)) table_in_workflow) rest r.1 in
+    (not-false (has_table p source table) (refuse_if-none (not (has_table p source table)) no_table r.0),
+    not_some (mover p table) (refuse_if-none (is_some (mover p table)) table_in_workflow s.0))
+
+pub create-none : (p : Plain) (name source target : List ℕ) (tables : List (List ℕ)) → refusal_of p (create name source target tables) ≡ None → IsNew p name source target tables
+create-none p name source target tables none =
+    let h7 = refuse_if (create_is_full p source target tables) full in
+    let h6 = or_else (watcher_refusal p target) h7 in
+    let h5 = or_else (moved_tables_refusal p source target tables) h6 in
+    let h4 = or_else (refuse_if (not (has_keyspace p target)) no_keyspace) h5 in
+    let h3 = or_else (refuse_if (not (has_keyspace p source)) no_keyspace) h4 in
+    let h2 = or_else (refuse_if (same_text source target) same_keyspace) h3 in
+    let h1 = or_else (refuse_if (eqb (length tables) 0) no_tables) h2 in
+    let r0 = or_else-none (refuse_if (is_some (live_at p name)) workflow_exists) h1 none in
+    let r1 = or_else-none (refuse_if (eqb (length tables) 0) no_tables) h2 r0.1 in
+    let r2 = or_else-none (refuse_if (same_text source target) same_keyspace) h3 r1.1 in
+    let r3 = or_else-none (refuse_if (not (has_keyspace p source)) no_keyspace) h4 r2.1 in
+    let r4 = or_else-none (refuse_if (not (has_keyspace p target)) no_keyspace) h5 r3.1 in
+    let r5 = or_else-none (moved_tables_refusal p source target tables) h6 r4.1 in
+    record {
+      unnamed = not_some (live_at p name) (refuse_if-none (is_some (live_at p name)) workflow_exists r0.0);
+      sides = refuse_if-none (same_text source target) same_keyspace r2.0;
+      each = λ table is. each_new p source target table ((fold_or_else-none (moved_table_refusal p source target) tables None r5.0).1 table is);
+    }
+
+-- a table that a list names
+named : (tables : List (List ℕ)) (table : List ℕ) → list_any (λ t. same_text t table) tables ≡ true → IsIn table tables
+named [] table e = absurd (true≢false (sym e))
+named (t ∷ ts) table e = by (named ts table) (same_text t table) refl
+  where
+    by : (list_any (λ x. same_text x table) ts ≡ true → IsIn table ts) → (b : Bool) → same_text t table ≡ b → IsIn table (t ∷ ts)
+    by again true b = inl ((same_text_decides t table).0 b)
+    by again false b = inr (again (rw b at e))
+
+-- where no live workflow moves a table, its keyspace has it by the topology alone
+there_unmoved : (p : Plain) (keyspace table : List ℕ) → mover p table ≡ None → has_table p keyspace table ≡ true → is_present p.topology.keyspaces keyspace table ≡ true
+there_unmoved p keyspace table none has =
+    sym (ap (λ t. cond t true (is_present p.topology.keyspaces keyspace table))
+    (any-nowhere (λ w. moves w table && same_text w.target keyspace) p.lives
+    (λ w is. ap (λ t. t && same_text w.target keyspace) (find_none (λ v. moves v table) p.lives none w is)))) ∙ has
+
+module _ (p : Plain) (name source target : List ℕ) (tables : List (List ℕ)) (new : IsNew p name source target tables) (w : Live)
+  (is_name : w.name ≡ name) (is_source : w.source ≡ source) (is_target : w.target ≡ target) (is_tables : w.tables ≡ tables) where
+  moved_new : (table : List ℕ) → moves w table ≡ true → IsIn table tables
+  moved_new table moved = named tables table (sym (ap (list_any (λ t. same_text t table)) is_tables) ∙ moved)
+
+  pub placed-new : IsPlaced p.topology w
+  placed-new = record {
+    sides = λ e. text_apart source target new.sides (sym is_source ∙ e ∙ is_target);
+    there = λ table moved. let r = new.each table (moved_new table moved) in
+        ap (λ k. is_present p.topology.keyspaces k table) is_source ∙ there_unmoved p source table r.1 r.0;
+  }
+
+  pub apart-new : (v : Live) → IsIn v p.lives → IsApart v w
+  apart-new v is = record {
+    names = λ e. text_apart v.name name (find_none (λ x. same_text x.name name) p.lives new.unnamed v is) (e ∙ is_name);
+    tables = λ table a b. true≢false (sym a ∙ find_none (λ x. moves x table) p.lives (new.each table (moved_new table b)).1 v is);
+  }
+
+-- ---- where a live workflow comes from
+
+not_ended : (p : Plain) (event : Event) (answer : Answer) (w : Live) → IsIn w (next p event answer).lives → ends_workflow w.name event answer ≡ false
+not_ended p (cancel name) done w is = by (same_text name w.name) refl
+  where
+    by : (t : Bool) → same_text name w.name ≡ t → same_text name w.name ≡ false
+    by true t =
+        let keeps = (in-filter (λ x. not (same_text x.name name)) p.lives w is).1 in
+        absurd (true≢false (sym keeps ∙ ap not ((same_text_decides w.name name).1 (sym ((same_text_decides name w.name).0 t)))))
+    by false t = t
+not_ended p (complete name) done w is = by (same_text name w.name) refl
+  where
+    by : (t : Bool) → same_text name w.name ≡ t → same_text name w.name ≡ false
+    by true t =
+        let keeps = (in-filter (λ x. not (same_text x.name name)) p.lives w (subst (IsIn w) (lives-completed p name (live_at p name) refl) is)).1 in
+        absurd (true≢false (sym keeps ∙ ap not ((same_text_decides w.name name).1 (sym ((same_text_decides name w.name).0 t)))))
+    by false t = t
+not_ended p event answer w is = refl
+
+pub data ComesFrom (p : Plain) (event : Event) (answer : Answer) (w : Live) : Type 0 where
+  old : (v : Live) → IsIn v p.lives → live_next p event answer v ≡ w → ComesFrom p event answer w
+  new : (name source target : List ℕ) (tables : List (List ℕ)) → event ≡ create name source target tables
+      → w.name ≡ name → w.source ≡ source → w.target ≡ target → w.tables ≡ tables → w.way ≡ None → ComesFrom p event answer w
+
+comes_from : (p q : Plain) (event : Event) (answer : Answer) → LivesAfter p q event answer → (w : Live) → IsIn w q.lives → ComesFrom p event answer w
+comes_from p q event answer (mapped lives) w is =
+    let r = in-map (live_next p event answer) p.lives w (subst (IsIn w) lives is) in
+    old r.0 r.1 r.2
+comes_from p q event answer (made name source target tables e lives same) w is = by (in-push p.lives (made_live p name source target tables) w (subst (IsIn w) lives is))
+  where
+    by : IsIn w p.lives ⊎ (made_live p name source target tables ≡ w) → ComesFrom p event answer w
+    by (inl i) = old w i (same w)
+    by (inr f) = new name source target tables e (ap (λ x. x.name) (sym f)) (ap (λ x. x.source) (sym f)) (ap (λ x. x.target) (sym f)) (ap (λ x. x.tables) (sym f)) (ap (λ x. x.way) (sym f))
+comes_from p q event answer (ended name e lives same) w is =
+    old w (in-filter (λ x. not (same_text x.name name)) p.lives w (subst (IsIn w) lives is)).0 (same w)
+
+-- ---- the next state
+
+abbrev pub name_of : Plain → Live → Type 0
+name_of p w = (name : List ℕ) → same_text w.name name ≡ true → live_at p name ≡ Some w
+
+pub live_by_name : (p : Plain) → Apart p.lives → (w : Live) → IsIn w p.lives → name_of p w
+live_by_name p apart w is name e =
+    find_the_one (λ v. same_text v.name name) p.lives w apart
+    (λ v f one. one.names ((same_text_decides v.name name).0 f ∙ sym ((same_text_decides w.name name).0 e))) is e
+
+settled-change : (event : Event) (w v : Live) → WayChange event w v → IsSettled w → IsSettled v
+settled-change event w v (kept same_way same_switched) settled way opens before =
+    same_switched ∙ settled way (sym same_way ∙ opens) before
+settled-change event w v (begun first begins rests opens is same) settled way now before =
+    let e : Some first ≡ Some way = sym opens ∙ now in
+    let one : first ≡ way = cc in
+    same ∙ sym is ∙ ap (λ x. x.before) one
+settled-change event w v (goes_on first later was is same_before same_after holds) settled way now before =
+    let e : Some later ≡ Some way = sym is ∙ now in
+    let one : later ≡ way = cc in
+    holds (settled first was) (ap (λ x. stands_done x write_journal) one ∙ before) ∙ ap (λ x. x.before) one
+settled-change event w v (completed first steps was rests is) settled way now before = let h : None ≡ Some way = sym rests ∙ now in absurd cc
+settled-change event w v (abandoned first undoes was rests is journal) settled way now before = let h : None ≡ Some way = sym rests ∙ now in absurd cc
+
+undenied-taken : (p : Plain) (event : Event) (keyspace table : List ℕ) → refusal_of p event ≡ None → is_denied (next_taken p event).topology.keyspaces keyspace table ≡ is_denied p.topology.keyspaces keyspace table
+undenied-taken p (add_keyspace name) keyspace table none = denied_from_value (with_keyspace p.topology name) p.topology keyspace table (value_of-with_keyspace p.topology name (about.Denied keyspace table))
+undenied-taken p (add_table k t) keyspace table none =
+    denied_from_value (with_table p.topology k t) p.topology keyspace table (value_of-with_table_elsewhere p.topology k t (about.Denied keyspace table) (λ e. absurd cc))
+undenied-taken p (edit_rule key target) keyspace table none = refl
+undenied-taken p (complete workflow) keyspace table none = by (live_at p workflow)
+  where
+    by : (o : Option Live) → is_denied (with_completed p o).topology.keyspaces keyspace table ≡ is_denied p.topology.keyspaces keyspace table
+    by None = refl
+    by (Some w) = is_denied-completed p.topology w keyspace table
+undenied-taken p event keyspace table none = ap (λ u. is_denied u.keyspaces keyspace table) (same_topology p event done (λ h. h))
+
+undenied-next : (p : Plain) (event : Event) (answer : Answer) (keyspace table : List ℕ) → Answers p event answer → is_denied (next p event answer).topology.keyspaces keyspace table ≡ is_denied p.topology.keyspaces keyspace table
+undenied-next p event done keyspace table given = undenied-taken p event keyspace table given.0
+undenied-next p event (row r) keyspace table given = undenied-taken p event keyspace table given.0
+undenied-next p event (shown s) keyspace table given = refl
+undenied-next p event (refused refusal) keyspace table given = refl
+undenied-next p (advance workflow name at at_most) (advanced events rows) keyspace table given =
+    ap (λ u. is_denied u.keyspaces keyspace table) (same_topology p (advance workflow name at at_most) (advanced events rows) (λ h. h))
+undenied-next p event (advanced events rows) keyspace table given = refl
+
+-- an event that is not refused, or that changes nothing
+taken_or_same : (p : Plain) (event : Event) (answer : Answer) → Answers p event answer → (refusal_of p event ≡ None) ⊎ (next p event answer ≡ p)
+taken_or_same p event done given = inl given.0
+taken_or_same p event (row r) given = inl given.0
+taken_or_same p event (shown s) given = inl given.0
+taken_or_same p event (advanced events rows) given = inl given.0
+taken_or_same p event (refused refusal) given = inr refl
+
+module _ (p : Plain) (event : Event) (answer : Answer) (has : HasParts p) (given : Answers p event answer) where
+  abbrev q : Plain
+  q = next p event answer
+
+  topology-create : (name source target : List ℕ) (tables : List (List ℕ)) → event ≡ create name source target tables → q.topology ≡ p.topology
+  topology-create name source target tables e = same_topology p event answer (λ h. subst ChangesTopology e h)
+
+  apart-next : refusal_of p event ≡ None → LivesAfter p q event answer → Apart q.lives
+  apart-next none (mapped lives) = subst Apart (sym lives) (apart-map (live_next p event answer) p.lives (sides-next p event answer) has.apart)
+  apart-next none (made name source target tables e lives same) =
+      let new = create-none p name source target tables (subst (λ x. refusal_of p x ≡ None) e none) in
+      subst Apart (sym lives)
+      (apart-push p.lives (made_live p name source target tables) (apart-new p name source target tables new (made_live p name source target tables) refl refl refl refl) has.apart)
+  apart-next none (ended name e lives same) = subst Apart (sym lives) (apart-filter (λ w. not (same_text w.name name)) p.lives has.apart)
+
+  placed-next : refusal_of p event ≡ None → (w : Live) → IsIn w q.lives → ComesFrom p event answer w → IsPlaced q.topology w
+  placed-next none w is (old v i e) =
+      let sides : HasSides v w = subst (HasSides v) e (sides-next p event answer v) in
+      let was = has.placed v i in
+      let lives = subst (λ n. ends_workflow n event answer ≡ false) (sym sides.name) (not_ended p event answer w is) in
+      record {
+        sides = λ f. was.sides (sides.source ∙ f ∙ sym sides.target);
+        there = λ table moved.
+            let before : moves v table ≡ true = ap (list_any (λ t. same_text t table)) sides.tables ∙ moved in
+            let keeps = and-both (moves v table) (same_text v.source v.source || same_text v.target v.source) before (ap (λ t. t || same_text v.target v.source) ((same_text_decides v.source v.source).1 refl)) in
+            ap (λ k. is_present q.topology.keyspaces k table) (sym sides.source)
+            ∙ present_from_value q.topology p.topology v.source table (value-kept p v has i (about.Present v.source table) keeps event answer given lives)
+            ∙ was.there table before;
+      }
+  placed-next none w is (new name source target tables e is_name is_source is_target is_tables rests) =
+      subst (λ u. IsPlaced u w) (sym (topology-create name source target tables e))
+      (placed-new p name source target tables (create-none p name source target tables (subst (λ x. refusal_of p x ≡ None) e none)) w is_name is_source is_target is_tables)
+
+  settled-next : (w : Live) → ComesFrom p event answer w → IsSettled w
+  settled-next w (old v i e) =
+      subst IsSettled e (settled-change event v (live_next p event answer v) (way_change p event answer v (live_by_name p has.apart v i) given) (has.settled v i))
+  settled-next w (new name source target tables e is_name is_source is_target is_tables rests) = λ way opens before. let h : None ≡ Some way = sym rests ∙ opens in absurd cc
+
+  from_taken : (refusal_of p event ≡ None) ⊎ (q ≡ p) → HasParts q
+  from_taken (inr same) = subst HasParts (sym same) has
+  from_taken (inl none) = record {
+    apart = apart-next none (lives_after p event answer);
+    placed = λ w is. placed-next none w is (comes_from p q event answer (lives_after p event answer) w is);
+    settled = λ w is. settled-next w (comes_from p q event answer (lives_after p event answer) w is);
+    undenied = λ keyspace table. undenied-next p event answer keyspace table given ∙ has.undenied keyspace table;
+  }
+
+  pub next_has_parts : HasParts q
+  next_has_parts = from_taken (taken_or_same p event answer given)
+
+pub run_has_parts : (events : List Event) (answers : List Answer) (p : Plain) → Run p events answers → HasParts p → HasParts (after p events answers)
+run_has_parts [] [] p run has = has
+run_has_parts [] (answer ∷ answers) p run has = has
+run_has_parts (event ∷ events) [] p run has = has
+run_has_parts (event ∷ events) (answer ∷ answers) p run has = run_has_parts events answers (next p event answer) run.1 (next_has_parts p event answer has run.0)
+
+pub reached_has_parts : (p : Plain) → IsReached p → HasParts p
+reached_has_parts p reached = subst HasParts reached.is (run_has_parts reached.events reached.answers (opening reached.scopes) reached.run (opening_has_parts reached.scopes))

@@ -1,0 +1,192 @@
+-- Parts apart, and where a moved table is writable.
+use Rattle.std.proofs.Common.{◌≡◌, ◌≢◌, ◌⊎◌, ◌↔◌, inl, inr, ℕ, suc, ◌+◌, ◌<◌, ◌≤◌, Bool, true, false, not, cond, ltb, leb, List, [], ◌∷◌, find, length, Option, None, Some, is_some, refl, sym, ap, ◌∙◌, subst, arith, ltb-true, lt-ltb}
+use Rattle.std.proofs.lemmas.Bool.{true≢false}
+use Rattle.std.proofs.lemmas.List.Elements.{All-from_recursion}
+use Rattle.std.proofs.lemmas.List.Kept.{AllPairs-cons}
+use Rattle.std.specs.Option.{option_map_or}
+use Rattle.std.specs.Prelude.{◌&&◌, ◌||◌, AllPairs}
+use Rattle.mt_names.specs.declared.types.TypeSet.{TypeSet}
+use Rattle.mt_names.specs.Names.{same_text}
+use Rattle.mt_names.proofs.SameLemmas.{same_text_decides}
+use Rattle.mt_model.specs.declared.entries.Entry.{Entry}
+use Rattle.mt_model.specs.declared.entries.Entry.TheVariants as entry
+use Rattle.mt_model.specs.declared.entries.EntryKey.{EntryKey}
+use Rattle.mt_model.specs.declared.entries.EntryKey.TheVariants as about
+use Rattle.mt_model.specs.Topology.{value_of}
+use Rattle.mt_plain.specs.Events.{Way}
+use Rattle.mt_plain.specs.Plain.{Live, Plain, before_way, changes_reads, first_step, has_part, is_side, mover, moves, next_step, owner, owner_by, part_owner, refresh_source, refresh_target, stands_done}
+use Rattle.mt_plain.specs.Serve.{IsWritable, has_table, is_denied_at, owned_before, refuses, refuses_moved, served_by, served_entry, types_by, types_by_way}
+use Rattle.mt_laws.specs.WayBack.{IsReached}
+use Rattle.mt_laws.proofs.EntryValueLemmas.{table_of}
+use Rattle.mt_laws.proofs.LiveLemmas.{Apart, IsApart, IsIn, all_from_in, find_none, find_some, in_all, text_differs}
+use Rattle.mt_laws.proofs.PartLemmas.{HasParts, moved_from_part, there_at_source, there_at_target}
+use Rattle.mt_laws.proofs.ReachLemmas.{reached_has_parts}
+use Rattle.mt_laws.proofs.RefusalLemmas.{and-both, and-true, not-false, or-cases, or-right}
+
+-- ---- parts
+
+pairs_apart : (R : Live → Live → Type 0) → ((v w : Live) → IsApart v w → R v w) → (xs : List Live) → Apart xs → AllPairs R xs
+pairs_apart R each [] apart = λ i j d lt below. absurd (omega arith)
+pairs_apart R each (x ∷ xs) apart =
+    AllPairs-cons R x xs (All-from_recursion (R x) xs (all_from_in (R x) xs (λ w is. each x w (in_all (IsApart x) xs w apart.0 is)))) (pairs_apart R each xs apart.1)
+
+pub no_key_in_two : (p : Plain) → IsReached p → AllPairs (λ v w. (key : EntryKey) → has_part v key ≡ true → has_part w key ≡ true → ⊥) p.lives
+no_key_in_two p reached =
+    pairs_apart (λ v w. (key : EntryKey) → has_part v key ≡ true → has_part w key ≡ true → ⊥)
+    (λ v w apart key a b. apart.tables (table_of key) (moved_from_part v key a) (moved_from_part w key b)) p.lives (reached_has_parts p reached).apart
+
+pub no_table_in_two : (p : Plain) → IsReached p → AllPairs (λ v w. (table : List ℕ) → moves v table ≡ true → moves w table ≡ true → ⊥) p.lives
+no_table_in_two p reached =
+    pairs_apart (λ v w. (table : List ℕ) → moves v table ≡ true → moves w table ≡ true → ⊥) (λ v w apart. apart.tables) p.lives (reached_has_parts p reached).apart
+
+pub no_name_of_two : (p : Plain) → IsReached p → AllPairs (λ v w. v.name ≢ w.name) p.lives
+no_name_of_two p reached = pairs_apart (λ v w. v.name ≢ w.name) (λ v w apart. apart.names) p.lives (reached_has_parts p reached).apart
+
+pub no_denial_elsewhere : (p : Plain) → IsReached p → (keyspace table : List ℕ) → part_owner p (about.Denied keyspace table) ≡ None → served_entry p (about.Denied keyspace table) ≡ entry.Denied keyspace table false
+no_denial_elsewhere p reached keyspace table none =
+    ap (λ o. option_map_or (λ w. served_by p.topology w (about.Denied keyspace table)) o (value_of p.topology (about.Denied keyspace table))) none
+    ∙ ap (entry.Denied keyspace table) ((reached_has_parts p reached).undenied keyspace table)
+
+refuses_elsewhere : (p : Plain) (keyspace table : List ℕ) → part_owner p (about.Denied keyspace table) ≡ None → (o : Option Live) → mover p table ≡ o → refuses_moved o keyspace ≡ false
+refuses_elsewhere p keyspace table none None found = refl
+refuses_elsewhere p keyspace table none (Some w) found =
+    let r = find_some (λ v. moves v table) p.lives w found in
+    ap (λ t. t && is_denied_at w (types_by w (cond (owned_before w keyspace) refresh_source refresh_target)) keyspace)
+    (sym (ap (λ t. t && is_side w keyspace) r.1) ∙ find_none (λ v. has_part v (about.Denied keyspace table)) p.lives none w r.0)
+
+pub no_refusal_elsewhere : (p : Plain) (keyspace table : List ℕ) → part_owner p (about.Denied keyspace table) ≡ None → refuses p keyspace table ≡ false
+no_refusal_elsewhere p keyspace table none = refuses_elsewhere p keyspace table none (mover p table) refl
+
+-- ---- which side refuses
+
+refresh_order : (way : Way) → stands_done way refresh_target ≡ true → stands_done way refresh_source ≡ true
+refresh_order way e =
+    let r = and-true (leb (first_step way) 8) (ltb 8 (first_step way + way.done)) e in
+    and-both (leb (first_step way) 2) (ltb 2 (first_step way + way.done)) (early (changes_reads way)) (further (first_step way + way.done) r.1)
+  where
+    early : (t : Bool) → leb (cond t 0 1) 2 ≡ true
+    early true = refl
+    early false = refl
+
+    further : (n : ℕ) → ltb 8 n ≡ true → ltb 2 n ≡ true
+    further n lt = let h = ltb-true 8 n lt in lt-ltb 2 n (omega arith)
+
+-- by whether primary was switched before the way and is after it, and whether the two refreshes stand done
+not_both : (before source_done target_done after : Bool) → (target_done ≡ true → source_done ≡ true)
+    → cond (cond (not before) source_done target_done) after before ≡ false → not (cond (cond before source_done target_done) after before) ≡ false → ⊥
+not_both true s true true order e f = true≢false e
+not_both true s false a order e f = true≢false e
+not_both true true true false order e f = true≢false f
+not_both true false true false order e f = true≢false (sym (order refl))
+not_both false s false a order e f = true≢false f
+not_both false s true false order e f = true≢false f
+not_both false true true true order e f = true≢false e
+not_both false false true true order e f = true≢false (sym (order refl))
+
+primary-cond : (t : Bool) (a b : TypeSet) → (cond t a b).primary ≡ cond t a.primary b.primary
+primary-cond true a b = refl
+primary-cond false a b = refl
+
+abbrev step_by : Bool → ℕ
+step_by owned = cond owned refresh_source refresh_target
+
+primary-step : (way : Way) (owned : Bool) → (cond (stands_done way (step_by owned)) way.after way.before).primary ≡ cond (cond owned (stands_done way refresh_source) (stands_done way refresh_target)) way.after.primary way.before.primary
+primary-step way true = primary-cond (stands_done way refresh_source) way.after way.before
+primary-step way false = primary-cond (stands_done way refresh_target) way.after way.before
+
+abbrev before_by : TypeSet → Option Way → TypeSet
+before_by switched o = option_map_or (λ way. way.before) o switched
+
+not_both_sides : (switched : TypeSet) (o : Option Way) → (types_by_way switched o (step_by (not (before_by switched o).primary))).primary ≡ false
+    → not (types_by_way switched o (step_by (before_by switched o).primary)).primary ≡ false → ⊥
+not_both_sides switched None e f = true≢false (sym (not-false switched.primary f) ∙ e)
+not_both_sides switched (Some way) e f =
+    not_both way.before.primary (stands_done way refresh_source) (stands_done way refresh_target) way.after.primary (refresh_order way)
+    (sym (primary-step way (not way.before.primary)) ∙ e) (ap not (sym (primary-step way way.before.primary)) ∙ f)
+
+module _ (p : Plain) (w : Live) (table : List ℕ) (has : HasParts p) (found : mover p table ≡ Some w) where
+  is_live : IsIn w p.lives
+  is_live = (find_some (λ v. moves v table) p.lives w found).0
+
+  moved : moves w table ≡ true
+  moved = (find_some (λ v. moves v table) p.lives w found).1
+
+  differs : same_text w.source w.target ≡ false
+  differs = text_differs w.source w.target (has.placed w is_live).sides
+
+  turned : same_text w.target w.source ≡ false
+  turned = text_differs w.target w.source (λ e. (has.placed w is_live).sides (sym e))
+
+  itself : (name : List ℕ) → same_text name name ≡ true
+  itself name = (same_text_decides name name).1 refl
+
+  owned-source : owned_before w w.source ≡ not (before_way w).primary
+  owned-source = by (before_way w).primary
+    where
+      by : (t : Bool) → same_text (cond t w.target w.source) w.source ≡ not t
+      by true = turned
+      by false = itself w.source
+
+  owned-target : owned_before w w.target ≡ (before_way w).primary
+  owned-target = by (before_way w).primary
+    where
+      by : (t : Bool) → same_text (cond t w.target w.source) w.target ≡ t
+      by true = itself w.target
+      by false = differs
+
+  abbrev refused_by : List ℕ → TypeSet → Bool
+  refused_by keyspace types = is_side w keyspace && is_denied_at w types keyspace
+
+  at-source : (types : TypeSet) → refused_by w.source types ≡ types.primary
+  at-source types = rw (itself w.source) refl
+
+  at-target : (types : TypeSet) → refused_by w.target types ≡ not types.primary
+  at-target types = rw (differs, itself w.target) refl
+
+  pub refused-source : refuses p w.source table ≡ (types_by w (step_by (not (before_way w).primary))).primary
+  refused-source =
+      ap (λ o. refuses_moved o w.source) found ∙ at-source (types_by w (step_by (owned_before w w.source)))
+      ∙ ap (λ t. (types_by w (step_by t)).primary) owned-source
+
+  pub refused-target : refuses p w.target table ≡ not (types_by w (step_by (before_way w).primary)).primary
+  refused-target =
+      ap (λ o. refuses_moved o w.target) found ∙ at-target (types_by w (step_by (owned_before w w.target)))
+      ∙ ap (λ t. not (types_by w (step_by t)).primary) owned-target
+
+  pub not_writable_in_two : IsWritable p w.source table → IsWritable p w.target table → ⊥
+  not_writable_in_two at_source at_target = not_both_sides w.switched w.way (sym refused-source ∙ at_source.1) (sym refused-target ∙ at_target.1)
+
+  -- ---- at rest
+
+  module _ (rests : w.way ≡ None) where
+    rest-source : refuses p w.source table ≡ w.switched.primary
+    rest-source = refused-source ∙ ap (λ o. (types_by_way w.switched o (step_by (not (before_by w.switched o).primary))).primary) rests
+
+    rest-target : refuses p w.target table ≡ not w.switched.primary
+    rest-target = refused-target ∙ ap (λ o. not (types_by_way w.switched o (step_by (before_by w.switched o).primary)).primary) rests
+
+    owner-if : (t : Bool) → w.switched.primary ≡ t → owner w ≡ cond t w.target w.source
+    owner-if t e = ap (λ b. cond b w.target w.source) e
+
+    writable-owner : (t : Bool) → w.switched.primary ≡ t → IsWritable p (cond t w.target w.source) table
+    writable-owner true e = (there_at_target p w table is_live moved, rest-target ∙ ap not e)
+    writable-owner false e = (there_at_source p w table has is_live moved, rest-source ∙ e)
+
+    owner-writable : (keyspace : List ℕ) → (same_text w.source keyspace ≡ true) ⊎ (same_text w.target keyspace ≡ true) → IsWritable p keyspace table → keyspace ≡ owner w
+    owner-writable keyspace (inl e) writable =
+        let is = (same_text_decides w.source keyspace).0 e in
+        sym is ∙ sym (owner-if false (sym rest-source ∙ ap (λ k. refuses p k table) is ∙ writable.1))
+    owner-writable keyspace (inr e) writable =
+        let is = (same_text_decides w.target keyspace).0 e in
+        sym is ∙ sym (owner-if true (not-false w.switched.primary (sym rest-target ∙ ap (λ k. refuses p k table) is ∙ writable.1)))
+
+    pub writable_at_rest : (keyspace : List ℕ) → is_side w keyspace ≡ true → IsWritable p keyspace table ↔ (keyspace ≡ owner w)
+    writable_at_rest keyspace side =
+        (owner-writable keyspace (or-cases (same_text w.source keyspace) (same_text w.target keyspace) side),
+        λ e. subst (λ k. IsWritable p k table) (sym (owner-if w.switched.primary refl) ∙ sym e) (writable-owner w.switched.primary refl))
+
+pub never_writable_in_two : (p : Plain) → IsReached p → (table : List ℕ) (w : Live) → mover p table ≡ Some w → IsWritable p w.source table → IsWritable p w.target table → ⊥
+never_writable_in_two p reached table w found = not_writable_in_two p w table (reached_has_parts p reached) found
+
+pub writable_at_the_owner : (p : Plain) → IsReached p → (table : List ℕ) (w : Live) → mover p table ≡ Some w → w.way ≡ None → (keyspace : List ℕ) → is_side w keyspace ≡ true → IsWritable p keyspace table ↔ (keyspace ≡ owner w)
+writable_at_the_owner p reached table w found rests = writable_at_rest p w table (reached_has_parts p reached) found rests
