@@ -8,6 +8,7 @@ pub mod ListLemmas
 pub mod NumberLemmas
 pub mod OutputLemmas
 pub mod RunLemmas
+pub mod ServeLemmas
 pub mod TableLemmas
 pub mod TextLemmas
 pub mod WayLemmas

@@ -1,3 +1,4 @@
 pub mod Acknowledged
 pub mod Lines
 pub mod Numbers
+pub mod Parts

@@ -4,6 +4,7 @@
 mod events;
 mod runs;
 mod scripts;
+mod serving;
 mod tables;
 
 pub use events::{
@@ -15,6 +16,7 @@ pub use scripts::{
     drives_end_within_their_turns, each_line_that_writes_writes_one_line,
     output_is_what_is_written_where_memory_is_ample,
 };
+pub use serving::lists_of_entries_say_what_is_served;
 pub use tables::{
     an_answer_changes_a_row_by_its_operation_alone, tables_keep_numbers_of_their_own,
 };
