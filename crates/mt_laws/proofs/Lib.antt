@@ -15,6 +15,7 @@ pub mod PartLemmas
 pub mod ReachLemmas
 pub mod RefusalLemmas
 pub mod RunLemmas
+pub mod ServeLemmas
 pub mod StepCountLemmas
 pub mod TableLemmas
 pub mod TextLemmas

@@ -2,4 +2,5 @@ pub mod Acknowledged
 pub mod Changes
 pub mod Lines
 pub mod Numbers
+pub mod Parts
 pub mod WayBack

@@ -6,6 +6,7 @@ mod events;
 mod parts;
 mod runs;
 mod scripts;
+mod serving;
 mod tables;
 mod way_back;
 
@@ -22,6 +23,7 @@ pub use scripts::{
     drives_end_within_their_turns, each_line_that_writes_writes_one_line,
     output_is_what_is_written_where_memory_is_ample,
 };
+pub use serving::lists_of_entries_say_what_is_served;
 pub use tables::{
     an_answer_changes_a_row_by_its_operation_alone, tables_keep_numbers_of_their_own,
 };
