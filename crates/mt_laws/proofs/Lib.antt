@@ -11,5 +11,6 @@ pub mod RefusalLemmas
 pub mod RunLemmas
 pub mod TableLemmas
 pub mod UntouchedLemmas
+pub mod WayBackLemmas
 pub mod WayLemmas
 pub mod WritableLemmas
