@@ -8,9 +8,11 @@ pub mod OutputLemmas
 pub mod PartLemmas
 pub mod ReachLemmas
 pub mod RefusalLemmas
+pub mod ReverseLemmas
 pub mod RunLemmas
 pub mod TableLemmas
 pub mod UntouchedLemmas
 pub mod WayBackLemmas
 pub mod WayLemmas
 pub mod WritableLemmas
+pub mod TrafficLemmas
