@@ -14,12 +14,15 @@ pub mod OutputLemmas
 pub mod PartLemmas
 pub mod ReachLemmas
 pub mod RefusalLemmas
+pub mod ReverseLemmas
 pub mod RunLemmas
 pub mod ServeLemmas
 pub mod StepCountLemmas
 pub mod TableLemmas
 pub mod TextLemmas
 pub mod UntouchedLemmas
+pub mod WayBackLemmas
 pub mod WayLemmas
 pub mod WordLemmas
 pub mod WritableLemmas
+pub mod TrafficLemmas

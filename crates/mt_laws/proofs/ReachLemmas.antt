@@ -81,7 +81,7 @@ there_unmoved p keyspace table none has =
 
 module _ (p : Plain) (name source target : List ℕ) (tables : List (List ℕ)) (new : IsNew p name source target tables) (w : Live)
   (is_name : w.name ≡ name) (is_source : w.source ≡ source) (is_target : w.target ≡ target) (is_tables : w.tables ≡ tables) where
-  moved_new : (table : List ℕ) → moves w table ≡ true → IsIn table tables
+  pub moved_new : (table : List ℕ) → moves w table ≡ true → IsIn table tables
   moved_new table moved = named tables table (sym (ap (list_any (λ t. same_text t table)) is_tables) ∙ moved)
 
   pub placed-new : IsPlaced p.topology w

@@ -7,7 +7,7 @@ use Rattle.mt_model.specs.declared.entries.EntryKey.{EntryKey}
 use Rattle.mt_model.specs.declared.entries.Scope.{Scope}
 use Rattle.mt_plain.specs.Answers.{Answers, Run, after}
 use Rattle.mt_plain.specs.Drive.{way_of}
-use Rattle.mt_plain.specs.Events.{Event, begin_switch, begin_reverse, step, cancel, complete, Answer, done}
+use Rattle.mt_plain.specs.Events.{Event, create, begin_switch, begin_reverse, step, cancel, complete, Answer, done}
 use Rattle.mt_plain.specs.Next.{next}
 use Rattle.mt_plain.specs.Plain.{Plain, has_part, live_at, opening}
 
@@ -33,6 +33,15 @@ ends_workflow name event answer = false
 abbrev pub StaysLive : (name : List ℕ) → List Event → List Answer → Type 0
 StaysLive name (event ∷ events) (answer ∷ answers) = (ends_workflow name event answer ≡ false) × StaysLive name events answers
 StaysLive name events answers = ⊤
+
+-- from the state before a create that was taken to a later state, whatever came between: the workflow that it made is still live
+pub record SinceCreate (name source target : List ℕ) (tables : List (List ℕ)) (p q : Plain) : Type 0 where
+  pub created : Answers p (create name source target tables) done
+  pub events : List Event
+  pub answers : List Answer
+  pub run : Run (next p (create name source target tables) done) events answers
+  pub live : StaysLive name events answers
+  pub is : after (next p (create name source target tables) done) events answers ≡ q
 
 -- at each point of a run a way of the workflow is open
 abbrev pub StaysOpen : (name : List ℕ) → Plain → List Event → List Answer → Type 0

@@ -27,4 +27,7 @@ pub use serving::lists_of_entries_say_what_is_served;
 pub use tables::{
     an_answer_changes_a_row_by_its_operation_alone, tables_keep_numbers_of_their_own,
 };
-pub use way_back::a_way_back_is_open_before_the_journal;
+pub use way_back::{
+    a_reversal_gives_the_part_back, a_way_back_is_open_before_the_journal,
+    an_abandoned_way_gives_the_part_back, cancel_gives_the_part_back,
+};
