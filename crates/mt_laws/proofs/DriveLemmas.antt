@@ -7,16 +7,17 @@ use Rattle.std.specs.Prelude.{◌&&◌, is_some, option_and_then}
 use Rattle.mt_names.specs.declared.types.TypeSet.{TypeSet}
 use Rattle.mt_plain.specs.Answers.{Answers, Refuses}
 use Rattle.mt_plain.specs.Documents.{number_text}
-use Rattle.mt_plain.specs.Drive.{Driving, begins, steps, feeds, gives_up, Heard, goes_on, ends, event_of, fails, feeding_stream, gives_up_or_stops, heard, most_at_once, most_tries, position_of, refused_step, steps_done, tries_again, unless_closed, way_of}
+use Rattle.mt_plain.specs.Drive.{Driving, begins, steps, feeds, gives_up, Heard, goes_on, ends, event_of, fails, feeding_stream, heard, most_at_once, most_tries, position_of, refused_step, steps_done, unless_closed, way_of}
 use Rattle.mt_plain.specs.Events.{begin_switch, begin_reverse, step, undo, Refusal, memory, under_way, nothing_under_way, nothing_to_switch, nothing_to_reverse, not_level, past_journal, watcher_refused, no_watcher, stale, full, undoing, refusal_text, Way, Answer, done, row, advanced, shown, refused}
 use Rattle.mt_plain.specs.Next.{next, with_step, with_undo, with_way_to, types_and, types_without}
 use Rattle.mt_plain.specs.Output.{Drives, GoesOn, Rest, line_feed}
-use Rattle.mt_plain.specs.Plain.{Live, Plain, behind_last, catch_up, changed_types, changes_reads, first_step, live_at, next_step, refresh_source, refresh_target, stands_done, switch_reads, write_journal}
+use Rattle.mt_plain.specs.Plain.{Live, Plain, behind_last, catch_up, changed_types, first_step, live_at, next_step, refresh_source, refresh_target, stands_done, switch_reads, write_journal}
 use Rattle.mt_plain.specs.Refuse.{begin_reverse_refusal, begin_switch_refusal, has_more, in_workflow, is_behind, is_of_primary, most_journal_entries, new_owner, old_owner, or_else, own_refusal, refusal_of, refuse_if, share_type, step_refusal, undo_refusal, will_read_other_side}
 use Rattle.mt_laws.proofs.DocumentLemmas.{refusal-no_feed}
 use Rattle.mt_laws.proofs.ListLemmas.{cond-either, cond-holds}
 use Rattle.mt_laws.proofs.TextLemmas.{NoFeed, no_feed-append, no_feed-number}
 use Rattle.mt_laws.proofs.StepCountLemmas.{HasWay, backward_has_steps, few_done, few_undone, forward_has_steps, has_steps, has_way, way_of-advance, way_of-begun, way_of-step, way_of-undo}
+use Rattle.mt_laws.proofs.PlainWords.{changes_reads, gives_up_or_stops}
 
 -- ---- how many turns are enough
 
@@ -109,14 +110,17 @@ few_steps way = cond-either (λ n. n ≤ 12) _ 12 1 (omega arith) (omega arith)
 -- ---- a drive that can't go on
 
 fails-fits : (turns tries : ℕ) (p : Plain) (workflow : List ℕ) (refusal : Refusal) → Goes (suc turns) tries p workflow → FitsHeard turns p (fails p workflow refusal)
-fails-fits turns tries p workflow refusal goes = subst (λ o. FitsHeard turns p (gives_up_or_stops workflow refusal o)) (sym goes.is) by
+fails-fits turns tries p workflow refusal goes = subst (λ o. FitsHeard turns p (gives_up_or_stops done workflow refusal o)) (sym goes.is) by
   where
-    by : FitsHeard turns p (gives_up_or_stops workflow refusal (Some goes.way))
+    done : ℕ
+    done = steps_done p workflow
+
+    by : FitsHeard turns p (gives_up_or_stops done workflow refusal (Some goes.way))
     by =
-        let text = codes "stopped " ++ refusal_text refusal ++ codes " " ++ number_text goes.way.done in
+        let text = codes "stopped " ++ refusal_text refusal ++ codes " " ++ number_text done in
         cond-holds (FitsHeard turns p) (stands_done goes.way write_journal) (ends text) (goes_on (gives_up workflow refusal))
-        (λ past. no_feed-append (codes "stopped " ++ refusal_text refusal ++ codes " ") (number_text goes.way.done)
-        (no_feed-append (codes "stopped " ++ refusal_text refusal) (codes " ") (no_feed-append (codes "stopped ") (refusal_text refusal) (record { all = refl }) (refusal-no_feed refusal)) (record { all = refl })) (no_feed-number goes.way.done))
+        (λ past. no_feed-append (codes "stopped " ++ refusal_text refusal ++ codes " ") (number_text done)
+        (no_feed-append (codes "stopped " ++ refusal_text refusal) (codes " ") (no_feed-append (codes "stopped ") (refusal_text refusal) (record { all = refl }) (refusal-no_feed refusal)) (record { all = refl })) (no_feed-number done))
         (λ before.
         let few : next_step goes.way ≤ 6 = few_done goes.way before in
         let many : 6 ≤ turns = enough-undo turns tries (next_step goes.way) few goes.enough in
@@ -165,16 +169,11 @@ step-level p workflow at way has = subst (λ o. LevelAt (next_step way) (in_work
         (or_else-level (next_step way) (refuse_if (not (eqb at way.done)) (stale way.done)) (own_refusal p w way (next_step way)) (refuse_if-level (next_step way) (not (eqb at way.done)) (stale way.done) (λ e. cc))
         (own_refusal-level p w way (next_step way))))
 
-tries_again-fits : (turns tries : ℕ) (p : Plain) (workflow : List ℕ) (goes : Goes (suc turns) tries p workflow) → (next_step goes.way ≡ 0) ⊎ (next_step goes.way ≡ 3) → FitsHeard turns p (tries_again p workflow tries)
-tries_again-fits turns zero p workflow goes at = fails-fits turns zero p workflow not_level goes
-tries_again-fits turns (suc zero) p workflow goes at = fails-fits turns (suc zero) p workflow not_level goes
-tries_again-fits turns (suc (suc left)) p workflow goes at =
+refused_step-fits : (turns tries : ℕ) (p : Plain) (workflow : List ℕ) (refusal : Refusal) → Goes (suc turns) tries p workflow → Refuses p (step workflow (steps_done p workflow)) refusal → FitsHeard turns p (refused_step p workflow tries refusal)
+refused_step-fits turns (suc (suc left)) p workflow not_level goes a =
+    let at = step-level p workflow (steps_done p workflow) goes.way (has_way p workflow goes.way goes.is) a in
     let (t, is, enough) = enough-again turns left (next_step goes.way) at goes.enough in
     (t, is, record { way = goes.way; is = goes.is; left = goes.left; tried = omega arith; enough = enough })
-
-refused_step-fits : (turns tries : ℕ) (p : Plain) (workflow : List ℕ) (refusal : Refusal) → Goes (suc turns) tries p workflow → Refuses p (step workflow (steps_done p workflow)) refusal → FitsHeard turns p (refused_step p workflow tries refusal)
-refused_step-fits turns tries p workflow not_level goes a =
-    tries_again-fits turns tries p workflow goes (step-level p workflow (steps_done p workflow) goes.way (has_way p workflow goes.way goes.is) a)
 refused_step-fits turns tries p workflow other goes a = fails-fits turns tries p workflow other goes
 
 stepped-fits : (turns tries : ℕ) (p : Plain) (workflow : List ℕ) → Goes (suc turns) tries p workflow → FitsHeard turns (with_step p workflow) (unless_closed (way_of (with_step p workflow) workflow) (codes "ok") (steps workflow most_tries))

@@ -12,6 +12,7 @@ pub mod NumberLemmas
 pub mod OpenLemmas
 pub mod OutputLemmas
 pub mod PartLemmas
+pub mod PlainWords
 pub mod ReachLemmas
 pub mod RefusalLemmas
 pub mod ReverseLemmas
@@ -20,9 +21,9 @@ pub mod ServeLemmas
 pub mod StepCountLemmas
 pub mod TableLemmas
 pub mod TextLemmas
+pub mod TrafficLemmas
 pub mod UntouchedLemmas
 pub mod WayBackLemmas
 pub mod WayLemmas
 pub mod WordLemmas
 pub mod WritableLemmas
-pub mod TrafficLemmas

@@ -23,7 +23,7 @@ use Rattle.mt_plain.specs.Events.{Event, begin_switch, begin_reverse, step, undo
 use Rattle.mt_plain.specs.Next.{next}
 use Rattle.mt_plain.specs.Plain.{Live, Plain, before_way, changed_types, differ, has_part, live_at, part_owner, stands_done, write_journal}
 use Rattle.mt_plain.specs.Refuse.{begin_reverse_refusal, begin_switch_refusal, has_more, is_still_copying, most_ways, or_else, refusal_of, refuse_if, share_type}
-use Rattle.mt_plain.specs.Serve.{serve, serve_plain, serve_rule, served_by, served_entry, step_of_entry, types_by_way}
+use Rattle.mt_plain.specs.Serve.{serve, serve_plain, serve_rule, served_by, served_entry, step_of_entry}
 use Rattle.mt_laws.specs.Changes.{HasSides, IsStep}
 use Rattle.mt_laws.specs.WayBack.{EndsNoWay, IsBegin, IsReached, NoWayBetween, StaysLive, StaysOpen, WayFrom, ends_way, ends_workflow, in_part}
 use Rattle.mt_laws.proofs.ChangeLemmas.{lives-completed}
@@ -34,6 +34,7 @@ use Rattle.mt_laws.proofs.ReachLemmas.{next_has_parts, reached_has_parts}
 use Rattle.mt_laws.proofs.RefusalLemmas.{at_rest-none, in_workflow-none, not_some, some_of}
 use Rattle.mt_laws.proofs.WayBackLemmas.{OneEvent, has_part-same, in_part-of, one_event, owner_of_part, run_keeps_parts}
 use Rattle.mt_laws.proofs.WayLemmas.{Begins, IsUndo, WayChange, abandoned, begun, completed, goes_on, kept}
+use Rattle.mt_laws.proofs.PlainWords.{types_by_way}
 
 -- ---- what a part serves depends on its sides, the switched types and the topology at its keys alone
 

@@ -14,14 +14,15 @@ use Rattle.mt_model.specs.declared.entries.EntryKey.{EntryKey}
 use Rattle.mt_model.specs.declared.entries.EntryKey.TheVariants as about
 use Rattle.mt_model.specs.Topology.{value_of}
 use Rattle.mt_plain.specs.Events.{Way}
-use Rattle.mt_plain.specs.Plain.{Live, Plain, before_way, changes_reads, first_step, has_part, is_side, mover, moves, next_step, owner, owner_by, part_owner, refresh_source, refresh_target, stands_done}
-use Rattle.mt_plain.specs.Serve.{IsWritable, has_table, is_denied_at, owned_before, refuses, refuses_moved, served_by, served_entry, types_by, types_by_way}
+use Rattle.mt_plain.specs.Plain.{Live, Plain, before_way, first_step, has_part, is_side, mover, moves, next_step, owner, owner_by, part_owner, refresh_source, refresh_target, stands_done}
+use Rattle.mt_plain.specs.Serve.{IsWritable, has_table, is_denied_at, owned_before, refuses, served_by, served_entry, types_by}
 use Rattle.mt_laws.specs.WayBack.{IsReached}
 use Rattle.mt_laws.proofs.EntryValueLemmas.{table_of}
 use Rattle.mt_laws.proofs.LiveLemmas.{Apart, IsApart, IsIn, all_from_in, find_none, find_some, in_all, text_differs}
 use Rattle.mt_laws.proofs.PartLemmas.{HasParts, moved_from_part, there_at_source, there_at_target}
 use Rattle.mt_laws.proofs.ReachLemmas.{reached_has_parts}
 use Rattle.mt_laws.proofs.RefusalLemmas.{and-both, and-true, not-false, or-cases, or-right}
+use Rattle.mt_laws.proofs.PlainWords.{changes_reads, refuses_moved, types_by_way}
 
 -- ---- parts
 

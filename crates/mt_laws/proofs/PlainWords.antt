@@ -1,0 +1,28 @@
+-- Parts of the definitions, with names of their own.
+use Rattle.std.specs.Prelude.{ℕ, Bool, false, ◌&&◌, ◌||◌, ◌++◌, if◌then◌else◌, List, codes, Option}
+use Rattle.std.specs.Option.{option_map_or}
+use Rattle.mt_names.specs.declared.types.TypeSet.{TypeSet}
+use Rattle.mt_plain.specs.Documents.{number_text}
+use Rattle.mt_plain.specs.Drive.{gives_up, Heard, goes_on, ends}
+use Rattle.mt_plain.specs.Events.{Refusal, refusal_text, Way}
+use Rattle.mt_plain.specs.Plain.{Live, changed_types, is_side, refresh_source, refresh_target, stands_done, write_journal}
+use Rattle.mt_plain.specs.Serve.{is_denied_at, owned_before, types_by}
+
+-- whether a way changes reads
+abbrev pub changes_reads : Way → Bool
+changes_reads way = (changed_types way).replica || (changed_types way).rdonly
+
+-- the types at a step, by the way that is open
+abbrev pub types_by_way : TypeSet → Option Way → ℕ → TypeSet
+types_by_way switched o step = option_map_or (λ (way : Way). if stands_done way step then way.after else way.before) o switched
+
+-- what the own list of a keyspace's primary refuses, by the workflow that moves a table
+abbrev pub refuses_moved : Option Live → (keyspace : List ℕ) → Bool
+refuses_moved o keyspace =
+    option_map_or (λ (w : Live). is_side w keyspace && is_denied_at w (types_by w (if owned_before w keyspace then refresh_source else refresh_target)) keyspace) o false
+
+-- a drive that can't go on, by the way that is open
+abbrev pub gives_up_or_stops : (done : ℕ) → (workflow : List ℕ) → Refusal → Option Way → Heard
+gives_up_or_stops done workflow refusal o =
+    if option_map_or (λ (way : Way). stands_done way write_journal) o false
+    then ends (codes "stopped " ++ refusal_text refusal ++ codes " " ++ number_text done) else goes_on (gives_up workflow refusal)
