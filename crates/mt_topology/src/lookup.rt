@@ -105,18 +105,13 @@ pub fn set_denied(
 pub fn rule_for(rules: &RoutingRules, key: &RuleKey, tablet_type: TabletType) -> Option<RuleTarget>
     ensures { result ≡ rule_for rules.now key.now tablet_type }
 {
-    let typed = RuleKey {
-        tablet_type: Some(tablet_type),
-        ..key.copied()
-    };
-    if let Some(target) = rules.get(&typed) {
+    let mut looked_up = key.copied();
+    looked_up.tablet_type = Some(tablet_type);
+    if let Some(target) = rules.get(&looked_up) {
         return Some(target.copied());
     }
-    let plain = RuleKey {
-        tablet_type: None,
-        ..key.copied()
-    };
-    rules.get(&plain).map(RuleTarget::copied)
+    looked_up.tablet_type = None;
+    rules.get(&looked_up).map(RuleTarget::copied)
 }
 
 /// The table of the one keyspace that has it.
