@@ -1,5 +1,6 @@
 pub mod AnswerLemmas
 pub mod ChangeLemmas
+pub mod EntriesLemmas
 pub mod EntryValueLemmas
 pub mod LiveLemmas
 pub mod NumberLemmas

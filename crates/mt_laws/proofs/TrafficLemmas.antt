@@ -47,7 +47,7 @@ rule-same t u v w types key same rule (Some Primary) = refl
 rule-same t u v w types key same rule (Some Replica) = rw (same.source, same.target) refl
 rule-same t u v w types key same rule (Some Rdonly) = rw (same.source, same.target) refl
 
-serve-same : (t u : TopologyState) (v w : Live) (types : TypeSet) (key : EntryKey) → HasSides v w → value_of t key ≡ value_of u key → serve t v types key ≡ serve u w types key
+pub serve-same : (t u : TopologyState) (v w : Live) (types : TypeSet) (key : EntryKey) → HasSides v w → value_of t key ≡ value_of u key → serve t v types key ≡ serve u w types key
 serve-same t u v w types (about.Rule key) same value = ap (entry.Rule key) (rule-same t u v w types key same (rule_from_value t u key value) key.tablet_type)
 serve-same t u v w types (about.Denied keyspace table) same value = rw same.source refl
 serve-same t u v w types (about.Present keyspace table) same value = refl

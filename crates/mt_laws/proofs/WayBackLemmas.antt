@@ -237,3 +237,11 @@ pub cancel_others : (name source target : List ℕ) (tables : List (List ℕ)) (
 cancel_others name source target tables p q reached since taken key =
     subst (λ r. in_part r name key ≡ false → served_entry (next r (cancel name) done) key ≡ served_entry r key) since.is
     (cancel_leaves_others p reached name source target tables since.created since.events since.answers since.run since.live key)
+
+-- the part is that of the sides and tables that Create was asked for
+pub cancel_sides : (name source target : List ℕ) (tables : List (List ℕ)) (p q : Plain) → IsReached p → SinceCreate name source target tables p q → (w : Live) → live_at q name ≡ Some w → (w.source ≡ source) × (w.target ≡ target) × (w.tables ≡ tables)
+cancel_sides name source target tables p q reached since w now =
+    let l = lasts p reached name source target tables since.created since.events since.answers since.run since.live in
+    let found : Some w ≡ Some l.later = sym now ∙ ap (λ r. live_at r name) (sym since.is) ∙ l.live in
+    let one : w ≡ l.later = cc in
+    (ap (λ x. x.source) one ∙ sym l.sides.source, ap (λ x. x.target) one ∙ sym l.sides.target, ap (λ x. x.tables) one ∙ sym l.sides.tables)

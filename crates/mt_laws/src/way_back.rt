@@ -21,8 +21,12 @@ pub fn a_way_back_is_open_before_the_journal()
 {}
 
 /// After a cancel that is taken each entry of the workflow's part is what it was before the create that made the workflow,
-/// whatever came between; each other entry is what it was just before the cancel.
+/// whatever came between; each other entry is what it was just before the cancel. The part is that of the sides and tables
+/// that the create named.
 pub fn cancel_gives_the_part_back()
+    ensures sides { (name source target : List ℕ) (tables : List (List ℕ)) (p q : Plain) → IsReached p
+        → SinceCreate name source target tables p q → (w : Live) → live_at q name ≡ Some w
+        → (w.source ≡ source) × (w.target ≡ target) × (w.tables ≡ tables) }
     ensures part { (name source target : List ℕ) (tables : List (List ℕ)) (p q : Plain) → IsReached p
         → SinceCreate name source target tables p q → Answers q (cancel name) done → (key : EntryKey)
         → in_part q name key ≡ true → served_entry (next q (cancel name) done) key ≡ served_entry p key }
