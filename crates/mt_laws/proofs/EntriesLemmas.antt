@@ -1,12 +1,11 @@
 -- Events on rows and streams leave what is served.
-use Rattle.std.proofs.Common.{◌≡◌, ◌⊎◌, inl, inr, ℕ, Bool, List, find, Option, None, Some, option_map, refl, sym, ap, ◌∙◌, subst}
+use Rattle.std.proofs.Common.{◌≡◌, inl, inr, find, Option, None, Some, option_map, refl, sym, ap, ◌∙◌, subst}
 use Rattle.std.specs.Option.{option_map_or}
-use Rattle.mt_names.specs.declared.types.TypeSet.{TypeSet}
 use Rattle.mt_model.specs.declared.entries.Entry.{Entry}
 use Rattle.mt_model.specs.declared.entries.EntryKey.{EntryKey}
 use Rattle.mt_model.specs.declared.entries.EntryKey.TheVariants as about
 use Rattle.mt_model.specs.Topology.{TopologyState, value_of}
-use Rattle.mt_plain.specs.Events.{Event, write, read, create, advance, cancel, complete, show, Answer, Way}
+use Rattle.mt_plain.specs.Events.{Event, write, read, advance, show, Answer}
 use Rattle.mt_plain.specs.Next.{next}
 use Rattle.mt_plain.specs.Plain.{Live, Plain, has_part, part_owner}
 use Rattle.mt_plain.specs.Serve.{serve, served_by, served_entry, step_of_entry, types_by, types_by_way}
@@ -14,7 +13,7 @@ use Rattle.mt_laws.specs.Changes.{ChangesLives, ChangesTopology, ChangesWay, Has
 use Rattle.mt_laws.proofs.ChangeLemmas.{LivesAfter, ended, live_next, lives_after, made, mapped, sides-next}
 use Rattle.mt_laws.proofs.LiveLemmas.{find-map}
 use Rattle.mt_laws.proofs.TrafficLemmas.{serve-same}
-use Rattle.mt_laws.proofs.UntouchedLemmas.{same_topology, same_traffic, traffic}
+use Rattle.mt_laws.proofs.UntouchedLemmas.{same_topology, same_traffic}
 use Rattle.mt_laws.proofs.WayBackLemmas.{has_part-same}
 
 step-same : (v w : Live) → HasSides v w → v.switched ≡ w.switched → v.way ≡ w.way → (key : EntryKey) → step_of_entry v key ≡ step_of_entry w key

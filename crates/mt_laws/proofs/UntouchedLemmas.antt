@@ -1,18 +1,16 @@
 -- What each event leaves as it was.
-use Rattle.std.proofs.Common.{◌≡◌, ◌≢◌, ◌⊎◌, inl, inr, ℕ, suc, ◌+◌, ◌-◌, Bool, true, false, not, cond, eqb, List, [], ◌∷◌, ◌++◌, map, filter, find, Option, None, Some, option_map, is_some, refl, sym, ap, ◌∙◌, subst}
+use Rattle.std.proofs.Common.{◌≡◌, ◌⊎◌, inl, inr, ℕ, suc, ◌+◌, ◌-◌, Bool, true, false, not, cond, eqb, List, find, Option, None, Some, option_map, is_some, refl, sym, ap, ◌∙◌, subst}
 use Rattle.std.specs.Option.{option_map_or}
 use Rattle.mt_names.specs.declared.types.TypeSet.{TypeSet}
 use Rattle.mt_names.specs.Names.{same_text}
 use Rattle.mt_names.proofs.SameLemmas.{same_text_decides}
-use Rattle.mt_plain.specs.Events.{Event, write, read, add_keyspace, add_table, edit_rule, create, advance, begin_switch, begin_reverse, step, undo, cancel, complete, show, StreamName, forward, back, Answer, done, row, advanced, shown, refused, Way}
-use Rattle.mt_plain.specs.Answers.{Answers}
+use Rattle.mt_plain.specs.Events.{Event, write, read, add_keyspace, add_table, edit_rule, advance, begin_switch, begin_reverse, step, undo, cancel, complete, show, StreamName, forward, back, Answer, done, row, advanced, shown, refused, Way}
 use Rattle.mt_plain.specs.Next.{live_stepped, live_undone, next, next_taken, on_way_of, types_and, types_without, way_stepped, with_advance, with_completed, with_fresh_stream, with_way_to}
 use Rattle.mt_plain.specs.Plain.{Copied, Live, Plain, behind_last, changes_primary, create_back, live_at, next_step, write_journal}
-use Rattle.mt_plain.specs.Refuse.{new_owner}
-use Rattle.mt_plain.specs.Slots.{is_fresh, live_advanced, log_length, with_position}
+use Rattle.mt_plain.specs.Slots.{is_fresh, live_advanced, with_position}
 use Rattle.mt_laws.specs.Changes.{BeginsWay, ChangesLives, ChangesLogs, ChangesNumbers, ChangesTopology, ChangesWay, ChangesWrites, HasSides, IsAdvance, IsOf, IsStep, MovesStream, OnlyTells}
 use Rattle.mt_laws.proofs.ChangeLemmas.{LivesAfter, ended, live_after, live_next, live_taken, lives_after, made, mapped, sides-next}
-use Rattle.mt_laws.proofs.LiveLemmas.{IsIn, changed, find-filter_kept, find-map, find-push_other, find_some, text_differs}
+use Rattle.mt_laws.proofs.LiveLemmas.{changed, find-filter_kept, find-map, find-push_other, find_some, text_differs}
 
 -- ---- the state apart from its workflows
 
@@ -79,7 +77,6 @@ pub same_writes : (p : Plain) (event : Event) (answer : Answer) → ¬ (ChangesW
 same_writes p event answer other =
     next_leaves (λ q. q.writes) p event answer (taken-writes p event other)
     (λ workflow name at at_most events rows o is. ap (λ q. q.writes) (advance_leaves p name at at_most events rows o))
-
 
 taken-logs : (p : Plain) (event : Event) → ¬ (ChangesLogs event) → (next_taken p event).log ≡ p.log
 taken-logs p (write keyspace table op) other = absurd (other tt)
