@@ -15,5 +15,6 @@ pub mod TableLemmas
 pub mod UntouchedLemmas
 pub mod WayBackLemmas
 pub mod WayLemmas
+pub mod WitnessLemmas
 pub mod WritableLemmas
 pub mod TrafficLemmas

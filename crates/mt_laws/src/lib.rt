@@ -25,5 +25,5 @@ pub use tables::{
 };
 pub use way_back::{
     a_reversal_gives_the_part_back, a_way_back_is_open_before_the_journal,
-    an_abandoned_way_gives_the_part_back, cancel_gives_the_part_back,
+    an_abandoned_way_gives_the_part_back, cancel_gives_the_part_back, each_way_back_can_be_taken,
 };
