@@ -302,7 +302,7 @@ next_elsewhere p event (advanced events rows) name w is other = refl
 next_elsewhere p event (shown s) name w is other = refl
 next_elsewhere p event (refused refusal) name w is other = refl
 
-map-same : (f : Live → Live) (o : Option Live) → ((w : Live) → o ≡ Some w → f w ≡ w) → option_map f o ≡ o
+pub map-same : (f : Live → Live) (o : Option Live) → ((w : Live) → o ≡ Some w → f w ≡ w) → option_map f o ≡ o
 map-same f None same = refl
 map-same f (Some w) same = ap Some (same w refl)
 

@@ -1,6 +1,7 @@
 //! Laws on what an event changes.
-ghost use Rattle.std.specs.Prelude.{◌≡◌, ℕ, List, Some, is_some};
+ghost use Rattle.std.specs.Prelude.{◌≡◌, ℕ, List, Some, false, is_some};
 ghost use Rattle.mt_laws.specs.Changes.{BeginsWay, ChangesLives, ChangesLogs, ChangesNumbers, ChangesTopology, ChangesWay, ChangesWrites, HasSides, IsAdvance, IsOf, IsOfRows, IsStep, MovesStream, OnlyTells};
+ghost use Rattle.mt_laws.specs.WayBack.{IsReached, in_part};
 ghost use Rattle.mt_model.specs.declared.entries.EntryKey.{EntryKey};
 ghost use Rattle.mt_plain.specs.Events.{Event, Answer};
 ghost use Rattle.mt_plain.specs.Next.{next};
@@ -62,5 +63,12 @@ pub fn only_named_events_change_a_workflow()
 /// Writes, reads, advances and Show change no entry of the topology that is served, whatever workflows are live.
 pub fn rows_and_streams_change_no_entry()
     ensures { (p : Plain) (event : Event) (answer : Answer) → IsOfRows event → (key : EntryKey)
+        → served_entry (next p event answer) key ≡ served_entry p key }
+{}
+
+/// A begin, a step and an undo change no entry outside of the part of their workflow, in each state that a run reaches.
+pub fn traffic_commands_change_their_own_part_alone()
+    ensures { (p : Plain) (event : Event) (answer : Answer) (name : List ℕ) → IsReached p → ChangesWay event
+        → IsOf name event → (key : EntryKey) → in_part p name key ≡ false
         → served_entry (next p event answer) key ≡ served_entry p key }
 {}

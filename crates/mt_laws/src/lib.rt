@@ -11,7 +11,7 @@ mod way_back;
 
 pub use changes::{
     only_named_events_change_a_workflow, only_named_events_change_the_state,
-    rows_and_streams_change_no_entry,
+    rows_and_streams_change_no_entry, traffic_commands_change_their_own_part_alone,
 };
 pub use events::{
     answers_are_determined, limits_are_told_last, reads_answer_the_row,
