@@ -1,16 +1,16 @@
 -- A move in a small setting: it is cancelled; it is switched and reversed; its switch is abandoned.
-use Rattle.std.proofs.Common.{◌≡◌, ℕ, Bool, true, false, List, [], ◌∷◌, Option, None, Some, refl, inl}
+use Rattle.std.proofs.Common.{◌≡◌, ℕ, true, List, [], ◌∷◌, refl, inl}
 use Rattle.std.specs.Prelude.{codes, option_map}
 use Rattle.mt_names.specs.declared.types.TypeSet.{TypeSet}
 use Rattle.mt_model.specs.declared.entries.Scope.TheVariants as scope
 use Rattle.mt_model.specs.declared.entries.Scope.{Scope}
 use Rattle.mt_model.specs.declared.entries.EntryKey.TheVariants as about
-use Rattle.mt_plain.specs.Answers.{Answers, Run, after}
+use Rattle.mt_plain.specs.Answers.{Answers, after}
 use Rattle.mt_plain.specs.Drive.{way_of}
-use Rattle.mt_plain.specs.Events.{Event, add_keyspace, add_table, create, advance, forward, begin_switch, begin_reverse, step, undo, cancel, Answer, done, advanced, Way}
+use Rattle.mt_plain.specs.Events.{Event, add_keyspace, add_table, create, advance, forward, begin_switch, begin_reverse, step, undo, cancel, Answer, done, advanced}
 use Rattle.mt_plain.specs.Next.{next}
 use Rattle.mt_plain.specs.Plain.{Plain, opening, changed_types}
-use Rattle.mt_laws.specs.WayBack.{IsReached, IsBegin, NoWayBetween, SinceCreate, WayFrom, in_part}
+use Rattle.mt_laws.specs.WayBack.{IsReached, NoWayBetween, SinceCreate, WayFrom, in_part}
 
 abbrev name : List ℕ
 name = codes "w"
