@@ -267,6 +267,9 @@ module _ (p : Plain) (event : Event) (answer : Answer) (name : List ℕ) (w v : 
   pub same_back_at : ¬ (MovesStream event) → v.back_at ≡ w.back_at
   same_back_at other = ap (λ c. c.1) (same_positions other)
 
+  pub same_fresh_at : ¬ (MovesStream event) → v.fresh_at ≡ w.fresh_at
+  same_fresh_at other = ap (λ c. c.2) (same_positions other)
+
 -- ---- which workflows are live, and the others
 
 is_some-map : (f : Live → Live) (o : Option Live) → is_some (option_map f o) ≡ is_some o

@@ -58,6 +58,9 @@ pub fn only_named_events_change_a_workflow()
     ensures back_at { (p : Plain) (event : Event) (answer : Answer) (name : List ℕ) (w v : Live)
         → live_at p name ≡ Some w → live_at (next p event answer) name ≡ Some v → ¬ (MovesStream event)
         → v.back_at ≡ w.back_at }
+    ensures fresh_at { (p : Plain) (event : Event) (answer : Answer) (name : List ℕ) (w v : Live)
+        → live_at p name ≡ Some w → live_at (next p event answer) name ≡ Some v → ¬ (MovesStream event)
+        → v.fresh_at ≡ w.fresh_at }
 {}
 
 /// Writes, reads, advances and Show change no entry of the topology that is served, whatever workflows are live.
