@@ -1,19 +1,16 @@
 -- What an event makes of the live workflows, and what it leaves as it was.
-use Rattle.std.proofs.Common.{◌≡◌, ◌≢◌, ◌⊎◌, inl, inr, ℕ, suc, ◌+◌, ◌-◌, Bool, true, false, not, cond, eqb, List, [], ◌∷◌, ◌++◌, map, filter, find, length, Option, None, Some, option_map, is_some, refl, sym, ap, ◌∙◌, subst, map-id}
-use Rattle.std.proofs.lemmas.Bool.{true≢false}
+use Rattle.std.proofs.Common.{◌≡◌, ◌⊎◌, inl, inr, ℕ, suc, ◌+◌, ◌-◌, Bool, true, false, not, cond, eqb, List, [], ◌∷◌, ◌++◌, map, find, length, Option, None, Some, option_map, refl, sym, ap, ◌∙◌, map-id}
 use Rattle.std.specs.Option.{option_map_or}
 use Rattle.mt_names.specs.declared.types.TypeSet.{TypeSet}
 use Rattle.mt_names.specs.Names.{same_text}
 use Rattle.mt_names.proofs.SameLemmas.{same_text_decides}
-use Rattle.mt_plain.specs.Events.{Event, write, read, add_keyspace, add_table, edit_rule, create, advance, begin_switch, begin_reverse, step, undo, cancel, complete, show, StreamName, forward, back, Answer, done, row, advanced, shown, refused, Way}
-use Rattle.mt_plain.specs.Answers.{Answers}
+use Rattle.mt_plain.specs.Events.{Event, create, advance, begin_switch, begin_reverse, step, undo, cancel, complete, StreamName, forward, back, Answer, done, row, advanced, shown, refused, Way}
 use Rattle.mt_plain.specs.Next.{created, live_stepped, live_undone, next, next_taken, on_way_of, types_and, types_without, way_stepped, with_advance, with_completed, with_fresh_stream, with_live, with_way_to, without_live}
 use Rattle.mt_plain.specs.Plain.{Live, Plain, behind_last, changes_primary, create_back, live_at, next_step, write_journal}
-use Rattle.mt_plain.specs.Refuse.{new_owner}
 use Rattle.mt_plain.specs.Slots.{is_fresh, live_advanced, log_length, with_position}
 use Rattle.mt_plain.specs.Writes.{writes_to}
-use Rattle.mt_laws.specs.Changes.{BeginsWay, ChangesLives, ChangesLogs, ChangesNumbers, ChangesTopology, ChangesWay, ChangesWrites, HasSides, IsAdvance, IsOf, IsStep, OnlyTells}
-use Rattle.mt_laws.proofs.LiveLemmas.{IsIn, changed, find-filter_gone, find-filter_kept, find-map, find-push_none, find-push_other, find-push_some, find_none, find_some, sides_changed, sides_joined, sides_same, text_differs}
+use Rattle.mt_laws.specs.Changes.{HasSides}
+use Rattle.mt_laws.proofs.LiveLemmas.{IsIn, changed, find-filter_gone, find-filter_kept, find-map, find-push_some, find_none, find_some, sides_changed, sides_same}
 
 -- ---- what it makes of a live workflow that stays
 
@@ -152,9 +149,9 @@ lives_after p event (refused refusal) = mapped (same_lives p)
 pub live_after : (p q : Plain) (event : Event) (answer : Answer) → LivesAfter p q event answer → (name : List ℕ) (w v : Live) → live_at p name ≡ Some w → live_at q name ≡ Some v → v ≡ live_next p event answer w
 live_after p q event answer (mapped lives) name w v before now =
     let is : Some v ≡ Some (live_next p event answer w) =
-        sym now ∙ ap (find (λ x. same_text x.name name)) lives
-        ∙ find-map (λ x. same_text x.name name) (live_next p event answer) p.lives (λ x. ap (λ n. same_text n name) (sym (sides-next p event answer x).name))
-        ∙ ap (option_map (live_next p event answer)) before in
+    sym now ∙ ap (find (λ x. same_text x.name name)) lives
+    ∙ find-map (λ x. same_text x.name name) (live_next p event answer) p.lives (λ x. ap (λ n. same_text n name) (sym (sides-next p event answer x).name))
+    ∙ ap (option_map (live_next p event answer)) before in
     cc
 live_after p q event answer (made new source target tables is lives same) name w v before now =
     let found : Some v ≡ Some w = sym now ∙ ap (find (λ x. same_text x.name name)) lives ∙ find-push_some (λ x. same_text x.name name) p.lives _ w before in
@@ -168,11 +165,11 @@ live_after p q event answer (ended gone is lives same) name w v before now = by 
     by : (t : Bool) → same_text name gone ≡ t → v ≡ live_next p event answer w
     by true t =
         let none = find-filter_gone test (λ x. not (same_text x.name gone)) p.lives
-            (λ x i e. ap not (ap (λ n. same_text n gone) ((same_text_decides x.name name).0 e) ∙ t)) in
+        (λ x i e. ap not (ap (λ n. same_text n gone) ((same_text_decides x.name name).0 e) ∙ t)) in
         let h : Some v ≡ None = sym now ∙ ap (find test) lives ∙ none in absurd cc
     by false t =
         let kept = find-filter_kept test (λ x. not (same_text x.name gone)) p.lives
-            (λ x i e. ap not (ap (λ n. same_text n gone) ((same_text_decides x.name name).0 e) ∙ t)) in
+        (λ x i e. ap not (ap (λ n. same_text n gone) ((same_text_decides x.name name).0 e) ∙ t)) in
         let found : Some v ≡ Some w = sym now ∙ ap (find test) lives ∙ kept ∙ before in
         let e : v ≡ w = cc in
         e ∙ sym (same w)

@@ -1,22 +1,18 @@
 -- What an event leaves of the topology as if no workflow were live.
-use Rattle.std.proofs.Common.{◌≡◌, ◌≢◌, ◌⊎◌, inl, inr, ℕ, Bool, true, false, not, cond, List, [], ◌∷◌, ◌++◌, map, fold, flat_map, Option, None, Some, unwrap_or, refl, sym, ap, ◌∙◌, subst}
+use Rattle.std.proofs.Common.{◌≡◌, ◌≢◌, ◌⊎◌, inl, inr, ℕ, true, false, List, [], ◌∷◌, ◌++◌, fold, flat_map, Option, None, Some, unwrap_or, refl, sym, ap, ◌∙◌}
 use Rattle.std.proofs.lemmas.Bool.{true≢false}
-use Rattle.std.proofs.lemmas.List.Sums.{fold-append}
-use Rattle.std.specs.Map.{lookup, remove_entry}
-use Rattle.std.specs.Option.{option_map_or}
+use Rattle.std.specs.Map.{remove_entry}
 use Rattle.mt_names.specs.declared.keys.RuleKey.{RuleKey}
 use Rattle.mt_names.specs.declared.keys.RuleTarget.{RuleTarget}
-use Rattle.mt_names.specs.declared.types.TabletType.{TabletType}
 use Rattle.mt_names.specs.Names.{same_text}
 use Rattle.mt_names.specs.Same.{same_key}
 use Rattle.mt_names.proofs.EntryLemmas.{lookup-remove_entry_elsewhere}
 use Rattle.mt_names.proofs.SameLemmas.{same_key_decides, same_text_decides}
-use Rattle.mt_model.specs.declared.entries.Entry.{Entry}
 use Rattle.mt_model.specs.declared.entries.Entry.TheVariants as entry
 use Rattle.mt_model.specs.declared.entries.EntryKey.{EntryKey}
 use Rattle.mt_model.specs.declared.entries.EntryKey.TheVariants as about
-use Rattle.mt_model.specs.Topology.{KeyspaceState, Keyspaces, Marks, Rules, TopologyState, is_denied, is_marked, is_present, keyspace_at, rule_at, value_of, with_keyspace, with_keyspace_state, with_mark_place, with_new_table, with_rule, with_table}
-use Rattle.mt_model.proofs.TopologyLemmas.{is_marked-set_elsewhere, is_marked-with_mark_place, read_at-unchanged, value_of-rules_changed, value_of-keyspace_changed, value_of-with_keyspace, value_of-with_table_elsewhere, rule_at-with_rule_elsewhere}
+use Rattle.mt_model.specs.Topology.{KeyspaceState, Marks, Rules, TopologyState, is_denied, is_marked, is_present, rule_at, value_of, with_keyspace_state, with_mark_place, with_new_table, with_rule}
+use Rattle.mt_model.proofs.TopologyLemmas.{is_marked-set_elsewhere, is_marked-with_mark_place, read_at-unchanged, value_of-rules_changed, rule_at-with_rule_elsewhere}
 use Rattle.mt_plain.specs.Next.{completed, with_tables, without_tables}
 use Rattle.mt_plain.specs.Plain.{Live, keys_of_name, moves, rule_keys, twelve_keys}
 use Rattle.mt_laws.proofs.LiveLemmas.{IsIn, any-in}

@@ -3,6 +3,7 @@ pub mod ChangeLemmas
 pub mod CleanLemmas
 pub mod DocumentLemmas
 pub mod DriveLemmas
+pub mod EntriesLemmas
 pub mod EntryValueLemmas
 pub mod FeedLemmas
 pub mod LineLemmas
@@ -25,5 +26,6 @@ pub mod TrafficLemmas
 pub mod UntouchedLemmas
 pub mod WayBackLemmas
 pub mod WayLemmas
+pub mod WitnessLemmas
 pub mod WordLemmas
 pub mod WritableLemmas

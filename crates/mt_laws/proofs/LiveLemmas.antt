@@ -1,11 +1,10 @@
 -- Lists of live workflows, of which no two share a name or a table.
-use Rattle.std.proofs.Common.{◌≡◌, ◌≢◌, ◌⊎◌, inl, inr, ℕ, Bool, true, false, not, cond, List, [], ◌∷◌, ◌++◌, map, filter, find, Option, None, Some, option_map, is_some, refl, sym, ap, ◌∙◌, subst}
+use Rattle.std.proofs.Common.{◌≡◌, ◌≢◌, ◌⊎◌, inl, inr, ℕ, Bool, true, false, cond, List, [], ◌∷◌, ◌++◌, map, filter, find, Option, None, Some, option_map, refl, sym, ap, ◌∙◌, subst}
 use Rattle.std.proofs.lemmas.Bool.{true≢false}
 use Rattle.std.specs.List.{AllByRecursion, list_any}
 use Rattle.std.specs.Prelude.{⊤, ◌||◌}
 use Rattle.mt_names.specs.Names.{same_text}
 use Rattle.mt_names.proofs.SameLemmas.{same_text_decides}
-use Rattle.mt_plain.specs.Next.{with_live, without_live}
 use Rattle.mt_plain.specs.Plain.{Live, moves}
 use Rattle.mt_laws.specs.Changes.{HasSides}
 
@@ -170,9 +169,11 @@ apart_by_sides v w v' w' a b apart = record {
 
 pub apart-map : (f : Live → Live) (xs : List Live) → ((w : Live) → HasSides w (f w)) → Apart xs → Apart (map f xs)
 apart-map f [] same apart = tt
-apart-map f (x ∷ xs) same apart =
-    (all_from_in (IsApart (f x)) (map f xs) (λ y is. let r = in-map f xs y is in
-    subst (IsApart (f x)) r.2 (apart_by_sides x r.0 (f x) (f r.0) (same x) (same r.0) (in_all (IsApart x) xs r.0 apart.0 r.1))), apart-map f xs same apart.1)
+apart-map f (x ∷ xs) same apart = (
+  all_from_in (IsApart (f x)) (map f xs) (λ y is. let r = in-map f xs y is in
+      subst (IsApart (f x)) r.2 (apart_by_sides x r.0 (f x) (f r.0) (same x) (same r.0) (in_all (IsApart x) xs r.0 apart.0 r.1))),
+  apart-map f xs same apart.1,
+)
 
 pub apart-filter : (keep : Live → Bool) (xs : List Live) → Apart xs → Apart (filter keep xs)
 apart-filter keep [] apart = tt

@@ -1,9 +1,8 @@
 -- What holds of the live workflows and their parts in each state that a run reaches.
-use Rattle.std.proofs.Common.{◌≡◌, ◌≢◌, ◌⊎◌, inl, inr, ℕ, suc, ◌+◌, ◌-◌, ◌<◌, ◌≤◌, Bool, true, false, not, cond, eqb, List, [], ◌∷◌, ◌++◌, map, filter, find, length, Option, None, Some, is_some, refl, sym, ap, ◌∙◌, subst, arith}
+use Rattle.std.proofs.Common.{◌≡◌, ◌≢◌, ◌⊎◌, inl, inr, ℕ, Bool, true, false, not, cond, List, Option, None, Some, is_some, refl, sym, ap, ◌∙◌, subst}
 use Rattle.std.proofs.lemmas.Bool.{true≢false}
 use Rattle.std.specs.List.{list_any}
-use Rattle.std.specs.Option.{option_map_or}
-use Rattle.std.specs.Prelude.{◌&&◌, ◌||◌, nat_le, ⊤}
+use Rattle.std.specs.Prelude.{◌&&◌, nat_le}
 use Rattle.mt_names.specs.declared.keys.RuleKey.{RuleKey}
 use Rattle.mt_names.specs.declared.keys.RuleTarget.{RuleTarget}
 use Rattle.mt_names.specs.Names.{same_text}
@@ -12,18 +11,17 @@ use Rattle.mt_model.specs.declared.entries.EntryKey.{EntryKey}
 use Rattle.mt_model.specs.declared.entries.EntryKey.TheVariants as about
 use Rattle.mt_model.specs.declared.entries.Scope.{Scope}
 use Rattle.mt_model.specs.Limits.{most_tables_in_keyspace}
-use Rattle.mt_model.specs.Topology.{TopologyState, is_denied, is_present, value_of, with_keyspace, with_table}
+use Rattle.mt_model.specs.Topology.{TopologyState, is_denied, is_present, value_of, with_table}
 use Rattle.mt_model.proofs.TopologyLemmas.{value_of-with_keyspace, value_of-with_table_elsewhere}
 use Rattle.mt_plain.specs.Answers.{Answers}
-use Rattle.mt_plain.specs.Events.{Event, write, read, add_keyspace, add_table, edit_rule, create, advance, begin_switch, begin_reverse, step, undo, cancel, complete, show, Answer, done, row, advanced, shown, refused, Refusal, exists, full, no_keyspace, rule_owned, Way}
-use Rattle.mt_plain.specs.Next.{completed, next, next_taken, with_completed}
-use Rattle.mt_plain.specs.Plain.{Live, Plain, has_keyspace, has_part, is_side, live_at, mover, moves, opening, part_owner, stands_done, write_journal}
-use Rattle.mt_plain.specs.Refuse.{edit_refusal, or_else, refusal_of, refuse_if, rule_refusal, table_count}
+use Rattle.mt_plain.specs.Events.{Event, add_keyspace, add_table, edit_rule, complete, Answer, done, row, advanced, shown, refused, exists, full, no_keyspace, rule_owned, Way}
+use Rattle.mt_plain.specs.Next.{next, next_taken, with_completed}
+use Rattle.mt_plain.specs.Plain.{Live, Plain, has_keyspace, has_part, is_side, live_at, moves, opening, part_owner, stands_done, write_journal}
+use Rattle.mt_plain.specs.Refuse.{or_else, refusal_of, refuse_if, rule_refusal, table_count}
 use Rattle.mt_plain.specs.Serve.{has_table}
-use Rattle.mt_laws.specs.Changes.{ChangesTopology, HasSides}
 use Rattle.mt_laws.specs.WayBack.{ends_workflow}
-use Rattle.mt_laws.proofs.EntryValueLemmas.{denied_from_value, is_denied-completed, present_from_value, table_of, value_of-completed, value_of-with_rule}
-use Rattle.mt_laws.proofs.LiveLemmas.{Apart, IsApart, IsIn, any-in, apart-filter, apart-map, apart-push, find_none, find_some, find_the_one, in-filter, in-map, in-push, text_apart, unique}
+use Rattle.mt_laws.proofs.EntryValueLemmas.{table_of, value_of-completed, value_of-with_rule}
+use Rattle.mt_laws.proofs.LiveLemmas.{Apart, IsIn, any-in, find_none, find_some, text_apart, unique}
 use Rattle.mt_laws.proofs.RefusalLemmas.{and-both, and-true, not_some, or-cases, or-right, or_else-none, refuse_if-none}
 use Rattle.mt_laws.proofs.UntouchedLemmas.{same_topology}
 

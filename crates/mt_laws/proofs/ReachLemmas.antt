@@ -1,18 +1,16 @@
 -- Each state that a run reaches has the parts of its live workflows apart.
-use Rattle.std.proofs.Common.{◌≡◌, ◌≢◌, ◌⊎◌, inl, inr, ℕ, Bool, true, false, not, cond, eqb, leb, List, [], ◌∷◌, ◌++◌, map, filter, find, length, Option, None, Some, is_some, refl, sym, ap, ◌∙◌, subst}
+use Rattle.std.proofs.Common.{◌≡◌, ◌⊎◌, inl, inr, ℕ, Bool, true, false, not, cond, eqb, List, [], ◌∷◌, length, Option, None, Some, is_some, refl, sym, ap, ◌∙◌, subst}
 use Rattle.std.proofs.lemmas.Bool.{true≢false}
 use Rattle.std.specs.List.{list_any}
-use Rattle.std.specs.Prelude.{◌&&◌, ◌||◌, option_map}
+use Rattle.std.specs.Prelude.{◌&&◌, ◌||◌}
 use Rattle.mt_names.specs.Names.{same_text}
 use Rattle.mt_names.proofs.SameLemmas.{same_text_decides}
-use Rattle.mt_model.specs.declared.entries.EntryKey.{EntryKey}
 use Rattle.mt_model.specs.declared.entries.EntryKey.TheVariants as about
-use Rattle.mt_model.specs.declared.entries.Scope.{Scope}
-use Rattle.mt_model.specs.Topology.{TopologyState, is_denied, is_present, value_of, with_keyspace, with_table}
+use Rattle.mt_model.specs.Topology.{is_denied, is_present, with_keyspace, with_table}
 use Rattle.mt_model.proofs.TopologyLemmas.{value_of-with_keyspace, value_of-with_table_elsewhere}
 use Rattle.mt_plain.specs.Answers.{Answers, Run, after}
-use Rattle.mt_plain.specs.Events.{Event, add_keyspace, add_table, edit_rule, create, advance, cancel, complete, Answer, done, row, advanced, shown, refused, Refusal, full, no_keyspace, no_table, no_tables, same_keyspace, table_in_workflow, target_has_table, workflow_exists, Way}
-use Rattle.mt_plain.specs.Next.{created, next, next_taken, with_completed, without_live}
+use Rattle.mt_plain.specs.Events.{Event, add_keyspace, add_table, edit_rule, create, advance, cancel, complete, Answer, done, row, advanced, shown, refused, full, no_keyspace, no_table, no_tables, same_keyspace, table_in_workflow, target_has_table, workflow_exists}
+use Rattle.mt_plain.specs.Next.{next, next_taken, with_completed}
 use Rattle.mt_plain.specs.Plain.{Live, Plain, has_keyspace, live_at, mover, moves, opening, stands_done, write_journal}
 use Rattle.mt_plain.specs.Refuse.{conflict_refusal, create_is_full, moved_table_refusal, moved_tables_refusal, or_else, refusal_of, refuse_if, watcher_refusal}
 use Rattle.mt_plain.specs.Serve.{has_table}
@@ -20,7 +18,7 @@ use Rattle.mt_laws.specs.Changes.{ChangesTopology, HasSides}
 use Rattle.mt_laws.specs.WayBack.{IsReached, ends_workflow}
 use Rattle.mt_laws.proofs.ChangeLemmas.{LivesAfter, ended, live_next, lives-completed, lives_after, made, made_live, mapped, sides-next}
 use Rattle.mt_laws.proofs.EntryValueLemmas.{denied_from_value, is_denied-completed, present_from_value}
-use Rattle.mt_laws.proofs.LiveLemmas.{Apart, IsApart, IsIn, any-nowhere, apart-filter, apart-map, apart-push, find_none, find_the_one, in-filter, in-map, in-push, sides_same, text_apart}
+use Rattle.mt_laws.proofs.LiveLemmas.{Apart, IsApart, IsIn, any-nowhere, apart-filter, apart-map, apart-push, find_none, find_the_one, in-filter, in-map, in-push, text_apart}
 use Rattle.mt_laws.proofs.PartLemmas.{HasParts, IsPlaced, IsSettled, opening_has_parts, value-kept}
 use Rattle.mt_laws.proofs.RefusalLemmas.{and-both, fold_or_else-none, not-false, not_some, or_else-none, refuse_if-none}
 use Rattle.mt_laws.proofs.UntouchedLemmas.{same_topology}
@@ -38,9 +36,10 @@ each_new p source target table none =
     let at_target = refuse_if (has_table p target table) (target_has_table table) in
     let rest = or_else at_target (conflict_refusal p source target table) in
     let r = or_else-none (refuse_if (not (has_table p source table)) no_table) (or_else (refuse_if (is_some (mover p table)) table_in_workflow) rest) none in
-    let s = or_else-none (refuse_if (is_some (mover p table)) table_in_workflow) rest r.1 in
-    (not-false (has_table p source table) (refuse_if-none (not (has_table p source table)) no_table r.0),
-    not_some (mover p table) (refuse_if-none (is_some (mover p table)) table_in_workflow s.0))
+    let s = or_else-none (refuse_if (is_some (mover p table)) table_in_workflow) rest r.1 in (
+      not-false (has_table p source table) (refuse_if-none (not (has_table p source table)) no_table r.0),
+      not_some (mover p table) (refuse_if-none (is_some (mover p table)) table_in_workflow s.0),
+    )
 
 pub create-none : (p : Plain) (name source target : List ℕ) (tables : List (List ℕ)) → refusal_of p (create name source target tables) ≡ None → IsNew p name source target tables
 create-none p name source target tables none =
@@ -80,7 +79,7 @@ there_unmoved p keyspace table none has =
     (λ w is. ap (λ t. t && same_text w.target keyspace) (find_none (λ v. moves v table) p.lives none w is)))) ∙ has
 
 module _ (p : Plain) (name source target : List ℕ) (tables : List (List ℕ)) (new : IsNew p name source target tables) (w : Live)
-  (is_name : w.name ≡ name) (is_source : w.source ≡ source) (is_target : w.target ≡ target) (is_tables : w.tables ≡ tables) where
+    (is_name : w.name ≡ name) (is_source : w.source ≡ source) (is_target : w.target ≡ target) (is_tables : w.tables ≡ tables) where
   pub moved_new : (table : List ℕ) → moves w table ≡ true → IsIn table tables
   moved_new table moved = named tables table (sym (ap (list_any (λ t. same_text t table)) is_tables) ∙ moved)
 

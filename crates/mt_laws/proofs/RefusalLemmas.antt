@@ -1,11 +1,11 @@
 -- What stands where an event is not refused.
-use Rattle.std.proofs.Common.{◌≡◌, ◌≢◌, ◌⊎◌, inl, inr, ℕ, Bool, true, false, not, cond, eqb, List, [], ◌∷◌, map, fold, length, find, Option, None, Some, option_map, is_some, refl, sym, ap, ◌∙◌, subst}
+use Rattle.std.proofs.Common.{◌≡◌, ◌⊎◌, inl, inr, Bool, true, false, not, List, [], ◌∷◌, map, fold, Option, None, Some, is_some, refl, sym, ap, ◌∙◌}
 use Rattle.std.proofs.lemmas.Bool.{true≢false}
 use Rattle.std.specs.Option.{option_map_or}
 use Rattle.std.specs.Prelude.{◌&&◌, ◌||◌}
-use Rattle.mt_plain.specs.Events.{Refusal, no_workflow, nothing_under_way, under_way, past_journal, Way}
-use Rattle.mt_plain.specs.Plain.{Live, Plain, stands_done, write_journal}
-use Rattle.mt_plain.specs.Refuse.{at_rest, cancel_refusal, in_workflow, on_way, or_else, refuse_if, undo_refusal}
+use Rattle.mt_plain.specs.Events.{Refusal, nothing_under_way, under_way, Way}
+use Rattle.mt_plain.specs.Plain.{Live}
+use Rattle.mt_plain.specs.Refuse.{at_rest, in_workflow, or_else, refuse_if}
 use Rattle.mt_laws.proofs.LiveLemmas.{IsIn}
 
 pub or_else-none : (o next : Option Refusal) → or_else o next ≡ None → (o ≡ None) × (next ≡ None)

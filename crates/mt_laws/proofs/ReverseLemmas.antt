@@ -1,5 +1,5 @@
 -- A way, and one after it that changes the same types, give back the workflow's part.
-use Rattle.std.proofs.Common.{◌≡◌, ◌≢◌, ◌⊎◌, inl, inr, ℕ, Bool, true, false, not, List, [], ◌∷◌, Option, None, Some, is_some, refl, sym, ap, ◌∙◌, subst}
+use Rattle.std.proofs.Common.{◌≡◌, ℕ, Bool, true, false, not, List, [], ◌∷◌, Option, None, Some, is_some, refl, sym, ap, ◌∙◌, subst}
 use Rattle.std.proofs.lemmas.Bool.{true≢false}
 use Rattle.std.specs.Option.{option_map_or}
 use Rattle.std.specs.Prelude.{◌&&◌, option_map}
@@ -14,9 +14,9 @@ use Rattle.mt_model.specs.declared.entries.EntryKey.{EntryKey}
 use Rattle.mt_model.specs.Topology.{value_of}
 use Rattle.mt_plain.specs.Answers.{Answers, Run, after}
 use Rattle.mt_plain.specs.Drive.{way_of}
-use Rattle.mt_plain.specs.Events.{Event, begin_switch, begin_reverse, step, Answer, done, row, advanced, shown, refused, Way}
+use Rattle.mt_plain.specs.Events.{Event, step, Answer, done, row, advanced, shown, refused, Way}
 use Rattle.mt_plain.specs.Next.{next}
-use Rattle.mt_plain.specs.Plain.{Live, Plain, before_way, changed_types, differ, has_part, live_at, stands_done, write_journal}
+use Rattle.mt_plain.specs.Plain.{Live, Plain, before_way, changed_types, differ, has_part, live_at}
 use Rattle.mt_plain.specs.Serve.{served_entry}
 use Rattle.mt_laws.specs.Changes.{HasSides, IsStep}
 use Rattle.mt_laws.specs.WayBack.{EndsNoWay, IsBegin, IsReached, NoWayBetween, StaysLive, WayFrom, ends_way, in_part}
@@ -141,8 +141,8 @@ types_back first second from same = same_members second.after first.before by
         (ap (λ s. s.rdonly) same ∙ ap (λ s. differ s.rdonly second.after.rdonly) from)
 
 module _ (name : List ℕ) (begin again : Event) (at at_again : ℕ) (p q r s : Plain) (reached : IsReached p) (is : IsBegin name begin) (is_again : IsBegin name again)
-  (there : WayFrom name begin (step name at) p q) (between : NoWayBetween name q r) (back_again : WayFrom name again (step name at_again) r s)
-  (same : option_map changed_types (way_of (next p begin done) name) ≡ option_map changed_types (way_of (next r again done) name)) where
+    (there : WayFrom name begin (step name at) p q) (between : NoWayBetween name q r) (back_again : WayFrom name again (step name at_again) r s)
+    (same : option_map changed_types (way_of (next p begin done) name) ≡ option_map changed_types (way_of (next r again done) name)) where
   pub both_ways : (key : EntryKey) → in_part p name key ≡ true → served_entry s key ≡ served_entry p key
   both_ways key part =
       let has = reached_has_parts p reached in
@@ -156,7 +156,7 @@ module _ (name : List ℕ) (begin again : Event) (at at_again : ℕ) (p q r s : 
       let same_types : changed_types c.way ≡ changed_types d.way = cc in
       let led_to : c.final.switched ≡ c.way.after = stepped_switched name at c.open_to c.final c.opened c.change c.opens c.rests_again ∙ c.behind_open in
       let stayed : d.first.switched ≡ c.final.switched =
-          sym (ap (λ o. before_of o d.first.switched) d.rests) ∙ ap before_way (sym one) ∙ mid.before ∙ ap (λ o. before_of o c.final.switched) c.rests_again in
+      sym (ap (λ o. before_of o d.first.switched) d.rests) ∙ ap before_way (sym one) ∙ mid.before ∙ ap (λ o. before_of o c.final.switched) c.rests_again in
       let ended : d.final.switched ≡ d.way.after = stepped_switched name at_again d.open_to d.final d.opened d.change d.opens d.rests_again ∙ d.behind_open in
       let turned = types_back c.way d.way (d.before ∙ stayed ∙ led_to) same_types in
       let to_first : HasSides c.first d.first = subst (HasSides c.first) one (sides_joined c.first c.final mid.later c.sides mid.sides) in

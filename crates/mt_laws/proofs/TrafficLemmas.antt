@@ -1,39 +1,36 @@
 -- A way from its begin to its end: what it leaves of the workflow's part.
-use Rattle.std.proofs.Common.{◌≡◌, ◌≢◌, ◌⊎◌, inl, inr, ℕ, Bool, true, false, not, cond, leb, List, [], ◌∷◌, find, Option, None, Some, is_some, refl, sym, ap, ◌∙◌, subst}
+use Rattle.std.proofs.Common.{◌≡◌, ℕ, Bool, true, false, not, leb, List, [], ◌∷◌, find, Option, None, Some, is_some, refl, sym, ap, ◌∙◌, subst}
 use Rattle.std.proofs.lemmas.Bool.{true≢false}
 use Rattle.std.specs.Option.{option_map_or}
-use Rattle.std.specs.Prelude.{◌&&◌, ◌||◌, option_and_then, option_map}
+use Rattle.std.specs.Prelude.{option_and_then}
 use Rattle.mt_names.specs.declared.keys.RuleKey.{RuleKey}
-use Rattle.mt_names.specs.declared.keys.RuleTarget.{RuleTarget}
 use Rattle.mt_names.specs.declared.types.TabletType.{TabletType}
 use Rattle.mt_names.specs.declared.types.TabletType.TheVariants.{Primary, Replica, Rdonly}
 use Rattle.mt_names.specs.declared.types.TypeSet.{TypeSet}
 use Rattle.mt_names.specs.Names.{same_text}
 use Rattle.mt_names.specs.Types.{has}
 use Rattle.mt_names.proofs.SameLemmas.{same_text_decides}
-use Rattle.mt_names.proofs.TypeLemmas.{same_members}
-use Rattle.mt_model.specs.declared.entries.Entry.{Entry}
 use Rattle.mt_model.specs.declared.entries.Entry.TheVariants as entry
 use Rattle.mt_model.specs.declared.entries.EntryKey.{EntryKey}
 use Rattle.mt_model.specs.declared.entries.EntryKey.TheVariants as about
 use Rattle.mt_model.specs.Topology.{TopologyState, rule_at, value_of}
-use Rattle.mt_plain.specs.Answers.{Answers, Run, after}
+use Rattle.mt_plain.specs.Answers.{Run, after}
 use Rattle.mt_plain.specs.Drive.{way_of}
-use Rattle.mt_plain.specs.Events.{Event, begin_switch, begin_reverse, step, undo, cancel, complete, Answer, done, row, advanced, shown, refused, Refusal, copying, full, nothing_to_reverse, nothing_to_switch, Way}
+use Rattle.mt_plain.specs.Events.{Event, begin_switch, begin_reverse, undo, cancel, complete, Answer, done, copying, full, nothing_to_reverse, nothing_to_switch, Way}
 use Rattle.mt_plain.specs.Next.{next}
-use Rattle.mt_plain.specs.Plain.{Live, Plain, before_way, changed_types, differ, has_part, live_at, part_owner, stands_done, write_journal}
+use Rattle.mt_plain.specs.Plain.{Live, Plain, has_part, live_at}
 use Rattle.mt_plain.specs.Refuse.{begin_reverse_refusal, begin_switch_refusal, has_more, is_still_copying, most_ways, or_else, refusal_of, refuse_if, share_type}
 use Rattle.mt_plain.specs.Serve.{serve, serve_plain, serve_rule, served_by, served_entry, step_of_entry}
-use Rattle.mt_laws.specs.Changes.{HasSides, IsStep}
-use Rattle.mt_laws.specs.WayBack.{EndsNoWay, IsBegin, IsReached, NoWayBetween, StaysLive, StaysOpen, WayFrom, ends_way, ends_workflow, in_part}
+use Rattle.mt_laws.specs.Changes.{HasSides}
+use Rattle.mt_laws.specs.WayBack.{IsBegin, IsReached, StaysOpen, WayFrom, ends_workflow, in_part}
 use Rattle.mt_laws.proofs.ChangeLemmas.{lives-completed}
 use Rattle.mt_laws.proofs.EntryValueLemmas.{rule_from_value}
-use Rattle.mt_laws.proofs.LiveLemmas.{IsIn, find-filter_gone, find_some, sides_joined, sides_same}
+use Rattle.mt_laws.proofs.LiveLemmas.{find-filter_gone, find_some, sides_joined, sides_same}
 use Rattle.mt_laws.proofs.PartLemmas.{HasParts, IsSettled}
 use Rattle.mt_laws.proofs.ReachLemmas.{next_has_parts, reached_has_parts}
-use Rattle.mt_laws.proofs.RefusalLemmas.{at_rest-none, in_workflow-none, not_some, some_of}
-use Rattle.mt_laws.proofs.WayBackLemmas.{OneEvent, has_part-same, in_part-of, one_event, owner_of_part, run_keeps_parts}
-use Rattle.mt_laws.proofs.WayLemmas.{Begins, IsUndo, WayChange, abandoned, begun, completed, goes_on, kept}
+use Rattle.mt_laws.proofs.RefusalLemmas.{at_rest-none, in_workflow-none}
+use Rattle.mt_laws.proofs.WayBackLemmas.{has_part-same, in_part-of, one_event, owner_of_part, run_keeps_parts}
+use Rattle.mt_laws.proofs.WayLemmas.{WayChange, abandoned, begun, completed, goes_on, kept}
 use Rattle.mt_laws.proofs.PlainWords.{types_by_way}
 
 -- ---- what a part serves depends on its sides, the switched types and the topology at its keys alone
@@ -48,7 +45,7 @@ rule-same t u v w types key same rule (Some Primary) = refl
 rule-same t u v w types key same rule (Some Replica) = rw (same.source, same.target) refl
 rule-same t u v w types key same rule (Some Rdonly) = rw (same.source, same.target) refl
 
-serve-same : (t u : TopologyState) (v w : Live) (types : TypeSet) (key : EntryKey) → HasSides v w → value_of t key ≡ value_of u key → serve t v types key ≡ serve u w types key
+pub serve-same : (t u : TopologyState) (v w : Live) (types : TypeSet) (key : EntryKey) → HasSides v w → value_of t key ≡ value_of u key → serve t v types key ≡ serve u w types key
 serve-same t u v w types (about.Rule key) same value = ap (entry.Rule key) (rule-same t u v w types key same (rule_from_value t u key value) key.tablet_type)
 serve-same t u v w types (about.Denied keyspace table) same value = rw same.source refl
 serve-same t u v w types (about.Present keyspace table) same value = refl
@@ -146,13 +143,17 @@ open_run (event ∷ events) (answer ∷ answers) p name w way has live opens run
 -- a begin is taken of a workflow at rest
 begin_rests : (p : Plain) (name : List ℕ) (begin : Event) → IsBegin name begin → refusal_of p begin ≡ None → (w : Live) × (live_at p name ≡ Some w) × (w.way ≡ None)
 begin_rests p name (begin_switch workflow types) is none =
-    let r = in_workflow-none (live_at p workflow) (begin_switch_refusal p types) none in
-    (r.0, ap (live_at p) (sym is) ∙ r.1,
-    (at_rest-none r.0 (or_else (refuse_if (not (has_more types r.0.switched)) nothing_to_switch) (or_else (refuse_if (is_still_copying r.0.copied) copying) (refuse_if (leb most_ways p.ways) full))) r.2).0)
+    let r = in_workflow-none (live_at p workflow) (begin_switch_refusal p types) none in (
+      r.0,
+      ap (live_at p) (sym is) ∙ r.1,
+      (at_rest-none r.0 (or_else (refuse_if (not (has_more types r.0.switched)) nothing_to_switch) (or_else (refuse_if (is_still_copying r.0.copied) copying) (refuse_if (leb most_ways p.ways) full))) r.2).0,
+    )
 begin_rests p name (begin_reverse workflow types) is none =
-    let r = in_workflow-none (live_at p workflow) (begin_reverse_refusal p types) none in
-    (r.0, ap (live_at p) (sym is) ∙ r.1,
-    (at_rest-none r.0 (or_else (refuse_if (not (share_type types r.0.switched)) nothing_to_reverse) (refuse_if (leb most_ways p.ways) full)) r.2).0)
+    let r = in_workflow-none (live_at p workflow) (begin_reverse_refusal p types) none in (
+      r.0,
+      ap (live_at p) (sym is) ∙ r.1,
+      (at_rest-none r.0 (or_else (refuse_if (not (share_type types r.0.switched)) nothing_to_reverse) (refuse_if (leb most_ways p.ways) full)) r.2).0,
+    )
 begin_rests p name event is none = absurd is
 
 begin_ends_nothing : (name : List ℕ) (begin : Event) → IsBegin name begin → ends_workflow name begin done ≡ false

@@ -1,18 +1,16 @@
 -- What each event leaves as it was.
-use Rattle.std.proofs.Common.{◌≡◌, ◌≢◌, ◌⊎◌, inl, inr, ℕ, suc, ◌+◌, ◌-◌, Bool, true, false, not, cond, eqb, List, [], ◌∷◌, ◌++◌, map, filter, find, Option, None, Some, option_map, is_some, refl, sym, ap, ◌∙◌, subst}
+use Rattle.std.proofs.Common.{◌≡◌, ◌⊎◌, inl, inr, ℕ, suc, ◌+◌, ◌-◌, Bool, true, false, not, cond, eqb, List, find, Option, None, Some, option_map, is_some, refl, sym, ap, ◌∙◌, subst}
 use Rattle.std.specs.Option.{option_map_or}
 use Rattle.mt_names.specs.declared.types.TypeSet.{TypeSet}
 use Rattle.mt_names.specs.Names.{same_text}
 use Rattle.mt_names.proofs.SameLemmas.{same_text_decides}
-use Rattle.mt_plain.specs.Events.{Event, write, read, add_keyspace, add_table, edit_rule, create, advance, begin_switch, begin_reverse, step, undo, cancel, complete, show, StreamName, forward, back, Answer, done, row, advanced, shown, refused, Way}
-use Rattle.mt_plain.specs.Answers.{Answers}
+use Rattle.mt_plain.specs.Events.{Event, write, read, add_keyspace, add_table, edit_rule, advance, begin_switch, begin_reverse, step, undo, cancel, complete, show, StreamName, forward, back, Answer, done, row, advanced, shown, refused, Way}
 use Rattle.mt_plain.specs.Next.{live_stepped, live_undone, next, next_taken, on_way_of, types_and, types_without, way_stepped, with_advance, with_completed, with_fresh_stream, with_way_to}
 use Rattle.mt_plain.specs.Plain.{Copied, Live, Plain, behind_last, changes_primary, create_back, live_at, next_step, write_journal}
-use Rattle.mt_plain.specs.Refuse.{new_owner}
-use Rattle.mt_plain.specs.Slots.{is_fresh, live_advanced, log_length, with_position}
-use Rattle.mt_laws.specs.Changes.{BeginsWay, ChangesLives, ChangesLogs, ChangesNumbers, ChangesTopology, ChangesWay, ChangesWrites, HasSides, IsAdvance, IsOf, IsStep, OnlyTells}
+use Rattle.mt_plain.specs.Slots.{is_fresh, live_advanced, with_position}
+use Rattle.mt_laws.specs.Changes.{BeginsWay, ChangesLives, ChangesLogs, ChangesNumbers, ChangesTopology, ChangesWay, ChangesWrites, HasSides, IsAdvance, IsOf, IsStep, MovesStream, OnlyTells}
 use Rattle.mt_laws.proofs.ChangeLemmas.{LivesAfter, ended, live_after, live_next, live_taken, lives_after, made, mapped, sides-next}
-use Rattle.mt_laws.proofs.LiveLemmas.{IsIn, changed, find-filter_kept, find-map, find-push_other, find_some, text_differs}
+use Rattle.mt_laws.proofs.LiveLemmas.{changed, find-filter_kept, find-map, find-push_other, find_some, text_differs}
 
 -- ---- the state apart from its workflows
 
@@ -60,6 +58,16 @@ same_numbers p event answer other =
     next_leaves (λ q. q.numbers) p event answer (taken-numbers p event other)
     (λ workflow name at at_most events rows o is. ap (λ q. q.numbers) (advance_leaves p name at at_most events rows o))
 
+taken-made : (p : Plain) (event : Event) → ¬ (ChangesNumbers event) → (next_taken p event).made ≡ p.made
+taken-made p (add_table keyspace table) other = absurd (other tt)
+taken-made p (complete workflow) other = absurd (other tt)
+taken-made p event other = refl
+
+pub same_made : (p : Plain) (event : Event) (answer : Answer) → ¬ (ChangesNumbers event) → (next p event answer).made ≡ p.made
+same_made p event answer other =
+    next_leaves (λ q. q.made) p event answer (taken-made p event other)
+    (λ workflow name at at_most events rows o is. ap (λ q. q.made) (advance_leaves p name at at_most events rows o))
+
 taken-writes : (p : Plain) (event : Event) → ¬ (ChangesWrites event) → (next_taken p event).writes ≡ p.writes
 taken-writes p (write keyspace table op) other = absurd (other tt)
 taken-writes p (complete workflow) other = ap (λ q. q.writes) (complete_leaves p (live_at p workflow))
@@ -69,7 +77,6 @@ pub same_writes : (p : Plain) (event : Event) (answer : Answer) → ¬ (ChangesW
 same_writes p event answer other =
     next_leaves (λ q. q.writes) p event answer (taken-writes p event other)
     (λ workflow name at at_most events rows o is. ap (λ q. q.writes) (advance_leaves p name at at_most events rows o))
-
 
 taken-logs : (p : Plain) (event : Event) → ¬ (ChangesLogs event) → (next_taken p event).log ≡ p.log
 taken-logs p (write keyspace table op) other = absurd (other tt)
@@ -144,6 +151,9 @@ traffic w = (w.switched, w.way)
 abbrev copy : Live → ℕ × Copied
 copy w = (w.fed, w.copied)
 
+abbrev positions : Live → ℕ × ℕ × ℕ
+positions w = (w.forward_at, w.back_at, w.fresh_at)
+
 traffic-position : (w : Live) (name : StreamName) (t : Bool) (position : ℕ) → traffic (with_position w name t position) ≡ traffic w
 traffic-position w name true position = refl
 traffic-position w forward false position = refl
@@ -204,6 +214,15 @@ taken-copy p (step workflow at) w = field-changed copy (λ v. on_way_of (live_st
 taken-copy p (undo workflow at) w = field-changed copy (λ v. on_way_of (live_undone v) v) workflow w (field-on_way copy w (live_undone w) (copy-undone w) w.way)
 taken-copy p event w = refl
 
+taken-positions : (p : Plain) (event : Event) (w : Live) → ¬ (MovesStream event) → positions (live_taken p event w) ≡ positions w
+taken-positions p (begin_switch workflow types) w other = field-changed positions (with_way_to false (λ switched. types_and switched types)) workflow w refl
+taken-positions p (begin_reverse workflow types) w other = field-changed positions (with_way_to true (λ switched. types_without switched types)) workflow w refl
+taken-positions p (step workflow at) w other = absurd (other tt)
+taken-positions p (undo workflow at) w other =
+    field-changed positions (λ v. on_way_of (live_undone v) v) workflow w
+    (field-on_way positions w (live_undone w) (λ way. field-cond positions (eqb (way.done - 1) 0) _ _ (positions w) refl refl) w.way)
+taken-positions p event w other = refl
+
 -- a workflow that is live before and after an event
 module _ (p : Plain) (event : Event) (answer : Answer) (name : List ℕ) (w v : Live) (before : live_at p name ≡ Some w) (now : live_at (next p event answer) name ≡ Some v) where
   is_next : v ≡ live_next p event answer w
@@ -235,6 +254,21 @@ module _ (p : Plain) (event : Event) (answer : Answer) (name : List ℕ) (w v : 
 
   pub same_copied : ¬ (IsAdvance event) → v.copied ≡ w.copied
   same_copied other = ap (λ c. c.1) (same_copy other)
+
+  same_positions : ¬ (MovesStream event) → positions v ≡ positions w
+  same_positions other =
+      ap positions is_next
+      ∙ live_leaves positions p event answer w (taken-positions p event w other)
+      (λ workflow stream at at_most events rows is. absurd (other (subst MovesStream (sym is) tt)))
+
+  pub same_forward_at : ¬ (MovesStream event) → v.forward_at ≡ w.forward_at
+  same_forward_at other = ap (λ c. c.0) (same_positions other)
+
+  pub same_back_at : ¬ (MovesStream event) → v.back_at ≡ w.back_at
+  same_back_at other = ap (λ c. c.1) (same_positions other)
+
+  pub same_fresh_at : ¬ (MovesStream event) → v.fresh_at ≡ w.fresh_at
+  same_fresh_at other = ap (λ c. c.2) (same_positions other)
 
 -- ---- which workflows are live, and the others
 
@@ -271,7 +305,7 @@ next_elsewhere p event (advanced events rows) name w is other = refl
 next_elsewhere p event (shown s) name w is other = refl
 next_elsewhere p event (refused refusal) name w is other = refl
 
-map-same : (f : Live → Live) (o : Option Live) → ((w : Live) → o ≡ Some w → f w ≡ w) → option_map f o ≡ o
+pub map-same : (f : Live → Live) (o : Option Live) → ((w : Live) → o ≡ Some w → f w ≡ w) → option_map f o ≡ o
 map-same f None same = refl
 map-same f (Some w) same = ap Some (same w refl)
 
@@ -296,3 +330,15 @@ same_workflow p event answer name other = by (lives_after p event answer)
         of_it : (event ≡ cancel gone) ⊎ (event ≡ complete gone) → gone ≡ name → ⊥
         of_it (inl e) g = other (subst (IsOf name) (sym e) g)
         of_it (inr e) g = other (subst (IsOf name) (sym e) g)
+
+pub same_traffic : (p : Plain) (event : Event) (answer : Answer) (w : Live) → ¬ (ChangesWay event) → traffic (live_next p event answer w) ≡ traffic w
+same_traffic p event answer w other =
+    live_leaves traffic p event answer w (by event other)
+    (λ workflow stream at at_most events rows is. traffic-advanced p w stream at at_most events rows)
+  where
+    by : (e : Event) → ¬ (ChangesWay e) → traffic (live_taken p e w) ≡ traffic w
+    by (begin_switch workflow types) n = absurd (n tt)
+    by (begin_reverse workflow types) n = absurd (n tt)
+    by (step workflow at) n = absurd (n tt)
+    by (undo workflow at) n = absurd (n tt)
+    by e n = refl

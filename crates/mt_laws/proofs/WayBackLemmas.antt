@@ -1,27 +1,24 @@
 -- What an event leaves of a live workflow's part, and what Cancel gives back.
-use Rattle.std.proofs.Common.{◌≡◌, ◌≢◌, ◌⊎◌, inl, inr, ℕ, Bool, true, false, not, cond, List, [], ◌∷◌, ◌++◌, map, filter, find, Option, None, Some, option_map, is_some, refl, sym, ap, ◌∙◌, subst}
+use Rattle.std.proofs.Common.{◌≡◌, ◌⊎◌, inl, inr, ℕ, Bool, true, false, not, cond, List, [], ◌∷◌, find, None, Some, option_map, refl, sym, ap, ◌∙◌, subst}
 use Rattle.std.proofs.lemmas.Bool.{true≢false}
-use Rattle.std.specs.List.{list_any}
 use Rattle.std.specs.Option.{option_map_or}
-use Rattle.std.specs.Prelude.{◌&&◌, ◌||◌}
 use Rattle.mt_names.specs.Names.{same_text}
 use Rattle.mt_names.proofs.SameLemmas.{same_text_decides}
 use Rattle.mt_model.specs.declared.entries.EntryKey.{EntryKey}
 use Rattle.mt_model.specs.declared.entries.EntryKey.TheVariants as about
-use Rattle.mt_model.specs.Topology.{TopologyState, value_of}
+use Rattle.mt_model.specs.Topology.{value_of}
 use Rattle.mt_plain.specs.Answers.{Answers, Run, after}
 use Rattle.mt_plain.specs.Events.{Event, create, cancel, complete, Answer, done, row, advanced, shown, refused}
-use Rattle.mt_plain.specs.Next.{next, without_live}
+use Rattle.mt_plain.specs.Next.{next}
 use Rattle.mt_plain.specs.Plain.{Live, Plain, has_part, live_at, moves, part_owner}
 use Rattle.mt_plain.specs.Serve.{served_by, served_entry}
 use Rattle.mt_laws.specs.Changes.{HasSides}
 use Rattle.mt_laws.specs.WayBack.{IsReached, SinceCreate, StaysLive, ends_workflow, in_part}
-use Rattle.mt_laws.proofs.ChangeLemmas.{LivesAfter, ended, live_after, live_next, lives-completed, lives_after, made, made_live, mapped, sides-next}
+use Rattle.mt_laws.proofs.ChangeLemmas.{LivesAfter, ended, live_after, live_next, lives_after, made, made_live, mapped, sides-next}
 use Rattle.mt_laws.proofs.EntryValueLemmas.{table_of}
-use Rattle.mt_laws.proofs.LiveLemmas.{IsIn, find-filter_gone, find-filter_kept, find-map, find-push_none, find-push_some, find_nowhere, find_some, find_none, find_the_one, sides_joined, sides_same, text_differs, unique}
+use Rattle.mt_laws.proofs.LiveLemmas.{IsIn, find-filter_gone, find-filter_kept, find-map, find-push_none, find-push_some, find_nowhere, find_some, find_none, find_the_one, sides_joined, sides_same, unique}
 use Rattle.mt_laws.proofs.PartLemmas.{HasParts, kept_from_part, moved_from_part, value-kept}
 use Rattle.mt_laws.proofs.ReachLemmas.{IsNew, create-none, live_by_name, moved_new, next_has_parts, reached_has_parts}
-use Rattle.mt_laws.proofs.RefusalLemmas.{and-true}
 use Rattle.mt_laws.proofs.WayLemmas.{WayChange, way_change}
 
 -- ---- a part, by sides and tables
@@ -56,11 +53,12 @@ ends_or_same p event answer gone (inr e) given =
 
 stays_live : (p : Plain) (event : Event) (answer : Answer) (name : List ℕ) (w : Live) → live_at p name ≡ Some w → Answers p event answer → ends_workflow name event answer ≡ false
     → LivesAfter p (next p event answer) event answer → (v : Live) × (live_at (next p event answer) name ≡ Some v)
-stays_live p event answer name w live given lives (mapped is) =
-    (live_next p event answer w,
-    ap (find (λ x. same_text x.name name)) is
-    ∙ find-map (λ x. same_text x.name name) (live_next p event answer) p.lives (λ x. ap (λ n. same_text n name) (sym (sides-next p event answer x).name))
-    ∙ ap (option_map (live_next p event answer)) live)
+stays_live p event answer name w live given lives (mapped is) = (
+  live_next p event answer w,
+  ap (find (λ x. same_text x.name name)) is
+      ∙ find-map (λ x. same_text x.name name) (live_next p event answer) p.lives (λ x. ap (λ n. same_text n name) (sym (sides-next p event answer x).name))
+      ∙ ap (option_map (live_next p event answer)) live,
+)
 stays_live p event answer name w live given lives (made new source target tables e is same) =
     (w, ap (find (λ x. same_text x.name name)) is ∙ find-push_some (λ x. same_text x.name name) p.lives (made_live p new source target tables) w live)
 stays_live p event answer name w live given lives (ended gone e is same) = by (same_text name gone) refl
@@ -74,11 +72,13 @@ stays_live p event answer name w live given lives (ended gone e is same) = by (s
 
     by : (t : Bool) → same_text name gone ≡ t → (v : Live) × (live_at (next p event answer) name ≡ Some v)
     by true t = by_end ((same_text_decides name gone).0 t) (ends_or_same p event answer gone e given)
-    by false t =
-        (w, ap (find (λ x. same_text x.name name)) is
-        ∙ find-filter_kept (λ x. same_text x.name name) (λ x. not (same_text x.name gone)) p.lives
-        (λ x i f. ap not (ap (λ n. same_text n gone) ((same_text_decides x.name name).0 f) ∙ t))
-        ∙ live)
+    by false t = (
+      w,
+      ap (find (λ x. same_text x.name name)) is
+          ∙ find-filter_kept (λ x. same_text x.name name) (λ x. not (same_text x.name gone)) p.lives
+          (λ x i f. ap not (ap (λ n. same_text n gone) ((same_text_decides x.name name).0 f) ∙ t))
+          ∙ live,
+    )
 
 -- what an event leaves of it
 pub record OneEvent (p q : Plain) (event : Event) (name : List ℕ) (w : Live) : Type 0 where
@@ -189,7 +189,7 @@ unowned p name source target tables key new part = find_nowhere (λ x. has_part 
     by x is false t = t
 
 module _ (p : Plain) (reached : IsReached p) (name source target : List ℕ) (tables : List (List ℕ)) (created : Answers p (create name source target tables) done)
-  (events : List Event) (answers : List Answer) (run : Run (next p (create name source target tables) done) events answers) (stays : StaysLive name events answers) where
+    (events : List Event) (answers : List Answer) (run : Run (next p (create name source target tables) done) events answers) (stays : StaysLive name events answers) where
   has : HasParts p
   has = reached_has_parts p reached
 
@@ -237,3 +237,11 @@ pub cancel_others : (name source target : List ℕ) (tables : List (List ℕ)) (
 cancel_others name source target tables p q reached since taken key =
     subst (λ r. in_part r name key ≡ false → served_entry (next r (cancel name) done) key ≡ served_entry r key) since.is
     (cancel_leaves_others p reached name source target tables since.created since.events since.answers since.run since.live key)
+
+-- the part is that of the sides and tables that Create was asked for
+pub cancel_sides : (name source target : List ℕ) (tables : List (List ℕ)) (p q : Plain) → IsReached p → SinceCreate name source target tables p q → (w : Live) → live_at q name ≡ Some w → (w.source ≡ source) × (w.target ≡ target) × (w.tables ≡ tables)
+cancel_sides name source target tables p q reached since w now =
+    let l = lasts p reached name source target tables since.created since.events since.answers since.run since.live in
+    let found : Some w ≡ Some l.later = sym now ∙ ap (λ r. live_at r name) (sym since.is) ∙ l.live in
+    let one : w ≡ l.later = cc in
+    (ap (λ x. x.source) one ∙ sym l.sides.source, ap (λ x. x.target) one ∙ sym l.sides.target, ap (λ x. x.tables) one ∙ sym l.sides.tables)

@@ -1,21 +1,21 @@
 -- What an event that is taken makes of the way of a live workflow.
-use Rattle.std.proofs.Common.{◌≡◌, ◌≢◌, ◌⊎◌, inl, inr, ℕ, suc, ◌+◌, ◌-◌, ◌<◌, ◌≤◌, Bool, true, false, not, cond, eqb, ltb, leb, List, Option, None, Some, is_some, refl, sym, ap, ◌∙◌, subst, arith, eqb-true, ltb-true, lt-ltb}
+use Rattle.std.proofs.Common.{◌≡◌, ℕ, suc, ◌+◌, ◌-◌, Bool, true, false, not, cond, eqb, ltb, leb, List, Option, None, Some, refl, sym, ap, ◌∙◌, arith, eqb-true, ltb-true, lt-ltb}
 use Rattle.std.proofs.lemmas.Bool.{true≢false}
 use Rattle.std.specs.Option.{option_map_or}
-use Rattle.std.specs.Prelude.{◌&&◌, ◌||◌, ⊤}
+use Rattle.std.specs.Prelude.{⊤}
 use Rattle.mt_names.specs.declared.types.TypeSet.{TypeSet}
 use Rattle.mt_names.specs.Names.{same_text}
 use Rattle.mt_plain.specs.Answers.{Answers}
 use Rattle.mt_plain.specs.Events.{Event, advance, begin_switch, begin_reverse, step, undo, Answer, done, row, advanced, shown, refused, Refusal, copying, full, nothing_to_reverse, nothing_to_switch, nothing_under_way, past_journal, stale, Way}
-use Rattle.mt_plain.specs.Next.{live_stepped, live_undone, next, on_way_of, types_and, types_without, way_stepped, with_fresh_stream, with_way_to}
-use Rattle.mt_plain.specs.Plain.{Live, Plain, behind_last, changes_primary, create_back, first_step, live_at, next_step, stands_done, write_journal}
-use Rattle.mt_plain.specs.Refuse.{at_rest, begin_reverse_refusal, begin_switch_refusal, has_more, in_workflow, is_still_copying, most_ways, new_owner, or_else, refusal_of, refuse_if, share_type, undo_refusal}
+use Rattle.mt_plain.specs.Next.{live_stepped, live_undone, on_way_of, types_and, types_without, way_stepped, with_way_to}
+use Rattle.mt_plain.specs.Plain.{Live, Plain, behind_last, create_back, first_step, live_at, next_step, stands_done, write_journal}
+use Rattle.mt_plain.specs.Refuse.{begin_reverse_refusal, begin_switch_refusal, has_more, in_workflow, is_still_copying, most_ways, new_owner, or_else, refusal_of, refuse_if, share_type, undo_refusal}
 use Rattle.mt_plain.specs.Slots.{live_advanced, log_length}
 use Rattle.mt_laws.specs.Changes.{IsStep}
 use Rattle.mt_laws.proofs.ChangeLemmas.{live_next, live_taken}
-use Rattle.mt_laws.proofs.LiveLemmas.{IsIn, changed, find_the_one}
+use Rattle.mt_laws.proofs.LiveLemmas.{changed}
 use Rattle.mt_laws.proofs.RefusalLemmas.{and-both, and-true, at_rest-none, or_else-none, refuse_if-none}
-use Rattle.mt_laws.proofs.UntouchedLemmas.{traffic, traffic-advanced}
+use Rattle.mt_laws.proofs.UntouchedLemmas.{traffic-advanced}
 use Rattle.mt_laws.proofs.PlainWords.{changes_reads}
 
 abbrev pub IsUndo : Event → Type 0

@@ -1,27 +1,26 @@
 -- Parts apart, and where a moved table is writable.
-use Rattle.std.proofs.Common.{◌≡◌, ◌≢◌, ◌⊎◌, ◌↔◌, inl, inr, ℕ, suc, ◌+◌, ◌<◌, ◌≤◌, Bool, true, false, not, cond, ltb, leb, List, [], ◌∷◌, find, length, Option, None, Some, is_some, refl, sym, ap, ◌∙◌, subst, arith, ltb-true, lt-ltb}
+use Rattle.std.proofs.Common.{◌≡◌, ◌≢◌, ◌⊎◌, ◌↔◌, inl, inr, ℕ, ◌+◌, Bool, true, false, not, cond, ltb, leb, List, [], ◌∷◌, Option, None, Some, refl, sym, ap, ◌∙◌, subst, arith, ltb-true, lt-ltb}
 use Rattle.std.proofs.lemmas.Bool.{true≢false}
 use Rattle.std.proofs.lemmas.List.Elements.{All-from_recursion}
 use Rattle.std.proofs.lemmas.List.Kept.{AllPairs-cons}
 use Rattle.std.specs.Option.{option_map_or}
-use Rattle.std.specs.Prelude.{◌&&◌, ◌||◌, AllPairs}
+use Rattle.std.specs.Prelude.{◌&&◌, AllPairs}
 use Rattle.mt_names.specs.declared.types.TypeSet.{TypeSet}
 use Rattle.mt_names.specs.Names.{same_text}
 use Rattle.mt_names.proofs.SameLemmas.{same_text_decides}
-use Rattle.mt_model.specs.declared.entries.Entry.{Entry}
 use Rattle.mt_model.specs.declared.entries.Entry.TheVariants as entry
 use Rattle.mt_model.specs.declared.entries.EntryKey.{EntryKey}
 use Rattle.mt_model.specs.declared.entries.EntryKey.TheVariants as about
 use Rattle.mt_model.specs.Topology.{value_of}
 use Rattle.mt_plain.specs.Events.{Way}
-use Rattle.mt_plain.specs.Plain.{Live, Plain, before_way, first_step, has_part, is_side, mover, moves, next_step, owner, owner_by, part_owner, refresh_source, refresh_target, stands_done}
-use Rattle.mt_plain.specs.Serve.{IsWritable, has_table, is_denied_at, owned_before, refuses, served_by, served_entry, types_by}
+use Rattle.mt_plain.specs.Plain.{Live, Plain, before_way, first_step, has_part, is_side, mover, moves, owner, part_owner, refresh_source, refresh_target, stands_done}
+use Rattle.mt_plain.specs.Serve.{IsWritable, is_denied_at, owned_before, refuses, served_by, served_entry, types_by}
 use Rattle.mt_laws.specs.WayBack.{IsReached}
 use Rattle.mt_laws.proofs.EntryValueLemmas.{table_of}
 use Rattle.mt_laws.proofs.LiveLemmas.{Apart, IsApart, IsIn, all_from_in, find_none, find_some, in_all, text_differs}
 use Rattle.mt_laws.proofs.PartLemmas.{HasParts, moved_from_part, there_at_source, there_at_target}
 use Rattle.mt_laws.proofs.ReachLemmas.{reached_has_parts}
-use Rattle.mt_laws.proofs.RefusalLemmas.{and-both, and-true, not-false, or-cases, or-right}
+use Rattle.mt_laws.proofs.RefusalLemmas.{and-both, and-true, not-false, or-cases}
 use Rattle.mt_laws.proofs.PlainWords.{changes_reads, refuses_moved, types_by_way}
 
 -- ---- parts
@@ -182,9 +181,10 @@ module _ (p : Plain) (w : Live) (table : List ℕ) (has : HasParts p) (found : m
         sym is ∙ sym (owner-if true (not-false w.switched.primary (sym rest-target ∙ ap (λ k. refuses p k table) is ∙ writable.1)))
 
     pub writable_at_rest : (keyspace : List ℕ) → is_side w keyspace ≡ true → IsWritable p keyspace table ↔ (keyspace ≡ owner w)
-    writable_at_rest keyspace side =
-        (owner-writable keyspace (or-cases (same_text w.source keyspace) (same_text w.target keyspace) side),
-        λ e. subst (λ k. IsWritable p k table) (sym (owner-if w.switched.primary refl) ∙ sym e) (writable-owner w.switched.primary refl))
+    writable_at_rest keyspace side = (
+      owner-writable keyspace (or-cases (same_text w.source keyspace) (same_text w.target keyspace) side),
+      λ e. subst (λ k. IsWritable p k table) (sym (owner-if w.switched.primary refl) ∙ sym e) (writable-owner w.switched.primary refl),
+    )
 
 pub never_writable_in_two : (p : Plain) → IsReached p → (table : List ℕ) (w : Live) → mover p table ≡ Some w → IsWritable p w.source table → IsWritable p w.target table → ⊥
 never_writable_in_two p reached table w found = not_writable_in_two p w table (reached_has_parts p reached) found

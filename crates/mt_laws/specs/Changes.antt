@@ -52,6 +52,12 @@ abbrev pub IsAdvance : Event → Type 0
 IsAdvance (advance workflow name at at_most) = ⊤
 IsAdvance other = ⊥
 
+-- the positions of its streams
+abbrev pub MovesStream : Event → Type 0
+MovesStream (advance workflow name at at_most) = ⊤
+MovesStream (step workflow at) = ⊤
+MovesStream other = ⊥
+
 -- which workflows are live
 abbrev pub ChangesLives : Event → Type 0
 ChangesLives (create workflow source target tables) = ⊤
@@ -70,6 +76,14 @@ IsOf name (undo workflow at) = workflow ≡ name
 IsOf name (cancel workflow) = workflow ≡ name
 IsOf name (complete workflow) = workflow ≡ name
 IsOf name other = ⊥
+
+-- the events on rows and streams, and those that only tell
+abbrev pub IsOfRows : Event → Type 0
+IsOfRows (write keyspace table op) = ⊤
+IsOfRows (read keyspace table key tablet_type) = ⊤
+IsOfRows (advance workflow name at at_most) = ⊤
+IsOfRows (show workflow) = ⊤
+IsOfRows other = ⊥
 
 -- reads and Show
 abbrev pub OnlyTells : Event → Type 0

@@ -1,9 +1,12 @@
 //! Laws on what an event changes.
-ghost use Rattle.std.specs.Prelude.{◌≡◌, ℕ, List, Some, is_some};
-ghost use Rattle.mt_laws.specs.Changes.{BeginsWay, ChangesLives, ChangesLogs, ChangesNumbers, ChangesTopology, ChangesWay, ChangesWrites, HasSides, IsAdvance, IsOf, IsStep, OnlyTells};
+ghost use Rattle.std.specs.Prelude.{◌≡◌, ℕ, List, Some, false, is_some};
+ghost use Rattle.mt_laws.specs.Changes.{BeginsWay, ChangesLives, ChangesLogs, ChangesNumbers, ChangesTopology, ChangesWay, ChangesWrites, HasSides, IsAdvance, IsOf, IsOfRows, IsStep, MovesStream, OnlyTells};
+ghost use Rattle.mt_laws.specs.WayBack.{IsReached, in_part};
+ghost use Rattle.mt_model.specs.declared.entries.EntryKey.{EntryKey};
 ghost use Rattle.mt_plain.specs.Events.{Event, Answer};
 ghost use Rattle.mt_plain.specs.Next.{next};
 ghost use Rattle.mt_plain.specs.Plain.{Live, Plain, live_at};
+ghost use Rattle.mt_plain.specs.Serve.{served_entry};
 
 /// Only the events that are named change a thing, whatever their answer: by hand and by Complete the topology as if no
 /// workflow were live, by a write the acknowledged writes, by writes and advances the logs, by a begin the number of ways,
@@ -13,6 +16,8 @@ pub fn only_named_events_change_the_state()
         → (next p event answer).topology ≡ p.topology }
     ensures numbers { (p : Plain) (event : Event) (answer : Answer) → ¬ (ChangesNumbers event)
         → (next p event answer).numbers ≡ p.numbers }
+    ensures made { (p : Plain) (event : Event) (answer : Answer) → ¬ (ChangesNumbers event)
+        → (next p event answer).made ≡ p.made }
     ensures writes { (p : Plain) (event : Event) (answer : Answer) → ¬ (ChangesWrites event)
         → (next p event answer).writes ≡ p.writes }
     ensures logs { (p : Plain) (event : Event) (answer : Answer) → ¬ (ChangesLogs event)
@@ -26,8 +31,8 @@ pub fn only_named_events_change_the_state()
 {}
 
 /// The same of a live workflow: Create, Cancel and Complete alone change which are live, a step alone what is switched, a
-/// begin, a step and an undo alone the way, an advance alone what is fed and copied. Its sides and tables stay, and an
-/// event on another workflow leaves it as it is.
+/// begin, a step and an undo alone the way, an advance alone what is fed and copied, an advance and a step alone the
+/// positions of its streams. Its sides and tables stay, and an event on another workflow leaves it as it is.
 pub fn only_named_events_change_a_workflow()
     ensures live { (p : Plain) (event : Event) (answer : Answer) (name : List ℕ) → ¬ (ChangesLives event)
         → is_some (live_at (next p event answer) name) ≡ is_some (live_at p name) }
@@ -47,4 +52,26 @@ pub fn only_named_events_change_a_workflow()
     ensures copied { (p : Plain) (event : Event) (answer : Answer) (name : List ℕ) (w v : Live)
         → live_at p name ≡ Some w → live_at (next p event answer) name ≡ Some v → ¬ (IsAdvance event)
         → v.copied ≡ w.copied }
+    ensures forward_at { (p : Plain) (event : Event) (answer : Answer) (name : List ℕ) (w v : Live)
+        → live_at p name ≡ Some w → live_at (next p event answer) name ≡ Some v → ¬ (MovesStream event)
+        → v.forward_at ≡ w.forward_at }
+    ensures back_at { (p : Plain) (event : Event) (answer : Answer) (name : List ℕ) (w v : Live)
+        → live_at p name ≡ Some w → live_at (next p event answer) name ≡ Some v → ¬ (MovesStream event)
+        → v.back_at ≡ w.back_at }
+    ensures fresh_at { (p : Plain) (event : Event) (answer : Answer) (name : List ℕ) (w v : Live)
+        → live_at p name ≡ Some w → live_at (next p event answer) name ≡ Some v → ¬ (MovesStream event)
+        → v.fresh_at ≡ w.fresh_at }
+{}
+
+/// Writes, reads, advances and Show change no entry of the topology that is served, whatever workflows are live.
+pub fn rows_and_streams_change_no_entry()
+    ensures { (p : Plain) (event : Event) (answer : Answer) → IsOfRows event → (key : EntryKey)
+        → served_entry (next p event answer) key ≡ served_entry p key }
+{}
+
+/// A begin, a step and an undo change no entry outside of the part of their workflow, in each state that a run reaches.
+pub fn traffic_commands_change_their_own_part_alone()
+    ensures { (p : Plain) (event : Event) (answer : Answer) (name : List ℕ) → IsReached p → ChangesWay event
+        → IsOf name event → (key : EntryKey) → in_part p name key ≡ false
+        → served_entry (next p event answer) key ≡ served_entry p key }
 {}

@@ -12,6 +12,7 @@ mod way_back;
 
 pub use changes::{
     only_named_events_change_a_workflow, only_named_events_change_the_state,
+    rows_and_streams_change_no_entry, traffic_commands_change_their_own_part_alone,
 };
 pub use events::{
     answers_are_determined, limits_are_told_last, reads_answer_the_row,
@@ -29,5 +30,5 @@ pub use tables::{
 };
 pub use way_back::{
     a_reversal_gives_the_part_back, a_way_back_is_open_before_the_journal,
-    an_abandoned_way_gives_the_part_back, cancel_gives_the_part_back,
+    an_abandoned_way_gives_the_part_back, cancel_gives_the_part_back, each_way_back_can_be_taken,
 };

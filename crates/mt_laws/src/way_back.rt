@@ -1,7 +1,8 @@
 //! Laws on the ways back: Undo, Cancel and ReverseTraffic.
-ghost use Rattle.std.specs.Prelude.{◌≡◌, ◌↔◌, ℕ, false, true, List, None, Some, option_map};
+ghost use Rattle.std.specs.Prelude.{◌≡◌, ◌↔◌, ℕ, false, true, List, [], ◌∷◌, None, Some, codes, option_map};
 ghost use Rattle.mt_laws.specs.WayBack.{IsBegin, IsReached, NoWayBetween, SinceCreate, WayFrom, in_part};
 ghost use Rattle.mt_model.specs.declared.entries.EntryKey.{EntryKey};
+ghost use Rattle.mt_model.specs.declared.entries.EntryKey.TheVariants as about;
 ghost use Rattle.mt_names.specs.declared.types.TypeSet.{TypeSet};
 ghost use Rattle.mt_names.specs.Types.{no_types};
 ghost use Rattle.mt_plain.specs.Answers.{Answers};
@@ -21,8 +22,12 @@ pub fn a_way_back_is_open_before_the_journal()
 {}
 
 /// After a cancel that is taken each entry of the workflow's part is what it was before the create that made the workflow,
-/// whatever came between; each other entry is what it was just before the cancel.
+/// whatever came between; each other entry is what it was just before the cancel. The part is that of the sides and tables
+/// that the create named.
 pub fn cancel_gives_the_part_back()
+    ensures sides { (name source target : List ℕ) (tables : List (List ℕ)) (p q : Plain) → IsReached p
+        → SinceCreate name source target tables p q → (w : Live) → live_at q name ≡ Some w
+        → (w.source ≡ source) × (w.target ≡ target) × (w.tables ≡ tables) }
     ensures part { (name source target : List ℕ) (tables : List (List ℕ)) (p q : Plain) → IsReached p
         → SinceCreate name source target tables p q → Answers q (cancel name) done → (key : EntryKey)
         → in_part q name key ≡ true → served_entry (next q (cancel name) done) key ≡ served_entry p key }
@@ -55,4 +60,19 @@ pub fn a_reversal_gives_the_part_back()
         → option_map changed_types (way_of (next p begin done) name)
         ≡ option_map changed_types (way_of (next r again done) name)
         → (key : EntryKey) → in_part p name key ≡ true → served_entry s key ≡ served_entry p key }
+{}
+
+/// What the three laws above presuppose does happen: a table is moved, and the move is cancelled; all its traffic is
+/// switched, step by step, and reversed; and a switch is abandoned behind two steps.
+pub fn each_way_back_can_be_taken()
+    ensures cancel { (p : Plain) × (q : Plain) × IsReached p
+        × SinceCreate (codes "w") (codes "a") (codes "b") (codes "t" ∷ []) p q × Answers q (cancel (codes "w")) done
+        × (in_part q (codes "w") (about.Denied (codes "b") (codes "t")) ≡ true) }
+    ensures undo { (p : Plain) × (q : Plain) × (types : TypeSet) × IsReached p
+        × WayFrom (codes "w") (begin_switch (codes "w") types) (undo (codes "w") 1) p q }
+    ensures reversal { (p : Plain) × (q : Plain) × (r : Plain) × (s : Plain) × (types : TypeSet) × IsReached p
+        × WayFrom (codes "w") (begin_switch (codes "w") types) (step (codes "w") 11) p q × NoWayBetween (codes "w") q r
+        × WayFrom (codes "w") (begin_reverse (codes "w") types) (step (codes "w") 11) r s
+        × (option_map changed_types (way_of (next p (begin_switch (codes "w") types) done) (codes "w"))
+        ≡ option_map changed_types (way_of (next r (begin_reverse (codes "w") types) done) (codes "w"))) }
 {}
