@@ -21,7 +21,6 @@ use Rattle.mt_program.specs.declared.fault.ScriptFault.TheVariants as fault
 use Rattle.mt_program.specs.Core.{CoreState, Stands}
 use Rattle.mt_program.specs.Runs.{GoesOut, Known, Reads, Runs, RunsLine, RunsLines, Tells, Writes, bytes_of}
 
-
 -- ---- bytes that go out
 
 pub nothing_out : (held : Known) (waiting : List ℕ) → GoesOut held held waiting waiting

@@ -1,5 +1,6 @@
 //! The program `mt`: it runs scripts that make keyspaces, tables and routing rules, and write and read rows through them.
 #![tactic(auto)]
+
 ghost use Rattle.std.specs.Prelude.{◌≡◌, IfOk};
 ghost use Rattle.mt_watch.specs.Notices.{notice_of};
 ghost use Rattle.mt_model.specs.declared.entries.Scope.TheVariants.{Routes};

@@ -35,12 +35,7 @@ fn answer_read(core: &Core, key: &RuleKey, number: u64, tablet_type: TabletType)
     ensures { (p : Plain) → Stands p core.now → Tells p (told_request p (Ok (read_through key.now number tablet_type))) (Some result.items) core.now }
 {
     match core.resolve(key, tablet_type) {
-        Ok(target) => answer_line(&core.read(
-            &target.keyspace,
-            &target.table,
-            number,
-            tablet_type,
-        )),
+        Ok(target) => answer_line(&core.read(&target.keyspace, &target.table, number, tablet_type)),
         Err(fault) => look_up_line(fault),
     }
 }

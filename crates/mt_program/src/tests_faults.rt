@@ -2,8 +2,8 @@
 
 use crate::fault::ScriptFault;
 use crate::script::run_script;
-use mt_watch::Watchers;
 use crate::tests::Case;
+use mt_watch::Watchers;
 use std::alloc::Global;
 use std::io;
 use std::io::{ErrorKind, Read, Write};

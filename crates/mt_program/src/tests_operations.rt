@@ -33,10 +33,7 @@ fn client_operations_and_refusals(rt: HostRuntime) -> Result<(), Fail> {
 #[test]
 fn longest_value_and_largest_key(rt: HostRuntime) -> Result<(), Fail> {
     let mut case = Case::new(rt.alloc());
-    case.lines(&[
-        ("keyspace commerce", "ok"),
-        ("table commerce corder", "ok"),
-    ])?;
+    case.lines(&[("keyspace commerce", "ok"), ("table commerce corder", "ok")])?;
     case.add(b"insert corder 0 ", b"")?;
     case.line(LONGEST, "ok")?;
     case.line("append corder 0 b", "refused F29 TooLong")?;

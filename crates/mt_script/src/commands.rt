@@ -184,7 +184,9 @@ fn row_command(verb: &str, words: &[u8]) -> Option<Result<Request, NameFault>>
 fn first_mark(name: &str) -> Option<&u8>
     ensures { option_copied result ≡ find is_mark name.now }
 {
-    name.as_bytes().iter().find(|&&byte| byte == b'.' || byte == b'@')
+    name.as_bytes()
+        .iter()
+        .find(|&&byte| byte == b'.' || byte == b'@')
 }
 
 /// Whether a name has a keyspace: a dot before its first at sign.
@@ -202,7 +204,9 @@ fn write_at_request(name: &str, op: Op) -> Result<Request, NameFault>
     ensures { read_from result ≡ request_of (change_at name.now op) }
 {
     let RuleKey {
-        keyspace, table, ..
+        keyspace,
+        table,
+        ..
     } = RuleKey::parse(name)?;
     match keyspace {
         Some(keyspace) => Ok(Request::WriteAt(keyspace, table, op)),
