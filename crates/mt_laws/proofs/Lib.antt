@@ -12,9 +12,11 @@ pub mod LiveLemmas
 pub mod NumberLemmas
 pub mod OpenLemmas
 pub mod OutputLemmas
+pub mod OwnerLemmas
 pub mod PartLemmas
 pub mod PlainWords
 pub mod ReachLemmas
+pub mod ReadLemmas
 pub mod RefusalLemmas
 pub mod ReverseLemmas
 pub mod RunLemmas

@@ -4,6 +4,7 @@
 mod changes;
 mod events;
 mod parts;
+mod rows;
 mod runs;
 mod scripts;
 mod serving;
@@ -19,6 +20,9 @@ pub use events::{
     refused_events_change_nothing,
 };
 pub use parts::{a_moved_table_is_never_writable_in_two, parts_are_apart};
+pub use rows::{
+    each_primary_read_answers_from_the_acknowledged_writes, the_owner_alone_serves_the_primary,
+};
 pub use runs::{reads_answer_the_acknowledged_writes, tables_are_told_apart};
 pub use scripts::{
     drives_end_within_their_turns, each_line_that_writes_writes_one_line,

@@ -1,0 +1,41 @@
+//! Laws on the rows that reads answer.
+ghost use Rattle.std.specs.Prelude.{◌≡◌, ℕ, true, List, Some};
+ghost use Rattle.mt_laws.specs.Acknowledged.{acknowledged, row_by};
+ghost use Rattle.mt_laws.specs.WayBack.{IsReached};
+ghost use Rattle.mt_model.specs.declared.entries.Scope.{Scope};
+ghost use Rattle.mt_model.specs.declared.rows.Op.{Op};
+ghost use Rattle.mt_model.specs.Rows.{Row};
+ghost use Rattle.mt_names.specs.declared.types.TabletType.TheVariants.{Primary};
+ghost use Rattle.mt_plain.specs.Answers.{Answers, Run, after};
+ghost use Rattle.mt_plain.specs.Events.{Event, write, read, Refusal, Answer, done, row, refused};
+ghost use Rattle.mt_plain.specs.Next.{next};
+ghost use Rattle.mt_plain.specs.Plain.{Live, Plain, is_side, mover, opening, owner};
+ghost use Rattle.mt_plain.specs.Serve.{IsWritable};
+ghost use Rattle.mt_plain.specs.Writes.{client_number, client_row, row_of};
+
+/// After any run, a row that a read of type primary answers is what the operations acknowledged on it make, each applied
+/// once, in their order, in either keyspace of a move, whatever steps of a switch or of a reversal stand done.
+pub fn each_primary_read_answers_from_the_acknowledged_writes()
+    ensures each_once { (scopes : List Scope) (events : List Event) (answers : List Answer)
+        → Run (opening scopes) events answers → (keyspace table : List ℕ) (key : ℕ) (r : Row)
+        → Answers (after (opening scopes) events answers) (read keyspace table key Primary) (row r)
+        → r ≡ row_by (acknowledged (opening scopes) (client_number (after (opening scopes) events answers) keyspace table) key events answers) }
+    ensures as_it_is { (p : Plain) → IsReached p → (keyspace table : List ℕ) (key : ℕ) (r : Row)
+        → Answers p (read keyspace table key Primary) (row r) → r ≡ client_row p keyspace table key }
+{}
+
+/// In each state that a run reaches, whatever steps stand done: of the two keyspaces of a moved table it is the owner alone
+/// that answers reads of type primary, acknowledges writes and is writable at all. A write that is refused changes no row
+/// anywhere.
+pub fn the_owner_alone_serves_the_primary()
+    ensures reads { (p : Plain) → IsReached p → (table : List ℕ) (w : Live) → mover p table ≡ Some w
+        → (keyspace : List ℕ) → is_side w keyspace ≡ true → (key : ℕ) (r : Row)
+        → Answers p (read keyspace table key Primary) (row r) → keyspace ≡ owner w }
+    ensures writes { (p : Plain) → IsReached p → (table : List ℕ) (w : Live) → mover p table ≡ Some w
+        → (keyspace : List ℕ) → is_side w keyspace ≡ true → (op : Op)
+        → Answers p (write keyspace table op) done → keyspace ≡ owner w }
+    ensures writable { (p : Plain) → IsReached p → (table : List ℕ) (w : Live) → mover p table ≡ Some w
+        → (keyspace : List ℕ) → is_side w keyspace ≡ true → IsWritable p keyspace table → keyspace ≡ owner w }
+    ensures refused { (p : Plain) (keyspace table : List ℕ) (op : Op) (refusal : Refusal) (k t : List ℕ) (key : ℕ)
+        → row_of (next p (write keyspace table op) (refused refusal)) k t key ≡ row_of p k t key }
+{}
