@@ -16,6 +16,7 @@ pub mod OwnerLemmas
 pub mod PartLemmas
 pub mod PlainWords
 pub mod ReachLemmas
+pub mod ReachedLemmas
 pub mod ReadLemmas
 pub mod RefusalLemmas
 pub mod ReverseLemmas

@@ -11,7 +11,7 @@ use Rattle.mt_model.specs.declared.entries.EntryKey.{EntryKey}
 use Rattle.mt_model.specs.declared.entries.EntryKey.TheVariants as about
 use Rattle.mt_model.specs.declared.entries.Scope.{Scope}
 use Rattle.mt_model.specs.Limits.{most_tables_in_keyspace}
-use Rattle.mt_model.specs.Topology.{TopologyState, is_denied, is_present, value_of, with_table}
+use Rattle.mt_model.specs.Topology.{TopologyState, is_denied, is_present, keyspace_at, value_of, with_table}
 use Rattle.mt_model.proofs.TopologyLemmas.{value_of-with_keyspace, value_of-with_table_elsewhere}
 use Rattle.mt_plain.specs.Answers.{Answers}
 use Rattle.mt_plain.specs.Events.{Event, add_keyspace, add_table, edit_rule, complete, Answer, done, row, advanced, shown, refused, exists, full, no_keyspace, rule_owned, Way}
@@ -25,9 +25,11 @@ use Rattle.mt_laws.proofs.LiveLemmas.{Apart, IsIn, any-in, find_none, find_some,
 use Rattle.mt_laws.proofs.RefusalLemmas.{and-both, and-true, not_some, or-cases, or-right, or_else-none, refuse_if-none}
 use Rattle.mt_laws.proofs.UntouchedLemmas.{same_topology}
 
--- a workflow's sides differ, and the source has its tables in the topology as if no workflow were live
+-- a workflow's sides are two keyspaces, and the source has its tables in the topology as if no workflow were live
 pub record IsPlaced (u : TopologyState) (w : Live) : Type 0 where
   pub sides : w.source ≢ w.target
+  pub source : is_some (keyspace_at u.keyspaces w.source) ≡ true
+  pub target : is_some (keyspace_at u.keyspaces w.target) ≡ true
   pub there : (table : List ℕ) → moves w table ≡ true → is_present u.keyspaces w.source table ≡ true
 
 -- before the journal the switched types are those from before the way

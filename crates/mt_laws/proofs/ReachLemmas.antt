@@ -1,16 +1,17 @@
 -- Each state that a run reaches has the parts of its live workflows apart.
-use Rattle.std.proofs.Common.{◌≡◌, ◌⊎◌, inl, inr, ℕ, Bool, true, false, not, cond, eqb, List, [], ◌∷◌, length, Option, None, Some, is_some, refl, sym, ap, ◌∙◌, subst}
+use Rattle.std.proofs.Common.{◌≡◌, ◌⊎◌, inl, inr, ℕ, Bool, true, false, not, cond, eqb, List, [], ◌∷◌, ◌++◌, length, Option, None, Some, is_some, refl, sym, ap, ◌∙◌, subst}
 use Rattle.std.proofs.lemmas.Bool.{true≢false}
 use Rattle.std.specs.List.{list_any}
 use Rattle.std.specs.Prelude.{◌&&◌, ◌||◌}
 use Rattle.mt_names.specs.Names.{same_text}
 use Rattle.mt_names.proofs.SameLemmas.{same_text_decides}
 use Rattle.mt_model.specs.declared.entries.EntryKey.TheVariants as about
-use Rattle.mt_model.specs.Topology.{is_denied, is_present, with_keyspace, with_table}
+use Rattle.mt_model.specs.Topology.{KeyspaceState, Keyspaces, is_denied, is_present, keyspace_at, with_keyspace, with_keyspace_state, with_new_table, with_table}
+use Rattle.mt_model.proofs.PlaceLemmas.{keyspace_at-stays}
 use Rattle.mt_model.proofs.TopologyLemmas.{value_of-with_keyspace, value_of-with_table_elsewhere}
 use Rattle.mt_plain.specs.Answers.{Answers, Run, after}
 use Rattle.mt_plain.specs.Events.{Event, add_keyspace, add_table, edit_rule, create, advance, cancel, complete, Answer, done, row, advanced, shown, refused, full, no_keyspace, no_table, no_tables, same_keyspace, table_in_workflow, target_has_table, workflow_exists}
-use Rattle.mt_plain.specs.Next.{next, next_taken, with_completed}
+use Rattle.mt_plain.specs.Next.{next, next_taken, with_completed, with_tables, without_tables}
 use Rattle.mt_plain.specs.Plain.{Live, Plain, has_keyspace, live_at, mover, moves, opening, stands_done, write_journal}
 use Rattle.mt_plain.specs.Refuse.{conflict_refusal, create_is_full, moved_table_refusal, moved_tables_refusal, or_else, refusal_of, refuse_if, watcher_refusal}
 use Rattle.mt_plain.specs.Serve.{has_table}
@@ -29,6 +30,8 @@ use Rattle.mt_laws.proofs.WayLemmas.{WayChange, abandoned, begun, completed, goe
 pub record IsNew (p : Plain) (name source target : List ℕ) (tables : List (List ℕ)) : Type 0 where
   pub unnamed : live_at p name ≡ None
   pub sides : same_text source target ≡ false
+  pub source_there : has_keyspace p source ≡ true
+  pub target_there : has_keyspace p target ≡ true
   pub each : (table : List ℕ) → IsIn table tables → (has_table p source table ≡ true) × (mover p table ≡ None)
 
 each_new : (p : Plain) (source target table : List ℕ) → moved_table_refusal p source target table ≡ None → (has_table p source table ≡ true) × (mover p table ≡ None)
@@ -59,6 +62,8 @@ create-none p name source target tables none =
     record {
       unnamed = not_some (live_at p name) (refuse_if-none (is_some (live_at p name)) workflow_exists r0.0);
       sides = refuse_if-none (same_text source target) same_keyspace r2.0;
+      source_there = not-false (has_keyspace p source) (refuse_if-none (not (has_keyspace p source)) no_keyspace r3.0);
+      target_there = not-false (has_keyspace p target) (refuse_if-none (not (has_keyspace p target)) no_keyspace r4.0);
       each = λ table is. each_new p source target table ((fold_or_else-none (moved_table_refusal p source target) tables None r5.0).1 table is);
     }
 
@@ -86,6 +91,8 @@ module _ (p : Plain) (name source target : List ℕ) (tables : List (List ℕ)) 
   pub placed-new : IsPlaced p.topology w
   placed-new = record {
     sides = λ e. text_apart source target new.sides (sym is_source ∙ e ∙ is_target);
+    source = ap (λ k. is_some (keyspace_at p.topology.keyspaces k)) is_source ∙ new.source_there;
+    target = ap (λ k. is_some (keyspace_at p.topology.keyspaces k)) is_target ∙ new.target_there;
     there = λ table moved. let r = new.each table (moved_new table moved) in
         ap (λ k. is_present p.topology.keyspaces k table) is_source ∙ there_unmoved p source table r.1 r.0;
   }
@@ -177,6 +184,38 @@ undenied-next p (advance workflow name at at_most) (advanced events rows) keyspa
     ap (λ u. is_denied u.keyspaces keyspace table) (same_topology p (advance workflow name at at_most) (advanced events rows) (λ h. h))
 undenied-next p event (advanced events rows) keyspace table given = refl
 
+-- no keyspace is ever taken away
+keyspace-pushed : (keyspaces : Keyspaces) (name k : List ℕ) (state : KeyspaceState) → is_some (keyspace_at keyspaces k) ≡ true → is_some (keyspace_at (keyspaces ++ (name, state) ∷ []) k) ≡ true
+keyspace-pushed [] name k state has = absurd (true≢false (sym has))
+keyspace-pushed (e ∷ es) name k state has = by (keyspace-pushed es name k state) (same_text k e.0) refl
+  where
+    by : (is_some (keyspace_at es k) ≡ true → is_some (keyspace_at (es ++ (name, state) ∷ []) k) ≡ true) → (t : Bool) → same_text k e.0 ≡ t
+        → is_some (keyspace_at ((e ∷ es) ++ (name, state) ∷ []) k) ≡ true
+    by again true t = rw t refl
+    by again false t = rw t (again (rw t at has))
+
+keyspace-taken : (p : Plain) (event : Event) (k : List ℕ) → is_some (keyspace_at p.topology.keyspaces k) ≡ true → is_some (keyspace_at (next_taken p event).topology.keyspaces k) ≡ true
+keyspace-taken p (add_keyspace name) k has = keyspace-pushed p.topology.keyspaces name k _ has
+keyspace-taken p (add_table keyspace table) k has = keyspace_at-stays (with_new_table table) p.topology.keyspaces keyspace k ∙ has
+keyspace-taken p (edit_rule key target) k has = has
+keyspace-taken p (complete workflow) k has = by (live_at p workflow)
+  where
+    by : (o : Option Live) → is_some (keyspace_at (with_completed p o).topology.keyspaces k) ≡ true
+    by None = has
+    by (Some w) =
+        keyspace_at-stays (with_tables w.tables) (with_keyspace_state (without_tables w.tables) p.topology.keyspaces w.source) w.target k
+        ∙ keyspace_at-stays (without_tables w.tables) p.topology.keyspaces w.source k ∙ has
+keyspace-taken p event k has = ap (λ u. is_some (keyspace_at u.keyspaces k)) (same_topology p event done (λ h. h)) ∙ has
+
+keyspace-next : (p : Plain) (event : Event) (answer : Answer) (k : List ℕ) → is_some (keyspace_at p.topology.keyspaces k) ≡ true → is_some (keyspace_at (next p event answer).topology.keyspaces k) ≡ true
+keyspace-next p event done k has = keyspace-taken p event k has
+keyspace-next p event (row r) k has = keyspace-taken p event k has
+keyspace-next p event (shown s) k has = has
+keyspace-next p event (refused refusal) k has = has
+keyspace-next p (advance workflow name at at_most) (advanced events rows) k has =
+    ap (λ u. is_some (keyspace_at u.keyspaces k)) (same_topology p (advance workflow name at at_most) (advanced events rows) (λ h. h)) ∙ has
+keyspace-next p event (advanced events rows) k has = has
+
 -- an event that is not refused, or that changes nothing
 taken_or_same : (p : Plain) (event : Event) (answer : Answer) → Answers p event answer → (refusal_of p event ≡ None) ⊎ (next p event answer ≡ p)
 taken_or_same p event done given = inl given.0
@@ -207,6 +246,8 @@ module _ (p : Plain) (event : Event) (answer : Answer) (has : HasParts p) (given
       let lives = subst (λ n. ends_workflow n event answer ≡ false) (sym sides.name) (not_ended p event answer w is) in
       record {
         sides = λ f. was.sides (sides.source ∙ f ∙ sym sides.target);
+        source = ap (λ k. is_some (keyspace_at q.topology.keyspaces k)) (sym sides.source) ∙ keyspace-next p event answer v.source was.source;
+        target = ap (λ k. is_some (keyspace_at q.topology.keyspaces k)) (sym sides.target) ∙ keyspace-next p event answer v.target was.target;
         there = λ table moved.
             let before : moves v table ≡ true = ap (list_any (λ t. same_text t table)) sides.tables ∙ moved in
             let keeps = and-both (moves v table) (same_text v.source v.source || same_text v.target v.source) before (ap (λ t. t || same_text v.target v.source) ((same_text_decides v.source v.source).1 refl)) in
