@@ -6,6 +6,7 @@ pub mod DriveLemmas
 pub mod EntriesLemmas
 pub mod EntryValueLemmas
 pub mod FeedLemmas
+pub mod KeepLemmas
 pub mod LineLemmas
 pub mod ListLemmas
 pub mod LiveLemmas
@@ -22,6 +23,7 @@ pub mod ReverseLemmas
 pub mod RunLemmas
 pub mod ServeLemmas
 pub mod StepCountLemmas
+pub mod StreamLemmas
 pub mod TableLemmas
 pub mod TextLemmas
 pub mod TrafficLemmas

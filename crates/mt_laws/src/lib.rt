@@ -9,6 +9,7 @@ mod rows;
 mod runs;
 mod scripts;
 mod serving;
+mod streams;
 mod tables;
 mod way_back;
 
@@ -31,6 +32,9 @@ pub use scripts::{
     output_is_what_is_written_where_memory_is_ample,
 };
 pub use serving::lists_of_entries_say_what_is_served;
+pub use streams::{
+    a_stream_that_runs_reads_the_owner, at_rest_the_stream_that_reads_the_owner_runs,
+};
 pub use tables::{
     an_answer_changes_a_row_by_its_operation_alone, tables_keep_numbers_of_their_own,
 };
