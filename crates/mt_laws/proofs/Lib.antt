@@ -1,6 +1,7 @@
 pub mod AnswerLemmas
 pub mod ChangeLemmas
 pub mod CleanLemmas
+pub mod CopyLemmas
 pub mod DocumentLemmas
 pub mod DriveLemmas
 pub mod EntriesLemmas

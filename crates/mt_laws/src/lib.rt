@@ -2,6 +2,7 @@
 #![tactic(auto)]
 
 mod changes;
+mod copies;
 mod events;
 mod headline;
 mod parts;
@@ -16,6 +17,9 @@ mod way_back;
 pub use changes::{
     only_named_events_change_a_workflow, only_named_events_change_the_state,
     rows_and_streams_change_no_entry, traffic_commands_change_their_own_part_alone,
+};
+pub use copies::{
+    level_is_what_it_says, the_other_side_answers_by_the_writes_that_were_fed, what_was_fed_stays_fed,
 };
 pub use events::{
     answers_are_determined, limits_are_told_last, reads_answer_the_row,
