@@ -1,11 +1,13 @@
 pub mod AnswerLemmas
 pub mod ChangeLemmas
 pub mod CleanLemmas
+pub mod CopyLemmas
 pub mod DocumentLemmas
 pub mod DriveLemmas
 pub mod EntriesLemmas
 pub mod EntryValueLemmas
 pub mod FeedLemmas
+pub mod KeepLemmas
 pub mod LineLemmas
 pub mod ListLemmas
 pub mod LiveLemmas
@@ -23,6 +25,7 @@ pub mod ReverseLemmas
 pub mod RunLemmas
 pub mod ServeLemmas
 pub mod StepCountLemmas
+pub mod StreamLemmas
 pub mod TableLemmas
 pub mod TextLemmas
 pub mod TrafficLemmas

@@ -1,5 +1,6 @@
 pub mod Acknowledged
 pub mod Changes
+pub mod Copies
 pub mod Lines
 pub mod Numbers
 pub mod Parts

@@ -2,6 +2,7 @@
 #![tactic(auto)]
 
 mod changes;
+mod copies;
 mod events;
 mod headline;
 mod parts;
@@ -9,12 +10,16 @@ mod rows;
 mod runs;
 mod scripts;
 mod serving;
+mod streams;
 mod tables;
 mod way_back;
 
 pub use changes::{
     only_named_events_change_a_workflow, only_named_events_change_the_state,
     rows_and_streams_change_no_entry, traffic_commands_change_their_own_part_alone,
+};
+pub use copies::{
+    level_is_what_it_says, the_other_side_answers_by_the_writes_that_were_fed, what_was_fed_stays_fed,
 };
 pub use events::{
     answers_are_determined, limits_are_told_last, reads_answer_the_row,
@@ -31,6 +36,9 @@ pub use scripts::{
     output_is_what_is_written_where_memory_is_ample,
 };
 pub use serving::lists_of_entries_say_what_is_served;
+pub use streams::{
+    a_stream_that_runs_reads_the_owner, at_rest_the_stream_that_reads_the_owner_runs,
+};
 pub use tables::{
     an_answer_changes_a_row_by_its_operation_alone, tables_keep_numbers_of_their_own,
 };

@@ -1,0 +1,417 @@
+-- The copy at the side that isn't the owner, and the tests that nothing is left to be fed.
+use Rattle.std.proofs.Common.{◌≡◌, ◌≢◌, ◌⊎◌, ◌↔◌, inl, inr, ℕ, suc, ◌+◌, ◌-◌, ◌<◌, ◌≤◌, Bool, true, false, not, cond, eqb, ltb, leb, List, [], ◌∷◌, take, length, filter, map, Option, None, Some, is_some, refl, sym, ap, ◌∙◌, subst, arith, eqb-true, ltb-true, lt-ltb}
+use Rattle.std.proofs.lemmas.Bool.{true≢false, eq-eqb}
+use Rattle.std.proofs.lemmas.List.{take_all}
+use Rattle.std.specs.List.{fold, list_any, flat_map}
+use Rattle.std.specs.Option.{option_map_or}
+use Rattle.std.specs.Prelude.{◌&&◌, ◌||◌}
+use Rattle.mt_names.specs.declared.types.TabletType.{TabletType}
+use Rattle.mt_names.specs.declared.types.TypeSet.{TypeSet}
+use Rattle.mt_names.specs.Names.{same_text}
+use Rattle.mt_names.proofs.SameLemmas.{same_text_decides}
+use Rattle.mt_model.specs.Rows.{Row}
+use Rattle.mt_plain.specs.Answers.{Answers}
+use Rattle.mt_plain.specs.Events.{Event, read, advance, step, StreamName, Refusal, copying, full, no_watcher, not_level, nothing_to_reverse, nothing_to_switch, nothing_under_way, stale, undoing, Answer, done, row, advanced, shown, refused, Way}
+use Rattle.mt_plain.specs.Next.{live_stepped, live_undone, next, types_and, types_without, way_stepped, with_fresh_stream, with_way_to}
+use Rattle.mt_plain.specs.Plain.{Copied, not_begun, up_to, Live, LogEntry, Plain, Write, behind_last, catch_up, changes_primary, create_back, is_side, live_at, mover, moves, next_step, number_of, owner, refresh_source, refresh_target, switch_reads, write_journal}
+use Rattle.mt_plain.specs.Plain.{ended}
+use Rattle.mt_plain.specs.Refuse.{advance_at, advance_refusal, begin_reverse_refusal, begin_switch_refusal, has_more, in_workflow, is_behind, is_of_primary, is_still_copying, most_journal_entries, most_ways, new_owner, old_owner, or_else, own_refusal, refusal_of, refuse_if, share_type, step_refusal, will_read_other_side}
+use Rattle.mt_plain.specs.Slots.{copied_after, keys_of_rows, log_length, past, room_in_log, running_at, slot_of, to_copy, uncopied, writes_any, written_side}
+use Rattle.mt_plain.specs.Writes.{client_number, client_row, is_copied, is_write_to, other_row, row_after_write, row_after_writes, row_by_mover, row_of, writes_to}
+use Rattle.mt_laws.specs.Copies.{Feeds, tests_level}
+use Rattle.mt_laws.specs.WayBack.{IsReached}
+use Rattle.mt_laws.proofs.ChangeLemmas.{live_after, lives_after, made_live}
+use Rattle.mt_laws.proofs.KeepLemmas.{Keeps, next_has, reached_have}
+use Rattle.mt_laws.proofs.LiveLemmas.{IsIn, find_some, find_the_one, text_apart, text_differs}
+use Rattle.mt_laws.proofs.ReachLemmas.{live_by_name, reached_has_parts}
+use Rattle.mt_laws.proofs.StreamLemmas.{runs_at_the_owner}
+use Rattle.mt_laws.proofs.RefusalLemmas.{and-true, at_rest-none, in_workflow-none, not-false, on_way-none, or-cases, or-right, or_else-none, refuse_if-none}
+use Rattle.mt_laws.proofs.UntouchedLemmas.{same_fed, same_workflow, traffic-advanced}
+
+-- ---- the tests of the level
+
+abbrev own_by : (at_reads at_source at_catch_up at_journal at_target will behind one two three : Bool) → Option Refusal
+own_by at_reads at_source at_catch_up at_journal at_target will behind one two three =
+    cond at_reads (refuse_if (will && behind) not_level) (cond at_source (refuse_if one no_watcher) (cond at_catch_up (refuse_if behind not_level)
+    (cond at_journal (refuse_if two full) (cond at_target (refuse_if three no_watcher) None))))
+
+refuse_other : (test : Bool) (refusal : Refusal) → refusal ≢ not_level → refuse_if test refusal ≡ Some not_level → ⊥
+refuse_other true refusal other e = other cc
+refuse_other false refusal other e = absurd cc
+
+refuse_same : (test : Bool) (refusal : Refusal) → refuse_if test refusal ≡ Some refusal → test ≡ true
+refuse_same true refusal e = refl
+refuse_same false refusal e = absurd cc
+
+own-level : (a b c d t will behind one two three : Bool) → own_by a b c d t will behind one two three ≡ Some not_level → ((c || a && will) ≡ true) × (behind ≡ true)
+own-level true b c d t will behind one two three e =
+    let r = and-true will behind (refuse_same (will && behind) not_level e) in (or-right c will r.0, r.1)
+own-level false true c d t will behind one two three e = absurd (refuse_other one no_watcher (λ x. absurd cc) e)
+own-level false false true d t will behind one two three e = (refl, refuse_same behind not_level e)
+own-level false false false true t will behind one two three e = absurd (refuse_other two full (λ x. absurd cc) e)
+own-level false false false false true will behind one two three e = absurd (refuse_other three no_watcher (λ x. absurd cc) e)
+own-level false false false false false will behind one two three e = absurd cc
+
+own-refused : (a b c d t will behind one two three : Bool) → (c ≡ true → (a ≡ false) × (b ≡ false)) → (c || a && will) ≡ true → behind ≡ true → own_by a b c d t will behind one two three ≡ Some not_level
+own-refused true b true d t will behind one two three apart e f = absurd (true≢false (apart refl).0)
+own-refused true b false d t will behind one two three apart e f = rw (e, f) refl
+own-refused false true true d t will behind one two three apart e f = absurd (true≢false (apart refl).1)
+own-refused false false true d t will behind one two three apart e f = rw f refl
+own-refused false b false d t will behind one two three apart e f = absurd (true≢false (sym e))
+
+own-none : (a b c d t will behind one two three : Bool) → (c ≡ true → (a ≡ false) × (b ≡ false)) → (c || a && will) ≡ true → own_by a b c d t will behind one two three ≡ None → behind ≡ false
+own-none true b true d t will behind one two three apart e none = absurd (true≢false (apart refl).0)
+own-none true b false d t will behind one two three apart e none = sym (ap (λ x. x && behind) e) ∙ refuse_if-none (will && behind) not_level none
+own-none false true true d t will behind one two three apart e none = absurd (true≢false (apart refl).1)
+own-none false false true d t will behind one two three apart e none = refuse_if-none behind not_level none
+own-none false b false d t will behind one two three apart e none = absurd (true≢false (sym e))
+
+-- a step is one
+apart_steps : (n : ℕ) → eqb n catch_up ≡ true → (eqb n switch_reads ≡ false) × (eqb n refresh_source ≡ false)
+apart_steps n e = let is = eqb-true n catch_up e in (ap (λ m. eqb m 0) is, ap (λ m. eqb m 2) is)
+
+module _ (p : Plain) (name : List ℕ) (w : Live) (way : Way) (live : live_at p name ≡ Some w) (opens : w.way ≡ Some way) where
+  abbrev own : Option Refusal
+  own = own_refusal p w way (next_step way)
+
+  -- what refuses a step, by the number that it asks for
+  refusal_at : (at : ℕ) → refusal_of p (step name at) ≡ or_else (refuse_if way.undoing undoing) (or_else (refuse_if (not (eqb at way.done)) (stale way.done)) own)
+  refusal_at at = ap (λ o. in_workflow o (step_refusal p at)) live ∙ ap (λ o. option_map_or by_way o (Some nothing_under_way)) opens
+    where
+      by_way : Way → Option Refusal
+      by_way v = or_else (refuse_if v.undoing undoing) (or_else (refuse_if (not (eqb at v.done)) (stale v.done)) (own_refusal p w v (next_step v)))
+
+  refusal_now : way.undoing ≡ false → refusal_of p (step name way.done) ≡ own
+  refusal_now goes_on =
+      refusal_at way.done ∙ ap (λ u. or_else (refuse_if u undoing) (or_else (refuse_if (not (eqb way.done way.done)) (stale way.done)) own)) goes_on
+      ∙ ap (λ t. or_else (refuse_if (not t) (stale way.done)) own) (eq-eqb way.done way.done refl)
+
+  abbrev all_writes : ℕ
+  all_writes = length (writes_to p w)
+
+  abbrev at_step : ℕ → Bool
+  at_step number = eqb (next_step way) number
+
+  abbrev unwatched : List ℕ → Bool
+  unwatched keyspace = not (list_any (is_of_primary keyspace) p.scopes)
+
+  abbrev will : Bool
+  will = will_read_other_side w way
+
+  pub not_level_if : way.undoing ≡ false → Answers p (step name way.done) (refused not_level) ↔ (tests_level w way ≡ true) × (w.fed < all_writes)
+  not_level_if goes_on = (
+    λ given. let r = own-level (at_step switch_reads) (at_step refresh_source) (at_step catch_up) (at_step write_journal) (at_step refresh_target) will (ltb w.fed all_writes) (unwatched (old_owner w)) (leb most_journal_entries p.journal) (unwatched (new_owner w)) (sym (refusal_now goes_on) ∙ given) in (r.0, ltb-true w.fed all_writes r.1),
+    λ is. refusal_now goes_on ∙ own-refused (at_step switch_reads) (at_step refresh_source) (at_step catch_up) (at_step write_journal) (at_step refresh_target) will (ltb w.fed all_writes) (unwatched (old_owner w)) (leb most_journal_entries p.journal) (unwatched (new_owner w)) (apart_steps (next_step way)) is.0 (lt-ltb w.fed all_writes is.1),
+  )
+
+  -- a step that tests the level and is taken finds nothing left
+  pub level_if_taken : (at : ℕ) → tests_level w way ≡ true → Answers p (step name at) done → all_writes ≤ w.fed
+  level_if_taken at tests given =
+      let rest = or_else (refuse_if (not (eqb at way.done)) (stale way.done)) own in
+      let r = or_else-none (refuse_if way.undoing undoing) rest (sym (refusal_at at) ∙ given.0) in
+      let none = (or_else-none (refuse_if (not (eqb at way.done)) (stale way.done)) own r.1).1 in
+      let level : ltb w.fed all_writes ≡ false = own-none (at_step switch_reads) (at_step refresh_source) (at_step catch_up) (at_step write_journal) (at_step refresh_target) will (ltb w.fed all_writes) (unwatched (old_owner w)) (leb most_journal_entries p.journal) (unwatched (new_owner w)) (apart_steps (next_step way)) tests none in
+      let no : w.fed < all_writes → ⊥ = λ lt. true≢false (sym (lt-ltb w.fed all_writes lt) ∙ level) in
+      omega arith
+
+-- ---- what is fed is all there is
+
+-- a list without the items that change nothing
+fold_filter : {A B : Type 0} (f : B → A → B) (test : A → Bool) (xs : List A) (first : B) → ((x : A) (b : B) → test x ≡ false → f b x ≡ b) → fold f first (filter test xs) ≡ fold f first xs
+fold_filter f test [] first same = refl
+fold_filter {A} {B} f test (x ∷ xs) first same = by (λ b. fold_filter f test xs b same) (test x) refl
+  where
+    by : ((b : B) → fold f b (filter test xs) ≡ fold f b xs) → (t : Bool) → test x ≡ t → fold f first (cond (test x) (x ∷ filter test xs) (filter test xs)) ≡ fold f (f first x) xs
+    by again true t = rw t (again (f first x))
+    by again false t = rw t (again first ∙ ap (λ b. fold f b xs) (sym (same x first t)))
+
+-- a test that a moved table passes
+any_moved : (test : List ℕ → Bool) (tables : List (List ℕ)) (table : List ℕ) → list_any (λ t. same_text t table) tables ≡ true → test table ≡ true → list_any test tables ≡ true
+any_moved test [] table e holds = absurd (true≢false (sym e))
+any_moved test (t ∷ ts) table e holds = by (same_text t table) refl (any_moved test ts table)
+  where
+    by : (b : Bool) → same_text t table ≡ b → (list_any (λ x. same_text x table) ts ≡ true → test table ≡ true → list_any test ts ≡ true) → (test t || list_any test ts) ≡ true
+    by true b again = ap (λ x. x || list_any test ts) (ap test ((same_text_decides t table).0 b) ∙ holds)
+    by false b again = or-right (test t) (list_any test ts) (again (rw b at e) holds)
+
+module _ (p : Plain) (w : Live) (table : List ℕ) (moved : moves w table ≡ true) (key : ℕ) where
+  abbrev number : ℕ
+  number = number_of p w.source table
+
+  -- a write to no table of the workflow leaves the row
+  other_write : (write : Write) (before : Row) → is_write_to p w write ≡ false → row_after_write number key before write ≡ before
+  other_write write before other = by (eqb write.table number) refl
+    where
+      by : (t : Bool) → eqb write.table number ≡ t → row_after_write number key before write ≡ before
+      by true t =
+          let here : eqb number write.table ≡ true = eq-eqb number write.table (sym (eqb-true write.table number t)) in
+          absurd (true≢false (sym (any_moved (λ x. eqb (number_of p w.source x) write.table) w.tables table moved here) ∙ other))
+      by false t = rw t refl
+
+  pub all_fed : length (writes_to p w) ≤ w.fed → row_after_writes (take w.fed (writes_to p w)) number key ≡ row_after_writes p.writes number key
+  all_fed level =
+      ap (λ ws. row_after_writes ws number key) (take_all w.fed (writes_to p w) level)
+      ∙ fold_filter (row_after_write number key) (is_write_to p w) p.writes None (λ write before other. other_write write before other)
+
+  owner_is_side : is_side w (owner w) ≡ true
+  owner_is_side = by w.switched.primary
+    where
+      by : (t : Bool) → is_side w (cond t w.target w.source) ≡ true
+      by true = or-right (same_text w.source w.target) (same_text w.target w.target) ((same_text_decides w.target w.target).1 refl)
+      by false = ap (λ t. t || same_text w.target w.source) ((same_text_decides w.source w.source).1 refl)
+
+  pub client_number-side : mover p table ≡ Some w → (keyspace : List ℕ) → is_side w keyspace ≡ true → client_number p keyspace table ≡ number
+  client_number-side found keyspace side =
+      ap (λ o. number_of p (option_map_or (λ v. cond (is_side v keyspace) v.source keyspace) o keyspace) table) found
+      ∙ ap (λ t. number_of p (cond t w.source keyspace) table) side
+
+  -- where all is fed, the copied range has the rows of the owner
+  pub copied_row : mover p table ≡ Some w → is_copied w table key ≡ true → length (writes_to p w) ≤ w.fed → other_row p w table key ≡ client_row p (owner w) table key
+  copied_row found copied level =
+      ap (λ t. cond t (row_after_writes (take w.fed (writes_to p w)) number key) None) copied ∙ all_fed level
+      ∙ ap (λ n. row_after_writes p.writes n key) (sym (client_number-side found (owner w) owner_is_side))
+
+-- ---- a copy has ended where something is switched, or a way is open
+
+abbrev pub IsEnded : Live → Type 0
+IsEnded w = (is_some w.way || (w.switched.primary || (w.switched.replica || w.switched.rdonly))) ≡ true → w.copied ≡ ended
+
+ended_open : (w : Live) (way : Way) → w.way ≡ Some way → IsEnded w → w.copied ≡ ended
+ended_open w way opens holds = holds (ap (λ o. is_some o || (w.switched.primary || (w.switched.replica || w.switched.rdonly))) opens)
+
+not_copying : (c : Copied) → is_still_copying c ≡ false → c ≡ ended
+not_copying not_begun e = absurd (true≢false e)
+not_copying (up_to table key) e = absurd (true≢false e)
+not_copying ended e = refl
+
+and-no : (t : Bool) → (t && false) ≡ false
+and-no true = refl
+and-no false = refl
+
+share-any : (a b c x y z : Bool) → ((a && x || b && y) || c && z) ≡ true → (x || (y || z)) ≡ true
+share-any a b c true y z e = refl
+share-any a b c false true z e = refl
+share-any a b c false false true e = refl
+share-any a b c false false false e = absurd (true≢false (sym e ∙ rw (and-no a, and-no b, and-no c) refl))
+
+copied-cond : (t : Bool) (a b : Live) (x : Copied) → a.copied ≡ x → b.copied ≡ x → (cond t a b).copied ≡ x
+copied-cond true a b x e f = e
+copied-cond false a b x e f = f
+
+fed-cond : (t : Bool) (a b : Live) (x : ℕ) → a.fed ≡ x → b.fed ≡ x → (cond t a b).fed ≡ x
+fed-cond true a b x e f = e
+fed-cond false a b x e f = f
+
+-- a step and an undo leave the copy
+module _ (p : Plain) (w : Live) (way : Way) where
+  abbrev closed : Live
+  closed = record (with_fresh_stream w way) { switched = way.after; way = None }
+
+  abbrev goes_on : Live
+  goes_on = record w { way = Some (record way { done = suc way.done }) }
+
+  abbrev closes : Bool
+  closes = eqb (suc (next_step way)) (behind_last way)
+
+  copied-fresh : (with_fresh_stream w way).copied ≡ w.copied
+  copied-fresh = copied-cond (not (changes_primary way)) w _ w.copied refl (copied-cond way.back (record w { forward_at = w.fresh_at }) (record w { back_at = w.fresh_at }) w.copied refl refl)
+
+  fed-fresh : (with_fresh_stream w way).fed ≡ w.fed
+  fed-fresh = fed-cond (not (changes_primary way)) w _ w.fed refl (fed-cond way.back (record w { forward_at = w.fresh_at }) (record w { back_at = w.fresh_at }) w.fed refl refl)
+
+  copied-way_stepped : (way_stepped w way).copied ≡ w.copied
+  copied-way_stepped = copied-cond closes closed goes_on w.copied copied-fresh refl
+
+  fed-way_stepped : (way_stepped w way).fed ≡ w.fed
+  fed-way_stepped = fed-cond closes closed goes_on w.fed fed-fresh refl
+
+  pub copied-stepped : (live_stepped p w way).copied ≡ w.copied
+  copied-stepped =
+      copied-cond (eqb (next_step way) create_back) (record (way_stepped w way) { fresh_at = log_length p (new_owner w) }) _ w.copied copied-way_stepped
+      (copied-cond (eqb (next_step way) write_journal) (record (way_stepped w way) { switched = way.after }) (way_stepped w way) w.copied copied-way_stepped copied-way_stepped)
+
+  pub fed-stepped : (live_stepped p w way).fed ≡ w.fed
+  fed-stepped =
+      fed-cond (eqb (next_step way) create_back) (record (way_stepped w way) { fresh_at = log_length p (new_owner w) }) _ w.fed fed-way_stepped
+      (fed-cond (eqb (next_step way) write_journal) (record (way_stepped w way) { switched = way.after }) (way_stepped w way) w.fed fed-way_stepped fed-way_stepped)
+
+  pub copied-undone : (live_undone w way).copied ≡ w.copied
+  copied-undone = copied-cond (eqb (way.done - 1) 0) (record w { way = None }) (record w { way = Some (record way { done = way.done - 1; undoing = true }) }) w.copied refl refl
+
+  pub fed-undone : (live_undone w way).fed ≡ w.fed
+  fed-undone = fed-cond (eqb (way.done - 1) 0) (record w { way = None }) (record w { way = Some (record way { done = way.done - 1; undoing = true }) }) w.fed refl refl
+
+-- nothing is left to copy behind the end
+none_kept : {A : Type 0} (test : A → Bool) (xs : List A) → ((x : A) → test x ≡ false) → filter test xs ≡ []
+none_kept test [] each = refl
+none_kept test (x ∷ xs) each = rw (each x) (none_kept test xs each)
+
+none_flat : {A B : Type 0} (f : A → List B) (xs : List A) → ((x : A) → f x ≡ []) → flat_map f xs ≡ []
+none_flat f [] each = refl
+none_flat f (x ∷ xs) each = rw (each x) (none_flat f xs each)
+
+ended_copied : (w : Live) → w.copied ≡ ended → (table : List ℕ) (key : ℕ) → is_copied w table key ≡ true
+ended_copied w e table key = rw e refl
+
+none_uncopied : (p : Plain) (w : Live) → w.copied ≡ ended → uncopied p w ≡ []
+none_uncopied p w e =
+    none_flat (λ table. map (λ key. (table, key)) (filter (λ key. not (is_copied w table key)) (keys_of_rows p w table))) w.tables
+    (λ table. ap (map (λ key. (table, key))) (none_kept (λ key. not (is_copied w table key)) (keys_of_rows p w table) (λ key. ap not (ended_copied w e table key))))
+
+take-none : {A : Type 0} (n : ℕ) (xs : List A) → xs ≡ [] → take n xs ≡ []
+take-none n xs e = take_all n xs (by (ap length e)) ∙ e
+  where
+    by : length xs ≡ 0 → length xs ≤ n
+    by is = omega arith
+
+stays_ended : (w : Live) (entries : List LogEntry) (left : List (List ℕ × ℕ)) (rows at_most : ℕ) → w.copied ≡ ended → left ≡ [] → copied_after w entries left rows at_most ≡ ended
+stays_ended w (e ∷ es) left rows at_most is none = is
+stays_ended w [] left rows at_most is none = by (ltb rows at_most && eqb rows (length left))
+  where
+    by : (t : Bool) → cond t ended (fold (λ range row. up_to row.0 row.1) w.copied (take rows left)) ≡ ended
+    by true = refl
+    by false = ap (fold (λ range row. up_to row.0 row.1) w.copied) (take-none rows left none) ∙ is
+
+none_to_copy : (p : Plain) (w : Live) (entries : List LogEntry) → w.copied ≡ ended → to_copy p w entries ≡ []
+none_to_copy p w [] e = none_uncopied p w e
+none_to_copy p w (entry ∷ entries) e = refl
+
+ended_kept : (p : Plain) (w : Live) → IsEnded w → Keeps IsEnded p w
+ended_kept p w holds = record {
+  same = holds;
+  switch = λ types none any.
+      let full_at = refuse_if (leb most_ways p.ways) full in
+      let copies = or_else (refuse_if (is_still_copying w.copied) copying) full_at in
+      let r = (at_rest-none w (or_else (refuse_if (not (has_more types w.switched)) nothing_to_switch) copies) none).1 in
+      let s = (or_else-none (refuse_if (not (has_more types w.switched)) nothing_to_switch) copies r).1 in
+      not_copying w.copied (refuse_if-none (is_still_copying w.copied) copying (or_else-none (refuse_if (is_still_copying w.copied) copying) full_at s).0);
+  reverse = λ types none any.
+      let full_at = refuse_if (leb most_ways p.ways) full in
+      let r = (at_rest-none w (or_else (refuse_if (not (share_type types w.switched)) nothing_to_reverse) full_at) none).1 in
+      let shares = not-false (share_type types w.switched) (refuse_if-none (not (share_type types w.switched)) nothing_to_reverse (or_else-none (refuse_if (not (share_type types w.switched)) nothing_to_reverse) full_at r).0) in
+      holds (or-right (is_some w.way) (w.switched.primary || (w.switched.replica || w.switched.rdonly))
+      (share-any types.primary types.replica types.rdonly w.switched.primary w.switched.replica w.switched.rdonly shares));
+  steps = λ at way opens none any. copied-stepped p w way ∙ ended_open w way opens holds;
+  undoes = λ at way opens none any. copied-undone p w way ∙ ended_open w way opens holds;
+  advances = λ workflow stream at at_most events rows live none given any.
+      let same = traffic-advanced p w stream at at_most events rows in
+      let is = holds (sym (ap (λ t. is_some t.1 || (t.0.primary || (t.0.replica || t.0.rdonly))) same) ∙ any) in
+      stays_ended w (past p w stream at) (to_copy p w (past p w stream at)) rows at_most is (none_to_copy p w (past p w stream at) is);
+}
+
+ended_new : (p : Plain) (name source target : List ℕ) (tables : List (List ℕ)) → IsEnded (made_live p name source target tables)
+ended_new p name source target tables any = absurd (true≢false (sym any))
+
+pub reached_ended : (p : Plain) → IsReached p → (w : Live) → IsIn w p.lives → IsEnded w
+reached_ended = reached_have IsEnded ended_new ended_kept
+
+-- at the tests of the level nothing is lost
+module _ (p : Plain) (reached : IsReached p) (name : List ℕ) (w : Live) (way : Way) (live : live_at p name ≡ Some w) (opens : w.way ≡ Some way) where
+  is_live : IsIn w p.lives
+  is_live = (find_some (λ v. same_text v.name name) p.lives w live).0
+
+  pub all_copied : w.copied ≡ ended
+  all_copied = ended_open w way opens (reached_ended p reached w is_live)
+
+  -- where all is fed while a way is open, the other side has the rows of the owner
+  pub same_rows : length (writes_to p w) ≤ w.fed → (table : List ℕ) → moves w table ≡ true → (key : ℕ) → other_row p w table key ≡ client_row p (owner w) table key
+  same_rows level table moved key = copied_row p w table moved key found (ended_copied w all_copied table key) level
+    where
+      found : mover p table ≡ Some w
+      found =
+          find_the_one (λ v. moves v table) p.lives w (reached_has_parts p reached).apart
+          (λ v is apart. apart.tables table is moved) is_live moved
+
+  pub nothing_lost : (at : ℕ) → tests_level w way ≡ true → Answers p (step name at) done → (table : List ℕ) → moves w table ≡ true → (key : ℕ) → other_row p w table key ≡ client_row p (owner w) table key
+  nothing_lost at tests given = same_rows (level_if_taken p name w way live opens at tests given)
+
+-- ---- what is fed never falls, and an advance of the feeding stream alone raises it
+
+fed_kept : (p : Plain) (w : Live) → Keeps (λ v. w.fed ≤ v.fed) p w
+fed_kept p w = record {
+  same = omega arith;
+  switch = λ types none. omega arith;
+  reverse = λ types none. omega arith;
+  steps = λ at way opens none. let e = fed-stepped p w way in omega arith;
+  undoes = λ at way opens none. let e = fed-undone p w way in omega arith;
+  advances = λ workflow stream at at_most events rows live none given. omega arith;
+}
+
+pub fed_never_falls : (p : Plain) → IsReached p → (event : Event) (answer : Answer) → Answers p event answer → (name : List ℕ) (w v : Live)
+    → live_at p name ≡ Some w → live_at (next p event answer) name ≡ Some v → w.fed ≤ v.fed
+fed_never_falls p reached event answer given name w v before now =
+    let is = live_after p (next p event answer) event answer (lives_after p event answer) name w v before now in
+    let in_it = (find_some (λ x. same_text x.name name) p.lives w before).0 in
+    subst (λ x. w.fed ≤ x.fed) (sym is)
+    (next_has (λ x. w.fed ≤ x.fed) p w (live_by_name p (reached_has_parts p reached).apart w in_it) (fed_kept p w) event answer given)
+
+-- an advance is taken of a stream that runs
+pub advance_runs : (p : Plain) (w : Live) (stream : StreamName) (at at_most : ℕ) (o : Option ℕ) → advance_at p w stream at at_most o ≡ None → o ≡ Some at
+advance_runs p w stream at at_most None none = absurd cc
+advance_runs p w stream at at_most (Some position) none =
+    let room = refuse_if (writes_any p w stream position at_most && eqb (room_in_log p (written_side w stream)) 0) full in
+    let here = refuse_if-none (not (eqb at position)) (stale position) (or_else-none (refuse_if (not (eqb at position)) (stale position)) room none).0 in
+    ap Some (sym (eqb-true at position (not-false (eqb at position) here)))
+
+module _ (p : Plain) (reached : IsReached p) (name : List ℕ) (w v : Live) (before : live_at p name ≡ Some w) where
+  of_it : (workflow : List ℕ) (stream : StreamName) (at at_most : ℕ) (answer : Answer) → live_at (next p (advance workflow stream at at_most) answer) name ≡ Some v → w.fed < v.fed → workflow ≡ w.name
+  of_it workflow stream at at_most answer now more = by (same_text workflow name) refl
+    where
+      by : (t : Bool) → same_text workflow name ≡ t → workflow ≡ w.name
+      by true t = (same_text_decides workflow name).0 t ∙ sym ((same_text_decides w.name name).0 (find_some (λ x. same_text x.name name) p.lives w before).1)
+      by false t =
+          let e : Some v ≡ Some w = sym now ∙ same_workflow p (advance workflow stream at at_most) answer name (text_apart workflow name t) ∙ before in
+          let one : v ≡ w = cc in
+          let same = ap (λ x. x.fed) one in
+          absurd (omega arith)
+
+  advanced_feeds : (workflow : List ℕ) (stream : StreamName) (at at_most : ℕ) (answer : Answer) → refusal_of p (advance workflow stream at at_most) ≡ None
+      → live_at (next p (advance workflow stream at at_most) answer) name ≡ Some v → w.fed < v.fed → Feeds w (advance workflow stream at at_most)
+  advanced_feeds workflow stream at at_most answer none now more =
+      let it = of_it workflow stream at at_most answer now more in
+      let r = in_workflow-none (live_at p workflow) (advance_refusal p stream at at_most) none in
+      let named = (same_text_decides w.name name).0 (find_some (λ x. same_text x.name name) p.lives w before).1 in
+      let e : Some r.0 ≡ Some w = sym r.1 ∙ ap (live_at p) (it ∙ named) ∙ before in
+      let one : r.0 ≡ w = cc in
+      let runs = advance_runs p w stream at at_most (running_at (slot_of w stream)) (subst (λ x. advance_refusal p stream at at_most x ≡ None) one r.2) in
+      (it, runs_at_the_owner p reached name w before stream at runs)
+
+  pub raised_by_its_stream : (event : Event) (answer : Answer) → Answers p event answer → live_at (next p event answer) name ≡ Some v → w.fed < v.fed → Feeds w event
+  raised_by_its_stream (advance workflow stream at at_most) (refused refusal) given now more =
+      let e : Some v ≡ Some w = sym now ∙ before in
+      let one : v ≡ w = cc in
+      let same = ap (λ x. x.fed) one in
+      absurd (omega arith)
+  raised_by_its_stream (advance workflow stream at at_most) done given now more = advanced_feeds workflow stream at at_most done given.0 now more
+  raised_by_its_stream (advance workflow stream at at_most) (row r) given now more = advanced_feeds workflow stream at at_most (row r) given.0 now more
+  raised_by_its_stream (advance workflow stream at at_most) (advanced events rows) given now more = advanced_feeds workflow stream at at_most (advanced events rows) given.0 now more
+  raised_by_its_stream (advance workflow stream at at_most) (shown s) given now more = advanced_feeds workflow stream at at_most (shown s) given.0 now more
+  raised_by_its_stream event answer given now more =
+      let same = same_fed p event answer name w v before now (λ h. h) in absurd (omega arith)
+
+-- ---- a read at the side that is not the owner
+
+module _ (p : Plain) (table : List ℕ) (w : Live) (found : mover p table ≡ Some w) (keyspace : List ℕ) (side : is_side w keyspace ≡ true) (other : keyspace ≢ owner w) (key : ℕ) where
+  differs : same_text (owner w) keyspace ≡ false
+  differs = text_differs (owner w) keyspace (λ e. other (sym e))
+
+  at_other_side : row_of p keyspace table key ≡ other_row p w table key
+  at_other_side =
+      ap (λ o. row_by_mover p o keyspace table key) found
+      ∙ ap (λ t. cond (t && not (same_text (owner w) keyspace)) (other_row p w table key) (client_row p keyspace table key)) side
+      ∙ ap (λ t. cond (not t) (other_row p w table key) (client_row p keyspace table key)) differs
+
+  abbrev fed_row : Row
+  fed_row = row_after_writes (take w.fed (writes_to p w)) (number_of p w.source table) key
+
+  is_answer : (tablet_type : TabletType) (r : Row) → Answers p (read keyspace table key tablet_type) (row r) → r ≡ other_row p w table key
+  is_answer tablet_type r given =
+      let e : row r ≡ row (row_of p keyspace table key) = given.1 in
+      let is : r ≡ row_of p keyspace table key = cc in
+      is ∙ at_other_side
+
+  pub read_copied : is_copied w table key ≡ true → (tablet_type : TabletType) (r : Row) → Answers p (read keyspace table key tablet_type) (row r) → r ≡ fed_row
+  read_copied copied tablet_type r given = is_answer tablet_type r given ∙ ap (λ t. cond t fed_row None) copied
+
+  pub read_uncopied : is_copied w table key ≡ false → (tablet_type : TabletType) (r : Row) → Answers p (read keyspace table key tablet_type) (row r) → r ≡ None
+  read_uncopied copied tablet_type r given = is_answer tablet_type r given ∙ ap (λ t. cond t fed_row None) copied

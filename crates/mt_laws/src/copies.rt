@@ -1,0 +1,46 @@
+//! Laws on the copy at the side that isn't the owner.
+ghost use Rattle.std.specs.Prelude.{◌≡◌, ◌≢◌, ◌↔◌, ℕ, ◌<◌, ◌≤◌, true, false, List, None, Some, length, take};
+ghost use Rattle.mt_laws.specs.Copies.{Feeds, tests_level};
+ghost use Rattle.mt_laws.specs.WayBack.{IsReached};
+ghost use Rattle.mt_model.specs.Rows.{Row};
+ghost use Rattle.mt_names.specs.declared.types.TabletType.{TabletType};
+ghost use Rattle.mt_plain.specs.Answers.{Answers};
+ghost use Rattle.mt_plain.specs.Events.{Event, read, step, not_level, Answer, done, row, refused, Way};
+ghost use Rattle.mt_plain.specs.Next.{next};
+ghost use Rattle.mt_plain.specs.Plain.{Live, Plain, is_side, live_at, mover, moves, number_of, owner};
+ghost use Rattle.mt_plain.specs.Writes.{client_row, is_copied, other_row, row_after_writes, writes_to};
+
+/// A read of any type at the side that isn't the owner answers, in the copied range, what the first of the acknowledged
+/// writes to the workflow's tables leave, as many as were fed; outside of that range there is no row.
+pub fn the_other_side_answers_by_the_writes_that_were_fed()
+    ensures copied { (p : Plain) (table : List ℕ) (w : Live) → mover p table ≡ Some w → (keyspace : List ℕ)
+        → is_side w keyspace ≡ true → keyspace ≢ owner w → (key : ℕ) → is_copied w table key ≡ true
+        → (tablet_type : TabletType) (r : Row) → Answers p (read keyspace table key tablet_type) (row r)
+        → r ≡ row_after_writes (take w.fed (writes_to p w)) (number_of p w.source table) key }
+    ensures elsewhere { (p : Plain) (table : List ℕ) (w : Live) → mover p table ≡ Some w → (keyspace : List ℕ)
+        → is_side w keyspace ≡ true → keyspace ≢ owner w → (key : ℕ) → is_copied w table key ≡ false
+        → (tablet_type : TabletType) (r : Row) → Answers p (read keyspace table key tablet_type) (row r) → r ≡ None }
+{}
+
+/// In each state that a run reaches: how many writes were fed never falls while a workflow is live, and an advance of its
+/// stream that reads the owner's log is the one event that raises it.
+pub fn what_was_fed_stays_fed()
+    ensures never_falls { (p : Plain) → IsReached p → (event : Event) (answer : Answer) → Answers p event answer
+        → (name : List ℕ) (w v : Live) → live_at p name ≡ Some w → live_at (next p event answer) name ≡ Some v
+        → w.fed ≤ v.fed }
+    ensures raised { (p : Plain) → IsReached p → (name : List ℕ) (w v : Live) → live_at p name ≡ Some w
+        → (event : Event) (answer : Answer) → Answers p event answer → live_at (next p event answer) name ≡ Some v
+        → w.fed < v.fed → Feeds w event }
+{}
+
+/// A step is refused as not level exactly where it is the catch-up, or a switch of reads to the side that isn't the owner,
+/// and fewer writes were fed than were acknowledged. Where such a step is taken, in a state that a run reaches, the other
+/// side has every row of the owner: nothing is lost.
+pub fn level_is_what_it_says()
+    ensures refused { (p : Plain) (name : List ℕ) (w : Live) (way : Way) → live_at p name ≡ Some w → w.way ≡ Some way
+        → way.undoing ≡ false → Answers p (step name way.done) (refused not_level)
+        ↔ (tests_level w way ≡ true) × (w.fed < length (writes_to p w)) }
+    ensures nothing_lost { (p : Plain) → IsReached p → (name : List ℕ) (w : Live) (way : Way) → live_at p name ≡ Some w
+        → w.way ≡ Some way → (at : ℕ) → tests_level w way ≡ true → Answers p (step name at) done → (table : List ℕ)
+        → moves w table ≡ true → (key : ℕ) → other_row p w table key ≡ client_row p (owner w) table key }
+{}
