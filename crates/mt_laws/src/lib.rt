@@ -19,7 +19,8 @@ pub use changes::{
     rows_and_streams_change_no_entry, traffic_commands_change_their_own_part_alone,
 };
 pub use copies::{
-    level_is_what_it_says, the_other_side_answers_by_the_writes_that_were_fed, what_was_fed_stays_fed,
+    level_is_what_it_says, the_other_side_answers_by_the_writes_that_were_fed,
+    what_was_fed_stays_fed,
 };
 pub use events::{
     answers_are_determined, limits_are_told_last, reads_answer_the_row,
