@@ -7,6 +7,7 @@ pub mod DriveLemmas
 pub mod EntriesLemmas
 pub mod EntryValueLemmas
 pub mod FeedLemmas
+pub mod HeadlineLemmas
 pub mod KeepLemmas
 pub mod LineLemmas
 pub mod ListLemmas

@@ -1,6 +1,7 @@
 //! The headline: what holds of every run.
 ghost use Rattle.std.specs.Prelude.{◌≡◌, ℕ, true, List, Some, option_map};
 ghost use Rattle.mt_laws.specs.Acknowledged.{acknowledged, row_by};
+ghost use Rattle.mt_laws.specs.Headline.{Headline};
 ghost use Rattle.mt_laws.specs.WayBack.{IsBegin, IsReached, NoWayBetween, SinceCreate, WayFrom, in_part};
 ghost use Rattle.mt_model.specs.declared.entries.EntryKey.{EntryKey};
 ghost use Rattle.mt_model.specs.declared.entries.Scope.{Scope};
@@ -38,4 +39,11 @@ pub fn the_way_back_and_the_rows_stand_in_every_run()
         → Run (opening scopes) events answers → (keyspace table : List ℕ) (key : ℕ) (r : Row)
         → Answers (after (opening scopes) events answers) (read keyspace table key Primary) (row r)
         → r ≡ row_by (acknowledged (opening scopes) (client_number (after (opening scopes) events answers) keyspace table) key events answers) }
+{}
+
+/// The same of the lines of a run, as a call that runs events can state it of its own run: line by line, each of the five
+/// as `Headline` says it.
+pub fn every_run_keeps_the_headline()
+    ensures { (scopes : List Scope) (events : List Event) (answers : List Answer) → Run (opening scopes) events answers
+        → Headline (opening scopes) events answers }
 {}

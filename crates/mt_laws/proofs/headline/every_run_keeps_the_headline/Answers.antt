@@ -1,0 +1,6 @@
+-- Each piece of a run is a run, from the state before its first line.
+use Rattle.mt_laws.proofs.HeadlineLemmas.{headline}
+use Rattle.mt_laws.proofs.headline.every_run_keeps_the_headline.Goals as goal
+
+pub returns : goal.returns
+returns c = headline
