@@ -26,9 +26,7 @@ pub use events::{
     answers_are_determined, limits_are_told_last, reads_answer_the_row,
     refused_events_change_nothing,
 };
-pub use headline::{
-    every_run_keeps_the_headline, the_way_back_and_the_rows_stand_in_every_run,
-};
+pub use headline::{every_run_keeps_the_headline, the_way_back_and_the_rows_stand_in_every_run};
 pub use parts::{a_moved_table_is_never_writable_in_two, parts_are_apart};
 pub use rows::{
     each_primary_read_answers_from_the_acknowledged_writes, the_owner_alone_serves_the_primary,
