@@ -40,6 +40,7 @@ pub use scripts::{
 pub use serving::lists_of_entries_say_what_is_served;
 pub use streams::{
     a_stream_that_runs_reads_the_owner, at_rest_the_stream_that_reads_the_owner_runs,
+    positions_never_fall,
 };
 pub use tables::{
     an_answer_changes_a_row_by_its_operation_alone, tables_keep_numbers_of_their_own,
