@@ -30,7 +30,8 @@ pub use headline::{
 };
 pub use parts::{a_moved_table_is_never_writable_in_two, parts_are_apart};
 pub use rows::{
-    each_primary_read_answers_from_the_acknowledged_writes, the_owner_alone_serves_the_primary,
+    each_primary_read_answers_from_the_acknowledged_writes, neither_side_serves_between_the_refreshes,
+    the_owner_alone_serves_the_primary,
 };
 pub use runs::{reads_answer_the_acknowledged_writes, tables_are_told_apart};
 pub use scripts::{
