@@ -276,8 +276,8 @@ none_to_copy : (p : Plain) (w : Live) (entries : List LogEntry) → w.copied ≡
 none_to_copy p w [] e = none_uncopied p w e
 none_to_copy p w (entry ∷ entries) e = refl
 
-ended_kept : (p : Plain) (w : Live) → IsEnded w → Keeps IsEnded p w
-ended_kept p w holds = record {
+ended_kept : (p : Plain) (event : Event) (w : Live) → IsEnded w → Keeps IsEnded p event w
+ended_kept p event w holds = record {
   same = holds;
   switch = λ types none any.
       let full_at = refuse_if (leb most_ways p.ways) full in
@@ -292,7 +292,7 @@ ended_kept p w holds = record {
       holds (or-right (is_some w.way) (w.switched.primary || (w.switched.replica || w.switched.rdonly))
       (share-any types.primary types.replica types.rdonly w.switched.primary w.switched.replica w.switched.rdonly shares));
   steps = λ at way opens none any. copied-stepped p w way ∙ ended_open w way opens holds;
-  undoes = λ at way opens none any. copied-undone p w way ∙ ended_open w way opens holds;
+  undoes = λ at way undoes opens none any. copied-undone p w way ∙ ended_open w way opens holds;
   advances = λ workflow stream at at_most events rows live none given any.
       let same = traffic-advanced p w stream at at_most events rows in
       let is = holds (sym (ap (λ t. is_some t.1 || (t.0.primary || (t.0.replica || t.0.rdonly))) same) ∙ any) in
@@ -327,13 +327,13 @@ module _ (p : Plain) (reached : IsReached p) (name : List ℕ) (w : Live) (way :
 
 -- ---- what is fed never falls, and an advance of the feeding stream alone raises it
 
-fed_kept : (p : Plain) (w : Live) → Keeps (λ v. w.fed ≤ v.fed) p w
-fed_kept p w = record {
+fed_kept : (p : Plain) (event : Event) (w : Live) → Keeps (λ v. w.fed ≤ v.fed) p event w
+fed_kept p event w = record {
   same = omega arith;
   switch = λ types none. omega arith;
   reverse = λ types none. omega arith;
   steps = λ at way opens none. let e = fed-stepped p w way in omega arith;
-  undoes = λ at way opens none. let e = fed-undone p w way in omega arith;
+  undoes = λ at way undoes opens none. let e = fed-undone p w way in omega arith;
   advances = λ workflow stream at at_most events rows live none given. omega arith;
 }
 
@@ -343,7 +343,7 @@ fed_never_falls p reached event answer given name w v before now =
     let is = live_after p (next p event answer) event answer (lives_after p event answer) name w v before now in
     let in_it = (find_some (λ x. same_text x.name name) p.lives w before).0 in
     subst (λ x. w.fed ≤ x.fed) (sym is)
-    (next_has (λ x. w.fed ≤ x.fed) p w (live_by_name p (reached_has_parts p reached).apart w in_it) (fed_kept p w) event answer given)
+    (next_has (λ x. w.fed ≤ x.fed) p w (live_by_name p (reached_has_parts p reached).apart w in_it) event answer (fed_kept p event w) given)
 
 -- an advance is taken of a stream that runs
 pub advance_runs : (p : Plain) (w : Live) (stream : StreamName) (at at_most : ℕ) (o : Option ℕ) → advance_at p w stream at at_most o ≡ None → o ≡ Some at

@@ -9,6 +9,7 @@ use Rattle.mt_plain.specs.Next.{live_stepped, live_undone, next, on_way_of, type
 use Rattle.mt_plain.specs.Plain.{Live, Plain, live_at}
 use Rattle.mt_plain.specs.Refuse.{advance_refusal, begin_reverse_refusal, begin_switch_refusal, in_workflow, refusal_of, step_refusal, undo_refusal}
 use Rattle.mt_plain.specs.Slots.{live_advanced}
+use Rattle.mt_laws.specs.Copies.{Undoes}
 use Rattle.mt_laws.specs.WayBack.{IsReached}
 use Rattle.mt_laws.proofs.ChangeLemmas.{live_next, live_taken, made_live}
 use Rattle.mt_laws.proofs.LiveLemmas.{IsIn, changed}
@@ -16,12 +17,12 @@ use Rattle.mt_laws.proofs.OwnerLemmas.{each_next, reached_keeps}
 use Rattle.mt_laws.proofs.ReachLemmas.{live_by_name}
 
 -- what holds of a workflow holds of it after each event on it that is taken
-pub record Keeps (P : Live → Type 0) (p : Plain) (w : Live) : Type 0 where
+pub record Keeps (P : Live → Type 0) (p : Plain) (event : Event) (w : Live) : Type 0 where
   pub same : P w
   pub switch : (types : TypeSet) → begin_switch_refusal p types w ≡ None → P (with_way_to false (λ switched. types_and switched types) w)
   pub reverse : (types : TypeSet) → begin_reverse_refusal p types w ≡ None → P (with_way_to true (λ switched. types_without switched types) w)
   pub steps : (at : ℕ) (way : Way) → w.way ≡ Some way → step_refusal p at w ≡ None → P (live_stepped p w way)
-  pub undoes : (at : ℕ) (way : Way) → w.way ≡ Some way → undo_refusal at w ≡ None → P (live_undone w way)
+  pub undoes : (at : ℕ) (way : Way) → Undoes event → w.way ≡ Some way → undo_refusal at w ≡ None → P (live_undone w way)
   pub advances : (workflow : List ℕ) (stream : StreamName) (at at_most events rows : ℕ) → live_at p workflow ≡ Some w → advance_refusal p stream at at_most w ≡ None
       → Answers p (advance workflow stream at at_most) (advanced events rows) → P (live_advanced p w stream at at_most events rows)
 
@@ -40,35 +41,35 @@ on_way_has P w change holds each (Some way) is = each way is
 pub at_it : (p : Plain) (name : List ℕ) (w : Live) (refusal : Live → Option Refusal) → live_at p name ≡ Some w → in_workflow (live_at p name) refusal ≡ None → refusal w ≡ None
 at_it p name w refusal live none = sym (ap (λ o. in_workflow o refusal) live) ∙ none
 
-module _ (P : Live → Type 0) (p : Plain) (w : Live) (live : (name : List ℕ) → same_text w.name name ≡ true → live_at p name ≡ Some w) (keeps : Keeps P p w) where
-  taken_has : (event : Event) → refusal_of p event ≡ None → P (live_taken p event w)
-  taken_has (begin_switch workflow types) none =
+module _ (P : Live → Type 0) (p : Plain) (w : Live) (live : (name : List ℕ) → same_text w.name name ≡ true → live_at p name ≡ Some w) where
+  taken_has : (event : Event) → Keeps P p event w → refusal_of p event ≡ None → P (live_taken p event w)
+  taken_has (begin_switch workflow types) keeps none =
       changed_has P (with_way_to false (λ switched. types_and switched types)) workflow w keeps.same
       (λ here. keeps.switch types (at_it p workflow w (begin_switch_refusal p types) (live workflow here) none))
-  taken_has (begin_reverse workflow types) none =
+  taken_has (begin_reverse workflow types) keeps none =
       changed_has P (with_way_to true (λ switched. types_without switched types)) workflow w keeps.same
       (λ here. keeps.reverse types (at_it p workflow w (begin_reverse_refusal p types) (live workflow here) none))
-  taken_has (step workflow at) none =
+  taken_has (step workflow at) keeps none =
       changed_has P (λ v. on_way_of (live_stepped p v) v) workflow w keeps.same
       (λ here. on_way_has P w (live_stepped p w) keeps.same (λ way opens. keeps.steps at way opens (at_it p workflow w (step_refusal p at) (live workflow here) none)) w.way refl)
-  taken_has (undo workflow at) none =
+  taken_has (undo workflow at) keeps none =
       changed_has P (λ v. on_way_of (live_undone v) v) workflow w keeps.same
-      (λ here. on_way_has P w (live_undone w) keeps.same (λ way opens. keeps.undoes at way opens (at_it p workflow w (undo_refusal at) (live workflow here) none)) w.way refl)
-  taken_has event none = keeps.same
+      (λ here. on_way_has P w (live_undone w) keeps.same (λ way opens. keeps.undoes at way tt opens (at_it p workflow w (undo_refusal at) (live workflow here) none)) w.way refl)
+  taken_has event keeps none = keeps.same
 
-  pub next_has : (event : Event) (answer : Answer) → Answers p event answer → P (live_next p event answer w)
-  next_has event done given = taken_has event given.0
-  next_has event (row r) given = taken_has event given.0
-  next_has (advance workflow stream at at_most) (advanced events rows) given =
+  pub next_has : (event : Event) (answer : Answer) → Keeps P p event w → Answers p event answer → P (live_next p event answer w)
+  next_has event done keeps given = taken_has event keeps given.0
+  next_has event (row r) keeps given = taken_has event keeps given.0
+  next_has (advance workflow stream at at_most) (advanced events rows) keeps given =
       changed_has P (λ v. live_advanced p v stream at at_most events rows) workflow w keeps.same
       (λ here. keeps.advances workflow stream at at_most events rows (live workflow here) (at_it p workflow w (advance_refusal p stream at at_most) (live workflow here) given.0) given)
-  next_has event (advanced events rows) given = keeps.same
-  next_has event (shown s) given = keeps.same
-  next_has event (refused refusal) given = keeps.same
+  next_has event (advanced events rows) keeps given = keeps.same
+  next_has event (shown s) keeps given = keeps.same
+  next_has event (refused refusal) keeps given = keeps.same
 
 -- what a new workflow has, and each event keeps, has each live workflow in each state that a run reaches
 module _ (P : Live → Type 0) (new : (p : Plain) (name source target : List ℕ) (tables : List (List ℕ)) → P (made_live p name source target tables))
-    (keeps : (p : Plain) (w : Live) → P w → Keeps P p w) where
+    (keeps : (p : Plain) (event : Event) (w : Live) → P w → Keeps P p event w) where
   abbrev AllHave : Plain → Type 0
   AllHave p = (w : Live) → IsIn w p.lives → P w
 
@@ -76,5 +77,5 @@ module _ (P : Live → Type 0) (new : (p : Plain) (name source target : List ℕ
   reached_have =
       reached_keeps AllHave (λ scopes w is. absurd is)
       (λ p event answer has given all.
-      each_next P p event answer (λ w is. next_has P p w (live_by_name p has.apart w is) (keeps p w (all w is)) event answer given)
+      each_next P p event answer (λ w is. next_has P p w (live_by_name p has.apart w is) event answer (keeps p event w (all w is)) given)
       (λ name source target tables e. new p name source target tables))

@@ -18,6 +18,7 @@ pub mod OutputLemmas
 pub mod OwnerLemmas
 pub mod PartLemmas
 pub mod PlainWords
+pub mod PositionLemmas
 pub mod ReachLemmas
 pub mod ReachedLemmas
 pub mod ReadLemmas

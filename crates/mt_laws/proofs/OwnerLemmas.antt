@@ -9,7 +9,7 @@ use Rattle.mt_model.specs.declared.entries.Scope.{Scope}
 use Rattle.mt_plain.specs.Answers.{Answers, Run, after}
 use Rattle.mt_plain.specs.Events.{Event, create, advance, begin_switch, begin_reverse, step, undo, Refusal, Answer, done, row, advanced, shown, refused, Way}
 use Rattle.mt_plain.specs.Next.{live_stepped, live_undone, next, on_way_of, types_and, types_without, way_stepped, with_fresh_stream, with_way_to}
-use Rattle.mt_plain.specs.Plain.{Live, Plain, behind_last, create_back, first_step, is_side, live_at, mover, moves, next_step, opening, owner, refresh_source, refresh_target, stands_done, write_journal}
+use Rattle.mt_plain.specs.Plain.{Live, Plain, behind_last, changes_primary, create_back, differ, first_step, is_side, live_at, mover, moves, next_step, opening, owner, refresh_source, refresh_target, stands_done, write_journal}
 use Rattle.mt_plain.specs.Refuse.{in_workflow, new_owner, refusal_of, undo_refusal}
 use Rattle.mt_plain.specs.Serve.{refuses}
 use Rattle.mt_plain.specs.Slots.{live_advanced, log_length}
@@ -290,3 +290,31 @@ module _ (p : Plain) (reached : IsReached p) (has : HasParts p) (table : List �
 
   pub allowed_at_the_owner : (keyspace : List ℕ) → is_side w keyspace ≡ true → refuses p keyspace table ≡ false → keyspace ≡ owner w
   allowed_at_the_owner keyspace side allows = at_side keyspace (or-cases (same_text w.source keyspace) (same_text w.target keyspace) side) allows
+
+-- ---- between the refreshes neither side serves
+
+-- by whether primary was switched before the way, and is after it
+window_source : (before after refreshed allowed : Bool) → differ before after ≡ true → refreshed ≡ true → allowed ≡ false → cond (cond (not before) refreshed allowed) after before ≡ true
+window_source true a r d changes refreshed allowed = ap (λ t. cond t a true) allowed
+window_source false true r d changes refreshed allowed = ap (λ t. cond t true false) refreshed
+window_source false false r d changes refreshed allowed = absurd (true≢false (sym changes))
+
+window_target : (before after refreshed allowed : Bool) → differ before after ≡ true → refreshed ≡ true → allowed ≡ false → not (cond (cond before refreshed allowed) after before) ≡ true
+window_target true true r d changes refreshed allowed = absurd (true≢false (sym changes))
+window_target true false r d changes refreshed allowed = ap (λ t. not (cond t false true)) refreshed
+window_target false a r d changes refreshed allowed = ap (λ t. not (cond t a false)) allowed
+
+module _ (p : Plain) (has : HasParts p) (table : List ℕ) (w : Live) (way : Way) (found : mover p table ≡ Some w) (opens : w.way ≡ Some way)
+    (changes : changes_primary way ≡ true) (refreshed : stands_done way refresh_source ≡ true) (waits : stands_done way refresh_target ≡ false) where
+  refused_at : (keyspace : List ℕ) → (same_text w.source keyspace ≡ true) ⊎ (same_text w.target keyspace ≡ true) → refuses p keyspace table ≡ true
+  refused_at keyspace (inl e) =
+      ap (λ k. refuses p k table) (sym ((same_text_decides w.source keyspace).0 e)) ∙ refused-source p w table has found
+      ∙ ap (λ o. (types_by_way w.switched o (step_by (not (before_by w.switched o).primary))).primary) opens ∙ primary-step way (not way.before.primary)
+      ∙ window_source way.before.primary way.after.primary (stands_done way refresh_source) (stands_done way refresh_target) changes refreshed waits
+  refused_at keyspace (inr e) =
+      ap (λ k. refuses p k table) (sym ((same_text_decides w.target keyspace).0 e)) ∙ refused-target p w table has found
+      ∙ ap (λ o. not (types_by_way w.switched o (step_by (before_by w.switched o).primary)).primary) opens ∙ ap not (primary-step way way.before.primary)
+      ∙ window_target way.before.primary way.after.primary (stands_done way refresh_source) (stands_done way refresh_target) changes refreshed waits
+
+  pub neither_serves : (keyspace : List ℕ) → is_side w keyspace ≡ true → refuses p keyspace table ≡ true
+  neither_serves keyspace side = refused_at keyspace (or-cases (same_text w.source keyspace) (same_text w.target keyspace) side)

@@ -10,15 +10,15 @@ use Rattle.mt_model.specs.declared.rows.Op.{Op}
 use Rattle.mt_model.specs.Limits.{longest_log}
 use Rattle.mt_model.specs.Rows.{Row, op_key, op_row}
 use Rattle.mt_plain.specs.Answers.{Answers, Run, after}
-use Rattle.mt_plain.specs.Events.{Event, write, read, denied, full, Answer, done, row}
-use Rattle.mt_plain.specs.Plain.{Live, Plain, is_side, mover, opening, owner}
+use Rattle.mt_plain.specs.Events.{Event, write, read, denied, full, Answer, done, row, Way}
+use Rattle.mt_plain.specs.Plain.{Live, Plain, changes_primary, is_side, mover, opening, owner, refresh_source, refresh_target, stands_done}
 use Rattle.mt_plain.specs.Refuse.{denied_read, or_else, refusal_of, refuse_if, row_refusal, unknown_table}
 use Rattle.mt_plain.specs.Serve.{IsWritable, refuses}
 use Rattle.mt_plain.specs.Slots.{log_length}
 use Rattle.mt_plain.specs.Writes.{client_number, client_row, other_row, row_by_mover, row_of}
 use Rattle.mt_laws.specs.Acknowledged.{acknowledged, row_by}
 use Rattle.mt_laws.specs.WayBack.{IsReached}
-use Rattle.mt_laws.proofs.OwnerLemmas.{allowed_at_the_owner}
+use Rattle.mt_laws.proofs.OwnerLemmas.{allowed_at_the_owner, neither_serves}
 use Rattle.mt_laws.proofs.ReachLemmas.{reached_has_parts}
 use Rattle.mt_laws.proofs.RefusalLemmas.{or_else-none, refuse_if-none}
 use Rattle.mt_laws.proofs.RunLemmas.{client_row-run}
@@ -78,3 +78,16 @@ pub primary_reads-run : (scopes : List Scope) (events : List Event) (answers : L
 primary_reads-run scopes events answers run keyspace table key r given =
     primary_reads (after (opening scopes) events answers) (record { scopes = scopes; events = events; answers = answers; run = run; is = refl }) keyspace table key r given
     ∙ client_row-run scopes events answers run keyspace table key
+
+-- between the refreshes no write and no read of type primary is taken on either side
+module _ (p : Plain) (reached : IsReached p) (table : List ℕ) (w : Live) (way : Way) (found : mover p table ≡ Some w) (opens : w.way ≡ Some way)
+    (changes : changes_primary way ≡ true) (refreshed : stands_done way refresh_source ≡ true) (waits : stands_done way refresh_target ≡ false)
+    (keyspace : List ℕ) (side : is_side w keyspace ≡ true) where
+  refuses_here : refuses p keyspace table ≡ true
+  refuses_here = neither_serves p (reached_has_parts p reached) table w way found opens changes refreshed waits keyspace side
+
+  pub no_write_between : (op : Op) → Answers p (write keyspace table op) done → ⊥
+  no_write_between op given = true≢false (sym refuses_here ∙ write_allowed p keyspace table op given.0)
+
+  pub no_read_between : (key : ℕ) (r : Row) → Answers p (read keyspace table key Primary) (row r) → ⊥
+  no_read_between key r given = true≢false (sym refuses_here ∙ read_allowed p keyspace table key given.0)

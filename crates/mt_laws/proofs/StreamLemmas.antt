@@ -5,7 +5,7 @@ use Rattle.std.specs.Option.{option_map_or}
 use Rattle.std.specs.Prelude.{◌&&◌, ◌||◌}
 use Rattle.mt_names.specs.declared.types.TypeSet.{TypeSet}
 use Rattle.mt_names.specs.Names.{same_text}
-use Rattle.mt_plain.specs.Events.{StreamName, forward, back, Slot, StreamState, running, stopped, frozen, Way}
+use Rattle.mt_plain.specs.Events.{Event, StreamName, forward, back, Slot, StreamState, running, stopped, frozen, Way}
 use Rattle.mt_plain.specs.Next.{live_stepped, live_undone, types_and, types_without, way_stepped, with_fresh_stream, with_way_to}
 use Rattle.mt_plain.specs.Plain.{Live, Plain, before_way, behind_last, changes_primary, create_back, differ, live_at, next_step, owner, stands_done, start_back, stop_feeding, write_journal}
 use Rattle.mt_plain.specs.Refuse.{new_owner}
@@ -25,7 +25,7 @@ use Rattle.mt_laws.proofs.UntouchedLemmas.{traffic-advanced}
 abbrev pub IsTurned : Live → Type 0
 IsTurned w = (way : Way) → w.way ≡ Some way → changes_primary way ≡ true → way.before.primary ≡ way.back
 
-turned_rests : (w : Live) → w.way ≡ None → IsTurned w
+pub turned_rests : (w : Live) → w.way ≡ None → IsTurned w
 turned_rests w rests way opens changes = let h : None ≡ Some way = sym rests ∙ opens in absurd cc
 
 turned_open : (w : Live) (way : Way) → w.way ≡ Some way → (changes_primary way ≡ true → way.before.primary ≡ way.back) → IsTurned w
@@ -79,13 +79,13 @@ reverse_from : (before types : Bool) → differ before (before && not types) ≡
 reverse_from true types e = refl
 reverse_from false types e = absurd (true≢false (sym e))
 
-turned_kept : (p : Plain) (w : Live) → IsTurned w → Keeps IsTurned p w
-turned_kept p w holds = record {
+pub turned_kept : (p : Plain) (event : Event) (w : Live) → IsTurned w → Keeps IsTurned p event w
+turned_kept p event w holds = record {
   same = holds;
   switch = λ types none. turned_open (with_way_to false (λ switched. types_and switched types) w) _ refl (λ changes. switch_from w.switched.primary types.primary changes);
   reverse = λ types none. turned_open (with_way_to true (λ switched. types_without switched types) w) _ refl (λ changes. reverse_from w.switched.primary types.primary changes);
   steps = λ at way opens none. turned_cond (live_stepped p w way) _ (more way) (way-stepped p w way) (holds way opens);
-  undoes = λ at way opens none. turned_cond (live_undone w way) _ (fewer way) (way-undone w way) (holds way opens);
+  undoes = λ at way undoes opens none. turned_cond (live_undone w way) _ (fewer way) (way-undone w way) (holds way opens);
   advances = λ workflow stream at at_most events rows live none given.
       turned_same w (live_advanced p w stream at at_most events rows) (ap (λ t. t.1) (traffic-advanced p w stream at at_most events rows)) holds;
 }

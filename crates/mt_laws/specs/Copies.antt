@@ -1,6 +1,6 @@
 -- Streams and the copy that they feed.
-use Rattle.std.specs.Prelude.{◌≡◌, ℕ, Bool, ◌&&◌, ◌||◌, ◌==◌, Option, Some}
-use Rattle.mt_plain.specs.Events.{Event, advance, Slot, running, frozen, Way}
+use Rattle.std.specs.Prelude.{◌≡◌, ℕ, Bool, ◌&&◌, ◌||◌, ◌==◌, Option, Some, ⊤}
+use Rattle.mt_plain.specs.Events.{Event, advance, undo, Slot, running, frozen, Way}
 use Rattle.mt_plain.specs.Plain.{Live, catch_up, next_step, owner, switch_reads}
 use Rattle.mt_plain.specs.Refuse.{will_read_other_side}
 use Rattle.mt_plain.specs.Slots.{read_side}
@@ -21,3 +21,8 @@ tests_level w way = (next_step way == catch_up) || (next_step way == switch_read
 abbrev pub Feeds : Live → Event → Type 0
 Feeds w (advance workflow stream at at_most) = (workflow ≡ w.name) × (read_side w stream ≡ owner w)
 Feeds w other = ⊥
+
+-- an undo, of whatever workflow
+abbrev pub Undoes : Event → Type 0
+Undoes (undo workflow at) = ⊤
+Undoes other = ⊥

@@ -1,5 +1,5 @@
 //! Laws on the rows that reads answer.
-ghost use Rattle.std.specs.Prelude.{◌≡◌, ℕ, true, List, Some};
+ghost use Rattle.std.specs.Prelude.{◌≡◌, ℕ, false, true, List, Some};
 ghost use Rattle.mt_laws.specs.Acknowledged.{acknowledged, row_by};
 ghost use Rattle.mt_laws.specs.WayBack.{IsReached};
 ghost use Rattle.mt_model.specs.declared.entries.Scope.{Scope};
@@ -7,9 +7,9 @@ ghost use Rattle.mt_model.specs.declared.rows.Op.{Op};
 ghost use Rattle.mt_model.specs.Rows.{Row};
 ghost use Rattle.mt_names.specs.declared.types.TabletType.TheVariants.{Primary};
 ghost use Rattle.mt_plain.specs.Answers.{Answers, Run, after};
-ghost use Rattle.mt_plain.specs.Events.{Event, write, read, Refusal, Answer, done, row, refused};
+ghost use Rattle.mt_plain.specs.Events.{Event, write, read, Refusal, Answer, done, row, refused, Way};
 ghost use Rattle.mt_plain.specs.Next.{next};
-ghost use Rattle.mt_plain.specs.Plain.{Live, Plain, is_side, mover, opening, owner};
+ghost use Rattle.mt_plain.specs.Plain.{Live, Plain, changes_primary, is_side, mover, opening, owner, refresh_source, refresh_target, stands_done};
 ghost use Rattle.mt_plain.specs.Serve.{IsWritable};
 ghost use Rattle.mt_plain.specs.Writes.{client_number, client_row, row_of};
 
@@ -38,4 +38,18 @@ pub fn the_owner_alone_serves_the_primary()
         → (keyspace : List ℕ) → is_side w keyspace ≡ true → IsWritable p keyspace table → keyspace ≡ owner w }
     ensures refused { (p : Plain) (keyspace table : List ℕ) (op : Op) (refusal : Refusal) (k t : List ℕ) (key : ℕ)
         → row_of (next p (write keyspace table op) (refused refusal)) k t key ≡ row_of p k t key }
+{}
+
+/// In each state that a run reaches, on a way that changes writes: from the refresh of the old owner's primary to that of
+/// the new one's no write to a moved table is acknowledged, and no read of type primary answered, in either of its
+/// keyspaces.
+pub fn neither_side_serves_between_the_refreshes()
+    ensures writes { (p : Plain) → IsReached p → (table : List ℕ) (w : Live) (way : Way) → mover p table ≡ Some w
+        → w.way ≡ Some way → changes_primary way ≡ true → stands_done way refresh_source ≡ true
+        → stands_done way refresh_target ≡ false → (keyspace : List ℕ) → is_side w keyspace ≡ true → (op : Op)
+        → Answers p (write keyspace table op) done → ⊥ }
+    ensures reads { (p : Plain) → IsReached p → (table : List ℕ) (w : Live) (way : Way) → mover p table ≡ Some w
+        → w.way ≡ Some way → changes_primary way ≡ true → stands_done way refresh_source ≡ true
+        → stands_done way refresh_target ≡ false → (keyspace : List ℕ) → is_side w keyspace ≡ true → (key : ℕ) (r : Row)
+        → Answers p (read keyspace table key Primary) (row r) → ⊥ }
 {}

@@ -1,10 +1,12 @@
 //! Laws on streams.
-ghost use Rattle.std.specs.Prelude.{◌≡◌, ℕ, List, None, Some};
-ghost use Rattle.mt_laws.specs.Copies.{frozen_at, runs_at};
+ghost use Rattle.std.specs.Prelude.{◌≡◌, ℕ, ◌≤◌, List, None, Some};
+ghost use Rattle.mt_laws.specs.Copies.{Undoes, frozen_at, runs_at};
 ghost use Rattle.mt_laws.specs.WayBack.{IsReached};
-ghost use Rattle.mt_plain.specs.Events.{StreamName, forward, back};
+ghost use Rattle.mt_plain.specs.Answers.{Answers};
+ghost use Rattle.mt_plain.specs.Events.{Event, Answer, StreamName, forward, back, Slot};
+ghost use Rattle.mt_plain.specs.Next.{next};
 ghost use Rattle.mt_plain.specs.Plain.{Live, Plain, live_at, owner};
-ghost use Rattle.mt_plain.specs.Slots.{read_side, running_at, slot_of};
+ghost use Rattle.mt_plain.specs.Slots.{log_length, read_side, running_at, slot_of};
 
 /// In each state that a run reaches, where no way is open: with the source as owner the forward stream runs and there is
 /// none back; with the target as owner the forward stream is frozen, and the back stream runs.
@@ -22,4 +24,15 @@ pub fn a_stream_that_runs_reads_the_owner()
         → (stream : StreamName) (at : ℕ) → running_at (slot_of w stream) ≡ Some at → read_side w stream ≡ owner w }
     ensures never_both { (p : Plain) → IsReached p → (name : List ℕ) (w : Live) → live_at p name ≡ Some w → (a b : ℕ)
         → running_at (slot_of w forward) ≡ Some a → running_at (slot_of w back) ≡ Some b → ⊥ }
+{}
+
+/// In each state that a run reaches a stream has read no more than its log has; and while a workflow is live no event but
+/// an undo, which may drop the stream that the way has made, lets the position of a stream fall.
+pub fn positions_never_fall()
+    ensures within { (p : Plain) → IsReached p → (name : List ℕ) (w : Live) → live_at p name ≡ Some w
+        → (stream : StreamName) (s : Slot) → slot_of w stream ≡ Some s → s.position ≤ log_length p (read_side w stream) }
+    ensures never_fall { (p : Plain) → IsReached p → (event : Event) (answer : Answer) → Answers p event answer
+        → ¬ (Undoes event) → (name : List ℕ) (w v : Live) → live_at p name ≡ Some w
+        → live_at (next p event answer) name ≡ Some v → (stream : StreamName) (a b : Slot)
+        → slot_of w stream ≡ Some a → slot_of v stream ≡ Some b → a.position ≤ b.position }
 {}

@@ -1,0 +1,615 @@
+-- The positions of streams, and the logs that they read.
+use Rattle.std.proofs.Common.{◌≡◌, ◌⊎◌, inl, inr, ℕ, suc, ◌+◌, ◌-◌, ◌<◌, ◌≤◌, Bool, true, false, not, cond, eqb, ltb, leb, List, [], ◌∷◌, ◌++◌, take, drop, length, filter, Option, None, Some, option_map, refl, sym, ap, ◌∙◌, subst, arith, eqb-true, ltb-true, lt-ltb, le-leb, append-nil}
+use Rattle.std.proofs.lemmas.Bool.{true≢false, eq-eqb}
+use Rattle.std.proofs.lemmas.List.{length-drop, length-take}
+use Rattle.std.proofs.lemmas.List.Sums.{length-filter, sum_by-append}
+use Rattle.std.proofs.Math.Nat.{min-le_right}
+use Rattle.std.specs.List.{count_by, list_any}
+use Rattle.std.specs.Option.{option_map_or}
+use Rattle.std.specs.Prelude.{◌&&◌, ◌||◌, min, slice_get}
+use Rattle.mt_names.specs.declared.types.TypeSet.{TypeSet}
+use Rattle.mt_names.specs.Names.{same_text}
+use Rattle.mt_plain.specs.Answers.{Answers, IsCut, advanced_of}
+use Rattle.mt_plain.specs.Events.{copying, full, nothing_to_reverse, nothing_to_switch, Event, write, advance, StreamName, forward, back, Slot, StreamState, running, stopped, frozen, Answer, done, row, advanced, shown, refused, Way}
+use Rattle.mt_plain.specs.Next.{live_stepped, live_undone, next, types_and, types_without, way_stepped, with_advance, with_fresh_stream, with_way_to}
+use Rattle.mt_plain.specs.Plain.{Live, LogEntry, Plain, behind_last, changes_primary, create_back, first_step, live_at, next_step, stands_done, write_journal}
+use Rattle.mt_plain.specs.Refuse.{advance_refusal, has_more, is_still_copying, most_ways, new_owner, or_else, refuse_if, share_type}
+use Rattle.mt_plain.specs.Slots.{running_by, feeding_slot, is_applied, is_feeding, is_fresh, live_advanced, log_length, log_of, logged, may_be_cut, most_events, most_rows, other_slot, past, read_side, readable, room_in_log, running_at, slot_at_rest, slot_before_way, slot_by_way, slot_of, to_copy, with_position, written_side}
+use Rattle.mt_laws.specs.Changes.{HasSides}
+use Rattle.mt_laws.specs.Copies.{Undoes}
+use Rattle.mt_laws.specs.WayBack.{IsReached}
+use Rattle.mt_laws.proofs.ChangeLemmas.{live_after, live_next, lives_after, made_live, sides-next}
+use Rattle.mt_laws.proofs.CopyLemmas.{advance_runs}
+use Rattle.mt_laws.proofs.KeepLemmas.{Keeps, next_has}
+use Rattle.mt_laws.proofs.LiveLemmas.{IsIn, find_some}
+use Rattle.mt_laws.proofs.OwnerLemmas.{each_next, reached_keeps}
+use Rattle.mt_laws.proofs.PartLemmas.{HasParts}
+use Rattle.mt_laws.proofs.PlainWords.{changes_reads}
+use Rattle.mt_laws.proofs.ReachLemmas.{live_by_name, reached_has_parts}
+use Rattle.mt_laws.proofs.RefusalLemmas.{at_rest-none, and-both, and-true, or-cases}
+use Rattle.mt_laws.proofs.StreamLemmas.{IsTurned, fewer, more, turned_kept, turned_rests}
+use Rattle.mt_laws.proofs.UntouchedLemmas.{same_logs}
+
+-- ---- logs grow
+
+abbrev Grows : (p q : Plain) → Type 0
+Grows p q = (extra : List LogEntry) × (q.log ≡ p.log ++ extra)
+
+grows-advance : (p : Plain) (name : StreamName) (at at_most events rows : ℕ) (o : Option Live) → Grows p (with_advance p name at at_most events rows o)
+grows-advance p name at at_most events rows None = ([], sym (append-nil p.log))
+grows-advance p name at at_most events rows (Some w) = (_, refl)
+
+grows : (p : Plain) (event : Event) (answer : Answer) → Grows p (next p event answer)
+grows p (write keyspace table op) done = (_, refl)
+grows p (write keyspace table op) (row r) = (_, refl)
+grows p (write keyspace table op) (advanced events rows) = ([], sym (append-nil p.log))
+grows p (write keyspace table op) (shown s) = ([], sym (append-nil p.log))
+grows p (write keyspace table op) (refused refusal) = ([], sym (append-nil p.log))
+grows p (advance workflow name at at_most) (advanced events rows) = grows-advance p name at at_most events rows (live_at p workflow)
+grows p (advance workflow name at at_most) done = ([], sym (append-nil p.log))
+grows p (advance workflow name at at_most) (row r) = ([], sym (append-nil p.log))
+grows p (advance workflow name at at_most) (shown s) = ([], sym (append-nil p.log))
+grows p (advance workflow name at at_most) (refused refusal) = ([], sym (append-nil p.log))
+grows p event answer = ([], same_logs p event answer (λ h. h) ∙ sym (append-nil p.log))
+
+pub logs_grow : (p : Plain) (event : Event) (answer : Answer) (keyspace : List ℕ) → log_length p keyspace ≤ log_length (next p event answer) keyspace
+logs_grow p event answer keyspace =
+    let g = grows p event answer in
+    let e : log_length (next p event answer) keyspace ≡ log_length p keyspace + count_by (λ x. same_text x.keyspace keyspace) g.0 =
+    ap (count_by (λ x. same_text x.keyspace keyspace)) g.1 ∙ sum_by-append (λ x. cond (same_text x.keyspace keyspace) 1 0) p.log g.0 in
+    omega arith
+
+-- ---- the position of a slot
+
+abbrev rest_at : Live → StreamName → ℕ
+rest_at w forward = w.forward_at
+rest_at w back = w.back_at
+
+abbrev position_in : Live → StreamName → ℕ
+position_in w name = cond (is_fresh w.way name) w.fresh_at (rest_at w name)
+
+rest_position : (w : Live) (t : Bool) (name : StreamName) (s : Slot) → slot_at_rest w t name ≡ Some s → s.position ≡ rest_at w name
+rest_position w t forward s e = cc
+rest_position w true back s e = cc
+rest_position w false back s e = absurd cc
+
+feeding_position : (t : Bool) (o : Option Slot) (s : Slot) (n : ℕ) → option_map (λ (x : Slot). cond t (record x { state = stopped }) x) o ≡ Some s → ((x : Slot) → o ≡ Some x → x.position ≡ n) → s.position ≡ n
+feeding_position t None s n e each = absurd cc
+feeding_position true (Some x) s n e each = let f : Some (record x { state = stopped }) ≡ Some s = e in let one : record x { state = stopped } ≡ s = cc in ap (λ y. y.position) (sym one) ∙ each x refl
+feeding_position false (Some x) s n e each = let f : Some x ≡ Some s = e in let one : x ≡ s = cc in ap (λ y. y.position) (sym one) ∙ each x refl
+
+other_position : (made started : Bool) (fresh rest : ℕ) (o : Option Slot) (s : Slot) → cond made (Some (record { state = cond started running stopped; position = fresh })) o ≡ Some s → ((x : Slot) → o ≡ Some x → x.position ≡ rest) → s.position ≡ cond made fresh rest
+other_position true started fresh rest o s e each = cc
+other_position false started fresh rest o s e each = each s e
+
+way_position : (w : Live) (way : Way) (name : StreamName) (s : Slot) (owned changes feeds made started halted : Bool)
+    → cond (not changes) (slot_at_rest w owned name) (cond feeds (option_map (λ (x : Slot). cond halted (record x { state = stopped }) x) (slot_at_rest w owned name)) (cond made (Some (record { state = cond started running stopped; position = w.fresh_at })) (slot_at_rest w owned name))) ≡ Some s
+    → s.position ≡ cond (changes && not feeds && made) w.fresh_at (rest_at w name)
+way_position w way name s owned false feeds made started halted e = rest_position w owned name s e
+way_position w way name s owned true true made started halted e =
+    feeding_position halted (slot_at_rest w owned name) s (rest_at w name) e (λ x f. rest_position w owned name x f)
+way_position w way name s owned true false made started halted e =
+    other_position made started w.fresh_at (rest_at w name) (slot_at_rest w owned name) s e (λ x f. rest_position w owned name x f)
+
+pub slot_position : (w : Live) (name : StreamName) (s : Slot) → slot_of w name ≡ Some s → s.position ≡ position_in w name
+slot_position w name s e = by w.way refl
+  where
+    by : (o : Option Way) → w.way ≡ o → s.position ≡ position_in w name
+    by None rests =
+        rest_position w (option_map_or (λ way. way.before) w.way w.switched).primary name s (sym (ap (λ o. slot_by_way w o name) rests) ∙ e)
+        ∙ sym (ap (λ o. cond (is_fresh o name) w.fresh_at (rest_at w name)) rests)
+    by (Some way) opens =
+        way_position w way name s (option_map_or (λ v. v.before) w.way w.switched).primary (changes_primary way) (is_feeding way name) (stands_done way create_back) _ _ (sym (ap (λ o. slot_by_way w o name) opens) ∙ e)
+        ∙ sym (ap (λ o. cond (is_fresh o name) w.fresh_at (rest_at w name)) opens)
+
+-- ---- a step
+
+data Moves (p : Plain) (w v : Live) (name : StreamName) : Type 0 where
+  stays : position_in v name ≡ position_in w name → (rest_at v name ≡ rest_at w name) ⊎ (rest_at v name ≡ position_in w name) → Moves p w v name
+  renewed : position_in v name ≡ log_length p (read_side w name) → rest_at v name ≡ rest_at w name → Moves p w v name
+
+rest_same : (w v : Live) → v.forward_at ≡ w.forward_at → v.back_at ≡ w.back_at → (name : StreamName) → rest_at v name ≡ rest_at w name
+rest_same w v e f forward = e
+rest_same w v e f back = f
+
+position_if : (v : Live) (name : StreamName) (t : Bool) → is_fresh v.way name ≡ t → position_in v name ≡ cond t v.fresh_at (rest_at v name)
+position_if v name t e = ap (λ b. cond b v.fresh_at (rest_at v name)) e
+
+-- whether a way in a direction feeds by a stream
+abbrev feeds_by : Bool → StreamName → Bool
+feeds_by backward forward = not backward
+feeds_by backward back = backward
+
+feeds_by-way : (way : Way) (name : StreamName) → feeds_by way.back name ≡ is_feeding way name
+feeds_by-way way forward = refl
+feeds_by-way way back = refl
+
+-- two that agree on the way and the positions
+position_same : (v u : Live) → u.way ≡ v.way → u.fresh_at ≡ v.fresh_at → u.forward_at ≡ v.forward_at → u.back_at ≡ v.back_at → (name : StreamName) → position_in u name ≡ position_in v name
+position_same v u a b c d name =
+    ap (λ o. cond (is_fresh o name) u.fresh_at (rest_at u name)) a ∙ ap (λ n. cond (is_fresh v.way name) n (rest_at u name)) b
+    ∙ ap (cond (is_fresh v.way name) v.fresh_at) (rest_same v u c d name)
+
+moves_same : (p : Plain) (w v u : Live) (name : StreamName) → u.way ≡ v.way → u.fresh_at ≡ v.fresh_at → u.forward_at ≡ v.forward_at → u.back_at ≡ v.back_at → Moves p w v name → Moves p w u name
+moves_same p w v u name a b c d (stays e (inl f)) = stays (position_same v u a b c d name ∙ e) (inl (rest_same v u c d name ∙ f))
+moves_same p w v u name a b c d (stays e (inr f)) = stays (position_same v u a b c d name ∙ e) (inr (rest_same v u c d name ∙ f))
+moves_same p w v u name a b c d (renewed e f) = renewed (position_same v u a b c d name ∙ e) (rest_same v u c d name ∙ f)
+
+and-last : (a b c : Bool) → c ≡ false → (a && b && c) ≡ false
+and-last true true c e = e
+and-last true false c e = refl
+and-last false b c e = refl
+
+not_last : (b : Bool) (n : ℕ) → n ≡ 5 → eqb (suc n) (cond b 12 1) ≡ true → ⊥
+not_last true n e f = let g = eqb-true (suc n) 12 f in omega arith
+not_last false n e f = let g = eqb-true (suc n) 1 f in omega arith
+
+-- the stream is made with its own step
+made_then : (first n : ℕ) → eqb (first + n) 5 ≡ false → ltb 5 (first + suc n) ≡ ltb 5 (first + n)
+made_then first n other = by (ltb 5 (first + n)) refl (ltb 5 (first + suc n)) refl
+  where
+    ne : first + n ≡ 5 → ⊥
+    ne is = true≢false (sym (eq-eqb (first + n) 5 is) ∙ other)
+
+    by : (s : Bool) → ltb 5 (first + n) ≡ s → (t : Bool) → ltb 5 (first + suc n) ≡ t → ltb 5 (first + suc n) ≡ ltb 5 (first + n)
+    by true s true t = t ∙ sym s
+    by false s false t = t ∙ sym s
+    by true s false t = let lt = ltb-true 5 (first + n) s in absurd (true≢false (sym (lt-ltb 5 (first + suc n) (omega arith)) ∙ t))
+    by false s true t =
+        let lt = ltb-true 5 (first + suc n) t in
+        let no = ne in
+        let more_than : 5 < first + n = omega arith in
+        absurd (true≢false (sym (lt-ltb 5 (first + n) more_than) ∙ s))
+
+not_made_at : (first n : ℕ) → first + n ≡ 5 → ltb 5 (first + n) ≡ false
+not_made_at first n e = ap (ltb 5) e
+
+module _ (p : Plain) (w : Live) (way : Way) (opens : w.way ≡ Some way) (turned : IsTurned w) (name : StreamName) where
+  abbrev fresh : ℕ
+  fresh = log_length p (new_owner w)
+
+  abbrev closed : Live
+  closed = record (with_fresh_stream w way) { switched = way.after; way = None }
+
+  abbrev goes_on : Live
+  goes_on = record w { way = Some (more way) }
+
+  was : position_in w name ≡ cond (is_fresh (Some way) name) w.fresh_at (rest_at w name)
+  was = ap (λ o. cond (is_fresh o name) w.fresh_at (rest_at w name)) opens
+
+  -- the stream that the way makes reads the new owner
+  reads_new_owner : is_fresh (Some (more way)) name ≡ true → read_side w name ≡ new_owner w
+  reads_new_owner e = by name refl
+    where
+      changes : changes_primary way ≡ true
+      changes = first (changes_primary way) (not (is_feeding way name)) (stands_done (more way) create_back) e
+        where
+          first : (a b c : Bool) → (a && b && c) ≡ true → a ≡ true
+          first true b c f = refl
+          first false b c f = absurd (true≢false (sym f))
+
+      other : not (is_feeding way name) ≡ true
+      other = second (changes_primary way) (not (is_feeding way name)) (stands_done (more way) create_back) e
+        where
+          second : (a b c : Bool) → (a && b && c) ≡ true → b ≡ true
+          second true true c f = refl
+          second true false c f = absurd (true≢false (sym f))
+          second false b c f = absurd (true≢false (sym f))
+
+      owner_is : new_owner w ≡ cond way.back w.source w.target
+      owner_is = ap (λ o. cond (option_map_or (λ v. v.before) o w.switched).primary w.source w.target) opens ∙ ap (λ b. cond b w.source w.target) (turned way opens changes)
+
+      twice : (b : Bool) → not (not b) ≡ true → b ≡ true
+      twice true f = refl
+      twice false f = absurd (true≢false (sym f))
+
+      no : (b : Bool) → not b ≡ true → b ≡ false
+      no true f = absurd (true≢false (sym f))
+      no false f = refl
+
+      by : (n : StreamName) → name ≡ n → read_side w name ≡ new_owner w
+      by forward is =
+          ap (read_side w) is ∙ sym (ap (λ b. cond b w.source w.target) (twice way.back (sym (ap (λ m. not (is_feeding way m)) is) ∙ other))) ∙ sym owner_is
+      by back is =
+          ap (read_side w) is ∙ sym (ap (λ b. cond b w.source w.target) (no way.back (sym (ap (λ m. not (is_feeding way m)) is) ∙ other))) ∙ sym owner_is
+
+  -- the step that makes it
+  made_moves : next_step way ≡ 5 → (c : Bool) → eqb (suc (next_step way)) (behind_last way) ≡ c → Moves p w (record (cond c closed goes_on) { fresh_at = fresh }) name
+  made_moves here true c = absurd (not_last (changes_primary way) (next_step way) here c)
+  made_moves here false c = by (is_fresh (Some (more way)) name) refl
+    where
+      v : Live
+      v = record goes_on { fresh_at = fresh }
+
+      not_yet : is_fresh (Some way) name ≡ false
+      not_yet = and-last (changes_primary way) (not (is_feeding way name)) (stands_done way create_back) (both (leb (first_step way) 5) (ltb 5 (first_step way + way.done)) (not_made_at (first_step way) way.done here))
+        where
+          both : (a b : Bool) → b ≡ false → (a && b) ≡ false
+          both true b e = e
+          both false b e = refl
+
+      by : (t : Bool) → is_fresh (Some (more way)) name ≡ t → Moves p w v name
+      by true t = renewed (position_if v name true t ∙ ap (log_length p) (sym (reads_new_owner t))) (rest_same w v refl refl name)
+      by false t =
+          stays (position_if v name false t ∙ rest_same w v refl refl name ∙ sym (was ∙ ap (λ b. cond b w.fresh_at (rest_at w name)) not_yet)) (inl (rest_same w v refl refl name))
+
+  -- each other step
+  other_moves : eqb (next_step way) create_back ≡ false → (c : Bool) → eqb (suc (next_step way)) (behind_last way) ≡ c → Moves p w (cond c closed goes_on) name
+  other_moves other false c =
+      stays
+      (rest_fresh ∙ ap (cond (is_fresh (Some (more way)) name) w.fresh_at) (rest_same w goes_on refl refl name)
+      ∙ ap (λ m. cond (changes_primary way && not (is_feeding way name) && m) w.fresh_at (rest_at w name)) same_made ∙ sym was)
+      (inl (rest_same w goes_on refl refl name))
+    where
+      rest_fresh : position_in goes_on name ≡ cond (is_fresh (Some (more way)) name) w.fresh_at (rest_at goes_on name)
+      rest_fresh = refl
+
+      same_made : stands_done (more way) create_back ≡ stands_done way create_back
+      same_made = ap (λ b. leb (first_step way) 5 && b) (made_then (first_step way) way.done other)
+  other_moves other true c = stays (rest_closed (changes_primary way) refl) (inr (rest_closed (changes_primary way) refl))
+    where
+      made : changes_primary way ≡ true → stands_done way create_back ≡ true
+      made changes =
+          let e : suc (next_step way) ≡ 12 = eqb-true (suc (next_step way)) (behind_last way) c ∙ ap (λ b. cond b 12 1) changes in
+          and-both (leb (first_step way) 5) (ltb 5 (next_step way)) (early (changes_reads way)) (lt-ltb 5 (next_step way) (omega arith))
+        where
+          early : (t : Bool) → leb (cond t 0 1) 5 ≡ true
+          early true = refl
+          early false = refl
+
+      by : (changes backward m : Bool) → (changes ≡ true → m ≡ true) → (n : StreamName)
+          → rest_at (cond (not changes) w (cond backward (record w { forward_at = w.fresh_at }) (record w { back_at = w.fresh_at }))) n
+          ≡ cond (changes && not (feeds_by backward n) && m) w.fresh_at (rest_at w n)
+      by false backward m holds n = refl
+      by true true m holds forward = ap (λ b. cond b w.fresh_at w.forward_at) (sym (holds refl))
+      by true true m holds back = refl
+      by true false m holds forward = refl
+      by true false m holds back = ap (λ b. cond b w.fresh_at w.back_at) (sym (holds refl))
+
+      rest_closed : (changes : Bool) → changes_primary way ≡ changes → rest_at closed name ≡ position_in w name
+      rest_closed changes is =
+          rest_same (with_fresh_stream w way) closed refl refl name ∙ by (changes_primary way) way.back (stands_done way create_back) made name
+          ∙ ap (λ f. cond (changes_primary way && not f && stands_done way create_back) w.fresh_at (rest_at w name)) (feeds_by-way way name) ∙ sym was
+
+  step_moves : Moves p w (live_stepped p w way) name
+  step_moves = by (eqb (next_step way) create_back) refl (eqb (next_step way) write_journal)
+    where
+      by : (t : Bool) → eqb (next_step way) create_back ≡ t → (u : Bool) → Moves p w (cond t (record (way_stepped w way) { fresh_at = fresh }) (cond u (record (way_stepped w way) { switched = way.after }) (way_stepped w way))) name
+      by true t u = made_moves (eqb-true (next_step way) 5 t) (eqb (suc (next_step way)) (behind_last way)) refl
+      by false t true =
+          moves_same p w (way_stepped w way) (record (way_stepped w way) { switched = way.after }) name refl refl refl refl
+          (other_moves t (eqb (suc (next_step way)) (behind_last way)) refl)
+      by false t false = other_moves t (eqb (suc (next_step way)) (behind_last way)) refl
+
+-- ---- an undo
+
+made_before : (first n : ℕ) → ltb 5 (first + (n - 1)) ≡ true → ltb 5 (first + n) ≡ true
+made_before first n e = let lt = ltb-true 5 (first + (n - 1)) e in lt-ltb 5 (first + n) (omega arith)
+
+-- the position is that of the stream at rest, or as it was
+undo_position : (w : Live) (way : Way) → w.way ≡ Some way → (name : StreamName) → (position_in (live_undone w way) name ≡ rest_at w name) ⊎ (position_in (live_undone w way) name ≡ position_in w name)
+undo_position w way opens name = by (eqb (way.done - 1) 0)
+  where
+    v : Live
+    v = record w { way = Some (fewer way) }
+
+    rests : Live
+    rests = record w { way = None }
+
+    still : (a b c d e : Bool) → (d ≡ true → e ≡ true) → (a && b && (c && d)) ≡ true → (a && b && (c && e)) ≡ true
+    still true true true true e holds f = holds refl
+    still true true true false e holds f = absurd (true≢false (sym f))
+    still true true false d e holds f = absurd (true≢false (sym f))
+    still true false c d e holds f = absurd (true≢false (sym f))
+    still false b c d e holds f = absurd (true≢false (sym f))
+
+    was_fresh : is_fresh (Some (fewer way)) name ≡ true → is_fresh (Some way) name ≡ true
+    was_fresh f =
+        still (changes_primary way) (not (is_feeding way name)) (leb (first_step way) 5) (ltb 5 (first_step way + (way.done - 1))) (ltb 5 (first_step way + way.done))
+        (made_before (first_step way) way.done) f
+
+    later : (t : Bool) → is_fresh (Some (fewer way)) name ≡ t → (position_in v name ≡ rest_at w name) ⊎ (position_in v name ≡ position_in w name)
+    later true t = inr (position_if v name true t ∙ sym (ap (λ o. cond (is_fresh o name) w.fresh_at (rest_at w name)) opens ∙ ap (λ b. cond b w.fresh_at (rest_at w name)) (was_fresh t)))
+    later false t = inl (position_if v name false t ∙ rest_same w v refl refl name)
+
+    by : (c : Bool) → (position_in (cond c rests v) name ≡ rest_at w name) ⊎ (position_in (cond c rests v) name ≡ position_in w name)
+    by true = inl (rest_same w rests refl refl name)
+    by false = later (is_fresh (Some (fewer way)) name) refl
+
+undo_rest : (w : Live) (way : Way) (name : StreamName) → rest_at (live_undone w way) name ≡ rest_at w name
+undo_rest w way name = by (eqb (way.done - 1) 0)
+  where
+    by : (c : Bool) → rest_at (cond c (record w { way = None }) (record w { way = Some (fewer way) })) name ≡ rest_at w name
+    by true = rest_same w (record w { way = None }) refl refl name
+    by false = rest_same w (record w { way = Some (fewer way) }) refl refl name
+
+-- ---- a begin
+
+begin_position : (w : Live) (backward : Bool) (change : TypeSet → TypeSet) (name : StreamName) → position_in (with_way_to backward change w) name ≡ rest_at w name
+begin_position w backward change name =
+    position_if (with_way_to backward change w) name false
+    (and-last (changes_primary way) (not (is_feeding way name)) (stands_done way create_back) (none_made (leb (first_step way) 5) (changes_reads way)))
+    ∙ rest_same w (with_way_to backward change w) refl refl name
+  where
+    way : Way
+    way = record { back = backward; before = w.switched; after = change w.switched; done = 0; undoing = false }
+
+    none_made : (a t : Bool) → (a && ltb 5 (cond t 0 1 + 0)) ≡ false
+    none_made true true = refl
+    none_made true false = refl
+    none_made false t = refl
+
+-- ---- an advance
+
+data Read (w v : Live) (name : StreamName) (to : ℕ) : Type 0 where
+  untouched : position_in v name ≡ position_in w name → rest_at v name ≡ rest_at w name → Read w v name to
+  moved_to : position_in v name ≡ to → (rest_at v name ≡ rest_at w name) ⊎ (rest_at v name ≡ to) → Read w v name to
+
+-- two streams are not both new
+only_one : (o : Option Way) → is_fresh o forward ≡ true → is_fresh o back ≡ false
+only_one None e = refl
+only_one (Some way) e = by (changes_primary way) way.back (stands_done way create_back) e
+  where
+    by : (a b c : Bool) → (a && not (not b) && c) ≡ true → (a && not b && c) ≡ false
+    by true true c f = refl
+    by true false c f = absurd (true≢false (sym f))
+    by false b c f = refl
+
+only_other : (o : Option Way) → is_fresh o back ≡ true → is_fresh o forward ≡ false
+only_other o e = by (is_fresh o forward) refl
+  where
+    by : (t : Bool) → is_fresh o forward ≡ t → is_fresh o forward ≡ false
+    by true t = absurd (true≢false (sym e ∙ only_one o t))
+    by false t = t
+
+advance_reads : (p : Plain) (w : Live) (stream : StreamName) (at at_most events rows : ℕ) (name : StreamName)
+    → ((name ≡ stream) × Read w (live_advanced p w stream at at_most events rows) name (at + events)) ⊎ (position_in (live_advanced p w stream at at_most events rows) name ≡ position_in w name) × (rest_at (live_advanced p w stream at at_most events rows) name ≡ rest_at w name)
+advance_reads p w stream at at_most events rows name = by stream (is_fresh w.way stream) refl name
+  where
+    fed : StreamName → ℕ
+    fed s = (live_advanced p w s at at_most events rows).fed
+
+    to : ℕ
+    to = at + events
+
+    after_it : StreamName → Bool → Live
+    after_it s t = record (with_position w s t to) { fed = (live_advanced p w s at at_most events rows).fed; copied = (live_advanced p w s at at_most events rows).copied }
+
+    by : (s : StreamName) (t : Bool) → is_fresh w.way s ≡ t → (n : StreamName)
+        → ((n ≡ s) × Read w (after_it s t) n to) ⊎ (position_in (after_it s t) n ≡ position_in w n) × (rest_at (after_it s t) n ≡ rest_at w n)
+    by forward true t forward = inl (refl, moved_to (ap (λ b. cond b to w.forward_at) t) (inl refl))
+    by forward true t back = inr (ap (λ b. cond b to w.back_at) (only_one w.way t) ∙ sym (ap (λ b. cond b w.fresh_at w.back_at) (only_one w.way t)), refl)
+    by forward false t forward = inl (refl, moved_to (ap (λ b. cond b w.fresh_at to) t) (inr refl))
+    by forward false t back = inr (refl, refl)
+    by back true t back = inl (refl, moved_to (ap (λ b. cond b to w.back_at) t) (inl refl))
+    by back true t forward = inr (ap (λ b. cond b to w.forward_at) (only_other w.way t) ∙ sym (ap (λ b. cond b w.fresh_at w.forward_at) (only_other w.way t)), refl)
+    by back false t back = inl (refl, moved_to (ap (λ b. cond b w.fresh_at to) t) (inr refl))
+    by back false t forward = inr (refl, refl)
+
+readable-le : (w : Live) (room : ℕ) (entries : List LogEntry) → readable w room entries ≤ length entries
+readable-le w room [] = omega arith
+readable-le w room (e ∷ es) = by (is_applied w e && eqb room 0) (readable-le w (cond (is_applied w e) (room - 1) room) es)
+  where
+    by : (t : Bool) → readable w (cond (is_applied w e) (room - 1) room) es ≤ length es → cond t 0 (suc (readable w (cond (is_applied w e) (room - 1) room) es)) ≤ length (e ∷ es)
+    by true again = omega arith
+    by false again = omega arith
+
+-- an advance reads no more than is there
+most_events-le : (p : Plain) (w : Live) (stream : StreamName) (at at_most : ℕ) → most_events p w stream at at_most ≤ log_length p (read_side w stream) - at
+most_events-le p w stream at at_most =
+    let entries = past p w stream at in
+    let a = readable-le w (room_in_log p (written_side w stream)) (take at_most entries) in
+    let b = length-take at_most entries in
+    let c = min-le_right at_most (length entries) in
+    let d : length entries ≡ length (log_of p (read_side w stream)) - at = length-drop at (log_of p (read_side w stream)) in
+    let f : length (log_of p (read_side w stream)) ≡ log_length p (read_side w stream) = length-filter (λ x. same_text x.keyspace (read_side w stream)) p.log in
+    omega arith
+
+cut-le : (events most : ℕ) (a b c d e : Bool) → (a && ltb events most && b && c || eqb events 0 && d && e) ≡ true → events ≤ most
+cut-le events most a b c d e cut = by (or-cases (a && ltb events most && b && c) (eqb events 0 && d && e) cut)
+  where
+    less : (x y z u : Bool) → (x && y && z && u) ≡ true → y ≡ true
+    less true true z u f = refl
+    less true false z u f = absurd (true≢false (sym f))
+    less false y z u f = absurd (true≢false (sym f))
+
+    none : (x y z : Bool) → (x && y && z) ≡ true → x ≡ true
+    none true y z f = refl
+    none false y z f = absurd (true≢false (sym f))
+
+    by : ((a && ltb events most && b && c) ≡ true) ⊎ ((eqb events 0 && d && e) ≡ true) → events ≤ most
+    by (inl f) = let lt = ltb-true events most (less a (ltb events most) b c f) in omega arith
+    by (inr f) = let is = eqb-true events 0 (none (eqb events 0) d e f) in omega arith
+
+advanced-le : (p : Plain) (workflow : List ℕ) (w : Live) (stream : StreamName) (at at_most events rows : ℕ) → live_at p workflow ≡ Some w → Answers p (advance workflow stream at at_most) (advanced events rows) → events ≤ most_events p w stream at at_most
+advanced-le p workflow w stream at at_most events rows live given = by given.1
+  where
+    by : (advanced events rows ≡ advanced_of p stream at at_most (live_at p workflow)) ⊎ IsCut p (advance workflow stream at at_most) events rows → events ≤ most_events p w stream at at_most
+    by (inl is) =
+        let e : advanced events rows ≡ advanced (most_events p w stream at at_most) (most_rows p w stream at at_most) = is ∙ ap (advanced_of p stream at at_most) live in
+        let same : events ≡ most_events p w stream at at_most = cc in
+        omega arith
+    by (inr cut) =
+        let entries = past p w stream at in
+        cut-le events (most_events p w stream at at_most) (eqb rows 0) (list_any (is_applied w) (take events entries)) (option_map_or (is_applied w) (slice_get entries events) false)
+        (ltb 0 rows) (ltb rows (most_rows p w stream at at_most))
+        (sym (ap (λ o. option_map_or (λ v. may_be_cut p v stream at at_most events rows) o false) live) ∙ cut)
+
+running_slot : (o : Option Slot) (at : ℕ) → running_at o ≡ Some at → (s : Slot) × (o ≡ Some s) × (s.position ≡ at)
+running_slot None at e = absurd cc
+running_slot (Some s) at e = (s, refl, by s.state e)
+  where
+    by : (state : StreamState) → running_by state s.position ≡ Some at → s.position ≡ at
+    by running f = cc
+    by stopped f = absurd cc
+    by frozen f = absurd cc
+
+advance_at_position : (p : Plain) (w : Live) (stream : StreamName) (at at_most : ℕ) → advance_refusal p stream at at_most w ≡ None → position_in w stream ≡ at
+advance_at_position p w stream at at_most none =
+    let r = running_slot (slot_of w stream) at (advance_runs p w stream at at_most (running_at (slot_of w stream)) none) in
+    sym (slot_position w stream r.0 r.1) ∙ r.2
+
+-- ---- each position lies in its log
+
+abbrev Within : (StreamName → ℕ) → Live → Type 0
+Within bound v = (name : StreamName) → (rest_at v name ≤ bound name) × (position_in v name ≤ bound name)
+
+within_kept : (p : Plain) (event : Event) (w : Live) (bound : StreamName → ℕ) → ((name : StreamName) → log_length p (read_side w name) ≤ bound name) → IsTurned w
+    → Within (λ name. log_length p (read_side w name)) w → Keeps (Within bound) p event w
+within_kept p event w bound longer turned within = record {
+  same = now;
+  switch = λ types none name. begun false (λ switched. types_and switched types) name;
+  reverse = λ types none name. begun true (λ switched. types_without switched types) name;
+  steps = λ at way opens none name. stepped way name (step_moves p w way opens turned name);
+  undoes = λ at way undoes opens none name.
+      let r = undo_rest w way name in
+      let b = now name in
+      let b0 = b.0 in
+      (omega arith, undone way name (undo_position w way opens name));
+  advances = λ workflow stream at at_most events rows live none given name.
+      read workflow stream at at_most events rows live none given name (advance_reads p w stream at at_most events rows name);
+}
+  where
+    now : Within bound w
+    now name = let l = longer name in let b = within name in let b0 = b.0 in let b1 = b.1 in (omega arith, omega arith)
+
+    begun : (backward : Bool) (change : TypeSet → TypeSet) → Within bound (with_way_to backward change w)
+    begun backward change name =
+        let e = begin_position w backward change name in
+        let f = rest_same w (with_way_to backward change w) refl refl name in
+        let b = now name in
+        let b0 = b.0 in
+        (omega arith, omega arith)
+
+    stepped : (way : Way) (name : StreamName) → Moves p w (live_stepped p w way) name → (rest_at (live_stepped p w way) name ≤ bound name) × (position_in (live_stepped p w way) name ≤ bound name)
+    stepped way name (stays e (inl f)) = let b = now name in let b0 = b.0 in let b1 = b.1 in (omega arith, omega arith)
+    stepped way name (stays e (inr f)) = let b = now name in let b1 = b.1 in (omega arith, omega arith)
+    stepped way name (renewed e f) = let b = now name in let b0 = b.0 in let l = longer name in (omega arith, omega arith)
+
+    undone : (way : Way) (name : StreamName) → (position_in (live_undone w way) name ≡ rest_at w name) ⊎ (position_in (live_undone w way) name ≡ position_in w name) → position_in (live_undone w way) name ≤ bound name
+    undone way name (inl e) = let b = now name in let b0 = b.0 in omega arith
+    undone way name (inr e) = let b = now name in let b1 = b.1 in omega arith
+
+    read : (workflow : List ℕ) (stream : StreamName) (at at_most events rows : ℕ) → live_at p workflow ≡ Some w → advance_refusal p stream at at_most w ≡ None → Answers p (advance workflow stream at at_most) (advanced events rows) → (name : StreamName)
+        → ((name ≡ stream) × Read w (live_advanced p w stream at at_most events rows) name (at + events)) ⊎ (position_in (live_advanced p w stream at at_most events rows) name ≡ position_in w name) × (rest_at (live_advanced p w stream at at_most events rows) name ≡ rest_at w name)
+        → (rest_at (live_advanced p w stream at at_most events rows) name ≤ bound name) × (position_in (live_advanced p w stream at at_most events rows) name ≤ bound name)
+    read workflow stream at at_most events rows live none given name (inr same) =
+        let e = same.0 in
+        let f = same.1 in
+        let b = now name in
+        let b0 = b.0 in
+        let b1 = b.1 in
+        (omega arith, omega arith)
+    read workflow stream at at_most events rows live none given name (inl it) = here it.1
+      where
+        inside : at + events ≤ bound name
+        inside =
+            let a = advanced-le p workflow w stream at at_most events rows live given in
+            let b = most_events-le p w stream at at_most in
+            let c = advance_at_position p w stream at at_most none in
+            let d = (within stream).1 in
+            let l = longer stream in
+            let at_it : at + events ≤ bound stream = omega arith in
+            subst (λ n. at + events ≤ bound n) (sym it.0) at_it
+
+        here : Read w (live_advanced p w stream at at_most events rows) name (at + events) → (rest_at (live_advanced p w stream at at_most events rows) name ≤ bound name) × (position_in (live_advanced p w stream at at_most events rows) name ≤ bound name)
+        here (untouched e f) = let b = now name in let b0 = b.0 in let b1 = b.1 in (omega arith, omega arith)
+        here (moved_to e (inl f)) = let b = now name in let b0 = b.0 in let i = inside in (omega arith, omega arith)
+        here (moved_to e (inr f)) = let i = inside in (omega arith, omega arith)
+
+-- ---- in each state that a run reaches
+
+read_side-same : (w v : Live) → HasSides w v → (name : StreamName) → read_side w name ≡ read_side v name
+read_side-same w v same forward = same.source
+read_side-same w v same back = same.target
+
+abbrev IsWithin : Plain → Live → Type 0
+IsWithin p w = IsTurned w × Within (λ name. log_length p (read_side w name)) w
+
+within_new : (p q : Plain) (name source target : List ℕ) (tables : List (List ℕ)) → log_length p source ≤ log_length q source → IsWithin q (made_live p name source target tables)
+within_new p q name source target tables longer = (turned_rests (made_live p name source target tables) refl, by)
+  where
+    by : Within (λ n. log_length q (read_side (made_live p name source target tables) n)) (made_live p name source target tables)
+    by forward = (longer, longer)
+    by back = (omega arith, omega arith)
+
+within_next : (p : Plain) (event : Event) (answer : Answer) (w : Live) → ((name : List ℕ) → same_text w.name name ≡ true → live_at p name ≡ Some w) → Answers p event answer → IsWithin p w → IsWithin (next p event answer) (live_next p event answer w)
+within_next p event answer w live given is = (
+  next_has IsTurned p w live event answer (turned_kept p event w is.0) given,
+  λ name. subst (λ k. (rest_at v name ≤ log_length q k) × (position_in v name ≤ log_length q k)) (read_side-same w v (sides-next p event answer w) name)
+      (next_has (Within bound) p w live event answer (within_kept p event w bound (λ n. logs_grow p event answer (read_side w n)) is.0 is.1) given name),
+)
+  where
+    q : Plain
+    q = next p event answer
+
+    v : Live
+    v = live_next p event answer w
+
+    bound : StreamName → ℕ
+    bound name = log_length (next p event answer) (read_side w name)
+
+reached_within : (p : Plain) → IsReached p → (w : Live) → IsIn w p.lives → IsWithin p w
+reached_within =
+    reached_keeps (λ p. (w : Live) → IsIn w p.lives → IsWithin p w) (λ scopes w is. absurd is)
+    (λ p event answer has given all.
+    each_next (IsWithin (next p event answer)) p event answer
+    (λ w is. within_next p event answer w (live_by_name p has.apart w is) given (all w is))
+    (λ name source target tables e. within_new p (next p event answer) name source target tables (logs_grow p event answer source)))
+
+pub position_within : (p : Plain) → IsReached p → (name : List ℕ) (w : Live) → live_at p name ≡ Some w → (stream : StreamName) (s : Slot) → slot_of w stream ≡ Some s → s.position ≤ log_length p (read_side w stream)
+position_within p reached name w live stream s e =
+    let is = (find_some (λ v. same_text v.name name) p.lives w live).0 in
+    let b = ((reached_within p reached w is).1 stream).1 in
+    let f = slot_position w stream s e in
+    omega arith
+
+abbrev IsFurther : Live → Live → Type 0
+IsFurther w v = (name : StreamName) → position_in w name ≤ position_in v name
+
+further_kept : (p : Plain) (event : Event) (w : Live) → ¬ (Undoes event) → IsWithin p w → Keeps (IsFurther w) p event w
+further_kept p event w other is = record {
+  same = λ name. omega arith;
+  switch = λ types none name.
+      begun false (λ switched. types_and switched types) (at_rest-none w (or_else (refuse_if (not (has_more types w.switched)) nothing_to_switch) (or_else (refuse_if (is_still_copying w.copied) copying) (refuse_if (leb most_ways p.ways) full))) none).0 name;
+  reverse = λ types none name.
+      begun true (λ switched. types_without switched types) (at_rest-none w (or_else (refuse_if (not (share_type types w.switched)) nothing_to_reverse) (refuse_if (leb most_ways p.ways) full)) none).0 name;
+  steps = λ at way opens none name. stepped way name (step_moves p w way opens is.0 name);
+  undoes = λ at way undoes opens none. absurd (other undoes);
+  advances = λ workflow stream at at_most events rows live none given name. read stream at at_most events rows none name (advance_reads p w stream at at_most events rows name);
+}
+  where
+    begun : (backward : Bool) (change : TypeSet → TypeSet) → w.way ≡ None → IsFurther w (with_way_to backward change w)
+    begun backward change rests name =
+        let e = begin_position w backward change name in
+        let f : position_in w name ≡ rest_at w name = ap (λ o. cond (is_fresh o name) w.fresh_at (rest_at w name)) rests in
+        omega arith
+
+    stepped : (way : Way) (name : StreamName) → Moves p w (live_stepped p w way) name → position_in w name ≤ position_in (live_stepped p w way) name
+    stepped way name (stays e f) = omega arith
+    stepped way name (renewed e f) = let b = (is.1 name).1 in omega arith
+
+    read : (stream : StreamName) (at at_most events rows : ℕ) → advance_refusal p stream at at_most w ≡ None → (name : StreamName)
+        → ((name ≡ stream) × Read w (live_advanced p w stream at at_most events rows) name (at + events)) ⊎ (position_in (live_advanced p w stream at at_most events rows) name ≡ position_in w name) × (rest_at (live_advanced p w stream at at_most events rows) name ≡ rest_at w name)
+        → position_in w name ≤ position_in (live_advanced p w stream at at_most events rows) name
+    read stream at at_most events rows none name (inr same) = let e = same.0 in omega arith
+    read stream at at_most events rows none name (inl it) = here it.1
+      where
+        was : position_in w name ≡ at
+        was = ap (position_in w) it.0 ∙ advance_at_position p w stream at at_most none
+
+        here : Read w (live_advanced p w stream at at_most events rows) name (at + events) → position_in w name ≤ position_in (live_advanced p w stream at at_most events rows) name
+        here (untouched e f) = omega arith
+        here (moved_to e f) = let g = was in omega arith
+
+pub position_never_falls : (p : Plain) → IsReached p → (event : Event) (answer : Answer) → Answers p event answer → ¬ (Undoes event) → (name : List ℕ) (w v : Live)
+    → live_at p name ≡ Some w → live_at (next p event answer) name ≡ Some v → (stream : StreamName) (a b : Slot) → slot_of w stream ≡ Some a → slot_of v stream ≡ Some b → a.position ≤ b.position
+position_never_falls p reached event answer given other name w v before now stream a b e f =
+    let is = live_after p (next p event answer) event answer (lives_after p event answer) name w v before now in
+    let in_it = (find_some (λ x. same_text x.name name) p.lives w before).0 in
+    let further : IsFurther w v = subst (IsFurther w) (sym is)
+    (next_has (IsFurther w) p w (live_by_name p (reached_has_parts p reached).apart w in_it) event answer (further_kept p event w other (reached_within p reached w in_it)) given) in
+    let l = further stream in
+    let g = slot_position w stream a e in
+    let h = slot_position v stream b f in
+    omega arith
