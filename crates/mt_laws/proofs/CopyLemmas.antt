@@ -1,21 +1,20 @@
 -- The copy at the side that isn't the owner, and the tests that nothing is left to be fed.
-use Rattle.std.proofs.Common.{◌≡◌, ◌≢◌, ◌⊎◌, ◌↔◌, inl, inr, ℕ, suc, ◌+◌, ◌-◌, ◌<◌, ◌≤◌, Bool, true, false, not, cond, eqb, ltb, leb, List, [], ◌∷◌, take, length, filter, map, Option, None, Some, is_some, refl, sym, ap, ◌∙◌, subst, arith, eqb-true, ltb-true, lt-ltb}
+use Rattle.std.proofs.Common.{◌≡◌, ◌≢◌, ◌↔◌, ℕ, suc, ◌-◌, ◌<◌, ◌≤◌, Bool, true, false, not, cond, eqb, ltb, leb, List, [], ◌∷◌, take, length, filter, map, Option, None, Some, is_some, refl, sym, ap, ◌∙◌, subst, arith, eqb-true, ltb-true, lt-ltb}
 use Rattle.std.proofs.lemmas.Bool.{true≢false, eq-eqb}
 use Rattle.std.proofs.lemmas.List.{take_all}
 use Rattle.std.specs.List.{fold, list_any, flat_map}
 use Rattle.std.specs.Option.{option_map_or}
 use Rattle.std.specs.Prelude.{◌&&◌, ◌||◌}
 use Rattle.mt_names.specs.declared.types.TabletType.{TabletType}
-use Rattle.mt_names.specs.declared.types.TypeSet.{TypeSet}
 use Rattle.mt_names.specs.Names.{same_text}
 use Rattle.mt_names.proofs.SameLemmas.{same_text_decides}
 use Rattle.mt_model.specs.Rows.{Row}
 use Rattle.mt_plain.specs.Answers.{Answers}
 use Rattle.mt_plain.specs.Events.{Event, read, advance, step, StreamName, Refusal, copying, full, no_watcher, not_level, nothing_to_reverse, nothing_to_switch, nothing_under_way, stale, undoing, Answer, done, row, advanced, shown, refused, Way}
-use Rattle.mt_plain.specs.Next.{live_stepped, live_undone, next, types_and, types_without, way_stepped, with_fresh_stream, with_way_to}
+use Rattle.mt_plain.specs.Next.{live_stepped, live_undone, next, way_stepped, with_fresh_stream}
 use Rattle.mt_plain.specs.Plain.{Copied, not_begun, up_to, Live, LogEntry, Plain, Write, behind_last, catch_up, changes_primary, create_back, is_side, live_at, mover, moves, next_step, number_of, owner, refresh_source, refresh_target, switch_reads, write_journal}
 use Rattle.mt_plain.specs.Plain.{ended}
-use Rattle.mt_plain.specs.Refuse.{advance_at, advance_refusal, begin_reverse_refusal, begin_switch_refusal, has_more, in_workflow, is_behind, is_of_primary, is_still_copying, most_journal_entries, most_ways, new_owner, old_owner, or_else, own_refusal, refusal_of, refuse_if, share_type, step_refusal, will_read_other_side}
+use Rattle.mt_plain.specs.Refuse.{advance_at, advance_refusal, has_more, in_workflow, is_of_primary, is_still_copying, most_journal_entries, most_ways, new_owner, old_owner, or_else, own_refusal, refusal_of, refuse_if, share_type, step_refusal, will_read_other_side}
 use Rattle.mt_plain.specs.Slots.{copied_after, keys_of_rows, log_length, past, room_in_log, running_at, slot_of, to_copy, uncopied, writes_any, written_side}
 use Rattle.mt_plain.specs.Writes.{client_number, client_row, is_copied, is_write_to, other_row, row_after_write, row_after_writes, row_by_mover, row_of, writes_to}
 use Rattle.mt_laws.specs.Copies.{Feeds, tests_level}
@@ -25,7 +24,7 @@ use Rattle.mt_laws.proofs.KeepLemmas.{Keeps, next_has, reached_have}
 use Rattle.mt_laws.proofs.LiveLemmas.{IsIn, find_some, find_the_one, text_apart, text_differs}
 use Rattle.mt_laws.proofs.ReachLemmas.{live_by_name, reached_has_parts}
 use Rattle.mt_laws.proofs.StreamLemmas.{runs_at_the_owner}
-use Rattle.mt_laws.proofs.RefusalLemmas.{and-true, at_rest-none, in_workflow-none, not-false, on_way-none, or-cases, or-right, or_else-none, refuse_if-none}
+use Rattle.mt_laws.proofs.RefusalLemmas.{and-true, at_rest-none, in_workflow-none, not-false, or-right, or_else-none, refuse_if-none}
 use Rattle.mt_laws.proofs.UntouchedLemmas.{same_fed, same_workflow, traffic-advanced}
 
 -- ---- the tests of the level

@@ -1,21 +1,16 @@
 -- From the lines of a run to its pieces.
-use Rattle.std.proofs.Common.{◌≡◌, ℕ, suc, ◌+◌, ◌-◌, ◌<◌, ◌≤◌, true, false, List, [], ◌∷◌, take, drop, Option, None, Some, is_some, option_map, refl, sym, ap, ◌∙◌, subst, arith}
+use Rattle.std.proofs.Common.{◌≡◌, ℕ, suc, ◌+◌, ◌-◌, ◌<◌, ◌≤◌, true, false, List, [], ◌∷◌, take, drop, None, Some, is_some, option_map, refl, sym, ap, ◌∙◌, subst, arith}
 use Rattle.std.specs.Prelude.{slice_get, zero}
 use Rattle.mt_names.specs.declared.types.TabletType.TheVariants.{Primary}
-use Rattle.mt_names.specs.declared.types.TypeSet.{TypeSet}
-use Rattle.mt_model.specs.declared.entries.EntryKey.{EntryKey}
 use Rattle.mt_model.specs.declared.entries.Scope.{Scope}
-use Rattle.mt_model.specs.Rows.{Row}
 use Rattle.mt_plain.specs.Answers.{Answers, Run, after}
 use Rattle.mt_plain.specs.Drive.{way_of}
 use Rattle.mt_plain.specs.Events.{Event, read, create, begin_switch, begin_reverse, step, undo, cancel, Answer, done, row}
 use Rattle.mt_plain.specs.Next.{next}
-use Rattle.mt_plain.specs.Plain.{Live, Plain, changed_types, mover, opening}
-use Rattle.mt_plain.specs.Serve.{IsWritable, served_entry}
-use Rattle.mt_plain.specs.Writes.{client_number}
-use Rattle.mt_laws.specs.Acknowledged.{acknowledged, row_by}
+use Rattle.mt_plain.specs.Plain.{Plain, changed_types, opening}
+use Rattle.mt_plain.specs.Serve.{served_entry}
 use Rattle.mt_laws.specs.Headline.{Headline, IsLine, IsWay, LivesBetween, NoWayEndsBetween, state_at, types_changed}
-use Rattle.mt_laws.specs.WayBack.{EndsNoWay, IsBegin, IsReached, NoWayBetween, SinceCreate, StaysLive, StaysOpen, WayFrom, ends_way, ends_workflow, in_part}
+use Rattle.mt_laws.specs.WayBack.{EndsNoWay, IsReached, NoWayBetween, SinceCreate, StaysLive, StaysOpen, WayFrom, ends_way, ends_workflow}
 use Rattle.mt_laws.proofs.ReadLemmas.{primary_reads-run}
 use Rattle.mt_laws.proofs.ReverseLemmas.{both_ways}
 use Rattle.mt_laws.proofs.TrafficLemmas.{abandon_back}

@@ -4,8 +4,8 @@ use Rattle.std.specs.Option.{option_map_or}
 use Rattle.mt_names.specs.declared.types.TypeSet.{TypeSet}
 use Rattle.mt_names.specs.Names.{same_text}
 use Rattle.mt_plain.specs.Answers.{Answers}
-use Rattle.mt_plain.specs.Events.{Event, create, advance, begin_switch, begin_reverse, step, undo, Refusal, StreamName, Answer, done, row, advanced, shown, refused, Way}
-use Rattle.mt_plain.specs.Next.{live_stepped, live_undone, next, on_way_of, types_and, types_without, with_way_to}
+use Rattle.mt_plain.specs.Events.{Event, advance, begin_switch, begin_reverse, step, undo, Refusal, StreamName, Answer, done, row, advanced, shown, refused, Way}
+use Rattle.mt_plain.specs.Next.{live_stepped, live_undone, on_way_of, types_and, types_without, with_way_to}
 use Rattle.mt_plain.specs.Plain.{Live, Plain, live_at}
 use Rattle.mt_plain.specs.Refuse.{advance_refusal, begin_reverse_refusal, begin_switch_refusal, in_workflow, refusal_of, step_refusal, undo_refusal}
 use Rattle.mt_plain.specs.Slots.{live_advanced}

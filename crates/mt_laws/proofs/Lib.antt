@@ -12,6 +12,7 @@ pub mod KeepLemmas
 pub mod LineLemmas
 pub mod ListLemmas
 pub mod LiveLemmas
+pub mod LogLemmas
 pub mod NumberLemmas
 pub mod OpenLemmas
 pub mod OutputLemmas

@@ -1,20 +1,20 @@
 -- The positions of streams, and the logs that they read.
-use Rattle.std.proofs.Common.{◌≡◌, ◌⊎◌, inl, inr, ℕ, suc, ◌+◌, ◌-◌, ◌<◌, ◌≤◌, Bool, true, false, not, cond, eqb, ltb, leb, List, [], ◌∷◌, ◌++◌, take, drop, length, filter, Option, None, Some, option_map, refl, sym, ap, ◌∙◌, subst, arith, eqb-true, ltb-true, lt-ltb, le-leb, append-nil}
+use Rattle.std.proofs.Common.{◌≡◌, ◌⊎◌, inl, inr, ℕ, suc, ◌+◌, ◌-◌, ◌<◌, ◌≤◌, Bool, true, false, not, cond, eqb, ltb, leb, List, [], ◌∷◌, take, length, Option, None, Some, option_map, refl, sym, ap, ◌∙◌, subst, arith, eqb-true, ltb-true, lt-ltb}
 use Rattle.std.proofs.lemmas.Bool.{true≢false, eq-eqb}
 use Rattle.std.proofs.lemmas.List.{length-drop, length-take}
-use Rattle.std.proofs.lemmas.List.Sums.{length-filter, sum_by-append}
+use Rattle.std.proofs.lemmas.List.Sums.{length-filter}
 use Rattle.std.proofs.Math.Nat.{min-le_right}
-use Rattle.std.specs.List.{count_by, list_any}
+use Rattle.std.specs.List.{list_any}
 use Rattle.std.specs.Option.{option_map_or}
-use Rattle.std.specs.Prelude.{◌&&◌, ◌||◌, min, slice_get}
+use Rattle.std.specs.Prelude.{◌&&◌, ◌||◌, slice_get}
 use Rattle.mt_names.specs.declared.types.TypeSet.{TypeSet}
 use Rattle.mt_names.specs.Names.{same_text}
 use Rattle.mt_plain.specs.Answers.{Answers, IsCut, advanced_of}
-use Rattle.mt_plain.specs.Events.{copying, full, nothing_to_reverse, nothing_to_switch, Event, write, advance, StreamName, forward, back, Slot, StreamState, running, stopped, frozen, Answer, done, row, advanced, shown, refused, Way}
-use Rattle.mt_plain.specs.Next.{live_stepped, live_undone, next, types_and, types_without, way_stepped, with_advance, with_fresh_stream, with_way_to}
+use Rattle.mt_plain.specs.Events.{copying, full, nothing_to_reverse, nothing_to_switch, Event, advance, StreamName, forward, back, Slot, StreamState, running, stopped, frozen, Answer, advanced, Way}
+use Rattle.mt_plain.specs.Next.{live_stepped, live_undone, next, types_and, types_without, way_stepped, with_fresh_stream, with_way_to}
 use Rattle.mt_plain.specs.Plain.{Live, LogEntry, Plain, behind_last, changes_primary, create_back, first_step, live_at, next_step, stands_done, write_journal}
 use Rattle.mt_plain.specs.Refuse.{advance_refusal, has_more, is_still_copying, most_ways, new_owner, or_else, refuse_if, share_type}
-use Rattle.mt_plain.specs.Slots.{running_by, feeding_slot, is_applied, is_feeding, is_fresh, live_advanced, log_length, log_of, logged, may_be_cut, most_events, most_rows, other_slot, past, read_side, readable, room_in_log, running_at, slot_at_rest, slot_before_way, slot_by_way, slot_of, to_copy, with_position, written_side}
+use Rattle.mt_plain.specs.Slots.{running_by, is_applied, is_feeding, is_fresh, live_advanced, log_length, log_of, may_be_cut, most_events, most_rows, past, read_side, readable, room_in_log, running_at, slot_at_rest, slot_by_way, slot_of, with_position, written_side}
 use Rattle.mt_laws.specs.Changes.{HasSides}
 use Rattle.mt_laws.specs.Copies.{Undoes}
 use Rattle.mt_laws.specs.WayBack.{IsReached}
@@ -23,41 +23,11 @@ use Rattle.mt_laws.proofs.CopyLemmas.{advance_runs}
 use Rattle.mt_laws.proofs.KeepLemmas.{Keeps, next_has}
 use Rattle.mt_laws.proofs.LiveLemmas.{IsIn, find_some}
 use Rattle.mt_laws.proofs.OwnerLemmas.{each_next, reached_keeps}
-use Rattle.mt_laws.proofs.PartLemmas.{HasParts}
 use Rattle.mt_laws.proofs.PlainWords.{changes_reads}
 use Rattle.mt_laws.proofs.ReachLemmas.{live_by_name, reached_has_parts}
-use Rattle.mt_laws.proofs.RefusalLemmas.{at_rest-none, and-both, and-true, or-cases}
+use Rattle.mt_laws.proofs.RefusalLemmas.{at_rest-none, and-both, or-cases}
 use Rattle.mt_laws.proofs.StreamLemmas.{IsTurned, fewer, more, turned_kept, turned_rests}
-use Rattle.mt_laws.proofs.UntouchedLemmas.{same_logs}
-
--- ---- logs grow
-
-abbrev Grows : (p q : Plain) → Type 0
-Grows p q = (extra : List LogEntry) × (q.log ≡ p.log ++ extra)
-
-grows-advance : (p : Plain) (name : StreamName) (at at_most events rows : ℕ) (o : Option Live) → Grows p (with_advance p name at at_most events rows o)
-grows-advance p name at at_most events rows None = ([], sym (append-nil p.log))
-grows-advance p name at at_most events rows (Some w) = (_, refl)
-
-grows : (p : Plain) (event : Event) (answer : Answer) → Grows p (next p event answer)
-grows p (write keyspace table op) done = (_, refl)
-grows p (write keyspace table op) (row r) = (_, refl)
-grows p (write keyspace table op) (advanced events rows) = ([], sym (append-nil p.log))
-grows p (write keyspace table op) (shown s) = ([], sym (append-nil p.log))
-grows p (write keyspace table op) (refused refusal) = ([], sym (append-nil p.log))
-grows p (advance workflow name at at_most) (advanced events rows) = grows-advance p name at at_most events rows (live_at p workflow)
-grows p (advance workflow name at at_most) done = ([], sym (append-nil p.log))
-grows p (advance workflow name at at_most) (row r) = ([], sym (append-nil p.log))
-grows p (advance workflow name at at_most) (shown s) = ([], sym (append-nil p.log))
-grows p (advance workflow name at at_most) (refused refusal) = ([], sym (append-nil p.log))
-grows p event answer = ([], same_logs p event answer (λ h. h) ∙ sym (append-nil p.log))
-
-pub logs_grow : (p : Plain) (event : Event) (answer : Answer) (keyspace : List ℕ) → log_length p keyspace ≤ log_length (next p event answer) keyspace
-logs_grow p event answer keyspace =
-    let g = grows p event answer in
-    let e : log_length (next p event answer) keyspace ≡ log_length p keyspace + count_by (λ x. same_text x.keyspace keyspace) g.0 =
-    ap (count_by (λ x. same_text x.keyspace keyspace)) g.1 ∙ sum_by-append (λ x. cond (same_text x.keyspace keyspace) 1 0) p.log g.0 in
-    omega arith
+use Rattle.mt_laws.proofs.LogLemmas.{logs_grow}
 
 -- ---- the position of a slot
 

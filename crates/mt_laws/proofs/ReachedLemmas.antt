@@ -7,7 +7,7 @@ use Rattle.mt_plain.specs.Serve.{Serves, served}
 use Rattle.mt_laws.specs.Parts.{AreApart, HasSides}
 use Rattle.mt_laws.specs.WayBack.{IsReached}
 use Rattle.mt_laws.proofs.EntryValueLemmas.{table_of}
-use Rattle.mt_laws.proofs.LiveLemmas.{Apart, IsApart, IsIn, all_from_in, in_all}
+use Rattle.mt_laws.proofs.LiveLemmas.{Apart, IsApart, all_from_in, in_all}
 use Rattle.mt_laws.proofs.PartLemmas.{HasParts, moved_from_part}
 use Rattle.mt_laws.proofs.ReachLemmas.{reached_has_parts}
 use Rattle.mt_laws.proofs.ServeLemmas.{value_of-served}

@@ -1,22 +1,21 @@
 -- Which stream runs, and whose log it reads.
-use Rattle.std.proofs.Common.{◌≡◌, ℕ, suc, ◌+◌, ◌-◌, Bool, true, false, not, cond, eqb, List, Option, None, Some, option_map, refl, sym, ap, ◌∙◌, arith}
+use Rattle.std.proofs.Common.{◌≡◌, ℕ, suc, ◌-◌, Bool, true, false, not, cond, eqb, List, Option, None, Some, option_map, refl, sym, ap, ◌∙◌, arith}
 use Rattle.std.proofs.lemmas.Bool.{true≢false}
 use Rattle.std.specs.Option.{option_map_or}
 use Rattle.std.specs.Prelude.{◌&&◌, ◌||◌}
-use Rattle.mt_names.specs.declared.types.TypeSet.{TypeSet}
 use Rattle.mt_names.specs.Names.{same_text}
-use Rattle.mt_plain.specs.Events.{Event, StreamName, forward, back, Slot, StreamState, running, stopped, frozen, Way}
+use Rattle.mt_plain.specs.Events.{Event, StreamName, forward, back, Slot, running, stopped, Way}
 use Rattle.mt_plain.specs.Next.{live_stepped, live_undone, types_and, types_without, way_stepped, with_fresh_stream, with_way_to}
-use Rattle.mt_plain.specs.Plain.{Live, Plain, before_way, behind_last, changes_primary, create_back, differ, live_at, next_step, owner, stands_done, start_back, stop_feeding, write_journal}
+use Rattle.mt_plain.specs.Plain.{Live, Plain, behind_last, changes_primary, create_back, differ, live_at, next_step, owner, stands_done, start_back, stop_feeding, write_journal}
 use Rattle.mt_plain.specs.Refuse.{new_owner}
-use Rattle.mt_plain.specs.Slots.{feeding_slot, is_feeding, live_advanced, log_length, other_slot, read_side, running_at, running_by, slot_at_rest, slot_before_way, slot_by_way, slot_of}
+use Rattle.mt_plain.specs.Slots.{feeding_slot, is_feeding, live_advanced, log_length, other_slot, read_side, running_at, slot_at_rest, slot_by_way, slot_of}
 use Rattle.mt_laws.specs.Copies.{frozen_at, runs_at}
 use Rattle.mt_laws.specs.WayBack.{IsReached}
 use Rattle.mt_laws.proofs.ChangeLemmas.{made_live}
 use Rattle.mt_laws.proofs.KeepLemmas.{Keeps, reached_have}
 use Rattle.mt_laws.proofs.LiveLemmas.{IsIn, find_some}
 use Rattle.mt_laws.proofs.OwnerLemmas.{IsJournaled, done_in_order, reached_journaled}
-use Rattle.mt_laws.proofs.PartLemmas.{HasParts, IsSettled}
+use Rattle.mt_laws.proofs.PartLemmas.{IsSettled}
 use Rattle.mt_laws.proofs.ReachLemmas.{reached_has_parts}
 use Rattle.mt_laws.proofs.UntouchedLemmas.{traffic-advanced}
 
