@@ -17,13 +17,10 @@ use Rattle.std.specs.declared.cmp.Ordering.TheVariants.{Less, Equal, Greater}
 use Rattle.indexmap.proofs.CallerLemmas.{insert_entry-new}
 use Rattle.indexmap.specs.IndexMap.{IndexMap, insert_entry}
 use Rattle.mt_names.specs.Names.{same_text}
+use Rattle.mt_names.proofs.EntryLemmas.{none_from}
 use Rattle.mt_names.proofs.SameLemmas.{same_text_decides}
 use Rattle.mt_model.specs.Topology.{Marks, is_marked, with_mark_place}
 use Rattle.mt_denied.specs.Denied.{AreMembersInOrder, has_mark_place}
-
-none_from : {A : Type 0} (r : Option A) → is_some r ≡ false → r ≡ None
-none_from None e = refl
-none_from (Some x) e = absurd (true≢false e)
 
 with_mark_place-new : (marks : Marks) (name : List ℕ) → has_mark_place marks name ≡ false → with_mark_place marks name ≡ marks ++ (name, false) ∷ []
 with_mark_place-new marks name lacks = rw (none_from (lookup (same_text name) marks) lacks) refl

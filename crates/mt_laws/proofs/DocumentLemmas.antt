@@ -10,12 +10,13 @@ use Rattle.mt_names.specs.declared.types.TypeSet.{TypeSet}
 use Rattle.mt_names.specs.Keys.{at_sign, dot, key_text, qualifier_text, suffix_text, target_text}
 use Rattle.mt_names.specs.Tables.{table_list_text}
 use Rattle.mt_names.specs.Types.{comma, members, type_set_text, type_text, written}
+use Rattle.mt_model.specs.Documents.{array, denied_text, denied_texts, dump_text, entries_of, keyspace_text, marked, member, quoted, rule_text, rules_array, rules_text, sorted_by_text, sorted_texts}
 use Rattle.mt_model.specs.Topology.{KeyspaceState, Marks, Rules, TopologyState}
 use Rattle.mt_plain.specs.Answers.{Answers, advanced_of, reply_of, show_of}
-use Rattle.mt_plain.specs.Documents.{array, denied_texts, dump_text, entries_of, keyspace_text, marked, member, number_text, quoted, rule_text, rules_array, rules_text, sorted_by_text, sorted_texts}
 use Rattle.mt_plain.specs.Events.{Event, read, advance, show, StreamName, Refusal, memory, no_keyspace, no_table, denied, row_exists, no_row, workflow_exists, no_workflow, table_in_workflow, rule_conflict, target_has_table, same_keyspace, no_tables, under_way, nothing_under_way, nothing_to_switch, nothing_to_reverse, copying, not_level, past_journal, traffic_switched, not_all_switched, rule_owned, watcher_refused, no_watcher, stale, stream_stopped, full, undoing, too_long, exists, refusal_text, Way, StreamState, running, stopped, frozen, Slot, Shown, Answer, done, row, advanced, shown, refused}
+use Rattle.mt_plain.specs.Numbers.{number_text}
 use Rattle.mt_plain.specs.Output.{answer_text, back_text, shown_text, slot_text, spaced, state_text, way_text}
-use Rattle.mt_plain.specs.Plain.{Live, Plain, changed_types, in_keyspace, live_at}
+use Rattle.mt_plain.specs.Plain.{Live, Plain, changed_types, live_at}
 use Rattle.mt_laws.proofs.CleanLemmas.{CleanKey, CleanKeyspace, CleanLive, CleanMark, CleanRow, CleanRule, CleanTarget, CleanTopology, IsClean, live_at-clean, row_of-clean}
 use Rattle.mt_laws.proofs.ListLemmas.{OfSome, cond-either, each-mapped, flat_map-all, map-all, sorted_by_text-all}
 use Rattle.mt_laws.proofs.TextLemmas.{NoFeed, no_feed-append, no_feed-array, no_feed-cons, no_feed-join, no_feed-member, no_feed-nil, no_feed-number, no_feed-object, no_feed-quoted}
@@ -68,7 +69,7 @@ rules_array-no_feed rules all =
     (map-all CleanPair NoFeed rule_text (sorted_by_text (λ r. key_text r.0) entries) rule_text-no_feed
     (sorted_by_text-all CleanPair (λ r. key_text r.0) entries (flat_map-all CleanRule CleanPair entries_of rules entries_of-clean all)))
 
-pub rules_text-no_feed : (t : TopologyState) → CleanTopology t → NoFeed (rules_text t)
+pub rules_text-no_feed : (t : TopologyState) → CleanTopology t → NoFeed (rules_text t.rules)
 rules_text-no_feed t clean =
     no_feed-object (member (codes "rules") (rules_array t.rules) ∷ []) (no_feed-member (codes "rules") (rules_array t.rules) (record { all = refl }) (rules_array-no_feed t.rules clean.rules), tt)
 
@@ -92,8 +93,8 @@ keyspace_text-no_feed k is =
 
 denied_texts-no_feed : (k : List ℕ × KeyspaceState) → CleanKeyspace k → AllByRecursion NoFeed (denied_texts k)
 denied_texts-no_feed k is =
-    map-all NoFeed NoFeed (λ table. target_text (in_keyspace k.0 table)) (marked k.1.denied)
-    (λ table none. target_text-no_feed (in_keyspace k.0 table) (record { keyspace = is.name; table = none })) (marked-clean k.1.denied is.state.denied)
+    map-all NoFeed NoFeed (denied_text k.0) (marked k.1.denied)
+    (λ table none. target_text-no_feed (record { keyspace = k.0; table = table }) (record { keyspace = is.name; table = none })) (marked-clean k.1.denied is.state.denied)
 
 pub dump_text-no_feed : (t : TopologyState) → CleanTopology t → NoFeed (dump_text t)
 dump_text-no_feed t clean =

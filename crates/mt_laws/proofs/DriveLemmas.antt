@@ -6,7 +6,7 @@ use Rattle.std.specs.Option.{option_map_or}
 use Rattle.std.specs.Prelude.{◌&&◌, is_some, option_and_then}
 use Rattle.mt_names.specs.declared.types.TypeSet.{TypeSet}
 use Rattle.mt_plain.specs.Answers.{Answers, Refuses}
-use Rattle.mt_plain.specs.Documents.{number_text}
+use Rattle.mt_plain.specs.Numbers.{number_text}
 use Rattle.mt_plain.specs.Drive.{Driving, begins, steps, feeds, gives_up, Heard, goes_on, ends, event_of, fails, feeding_stream, heard, most_at_once, most_tries, position_of, refused_step, steps_done, unless_closed, way_of}
 use Rattle.mt_plain.specs.Events.{begin_switch, begin_reverse, step, undo, Refusal, memory, under_way, nothing_under_way, nothing_to_switch, nothing_to_reverse, not_level, past_journal, watcher_refused, no_watcher, stale, full, undoing, refusal_text, Way, Answer, done, row, advanced, shown, refused}
 use Rattle.mt_plain.specs.Next.{next, with_step, with_undo, with_way_to, types_and, types_without}

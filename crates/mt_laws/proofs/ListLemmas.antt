@@ -4,7 +4,7 @@ use Rattle.std.specs.List.{AllByRecursion, filter, flat_map, fold}
 use Rattle.std.specs.Map.{lookup, remove_entry, set_value}
 use Rattle.std.specs.Option.{option_map_or}
 use Rattle.std.specs.Prelude.{⊤, find, map, option_and_then, option_map}
-use Rattle.mt_plain.specs.Documents.{comes_before, put_by_text, sorted_by_text}
+use Rattle.mt_model.specs.Documents.{comes_before, put_by_text, sorted_by_text}
 
 -- ---- a test, and what holds on either side
 

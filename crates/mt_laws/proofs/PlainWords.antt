@@ -2,7 +2,7 @@
 use Rattle.std.specs.Prelude.{ℕ, Bool, false, ◌&&◌, ◌||◌, ◌++◌, if◌then◌else◌, List, codes, Option}
 use Rattle.std.specs.Option.{option_map_or}
 use Rattle.mt_names.specs.declared.types.TypeSet.{TypeSet}
-use Rattle.mt_plain.specs.Documents.{number_text}
+use Rattle.mt_plain.specs.Numbers.{number_text}
 use Rattle.mt_plain.specs.Drive.{gives_up, Heard, goes_on, ends}
 use Rattle.mt_plain.specs.Events.{Refusal, refusal_text, Way}
 use Rattle.mt_plain.specs.Plain.{Live, changed_types, is_side, refresh_source, refresh_target, stands_done, write_journal}

@@ -9,7 +9,7 @@ use Rattle.std.specs.Prelude.{◌&&◌}
 use Rattle.mt_names.specs.declared.keys.RuleTarget.{RuleTarget}
 use Rattle.mt_names.specs.Names.{same_text}
 use Rattle.mt_names.specs.Same.{same_target}
-use Rattle.mt_names.proofs.EntryLemmas.{lookup-push_elsewhere, lookup-set_value_elsewhere, lookup-set_value_here}
+use Rattle.mt_names.proofs.EntryLemmas.{lookup-push_elsewhere, lookup-push_stood, lookup-set_value_elsewhere, lookup-set_value_here}
 use Rattle.mt_names.proofs.SameLemmas.{same_target_decides, same_text_decides}
 use Rattle.mt_model.specs.declared.entries.Scope.{Scope}
 use Rattle.mt_model.specs.declared.rows.Op.{Op}
@@ -49,16 +49,7 @@ same_or_other_name a b = by (same_text a b) refl
     by true t = inl ((same_text_decides a b).0 t)
     by false t = inr (λ e. true≢false (sym ((same_text_decides a b).1 e) ∙ t))
 
--- what stood before an entry was added stays
 module _ {K V : Type 0} (same : K → K → Bool) where
-  lookup-push_stood : (es : List (K × V)) (e : K × V) (k : K) (v : V) → lookup (same k) es ≡ Some v → lookup (same k) (es ++ e ∷ []) ≡ Some v
-  lookup-push_stood [] e k v stood = absurd cc
-  lookup-push_stood (d ∷ es) e k v stood = by (lookup-push_stood es e k v) (same k d.0) refl
-    where
-      by : (lookup (same k) es ≡ Some v → lookup (same k) (es ++ e ∷ []) ≡ Some v) → (t : Bool) → same k d.0 ≡ t → lookup (same k) ((d ∷ es) ++ e ∷ []) ≡ Some v
-      by again true t = rw t (rw t at stood)
-      by again false t = rw t (again (rw t at stood))
-
   -- what wasn't there before is the one added, or isn't there
   lookup-push_new : (es : List (K × V)) (e : K × V) (k : K) → lookup (same k) es ≡ None → lookup (same k) (es ++ e ∷ []) ≡ cond (same k e.0) (Some e.1) None
   lookup-push_new [] e k none = refl

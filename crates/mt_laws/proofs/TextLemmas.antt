@@ -5,7 +5,8 @@ use Rattle.std.proofs.lemmas.List.Sums.{sum_by-append, sum_by-cons, sum_by_push}
 use Rattle.std.specs.Fmt.{digit_glyph, digits_onto}
 use Rattle.std.specs.List.{AllByRecursion, join_with_byte, list_all, onto_first, slice_split}
 use Rattle.std.specs.Prelude.{◌&&◌}
-use Rattle.mt_plain.specs.Documents.{array, member, number_text, object, quoted}
+use Rattle.mt_model.specs.Documents.{array, member, object, quoted}
+use Rattle.mt_plain.specs.Numbers.{number_text}
 use Rattle.mt_plain.specs.Output.{line_feed}
 use Rattle.mt_names.specs.Types.{comma}
 use Rattle.mt_laws.specs.Lines.{line_feeds}

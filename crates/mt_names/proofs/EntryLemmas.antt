@@ -1,12 +1,17 @@
 -- A map as the list of its entries, under a test of keys that decides their equality: what is found here, elsewhere,
 -- and after what a write answered is written back, and that the keys stay distinct.
-use Rattle.std.proofs.Common.{◌≡◌, ◌≢◌, Bool, true, false, cond, List, [], ◌∷◌, ◌++◌, Option, None, Some, refl, sym, ap, subst, ◌∙◌}
+use Rattle.std.proofs.Common.{◌≡◌, ◌≢◌, Bool, true, false, cond, List, [], ◌∷◌, ◌++◌, Option, None, Some, is_some, refl, sym, ap, subst, ◌∙◌}
 use Rattle.std.proofs.lemmas.Bool.{true≢false, false_from_ne_true}
 use Rattle.std.proofs.lemmas.Map.{keys-set_value}
 use Rattle.std.specs.Bool.{Decides}
 use Rattle.std.specs.List.{AllByRecursion, IsDistinct}
 use Rattle.std.specs.Map.{keys_of, lookup, remove_entry, set_value}
 use Rattle.std.specs.Prelude.{⊤}
+
+-- what isn't some is none
+pub none_from : {A : Type 0} (o : Option A) → is_some o ≡ false → o ≡ None
+none_from None lacks = refl
+none_from (Some x) lacks = absurd (true≢false lacks)
 
 module _ {K : Type 0} (same : K → K → Bool) (decides : (a b : K) → Decides (same a b) (a ≡ b)) where
   -- a key is the same as itself, and as no other
@@ -48,7 +53,48 @@ module _ {K V : Type 0} (same : K → K → Bool) (decides : (a b : K) → Decid
       by again true t = let is : Some e.1 ≡ Some old = rw t at found in let was : e.1 ≡ old = cc in rw (t, t) (ap (λ x. (e.0, x) ∷ es) (sym was))
       by again false t = rw (t, t) (ap (λ l. e ∷ l) (again (rw t at found)))
 
--- ---- an entry that is added at the end, of a key that wasn't there
+-- whatever the test
+module _ {K V : Type 0} (same : K → K → Bool) where
+  -- whether an entry is there is as before
+  pub is_some-set_value : (es : List (K × V)) (k j : K) (v : V) → is_some (lookup (same j) (set_value (same k) es v)) ≡ is_some (lookup (same j) es)
+  is_some-set_value [] k j v = refl
+  is_some-set_value (e ∷ es) k j v = by (is_some-set_value es k j v) (same k e.0)
+    where
+      by : is_some (lookup (same j) (set_value (same k) es v)) ≡ is_some (lookup (same j) es)
+          → (t : Bool) → is_some (lookup (same j) (cond t ((e.0, v) ∷ es) (e ∷ set_value (same k) es v))) ≡ is_some (lookup (same j) (e ∷ es))
+      by again true = at_it (same j e.0)
+        where
+          at_it : (t : Bool) → is_some (cond t (Some v) (lookup (same j) es)) ≡ is_some (cond t (Some e.1) (lookup (same j) es))
+          at_it true = refl
+          at_it false = refl
+      by again false = at_it (same j e.0)
+        where
+          at_it : (t : Bool) → is_some (cond t (Some e.1) (lookup (same j) (set_value (same k) es v))) ≡ is_some (cond t (Some e.1) (lookup (same j) es))
+          at_it true = refl
+          at_it false = again
+
+-- of two values that are set one after the other the second stays
+pub set_value-twice : {K V : Type 0} (test : K → Bool) (es : List (K × V)) (v w : V) → set_value test (set_value test es v) w ≡ set_value test es w
+set_value-twice test [] v w = refl
+set_value-twice test (e ∷ es) v w = by (set_value-twice test es v w) (test e.0) refl
+  where
+    by : set_value test (set_value test es v) w ≡ set_value test es w → (t : Bool) → test e.0 ≡ t → set_value test (set_value test (e ∷ es) v) w ≡ set_value test (e ∷ es) w
+    by again true t = rw (t, t) refl
+    by again false t = rw (t, t) (ap (λ l. e ∷ l) again)
+
+-- ---- an entry that is added at the end
+
+-- what stood before stays
+module _ {K V : Type 0} (same : K → K → Bool) where
+  pub lookup-push_stood : (es : List (K × V)) (e : K × V) (k : K) (v : V) → lookup (same k) es ≡ Some v → lookup (same k) (es ++ e ∷ []) ≡ Some v
+  lookup-push_stood [] e k v stood = absurd cc
+  lookup-push_stood (d ∷ es) e k v stood = by (lookup-push_stood es e k v) (same k d.0) refl
+    where
+      by : (lookup (same k) es ≡ Some v → lookup (same k) (es ++ e ∷ []) ≡ Some v) → (t : Bool) → same k d.0 ≡ t → lookup (same k) ((d ∷ es) ++ e ∷ []) ≡ Some v
+      by again true t = rw t (rw t at stood)
+      by again false t = rw t (again (rw t at stood))
+
+-- of a key that wasn't there
 
 module _ {K V : Type 0} (same : K → K → Bool) (decides : (a b : K) → Decides (same a b) (a ≡ b)) where
   -- at its key

@@ -3,7 +3,7 @@
 use Rattle.std.specs.Prelude.{ℕ, suc, Bool, true, false, if◌then◌else◌, List, ◌++◌, codes, option_and_then, Option, None, Some}
 use Rattle.std.specs.Option.{option_map_or}
 use Rattle.mt_names.specs.declared.types.TypeSet.{TypeSet}
-use Rattle.mt_plain.specs.Documents.{number_text}
+use Rattle.mt_plain.specs.Numbers.{number_text}
 use Rattle.mt_plain.specs.Events.{Event, begin_switch, begin_reverse, advance, step, undo, StreamName, forward, back, Refusal, not_level, refusal_text, Answer, refused, Way}
 use Rattle.mt_plain.specs.Plain.{Plain, live_at, stands_done, write_journal}
 use Rattle.mt_plain.specs.Slots.{slot_of}

@@ -1,8 +1,8 @@
 pub mod Answers
-pub mod Documents
 pub mod Drive
 pub mod Events
 pub mod Next
+pub mod Numbers
 pub mod Output
 pub mod Plain
 pub mod Refuse

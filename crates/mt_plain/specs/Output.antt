@@ -11,14 +11,15 @@ use Rattle.mt_names.specs.Types.{type_set_text}
 use Rattle.mt_model.specs.declared.entries.Scope.{Scope}
 use Rattle.mt_model.specs.declared.entries.Scope.TheVariants as scope
 use Rattle.mt_model.specs.declared.faults.TopologyFault.{TopologyFault}
+use Rattle.mt_model.specs.Documents.{dump_text, rules_text}
 use Rattle.mt_model.specs.Faults.{topology_fault_text}
 use Rattle.mt_model.specs.Rows.{Row}
 use Rattle.mt_model.specs.Topology.{resolution}
 use Rattle.mt_plain.specs.Answers.{Answers, answer_of}
-use Rattle.mt_plain.specs.Documents.{dump_text, number_text, rules_text}
 use Rattle.mt_plain.specs.Drive.{Driving, begins, Heard, goes_on, ends, event_of, heard, most_turns}
 use Rattle.mt_plain.specs.Events.{Event, write, read, Way, StreamState, running, stopped, frozen, Slot, Shown, Answer, done, row, advanced, shown, refused, refusal_text}
 use Rattle.mt_plain.specs.Next.{next}
+use Rattle.mt_plain.specs.Numbers.{number_text}
 use Rattle.mt_plain.specs.Plain.{Plain, changed_types, opening}
 use Rattle.mt_plain.specs.Script.{Line, silent, command, bad_line, line_too_long, Request, event, write_through, read_through, drive, rules_document, dump_document, read_line, request_of}
 use Rattle.mt_plain.specs.Serve.{served}
@@ -108,7 +109,7 @@ told_request p (Ok (write_through key op)) = asked_there (resolution (served p) 
 told_request p (Ok (read_through key number tablet_type)) =
     asked_there (resolution (served p) key tablet_type) (λ keyspace table. read keyspace table number tablet_type)
 told_request p (Ok (drive workflow types backward)) = drives (begins workflow types backward)
-told_request p (Ok rules_document) = says (rules_text (served p))
+told_request p (Ok rules_document) = says (rules_text (served p).rules)
 told_request p (Ok dump_document) = says (dump_text (served p))
 
 -- what a line tells in a state

@@ -20,7 +20,8 @@ use Rattle.mt_plain.specs.Events.{add_keyspace, add_table, edit_rule}
 use Rattle.mt_laws.specs.Numbers.{calm}
 use Rattle.mt_program.specs.Commands.{AddsKeyspace, AddsTable, EditsRule, MakesKeyspace, MakesRule, MakesTable, Steps}
 use Rattle.mt_program.specs.Core.{CoreState, IsCore, IsWithinLimits, primary_at, primary_of}
-use Rattle.mt_program.proofs.CoreLemmas.{is_some-push_both, is_some-set_value, primary_of-found, primary_of-push, primary_of-set_elsewhere, primary_of-set_here, same_name}
+use Rattle.mt_names.proofs.EntryLemmas.{is_some-set_value, none_from}
+use Rattle.mt_program.proofs.CoreLemmas.{is_some-push_both, primary_of-found, primary_of-push, primary_of-set_elsewhere, primary_of-set_here, same_name}
 use Rattle.mt_program.proofs.RefusalLemmas.{none_told}
 use Rattle.mt_program.proofs.LimitLemmas.{within-keyspace, within-rule, within-table}
 use Rattle.mt_program.proofs.StepLemmas.{does_keeps, does_step, free_name, keyspace_making, keyspace_refusing, no_primary, rule_growing, rule_making, rule_refusing, steps_from_calm, table_making, table_refusing}
@@ -44,10 +45,6 @@ table_of other = []
 pub keyspace_steps : (old new : CoreState) (name : List ℕ) (result : Result Reply code.Refusal) → IsCore old → AddsKeyspace old name result new → Steps old (add_keyspace name) result new
 keyspace_steps old new name result is did = steps_from_calm old new (add_keyspace name) result (λ p stands.
     does_step (calm p) old (add_keyspace name) (add_keyspace_refusal old.topology.keyspaces name) true (MakesKeyspace old name) refl (λ e. refl) (keyspace_refusing p old name is stands) stands (keyspace_making p old name is stands) result new did)
-
-none_from : {A : Type 0} (o : Option A) → is_some o ≡ false → o ≡ None
-none_from None e = refl
-none_from (Some x) e = absurd cc
 
 keyspace_made : (old : CoreState) (name : List ℕ) → IsCore old → add_keyspace_refusal old.topology.keyspaces name ≡ None
     → IsCore (record { topology = with_keyspace old.topology name; primaries = old.primaries ++ (name, empty_primary) ∷ [] })
@@ -103,7 +100,7 @@ is_some-changed change keyspaces name other = by (keyspace_at keyspaces name)
   where
     by : (o : Option KeyspaceState) → is_some (keyspace_at (option_map_or (λ state. set_value (same_text name) keyspaces (change state)) o keyspaces) other) ≡ is_some (keyspace_at keyspaces other)
     by None = refl
-    by (Some state) = is_some-set_value keyspaces name other (change state)
+    by (Some state) = is_some-set_value same_text keyspaces name other (change state)
 
 length-changed : (change : KeyspaceState → KeyspaceState) (keyspaces : Keyspaces) (name : List ℕ) → length (with_keyspace_state change keyspaces name) ≡ length keyspaces
 length-changed change keyspaces name = by (keyspace_at keyspaces name)
@@ -114,7 +111,7 @@ length-changed change keyspaces name = by (keyspace_at keyspaces name)
 
 table_made : (old new : CoreState) (keyspace table : List ℕ) → IsCore old → add_table_refusal old.topology.keyspaces keyspace table ≡ None → MakesTable old keyspace table new → IsCore new
 table_made old new keyspace table is free made = record {
-  keyspaces = λ k. ap (λ ps. is_some (primary_at ps k)) becomes ∙ is_some-set_value old.primaries keyspace k after ∙ is.keyspaces k ∙ sym (ap (λ (t : TopologyState). is_some (keyspace_at t.keyspaces k)) made.0 ∙ is_some-changed (with_new_table table) old.topology.keyspaces keyspace k);
+  keyspaces = λ k. ap (λ ps. is_some (primary_at ps k)) becomes ∙ is_some-set_value same_text old.primaries keyspace k after ∙ is.keyspaces k ∙ sym (ap (λ (t : TopologyState). is_some (keyspace_at t.keyspaces k)) made.0 ∙ is_some-changed (with_new_table table) old.topology.keyspaces keyspace k);
   count = ap length becomes ∙ length-set_value (same_text keyspace) old.primaries after ∙ is.count ∙ sym (ap (λ (t : TopologyState). length t.keyspaces) made.0 ∙ length-changed (with_new_table table) old.topology.keyspaces keyspace);
   tables = λ k t. has k t ∙ sym (ap (λ (x : TopologyState). is_present x.keyspaces k t) made.0);
   within = subst IsWithinLimits (sym made.0) (within-table old.topology keyspace table is.within free);

@@ -25,25 +25,6 @@ module _ {V : Type 0} where
       by again true = refl
       by again false = again
 
-  pub is_some-set_value : (es : List (List ℕ × V)) (k j : List ℕ) (v : V) → is_some (lookup (same_text j) (set_value (same_text k) es v)) ≡ is_some (lookup (same_text j) es)
-  is_some-set_value es k j v = by (same_text k j) refl (lookup (same_text k) es) refl
-    where
-      by : (t : Bool) → same_text k j ≡ t → (o : Option V) → lookup (same_text k) es ≡ o → is_some (lookup (same_text j) (set_value (same_text k) es v)) ≡ is_some (lookup (same_text j) es)
-      by false apart o found = ap is_some (lookup-set_value_elsewhere same_text same_text_decides es k j v (λ e. true≢false (sym ((same_text_decides k j).1 e) ∙ apart)))
-      by true same (Some old) found =
-          let at : k ≡ j = (same_text_decides k j).0 same in
-          subst (λ x. is_some (lookup (same_text x) (set_value (same_text k) es v)) ≡ is_some (lookup (same_text x) es)) at
-          (ap is_some (lookup-set_value_here same_text same_text_decides es k v old found) ∙ sym (ap is_some found))
-      by true same None found = ap (λ l. is_some (lookup (same_text j) l)) (set_value-none es k v found)
-        where
-          set_value-none : (es : List (List ℕ × V)) (k : List ℕ) (v : V) → lookup (same_text k) es ≡ None → set_value (same_text k) es v ≡ es
-          set_value-none [] k v found = refl
-          set_value-none (e ∷ es) k v found = again (set_value-none es k v) (same_text k e.0) refl
-            where
-              again : (lookup (same_text k) es ≡ None → set_value (same_text k) es v ≡ es) → (t : Bool) → same_text k e.0 ≡ t → set_value (same_text k) (e ∷ es) v ≡ e ∷ es
-              again rest true t = absurd (let h = rw t at found in cc)
-              again rest false t = rw t (ap (λ l. e ∷ l) (rest (rw t at found)))
-
 pub is_some-push_both : {V W : Type 0} (es : List (List ℕ × V)) (fs : List (List ℕ × W)) (k j : List ℕ) (v : V) (w : W) → is_some (lookup (same_text j) es) ≡ is_some (lookup (same_text j) fs)
     → is_some (lookup (same_text j) (es ++ (k, v) ∷ [])) ≡ is_some (lookup (same_text j) (fs ++ (k, w) ∷ []))
 is_some-push_both es fs k j v w same = is_some-push es k j v ∙ ap (λ t. cond t true (same_text j k)) same ∙ sym (is_some-push fs k j w)

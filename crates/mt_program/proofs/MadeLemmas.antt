@@ -8,7 +8,7 @@ use Rattle.std.specs.Result.{is_err}
 use Rattle.indexmap.proofs.CallerLemmas.{insert_entry-new}
 use Rattle.indexmap.specs.IndexMap.{IndexMap, insert_entry}
 use Rattle.mt_names.specs.Names.{same_text}
-use Rattle.mt_names.proofs.EntryLemmas.{lookup-push_here, remove_entry-push, set_value-back}
+use Rattle.mt_names.proofs.EntryLemmas.{is_some-set_value, lookup-push_here, remove_entry-push, set_value-back, set_value-twice}
 use Rattle.mt_names.proofs.SameLemmas.{same_text_decides}
 use Rattle.mt_model.specs.declared.entries.EntryKey.TheVariants as about
 use Rattle.mt_model.specs.declared.faults.PrimaryFault.{PrimaryFault}
@@ -19,7 +19,6 @@ use Rattle.mt_primary.specs.Primary.{PrimaryState, empty_primary}
 use Rattle.mt_primary.specs.Writes.{Creates}
 use Rattle.mt_program.specs.Commands.{CreatesTable, without_table}
 use Rattle.mt_program.specs.Core.{IsWithinLimits, Primaries, primary_at}
-use Rattle.mt_program.proofs.CoreLemmas.{is_some-set_value}
 use Rattle.mt_program.proofs.LimitLemmas.{no_place}
 
 -- ---- primaries
@@ -47,14 +46,6 @@ not_created old new keyspace table (Ok done) e did = absurd (true≢false (sym e
 not_created old new keyspace table (Err fault) e did = did
 
 -- ---- a table taken back
-
-set_value-twice : {V : Type 0} (test : List ℕ → Bool) (es : List (List ℕ × V)) (v w : V) → set_value test (set_value test es v) w ≡ set_value test es w
-set_value-twice test [] v w = refl
-set_value-twice {V} test (e ∷ es) v w = by (set_value-twice test es v w) (test e.0) refl
-  where
-    by : set_value test (set_value test es v) w ≡ set_value test es w → (t : Bool) → test e.0 ≡ t → set_value test (set_value test (e ∷ es) v) w ≡ set_value test (e ∷ es) w
-    by again true t = rw (t, t) refl
-    by again false t = rw (t, t) (ap (λ l. e ∷ l) again)
 
 -- a place that is made, marked, unmarked and dropped
 marks_back : (marks : Marks) (name : List ℕ) → lookup (same_text name) marks ≡ None
@@ -122,4 +113,4 @@ module _ (t : TopologyState) (keyspace table : List ℕ) (is : IsWithinLimits t)
   pub table_has_place : has_place (with_table t keyspace table) (about.Present keyspace table) ≡ true
   table_has_place =
       ap (λ (o : Option KeyspaceState). option_map_or (λ state. is_some (lookup (same_text table) state.tables)) o false) (keyspace_at-changed_here (with_new_table table) t.keyspaces keyspace found.0 found.1)
-      ∙ is_some-set_value (with_mark_place found.0.tables table) table table true ∙ with_mark_place-there found.0.tables table
+      ∙ is_some-set_value same_text (with_mark_place found.0.tables table) table table true ∙ with_mark_place-there found.0.tables table

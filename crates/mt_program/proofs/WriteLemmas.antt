@@ -11,7 +11,7 @@ use Rattle.std.specs.Result.{OnErr}
 use Rattle.mt_names.specs.declared.types.TabletType.{TabletType}
 use Rattle.mt_names.specs.Names.{same_text}
 use Rattle.mt_names.specs.Results.{◌>>=◌}
-use Rattle.mt_names.proofs.EntryLemmas.{same_itself}
+use Rattle.mt_names.proofs.EntryLemmas.{is_some-set_value, same_itself}
 use Rattle.mt_names.proofs.SameLemmas.{same_text_decides}
 use Rattle.mt_model.specs.declared.answers.Refusal as code
 use Rattle.mt_model.specs.declared.answers.Refusal.TheVariants as refusal
@@ -41,7 +41,7 @@ use Rattle.mt_laws.specs.Numbers.{acknowledged_at, calm}
 use Rattle.mt_laws.proofs.TableLemmas.{done_at, done_has_numbers}
 use Rattle.mt_program.specs.Commands.{Steps, WritesAt, WritesRow, read_at, refusal_by_primary, reply_by_read}
 use Rattle.mt_program.specs.Core.{CoreState, IsCore, IsWithinLimits, Primaries, Stands, primary_at, primary_of}
-use Rattle.mt_program.proofs.CoreLemmas.{is_some-set_value, primary_of-found, primary_of-set_elsewhere, primary_of-set_here, same_name}
+use Rattle.mt_program.proofs.CoreLemmas.{primary_of-found, primary_of-set_elsewhere, primary_of-set_here, same_name}
 use Rattle.mt_program.proofs.StepLemmas.{refuses, steps_from_calm}
 
 -- ---- the refusals of a write
@@ -236,7 +236,7 @@ module _ (old new : CoreState) (keyspace table : List ℕ) (op : Op) (is : IsCor
   -- what holds of every core holds of the new one
   write_core : (position : ℕ) → IsWritten before table op position after → IsCore new
   write_core position written = record {
-    keyspaces = λ k. ap (λ ps. is_some (primary_at ps k)) becomes ∙ is_some-set_value old.primaries keyspace k after ∙ is.keyspaces k ∙ sym (ap (λ (t : TopologyState). is_some (keyspace_at t.keyspaces k)) topology);
+    keyspaces = λ k. ap (λ ps. is_some (primary_at ps k)) becomes ∙ is_some-set_value same_text old.primaries keyspace k after ∙ is.keyspaces k ∙ sym (ap (λ (t : TopologyState). is_some (keyspace_at t.keyspaces k)) topology);
     count = ap length becomes ∙ length-set_value (same_text keyspace) old.primaries after ∙ is.count ∙ sym (ap (λ (t : TopologyState). length t.keyspaces) topology);
     tables = λ k t. has k t ∙ is.tables k t ∙ sym (ap (λ (x : TopologyState). is_present x.keyspaces k t) topology);
     within = subst IsWithinLimits (sym topology) is.within;

@@ -22,7 +22,7 @@ use Rattle.mt_rules.specs.declared.fault.RulesFault.TheVariants.{NotJson}
 use Rattle.mt_rules.specs.Read.{rule_of, rule_of_texts, or_bad_name, rules_of_text, rules_of_value, value_of_text, with_one_more, with_rules}
 use Rattle.mt_rules.specs.Rules.{has_rule_place}
 use Rattle.mt_rules.specs.Values.{IsNamed, IsWellSorted, Says, document_value, rule_value, ruled, rules_value}
-use Rattle.mt_rules.specs.Written.{rules_text, sorted_rules}
+use Rattle.mt_model.specs.Documents.{rules_text, sorted_rules}
 use Rattle.mt_rules.proofs.ReadLemmas.{value_of_text-some}
 use Rattle.mt_rules.proofs.RulesLemmas.{with_one_more-new}
 use Rattle.mt_rules.proofs.TextLemmas.{compact_text-document}

@@ -7,14 +7,11 @@ use Rattle.indexmap.specs.IndexMap.{IndexMap, insert_entry}
 use Rattle.mt_names.specs.declared.keys.RuleKey.{RuleKey}
 use Rattle.mt_names.specs.declared.keys.RuleTarget.{RuleTarget}
 use Rattle.mt_names.specs.Same.{same_key}
+use Rattle.mt_names.proofs.EntryLemmas.{none_from}
 use Rattle.mt_model.specs.Limits.{most_rules}
 use Rattle.mt_model.specs.Topology.{Rules, with_rule_place}
 use Rattle.mt_rules.specs.Read.{with_one_more}
 use Rattle.mt_rules.specs.Rules.{has_rule_place}
-
-pub none_from : {A : Type 0} (r : Option A) → is_some r ≡ false → r ≡ None
-none_from None e = refl
-none_from (Some x) e = absurd (true≢false e)
 
 pub with_rule_place-new : (rules : Rules) (key : RuleKey) → has_rule_place rules key ≡ false → with_rule_place rules key ≡ rules ++ (key, None) ∷ []
 with_rule_place-new rules key lacks = rw (none_from (lookup (same_key key) rules) lacks) refl

@@ -20,7 +20,7 @@ use Rattle.mt_names.specs.Same.{same_key}
 use Rattle.mt_names.proofs.SameLemmas.{same_key_decides}
 use Rattle.mt_model.specs.Topology.{Rules, rule_at}
 use Rattle.mt_rules.specs.Values.{AreInOrder, IsNamed, IsWellSorted, by_text, ruled, members_by, rule_value, rules_value, values_in}
-use Rattle.mt_rules.specs.Written.{comes_before, entries_of, put_by_text}
+use Rattle.mt_model.specs.Documents.{comes_before, entries_of, put_by_text}
 
 abbrev pub Named : Type 0
 Named = List ℕ × (RuleKey × RuleTarget)

@@ -20,7 +20,7 @@ use Rattle.mt_names.specs.Names.{IsKeyspaceName, IsName, allows, is_plain_byte}
 use Rattle.mt_names.specs.Types.{comma}
 use Rattle.mt_model.specs.Topology.{Rules}
 use Rattle.mt_rules.specs.Values.{IsNamed, document_value, rule_value}
-use Rattle.mt_rules.specs.Written.{quoted, rule_text, rules_text, sorted_rules}
+use Rattle.mt_model.specs.Documents.{quoted, rule_text, rules_text, sorted_rules}
 
 -- ---- no byte of a name is escaped
 

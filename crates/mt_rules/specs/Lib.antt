@@ -1,4 +1,3 @@
 pub mod Read
 pub mod Rules
 pub mod Values
-pub mod Written

@@ -10,7 +10,7 @@ use Rattle.mt_names.specs.Keys.{IsRuleKey, IsRuleTarget, key_text, target_text, 
 use Rattle.mt_names.specs.Same.{same_key}
 use Rattle.mt_model.specs.Topology.{Rules, rule_at}
 use Rattle.mt_rules.specs.Read.{rules_of_text}
-use Rattle.mt_rules.specs.Written.{entries_of, put_by_text, sorted_rules}
+use Rattle.mt_model.specs.Documents.{entries_of, put_by_text, sorted_rules}
 
 -- a rule of these two texts ("Routing Rules": from_table, to_tables)
 abbrev pub texts_value : List ℕ → List ℕ → Data

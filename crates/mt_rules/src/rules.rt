@@ -8,7 +8,7 @@ ghost use Rattle.mt_model.specs.Topology.{rule_at, without_rule_place};
 ghost use Rattle.mt_rules.specs.Read.{IsUnlessMemory, answer_with, rules_of_text, with_one_more};
 ghost use Rattle.serde_json.specs.View.{view};
 ghost use Rattle.mt_rules.specs.Values.{IsWellSorted, Says, rules_value};
-ghost use Rattle.mt_rules.specs.Written.{rules_text};
+ghost use Rattle.mt_model.specs.Documents.{rules_text};
 ghost use Rattle.mt_rules.specs.Rules.{Reserves, has_rule_place};
 
 use crate::{RulesFault, read, write};

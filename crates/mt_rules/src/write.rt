@@ -8,7 +8,7 @@ ghost use Rattle.mt_names.specs.Keys.{key_text};
 ghost use Rattle.mt_names.specs.Same.{same_key};
 ghost use Rattle.mt_model.specs.Limits.{most_rules};
 ghost use Rattle.mt_rules.specs.Values.{AreInOrder, IsNamed, IsWellSorted, Says, rule_value, rules_value, texts_value, values_in};
-ghost use Rattle.mt_rules.specs.Written.{rules_text};
+ghost use Rattle.mt_model.specs.Documents.{rules_text};
 
 use indexmap::IndexMap;
 use mt_names::{RuleKey, RuleTarget};

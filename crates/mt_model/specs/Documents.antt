@@ -1,11 +1,12 @@
--- The document of the rules as it is written: compact, and sorted by the bytes of the keys' texts.
-use Rattle.std.specs.Prelude.{ℕ, Bool, true, false, ◌==◌, nat_lt, if◌then◌else◌, List, [], ◌∷◌, ◌++◌, codes, flat_map, fold, map, Option, None, Some}
+-- The written forms of the rules and of a topology: JSON, compact and sorted (this profile's own; Vitess prints routing rules
+-- as JSON objects of from_table and to_tables).
+use Rattle.std.specs.Prelude.{ℕ, Bool, true, false, ◌==◌, nat_lt, if◌then◌else◌, cond, List, [], ◌∷◌, ◌++◌, codes, flat_map, fold, map, Option, None, Some}
 use Rattle.std.specs.List.{join_with_byte}
 use Rattle.mt_names.specs.declared.keys.RuleKey.{RuleKey}
 use Rattle.mt_names.specs.declared.keys.RuleTarget.{RuleTarget}
 use Rattle.mt_names.specs.Keys.{key_text, target_text}
 use Rattle.mt_names.specs.Types.{comma}
-use Rattle.mt_model.specs.Topology.{Rules}
+use Rattle.mt_model.specs.Topology.{KeyspaceState, Marks, Rules, TopologyState}
 
 -- ---- texts in the order of their bytes
 
@@ -23,6 +24,10 @@ put_by_text (y ∷ ys) x = if comes_before x.0 y.0 then x ∷ y ∷ ys else (y �
 -- a list in the order of the texts of its items
 abbrev pub sorted_by_text : {A : Type 0} → (A → List ℕ) → List A → List A
 sorted_by_text text items = map (λ x. x.1) (fold put_by_text [] (map (λ item. (text item, item)) items))
+
+-- texts in their order
+abbrev pub sorted_texts : List (List ℕ) → List (List ℕ)
+sorted_texts texts = sorted_by_text (λ text. text) texts
 
 -- ---- JSON
 
@@ -64,3 +69,44 @@ rules_array rules = array (map rule_text (sorted_rules rules))
 -- the document of the rules ("Routing Rules")
 abbrev pub rules_text : Rules → List ℕ
 rules_text rules = object (member (codes "rules") (rules_array rules) ∷ [])
+
+-- ---- the dump of a topology, version 1
+
+-- the names that are marked
+abbrev pub marked : Marks → List (List ℕ)
+marked marks = flat_map (λ mark. cond mark.1 (mark.0 ∷ []) []) marks
+
+-- the tables of a keyspace, in the order of their names
+abbrev pub tables_in_order : KeyspaceState → List (List ℕ)
+tables_in_order state = sorted_texts (marked state.tables)
+
+-- a keyspace with its tables
+abbrev pub keyspace_text : List ℕ × KeyspaceState → List ℕ
+keyspace_text k = object (member (codes "name") (quoted k.0) ∷ member (codes "tables") (array (map quoted (tables_in_order k.1))) ∷ [])
+
+-- the keyspaces, in the order of their names
+abbrev pub keyspaces_in_order : TopologyState → List (List ℕ × KeyspaceState)
+keyspaces_in_order t = sorted_by_text (λ k. k.0) t.keyspaces
+
+-- a denied table, as `keyspace.table`
+abbrev pub denied_text : List ℕ → List ℕ → List ℕ
+denied_text keyspace table = target_text (record { keyspace = keyspace; table = table })
+
+-- those of a keyspace
+abbrev pub denied_texts : List ℕ × KeyspaceState → List (List ℕ)
+denied_texts k = map (denied_text k.0) (marked k.1.denied)
+
+-- those of all keyspaces, in the order of the texts
+abbrev pub denied_sorted : TopologyState → List (List ℕ)
+denied_sorted t = sorted_texts (flat_map denied_texts t.keyspaces)
+
+-- a document with these denied tables
+abbrev pub document_text : List (List ℕ) → TopologyState → List ℕ
+document_text denied t =
+    object (member (codes "denied") (array (map quoted denied))
+    ∷ member (codes "keyspaces") (array (map keyspace_text (keyspaces_in_order t)))
+    ∷ member (codes "rules") (rules_array t.rules) ∷ member (codes "version") (codes "1") ∷ [])
+
+-- the document of a whole topology
+abbrev pub dump_text : TopologyState → List ℕ
+dump_text t = document_text (denied_sorted t) t
