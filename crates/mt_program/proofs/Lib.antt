@@ -1,10 +1,1 @@
-pub mod CommandLemmas
-pub mod CoreLemmas
-pub mod KnownLemmas
-pub mod ReadLemmas
-pub mod LimitLemmas
-pub mod MadeLemmas
-pub mod RefusalLemmas
 pub mod RunLemmas
-pub mod StepLemmas
-pub mod WriteLemmas

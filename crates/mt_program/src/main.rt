@@ -5,11 +5,6 @@ ghost use Rattle.std.specs.Prelude.{◌≡◌, IfOk};
 ghost use Rattle.mt_watch.specs.Notices.{notice_of};
 ghost use Rattle.mt_model.specs.declared.entries.Scope.TheVariants.{Routes};
 
-mod commands;
-mod controller;
-mod fault;
-mod output;
-mod reading;
 mod script;
 #[cfg(test)]
 mod tests;
@@ -22,8 +17,8 @@ mod tests_operations;
 #[cfg(test)]
 mod tests_refusals;
 
-use crate::fault::ScriptFault;
 use crate::script::run_script;
+use mt_io::ScriptFault;
 use mt_watch::{Callback, Change, Notice, Scope, WatchFault, Watcher, Watchers};
 use std::io;
 use std::io::ErrorKind;

@@ -4,13 +4,11 @@ ghost use Rattle.mt_plain.specs.Output.{told, told_request};
 ghost use Rattle.mt_plain.specs.Plain.{Plain};
 ghost use Rattle.mt_plain.specs.Script.{read_through, write_through};
 ghost use Rattle.mt_script.specs.Requests.{reading_so_far, request_from};
-ghost use Rattle.mt_program.specs.Core.{Stands};
+ghost use Rattle.mt_core.specs.Core.{Stands};
 ghost use Rattle.mt_program.specs.Runs.{Runs, RunsLine, RunsLines, Tells};
 
-use crate::controller::Core;
-use crate::fault::ScriptFault;
-use crate::output::{Waiting, flush, put_line};
-use crate::reading::read_script;
+use mt_core::Core;
+use mt_io::{ScriptFault, Waiting, flush, put_line, read_script};
 use mt_model::{Op, Refusal};
 use mt_names::{RuleKey, TabletType};
 use mt_script::{

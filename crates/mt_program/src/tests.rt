@@ -1,10 +1,9 @@
 //! Scripts and what they print.
 
-use crate::fault::ScriptFault;
 use crate::script::run_script;
+use mt_io::ScriptFault;
 use mt_watch::Watchers;
 use std::alloc::Global;
-use std::io::Write;
 use std::test::Fail;
 
 /// A script, and what it must print.
@@ -193,21 +192,5 @@ fn a_script_at_its_limit(rt: HostRuntime) -> Result<(), Fail> {
     assert!(rt; case.holds(rt.alloc()));
     case.repeat(b'#', 1)?;
     assert!(rt; ends(rt.alloc(), case.script(), Err(ScriptFault::TooLong), b""));
-    Ok(())
-}
-
-/// Whether a fault is printed so.
-fn is_printed(alloc: Global, fault: ScriptFault, want: &str) -> Result<bool, Fail> {
-    let mut text = Vec::new(alloc);
-    write!(text, "{fault}")?;
-    Ok(text.as_slice() == want.as_bytes())
-}
-
-#[test]
-fn names_of_faults(rt: HostRuntime) -> Result<(), Fail> {
-    assert!(rt; is_printed(rt.alloc(), ScriptFault::Memory, "Memory")?);
-    assert!(rt; is_printed(rt.alloc(), ScriptFault::Read, "Read")?);
-    assert!(rt; is_printed(rt.alloc(), ScriptFault::Write, "Write")?);
-    assert!(rt; is_printed(rt.alloc(), ScriptFault::TooLong, "TooLong")?);
     Ok(())
 }

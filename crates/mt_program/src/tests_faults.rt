@@ -1,8 +1,8 @@
 //! Readers and writers that give or take little, are interrupted, or fail.
 
-use crate::fault::ScriptFault;
 use crate::script::run_script;
 use crate::tests::Case;
+use mt_io::ScriptFault;
 use mt_watch::Watchers;
 use std::alloc::Global;
 use std::io;

@@ -1,6 +1,6 @@
 -- The text of a line goes behind what waits.
 use Rattle.std.proofs.Common.{◌++◌, Some, subst}
-use Rattle.mt_program.specs.Runs.{Writes}
+use Rattle.mt_io.specs.Bytes.{Writes}
 use Rattle.mt_program.proofs.script.run_line.Goals as goal
 
 pub returns-in-Some : goal.returns-in-Some

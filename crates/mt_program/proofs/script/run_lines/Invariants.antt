@@ -2,7 +2,7 @@
 use Rattle.std.proofs.Common.{length}
 use Rattle.std.specs.Str.Lines.{lines}
 use Rattle.mt_plain.specs.Plain.{Plain}
-use Rattle.mt_program.specs.Core.{Stands}
+use Rattle.mt_core.specs.Core.{Stands}
 use Rattle.mt_program.proofs.RunLemmas.{SoFar}
 use Rattle.mt_program.proofs.script.run_lines.Given as goal
 

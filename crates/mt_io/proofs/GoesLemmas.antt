@@ -1,0 +1,36 @@
+-- Bytes that go out in pieces.
+use Rattle.std.proofs.Common.{◌≡◌, ℕ, true, ◌==◌, List, [], ◌++◌, length, take, drop, refl, sym, ap, ◌∙◌, append-nil, append_assoc}
+use Rattle.std.proofs.KnownBytes.{Appends-nil, Appends-trans}
+use Rattle.std.proofs.lemmas.Bool.{eqb-true}
+use Rattle.std.proofs.lemmas.List.{nil_from_length, take-append-drop}
+use Rattle.std.specs.Io.KnownBytes.{Appends}
+use Rattle.mt_io.specs.Bytes.{GoesOut, Known}
+
+pub nothing_out : (held : Known) (waiting : List ℕ) → GoesOut held held waiting waiting
+nothing_out held waiting = ([], Appends-nil held, refl)
+
+-- first some of the bytes, then more of them
+pub goes_on : (a b c : Known) (all waiting more rest : List ℕ) → GoesOut a b all waiting → GoesOut b c (waiting ++ more) rest → GoesOut a c (all ++ more) rest
+goes_on a b c all waiting more rest (first, went, is) (second, went_then, is_then) = (
+  first ++ second,
+  Appends-trans a b c first second went went_then,
+  ap (λ (t : List ℕ). t ++ more) is ∙ append_assoc first waiting more ∙ ap (λ (t : List ℕ). first ++ t) is_then ∙ sym (append_assoc first second rest),
+)
+
+-- one write more
+pub goes_more : (a b c : Known) (all rest : List ℕ) (count : ℕ) → GoesOut a b all rest → Appends b c (take count rest) → GoesOut a c all (drop count rest)
+goes_more a b c all rest count (first, went, is) went_then = (
+  first ++ take count rest,
+  Appends-trans a b c first (take count rest) went went_then,
+  is ∙ ap (λ (t : List ℕ). first ++ t) (sym (take-append-drop count rest)) ∙ sym (append_assoc first (take count rest) (drop count rest)),
+)
+
+pub goes_none : (a b c : Known) (all rest : List ℕ) → GoesOut a b all rest → Appends b c [] → GoesOut a c all rest
+goes_none a b c all rest (first, went, is) none = (first ++ [], Appends-trans a b c first [] went none, is ∙ ap (λ (t : List ℕ). t ++ rest) (sym (append-nil first)))
+
+-- what didn't go out may be longer
+pub goes_short : (a b : Known) (all rest more : List ℕ) → GoesOut a b all rest → GoesOut a b (all ++ more) (rest ++ more)
+goes_short a b all rest more (written, went, is) = (written, went, ap (λ (t : List ℕ). t ++ more) is ∙ append_assoc written rest more)
+
+pub none_left : (bytes : List ℕ) → (length bytes == 0) ≡ true → bytes ≡ []
+none_left bytes e = nil_from_length bytes (eqb-true (length bytes) 0 e)

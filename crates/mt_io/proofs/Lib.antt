@@ -1,0 +1,3 @@
+pub mod GoesLemmas
+pub mod KnownLemmas
+pub mod ReadLemmas

@@ -1,0 +1,45 @@
+//! Why a script ends early.
+
+use std::fmt;
+use thiserror::Error;
+
+/// Why a script ends before its last line is answered. The topology and the rows are then gone, as after its last line.
+#[derive(Clone, Copy, Debug, Eq, Error, PartialEq)]
+pub enum ScriptFault {
+    /// No memory was left to read the script. Nothing was written.
+    Memory,
+    /// A read failed, or the script didn't come in 2,097,152 reads. Nothing was written.
+    Read,
+    /// A write failed or took no byte. The beginning of an output was written.
+    Write,
+    /// The script has more than 1,048,576 bytes. Nothing was written.
+    TooLong,
+}
+
+impl ScriptFault {
+    ghost use Rattle.std.specs.Prelude.{◌≡◌};
+    ghost use Rattle.mt_io.specs.Bytes.{script_fault_text};
+
+    /// The name of the fault as it is printed.
+    pub fn as_str(self) -> &'static str
+        ensures { result.now ≡ script_fault_text self }
+    {
+        match self {
+            ScriptFault::Memory => "Memory",
+            ScriptFault::Read => "Read",
+            ScriptFault::Write => "Write",
+            ScriptFault::TooLong => "TooLong",
+        }
+    }
+}
+
+impl fmt::Display for ScriptFault {
+    ghost use Rattle.std.specs.Prelude.{Some};
+    ghost use Rattle.mt_io.specs.Bytes.{script_fault_text};
+
+    ghost output = { λ fault. Some (script_fault_text fault) };
+
+    fn fmt<W: fmt::Write>(&self, f: &mut fmt::Formatter<W>) -> fmt::Result {
+        f.pad(self.as_str())
+    }
+}

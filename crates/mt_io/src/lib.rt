@@ -1,0 +1,12 @@
+//! Reading a script whole, and writing its output in pieces. It knows bytes alone: what a script means is not its matter.
+#![tactic(auto)]
+
+mod fault;
+mod output;
+mod reading;
+#[cfg(test)]
+mod tests;
+
+pub use fault::ScriptFault;
+pub use output::{ROOM, Waiting, flush, put_line};
+pub use reading::{MAX_READS, MAX_SCRIPT_LENGTH, read_script};

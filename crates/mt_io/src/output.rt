@@ -1,0 +1,79 @@
+//! Output that goes out in pieces.
+ghost use Rattle.std.specs.Prelude.{◌≡◌, ◌≤◌, ◌+◌, ◌++◌, [], length, OnOk};
+ghost use Rattle.mt_io.specs.Bytes.{Writes, WritesSome};
+
+use crate::fault::ScriptFault;
+use arrayvec::ArrayVec;
+use std::io::{ErrorKind, Write};
+
+/// How many bytes of output wait at most.
+pub const ROOM: usize = 8192;
+
+/// The longest line of output, in bytes.
+const LONGEST_LINE: usize = 69;
+
+/// Output that is still to be written.
+pub type Waiting = ArrayVec<u8, ROOM>;
+
+/// Writes once, and answers how many of the bytes went out: none where the write was interrupted. A write that fails or
+/// takes no byte is a fault, and nothing went out.
+fn write_some<W: Write>(writer: &mut W, bytes: &[u8]) -> Result<usize, ScriptFault>
+    ensures { WritesSome (W.contents writer.old) (W.contents writer.new) bytes.now result }
+{
+    match writer.write(bytes) {
+        Ok(0) => Err(ScriptFault::Write),
+        Ok(count) => Ok(count),
+        Err(error) if error.kind() == ErrorKind::Interrupted => Ok(0),
+        Err(_) => Err(ScriptFault::Write),
+    }
+}
+
+/// Writes some bytes. After a fault the first of them are written.
+fn write_all<W: Write>(writer: &mut W, bytes: &[u8]) -> Result<(), ScriptFault>
+    ensures { Writes (W.contents writer.old) (W.contents writer.new) bytes.now [] result }
+{
+    let mut rest = bytes;
+    for _ in 0..u64::MAX {
+        if rest.is_empty() {
+            return Ok(());
+        }
+        let count = write_some(writer, rest)?;
+        rest = rest.split_at(count).1;
+    }
+    Err(ScriptFault::Write)
+}
+
+/// Writes all that waits.
+pub fn flush<W: Write>(waiting: &mut Waiting, writer: &mut W) -> Result<(), ScriptFault>
+    ensures writes { Writes (W.contents writer.old) (W.contents writer.new) waiting.old.items waiting.new.items result }
+    ensures empty { OnOk result (waiting.new.items ≡ []) }
+{
+    write_all(writer, waiting)?;
+    waiting.clear();
+    Ok(())
+}
+
+/// Makes room for a line: where there is none, all that waits is written.
+fn make_room<W: Write>(waiting: &mut Waiting, writer: &mut W) -> Result<(), ScriptFault>
+    ensures writes { Writes (W.contents writer.old) (W.contents writer.new) waiting.old.items waiting.new.items result }
+    ensures room { OnOk result (length waiting.new.items + 69 ≤ ROOM) }
+{
+    if waiting.remaining_capacity() >= LONGEST_LINE {
+        return Ok(());
+    }
+    flush(waiting, writer)
+}
+
+/// Adds a line to what waits, and writes what waited where there is no room for it.
+pub fn put_line<W: Write>(
+    waiting: &mut Waiting,
+    writer: &mut W,
+    line: &[u8],
+) -> Result<(), ScriptFault>
+    requires { length line.now ≤ 69 }
+    ensures { Writes (W.contents writer.old) (W.contents writer.new) (waiting.old.items ++ line.now) waiting.new.items result }
+{
+    make_room(waiting, writer)?;
+    let _fits = waiting.try_extend_from_slice(line);
+    Ok(())
+}
