@@ -1,10 +1,10 @@
 -- What is written is read back.
-use Rattle.std.proofs.Common.{◌≡◌, ◌≤◌, ◌+◌, ◌==◌, ℕ, max, Bool, true, false, List, [], ◌∷◌, ◌++◌, length, map, is_some, Option, Some, None, Result, Ok, Err, IsUtf8, append_assoc, append-nil, refl, sym, ap, ◌∙◌, arith}
+use Rattle.std.proofs.Common.{◌≡◌, ◌≤◌, ◌+◌, ℕ, max, Bool, true, false, List, [], ◌∷◌, ◌++◌, length, map, Option, Some, Ok, Err, IsUtf8, append_assoc, append-nil, refl, sym, ap, ◌∙◌, arith}
 use Rattle.std.proofs.lemmas.Bool.{true≢false, ne_eqb}
 use Rattle.std.proofs.lemmas.List.{length-append}
 use Rattle.std.proofs.Math.Nat.{max-le}
 use Rattle.std.specs.List.{AllByRecursion, IsDistinct}
-use Rattle.std.specs.Map.{keys_of, lookup}
+use Rattle.std.specs.Map.{keys_of}
 use Rattle.std.specs.Option.{option_map_or}
 use Rattle.serde_json.specs.Data.{Data, depth, items_depth}
 use Rattle.serde_json.specs.Read.{max_depth, read}
@@ -12,14 +12,14 @@ use Rattle.serde_json.specs.View.{items_of}
 use Rattle.serde_json.specs.Written.{compact_text, has_float, items_have_float}
 use Rattle.mt_names.specs.declared.keys.RuleKey.{RuleKey}
 use Rattle.mt_names.specs.declared.keys.RuleTarget.{RuleTarget}
-use Rattle.mt_names.specs.Keys.{key_text, target_text, read_target}
+use Rattle.mt_names.specs.Keys.{target_text, read_target}
 use Rattle.mt_names.specs.Results.{◌>>=◌}
 use Rattle.mt_names.specs.Same.{same_key}
 use Rattle.mt_names.proofs.SameLemmas.{same_key_decides}
 use Rattle.mt_model.specs.Limits.{most_rules}
-use Rattle.mt_model.specs.Topology.{Rules, rule_at}
+use Rattle.mt_model.specs.Topology.{Rules}
 use Rattle.mt_rules.specs.declared.fault.RulesFault.TheVariants.{NotJson}
-use Rattle.mt_rules.specs.Read.{rule_of, rule_of_texts, or_bad_name, rules_of_text, rules_of_value, value_of_text, with_one_more, with_rules}
+use Rattle.mt_rules.specs.Read.{rule_of, or_bad_name, rules_of_value, with_one_more, with_rules}
 use Rattle.mt_rules.specs.Rules.{has_rule_place}
 use Rattle.mt_rules.specs.Values.{IsNamed, IsWellSorted, Says, document_value, rule_value, ruled, rules_value}
 use Rattle.mt_model.specs.Documents.{rules_text, sorted_rules}

@@ -1,6 +1,5 @@
 -- A place more, at a key that has none.
-use Rattle.std.proofs.Common.{◌≡◌, ◌==◌, false, length, Ok, List, [], ◌∷◌, ◌++◌, Option, None, Some, is_some, refl, sym, ap, ◌∙◌}
-use Rattle.std.proofs.lemmas.Bool.{true≢false}
+use Rattle.std.proofs.Common.{◌≡◌, ◌==◌, false, length, Ok, [], ◌∷◌, ◌++◌, Option, None, Some, refl, sym, ap, ◌∙◌}
 use Rattle.std.specs.Map.{lookup}
 use Rattle.indexmap.proofs.CallerLemmas.{insert_entry-new}
 use Rattle.indexmap.specs.IndexMap.{IndexMap, insert_entry}
@@ -12,6 +11,7 @@ use Rattle.mt_model.specs.Limits.{most_rules}
 use Rattle.mt_model.specs.Topology.{Rules, with_rule_place}
 use Rattle.mt_rules.specs.Read.{with_one_more}
 use Rattle.mt_rules.specs.Rules.{has_rule_place}
+use Rattle.mt_rules.specs.Whole.{or_shape, with_new_rule}
 
 pub with_rule_place-new : (rules : Rules) (key : RuleKey) → has_rule_place rules key ≡ false → with_rule_place rules key ≡ rules ++ (key, None) ∷ []
 with_rule_place-new rules key lacks = rw (none_from (lookup (same_key key) rules) lacks) refl
@@ -31,3 +31,7 @@ insert_entry-rule m rules key target is lacks =
 
 pub with_one_more-new : (rules : Rules) (r : RuleKey × RuleTarget) (new : Rules) → has_rule_place rules r.0 ≡ false → (length rules == most_rules) ≡ false → new ≡ rules ++ (r.0, Some r.1) ∷ [] → Ok new ≡ with_one_more rules r
 with_one_more-new rules r new lacks room is = rw (lacks, room) (ap Ok is)
+
+-- the same where the limit doesn't count yet
+pub with_new_rule-new : (rules : Rules) (r : RuleKey × RuleTarget) (new : Rules) → has_rule_place rules r.0 ≡ false → new ≡ rules ++ (r.0, Some r.1) ∷ [] → Ok new ≡ or_shape (with_new_rule rules r)
+with_new_rule-new rules r new lacks is = rw lacks (ap Ok is)

@@ -1,5 +1,5 @@
 -- Rules put into an object by the texts of their keys stand in the order of these.
-use Rattle.std.proofs.Common.{◌≡◌, ◌≢◌, ◌==◌, ◌<◌, ◌≤◌, ◌+◌, suc, length, nat_lt, ℕ, if◌then◌else◌, Bool, true, false, List, [], ◌∷◌, Option, None, Some, Result, Ok, Err, ◌++◌, String, Global, append-nil, refl, sym, ap, subst, ◌∙◌, arith, is_eq, bytes_eq, Ordering, Less, Equal, Greater}
+use Rattle.std.proofs.Common.{◌≡◌, ◌≢◌, ◌==◌, ◌<◌, ◌≤◌, ◌+◌, suc, length, nat_lt, ℕ, if◌then◌else◌, Bool, true, false, List, [], ◌∷◌, Option, None, Some, Result, Ok, Err, ◌++◌, String, Global, append-nil, refl, sym, ap, subst, ◌∙◌, arith, is_eq, Ordering, Less, Equal, Greater}
 use Rattle.std.proofs.lemmas.Bool.{true≢false, eqb-true, ltb-true}
 use Rattle.std.proofs.lemmas.Map.Text.{is_eq-slice_cmp}
 use Rattle.std.proofs.lemmas.Slice.Eq.{bytes_eq-Decides}
@@ -19,7 +19,7 @@ use Rattle.mt_names.specs.declared.fault.NameFault.{NameFault}
 use Rattle.mt_names.specs.Same.{same_key}
 use Rattle.mt_names.proofs.SameLemmas.{same_key_decides}
 use Rattle.mt_model.specs.Topology.{Rules, rule_at}
-use Rattle.mt_rules.specs.Values.{AreInOrder, IsNamed, IsWellSorted, by_text, ruled, members_by, rule_value, rules_value, values_in}
+use Rattle.mt_rules.specs.Values.{AreInOrder, IsNamed, by_text, ruled, members_by, rule_value, rules_value, values_in}
 use Rattle.mt_model.specs.Documents.{comes_before, entries_of, put_by_text}
 
 abbrev pub Named : Type 0

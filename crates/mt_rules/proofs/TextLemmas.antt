@@ -5,8 +5,6 @@ use Rattle.std.proofs.lemmas.Grind.{flat_map-append}
 use Rattle.std.proofs.lemmas.List.Elements.{recursion_from_All}
 use Rattle.std.specs.List.{AllByRecursion, join_with_byte}
 use Rattle.json.specs.Print.{escape, escape_byte}
-use Rattle.json.specs.Print as json
-use Rattle.serde_json.specs.Data.{Data}
 use Rattle.serde_json.specs.View.{items_of}
 use Rattle.serde_json.specs.Written.{compact_text, items_text}
 use Rattle.mt_names.specs.declared.keys.RuleKey.{RuleKey}

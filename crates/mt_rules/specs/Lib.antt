@@ -1,3 +1,4 @@
 pub mod Read
 pub mod Rules
 pub mod Values
+pub mod Whole

@@ -1,7 +1,6 @@
 -- Places for rule keys: how one is reserved, and how a refusal is printed.
 use Rattle.std.specs.Prelude.{◌≡◌, ℕ, ◌<◌, Bool, true, false, List, length, codes, is_some, ◌⊎◌, Result, Ok, Err}
-use Rattle.std.specs.List.{IsDistinct}
-use Rattle.std.specs.Map.{keys_of, lookup}
+use Rattle.std.specs.Map.{lookup}
 use Rattle.mt_names.specs.declared.keys.RuleKey.{RuleKey}
 use Rattle.mt_names.specs.Same.{same_key}
 use Rattle.mt_model.specs.Limits.{most_rules}

@@ -6,7 +6,9 @@ mod read;
 mod rules;
 #[cfg(test)]
 mod tests;
+mod whole;
 mod write;
 
 pub use fault::RulesFault;
+pub use read::value_of_text;
 pub use rules::RoutingRules;

@@ -82,7 +82,7 @@ fn rule_of_texts(from: &str, to: &str) -> Result<(RuleKey, RuleTarget), RulesFau
 }
 
 /// The rule that a value says.
-fn rule_of(rule: &Value) -> Result<(RuleKey, RuleTarget), RulesFault>
+pub fn rule_of(rule: &Value) -> Result<(RuleKey, RuleTarget), RulesFault>
     ensures { result ≡ rule_of (view rule.now) }
 {
     let from = text_of(spelled(rule, "from_table", "fromTable"))?;
@@ -123,7 +123,7 @@ fn rules_of_value(alloc: Global, document: &Value) -> Result<RoutingRules, Rules
     rules_of_member(alloc, document.get("rules"))
 }
 
-/// The value of a text.
+/// The value that `serde_json` reads of a text. `R2 NotJson` where it reads none, `R0 Memory`.
 pub fn value_of_text(alloc: Global, text: &[u8]) -> Result<Value, RulesFault>
     ensures ok { IfOk result (λ value. value_of_text text.now ≡ Some (view value)) }
     ensures err { IfErr result (λ fault. (fault ≡ RulesFault.Memory) ⊎ ((fault ≡ RulesFault.NotJson) × (value_of_text text.now ≡ None))) }

@@ -1,5 +1,5 @@
 //! The table of routing rules.
-ghost use Rattle.std.specs.Prelude.{◌≡◌, ◌≤◌, ◌<◌, ◌↔◌, ◌==◌, [], true, false, length, IsTrue, IfOk, IfErr, OnOk, string_bytes, option_copied};
+ghost use Rattle.std.specs.Prelude.{◌≡◌, ◌≤◌, ◌<◌, ◌↔◌, ◌==◌, [], true, false, length, IsTrue, IfOk, IfErr, OnOk, string_bytes, option_copied, option_map};
 ghost use Rattle.std.specs.List.{IsDistinct};
 ghost use Rattle.std.specs.Map.{keys_of, set_value};
 ghost use Rattle.mt_names.specs.Same.{same_key};
@@ -8,10 +8,11 @@ ghost use Rattle.mt_model.specs.Topology.{rule_at, without_rule_place};
 ghost use Rattle.mt_rules.specs.Read.{IsUnlessMemory, answer_with, rules_of_text, with_one_more};
 ghost use Rattle.serde_json.specs.View.{view};
 ghost use Rattle.mt_rules.specs.Values.{IsWellSorted, Says, rules_value};
+ghost use Rattle.mt_rules.specs.Whole.{rules_within};
 ghost use Rattle.mt_model.specs.Documents.{rules_text};
 ghost use Rattle.mt_rules.specs.Rules.{Reserves, has_rule_place};
 
-use crate::{RulesFault, read, write};
+use crate::{RulesFault, read, whole, write};
 use indexmap::IndexMap;
 use mt_model::MAX_RULES;
 use mt_names::{RuleKey, RuleTarget};
@@ -61,6 +62,20 @@ impl RoutingRules {
         ensures { IsUnlessMemory result (rules_of_text text.now) }
     {
         read::rules_of_text(alloc, text)
+    }
+
+    /// Reads the rules as a member of a larger document, which may be missing or null; else it is a list as that of
+    /// `from_json`. `R3 Shape` of every fault of the list or of a rule, then `R1 Full` where there are more than 4,096 of
+    /// them, `R0 Memory`.
+    pub fn from_member(alloc: Global, member: Option<&Value>) -> Result<Self, RulesFault>
+        ensures answer { IsUnlessMemory result (rules_within (option_map (λ v. view v.now) member.entry)) }
+        ensures distinct { IfOk result (λ rules. IsDistinct same_key (keys_of rules)) }
+    {
+        let places = whole::places_of_member(alloc, member)?;
+        if places.len() > MAX_RULES {
+            return Err(RulesFault::Full);
+        }
+        Ok(RoutingRules { places })
     }
 
     /// The document of the rules, which `from_json` reads back: compact, `from_table` before `to_tables`, sorted by the

@@ -1,17 +1,23 @@
 //! One keyspace of a topology.
-ghost use Rattle.std.specs.Prelude.{◌≡◌, ◌&&◌, ◌==◌, ◌≤◌, [], true, length, is_some, if◌then◌else◌};
-ghost use Rattle.std.specs.Map.{lookup};
-ghost use Rattle.mt_names.specs.Names.{same_text};
+ghost use Rattle.std.specs.Prelude.{◌≡◌, ◌&&◌, ◌==◌, ◌≤◌, [], true, length, is_some, if◌then◌else◌, IfOk, OnOk};
+ghost use Rattle.std.specs.List.{AllByRecursion, IsDistinct};
+ghost use Rattle.std.specs.Map.{keys_of, lookup};
+ghost use Rattle.serde_json.specs.View.{view};
+ghost use Rattle.mt_names.specs.Names.{IsTableName, same_text};
 ghost use Rattle.mt_model.specs.Limits.{most_tables_in_keyspace};
 ghost use Rattle.mt_model.specs.Topology.{is_marked, with_table_mark, with_denied_mark, with_new_table, with_table_place, without_table_place, with_denied_place, without_denied_place};
 ghost use Rattle.mt_topology.specs.Edits.{Edits, new_table_refusal, lacks_table_place};
 ghost use Rattle.mt_topology.specs.Part.{has_mark_room, lacking_marks};
+ghost use Rattle.mt_topology.specs.Values.{HasSameTexts, texts_value};
+ghost use Rattle.mt_model.specs.Documents.{marked, tables_in_order};
 
+use crate::write;
 use indexmap::IndexMap;
 use mt_denied::DeniedTables;
 use mt_model::{MAX_TABLES_IN_KEYSPACE, TopologyFault};
 use mt_names::TableName;
-use std::alloc::Global;
+use serde_json::Value;
+use std::alloc::{AllocError, Global};
 use std::marker::Model;
 use std::mem;
 
@@ -46,6 +52,15 @@ impl Keyspace {
             tables: IndexMap::new(alloc),
             denied: DeniedTables::new(alloc),
         }
+    }
+
+    /// A keyspace with these places, of which no table has two.
+    pub fn from_places(tables: IndexMap<TableName, bool>, denied: DeniedTables) -> Self
+        requires distinct { IsDistinct same_text (keys_of tables.entries) }
+        requires few { length tables.entries ≤ most_tables_in_keyspace }
+        ensures { result ≡ record { tables = tables.entries; denied = denied } }
+    {
+        Keyspace { tables, denied }
     }
 
     /// Whether the keyspace has a table.
@@ -156,6 +171,27 @@ impl Keyspace {
         ensures { result ≡ (lacks_table_place self.now table.now && (length self.now.tables == most_tables_in_keyspace)) }
     {
         !self.tables.contains_key(table) && self.tables.len() == MAX_TABLES_IN_KEYSPACE
+    }
+
+    /// The tables that are there, as the value of a list in the order of their names.
+    pub fn value_of_tables(&self, alloc: Global) -> Result<Value, AllocError>
+        ensures value { IfOk result (λ list. view list ≡ texts_value (tables_in_order self.now)) }
+        ensures named { OnOk result (AllByRecursion IsTableName (tables_in_order self.now)) }
+    {
+        write::value_of_tables(alloc, &self.tables)
+    }
+
+    /// The denied tables, in the order of their names.
+    pub fn denied_tables(&self, alloc: Global) -> Result<Vec<TableName>, AllocError>
+        ensures { IfOk result (λ tables. HasSameTexts tables.items (marked self.now.denied)) }
+    {
+        if self.denied.len() == 0 {
+            return Ok(Vec::new(alloc));
+        }
+        match self.denied.sorted(alloc) {
+            Ok(tables) => Ok(tables),
+            Err(_) => Err(AllocError),
+        }
     }
 
     /// Adds a table. `T4 Exists`, `T5 Full` at a 257th place, `T0 Memory`.

@@ -1,13 +1,20 @@
 //! The topology: its keyspaces with their tables and denials, its routing rules, and how a name is looked up in it.
 #![tactic(auto)]
 
+mod draft;
+mod dump;
+#[cfg(test)]
+mod dump_tests;
 mod edits;
 mod keyspace;
+mod load;
 mod lookup;
 mod places;
 #[cfg(test)]
 mod tests;
 mod topology;
+mod write;
 
+pub use dump::dumps_are_read;
 pub use mt_model::{Entry, EntryKey, TopologyFault};
 pub use topology::Topology;

@@ -1,8 +1,10 @@
 //! The topology as one value.
-ghost use Rattle.std.specs.Prelude.{◌≡◌, true, IsTrue, reverse, if◌then◌else◌};
+ghost use Rattle.std.specs.Prelude.{◌≡◌, true, IsTrue, IfOk, IfErr, reverse, string_bytes, if◌then◌else◌};
 ghost use Rattle.mt_model.specs.Topology.{HasDistinctPlaces, empty_topology, has_place, key_of, resolution, value_of, with_entry, with_keyspace, with_keyspace_state, with_rule, with_table, without_table_place};
 ghost use Rattle.mt_model.specs.Part.{part_keys, table_part_keys, with_place, with_places, without_place, without_places};
 ghost use Rattle.mt_topology.specs.Part.{lacks_a_place, reserve_refusal};
+ghost use Rattle.mt_topology.specs.Dump.{IsUnlessMemory, topology_of_text};
+ghost use Rattle.mt_model.specs.Documents.{dump_text};
 ghost use Rattle.mt_topology.specs.Edits.{Edits, add_keyspace_refusal, add_table_grows, add_table_refusal, edit_rule_grows, edit_rule_refusal};
 
 use crate::edits::{add_keyspace, add_table, put_rule, take_rule};
@@ -10,7 +12,7 @@ use crate::lookup::{
     Keyspaces, has_denied_place, has_place, is_denied, is_present, release_table, rule_for,
     set_denied, set_present, sole_holder,
 };
-use crate::places;
+use crate::{load, places, write};
 use indexmap::IndexMap;
 use mt_model::{Entry, EntryKey, TopologyFault, table_part_keys};
 use mt_names::{KeyspaceName, RuleKey, RuleTarget, TableName, TabletType};
@@ -48,6 +50,36 @@ impl Topology {
             alloc,
             rules: RoutingRules::new(alloc),
             keyspaces: IndexMap::new(alloc),
+        }
+    }
+
+    /// Reads a dump, version 1: an object in which `version` is the number 1, `keyspaces` a list of objects with a `name`
+    /// and a list of `tables`, `denied` a list of texts `keyspace.table`, and `rules` a list as that of routing rules. A
+    /// missing list is empty, and other members are ignored; of a member that stands twice the last one counts.
+    /// `T6 BadDump` of any fault of the text: no JSON, another shape or version, a bad name, a repetition, a denied table
+    /// that isn't in its keyspace. Only where there is none, `T5 Full` past 32 keyspaces, past 256 tables of a keyspace, or
+    /// past 4,096 rules. `T0 Memory`.
+    pub fn load(alloc: Global, text: &[u8]) -> Result<Self, TopologyFault>
+        ensures { IsUnlessMemory result (topology_of_text text.now) }
+    {
+        let (rules, keyspaces) = load::parts_of_text(alloc, text)?;
+        Ok(Topology {
+            alloc,
+            rules,
+            keyspaces,
+        })
+    }
+
+    /// The dump of the topology, version 1, as `load` reads it: compact; the keyspaces sorted by their names, each with its
+    /// tables sorted; the denied tables sorted by the bytes of their texts `keyspace.table`; the rules as routing rules are
+    /// written. Places without a rule, and tables that aren't there or denied, are left out. `T0 Memory`.
+    pub fn dump(&self, alloc: Global) -> Result<String, TopologyFault>
+        ensures text { IfOk result (λ text. string_bytes text ≡ dump_text self.now) }
+        ensures memory { IfErr result (λ fault. fault ≡ TopologyFault.Memory) }
+    {
+        match write::text_of_parts(alloc, &self.rules, &self.keyspaces) {
+            Ok(text) => Ok(text),
+            Err(_) => Err(TopologyFault::Memory),
         }
     }
 

@@ -1,5 +1,5 @@
 -- The text's value, or that it has none.
-use Rattle.std.proofs.Common.{◌≡◌, inr, refl}
+use Rattle.std.proofs.Common.{inr, refl}
 use Rattle.mt_rules.proofs.ReadLemmas.{value_of_text-some, value_of_text-none, false_is_not_true}
 use Rattle.mt_rules.proofs.read.value_of_text.Goals as goal
 

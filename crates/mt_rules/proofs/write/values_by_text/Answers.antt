@@ -1,5 +1,5 @@
 -- At the start, one place more, and none left.
-use Rattle.std.proofs.Common.{rules, ◌≡◌, [], ◌∷◌, None, Some, ap, subst, sym, ◌∙◌}
+use Rattle.std.proofs.Common.{rules, ◌≡◌, ◌∷◌, None, Some, ap, subst, sym}
 use Rattle.serde_json.specs.Data.{no_members}
 use Rattle.serde_json.specs.View.{members_view}
 use Rattle.mt_rules.proofs.SortLemmas.{Completes, Completes-all, Completes-none, Completes-put, Completes-skip}

@@ -1,5 +1,4 @@
 -- The rules so far stand in their order, and what is left completes them.
-use Rattle.std.proofs.Common.{◌≡◌}
 use Rattle.mt_rules.proofs.SortLemmas.{Completes}
 use Rattle.mt_rules.proofs.write.values_by_text.Given as goal
 use Rattle.serde_json.specs.View.{members_view}
