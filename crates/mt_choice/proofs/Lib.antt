@@ -1,0 +1,3 @@
+pub mod ChoiceLemmas
+pub mod NumberLemmas
+pub mod WordLemmas

@@ -1,0 +1,3 @@
+pub mod Command
+pub mod Keyspaces
+pub mod Meaning
