@@ -1,7 +1,8 @@
 //! The core: the topology, and a primary for each of its keyspaces.
-ghost use Rattle.std.specs.Prelude.{◌≡◌, List, OnErr, OnOk, Some, Ok};
+ghost use Rattle.std.specs.Prelude.{◌≡◌, List, IfErr, IfOk, OnErr, OnOk, Some, Ok, string_bytes};
 ghost use Rattle.mt_names.specs.declared.types.TabletType.{TabletType};
 ghost use Rattle.mt_model.specs.declared.entries.Scope.{Scope};
+ghost use Rattle.mt_model.specs.Documents.{dump_text, rules_text};
 ghost use Rattle.mt_model.specs.Topology.{resolution};
 ghost use Rattle.mt_plain.specs.Events.{add_keyspace, add_table, edit_rule, read, write};
 ghost use Rattle.mt_plain.specs.Plain.{Plain, opening};
@@ -13,6 +14,7 @@ use crate::commands::{Primaries, add_keyspace, add_table, edit_rule, read_row, w
 use indexmap::IndexMap;
 use mt_model::{Op, Refusal, Reply, TopologyFault};
 use mt_names::{KeyspaceName, RuleKey, RuleTarget, TableName, TabletType};
+use mt_rules::RulesFault;
 use mt_topology::Topology;
 use std::alloc::Global;
 use std::marker::Model;
@@ -110,5 +112,21 @@ impl Core {
         ensures { Steps self.now (read keyspace.now table.now key tablet_type) result self.now }
     {
         read_row(&self.primaries, keyspace, table, key, tablet_type)
+    }
+
+    /// The document of the rules, as the commands `rules` and `mt rules` write them: `R0 Memory`.
+    pub fn rules_json(&self) -> Result<String, RulesFault>
+        ensures text { (p : Plain) → Stands p self.now → IfOk result (λ text. string_bytes text ≡ rules_text (served p).rules) }
+        ensures memory { IfErr result (λ fault. fault ≡ RulesFault.Memory) }
+    {
+        self.topology.rules().to_json(self.alloc)
+    }
+
+    /// The document of the whole topology: `T0 Memory`.
+    pub fn dump(&self) -> Result<String, TopologyFault>
+        ensures text { (p : Plain) → Stands p self.now → IfOk result (λ text. string_bytes text ≡ dump_text (served p)) }
+        ensures memory { IfErr result (λ fault. fault ≡ TopologyFault.Memory) }
+    {
+        self.topology.dump(self.alloc)
     }
 }

@@ -8,5 +8,5 @@ mod reading;
 mod tests;
 
 pub use fault::ScriptFault;
-pub use output::{ROOM, Waiting, flush, put_line};
+pub use output::{ROOM, Waiting, flush, put_document, put_line, write_line};
 pub use reading::{MAX_READS, MAX_SCRIPT_LENGTH, read_script};

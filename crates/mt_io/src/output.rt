@@ -1,5 +1,6 @@
 //! Output that goes out in pieces.
 ghost use Rattle.std.specs.Prelude.{◌≡◌, ◌≤◌, ◌+◌, ◌++◌, [], length, OnOk};
+ghost use Rattle.mt_plain.specs.Output.{line_feed};
 ghost use Rattle.mt_io.specs.Bytes.{Writes, WritesSome};
 
 use crate::fault::ScriptFault;
@@ -43,6 +44,15 @@ fn write_all<W: Write>(writer: &mut W, bytes: &[u8]) -> Result<(), ScriptFault>
     Err(ScriptFault::Write)
 }
 
+/// Writes two texts in a line of their own, one behind the other.
+pub fn write_line<W: Write>(writer: &mut W, first: &[u8], second: &[u8]) -> Result<(), ScriptFault>
+    ensures { Writes (W.contents writer.old) (W.contents writer.new) (first.now ++ second.now ++ line_feed) [] result }
+{
+    write_all(writer, first)?;
+    write_all(writer, second)?;
+    write_all(writer, b"\n")
+}
+
 /// Writes all that waits.
 pub fn flush<W: Write>(waiting: &mut Waiting, writer: &mut W) -> Result<(), ScriptFault>
     ensures writes { Writes (W.contents writer.old) (W.contents writer.new) waiting.old.items waiting.new.items result }
@@ -76,4 +86,17 @@ pub fn put_line<W: Write>(
     make_room(waiting, writer)?;
     let _fits = waiting.try_extend_from_slice(line);
     Ok(())
+}
+
+/// Writes what waits, and then a document in a line of its own. The document isn't kept: only its line feed waits.
+pub fn put_document<W: Write>(
+    waiting: &mut Waiting,
+    writer: &mut W,
+    text: &[u8],
+) -> Result<(), ScriptFault>
+    ensures { Writes (W.contents writer.old) (W.contents writer.new) (waiting.old.items ++ text.now ++ line_feed) waiting.new.items result }
+{
+    flush(waiting, writer)?;
+    write_all(writer, text)?;
+    put_line(waiting, writer, b"\n")
 }

@@ -19,13 +19,13 @@ use Rattle.mt_model.specs.Rows.{RowValue}
 use Rattle.mt_plain.specs.Events.{add_keyspace, add_table, edit_rule, read, write}
 use Rattle.mt_plain.specs.Output.{Reading, Told, nothing, says, refused_text, told_request}
 use Rattle.mt_plain.specs.Plain.{Plain}
-use Rattle.mt_plain.specs.Script.{Command, Request, event, write_through, read_through, is_for_reads, is_row_verb, one_word, read_command, read_line_by, read_number, read_value, two_words}
+use Rattle.mt_plain.specs.Script.{Command, Request, event, write_through, read_through, rules_document, dump_document, is_for_reads, is_row_verb, one_word, read_command, read_line_by, read_number, read_value, two_words}
 
 -- the verbs of the commands that are read up to now
 abbrev pub has_come : List ℕ → Bool
 has_come verb =
-    same_text verb (codes "keyspace") || same_text verb (codes "table") || same_text verb (codes "rule") || same_text verb (codes "at")
-    || is_row_verb verb
+    same_text verb (codes "keyspace") || same_text verb (codes "table") || same_text verb (codes "rule") || same_text verb (codes "rules")
+    || same_text verb (codes "dump") || same_text verb (codes "at") || is_row_verb verb
 
 -- the command of some words, of which the first is its verb; a command that hasn't come yet is a bad line
 abbrev pub command_so_far : List (List ℕ) → Option Command
@@ -77,6 +77,8 @@ request_from (request.Write key op) = write_through key op
 request_from (request.Read key number tablet_type) = read_through key number tablet_type
 request_from (request.WriteAt keyspace table op) = event (write keyspace table op)
 request_from (request.ReadAt keyspace table number tablet_type) = event (read keyspace table number tablet_type)
+request_from request.Rules = rules_document
+request_from request.Dump = dump_document
 
 -- the same of a request whose names are read, or in fault
 abbrev pub read_from : Result code.Request NameFault → Result Request NameFault

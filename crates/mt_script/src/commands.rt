@@ -7,7 +7,7 @@ ghost use Rattle.mt_plain.specs.Script.{change, change_at, get, get_at, is_for_r
 ghost use Rattle.mt_script.specs.Requests.{command_so_far, is_mark, read_from, read_last_number, read_number_and_value, read_work, work_of};
 
 use crate::lines::Request;
-use crate::words::{first_word, one_word, text_of, two_words};
+use crate::words::{first_word, no_word, one_word, text_of, two_words};
 use mt_model::Op;
 use mt_names::{KeyspaceName, NameFault, RuleKey, RuleTarget, TableName, TabletType, Value};
 
@@ -276,6 +276,14 @@ pub fn read_command(line: &[u8]) -> Option<Result<Request, NameFault>>
         "rule" => {
             let (key, target) = two_words(rest)?;
             Some(rule_request(key, target))
+        }
+        "rules" => {
+            no_word(rest)?;
+            Some(Ok(Request::Rules))
+        }
+        "dump" => {
+            no_word(rest)?;
+            Some(Ok(Request::Dump))
         }
         "at" => at_command(rest),
         verb => row_command(verb, rest),

@@ -31,6 +31,10 @@ pub enum Request {
     WriteAt(KeyspaceName, TableName, Op),
     /// `at K.T get N`: reads the table of the keyspace for the name's type, without a look-up.
     ReadAt(KeyspaceName, TableName, u64, TabletType),
+    /// `rules`: the document of the routing rules.
+    Rules,
+    /// `dump`: the document of the whole topology.
+    Dump,
 }
 
 /// Why a line is refused before it asks for anything.

@@ -1,7 +1,7 @@
 //! The words of a line.
-ghost use Rattle.std.specs.Prelude.{◌≡◌, ◌≤◌, ◌∷◌, [], ◌++◌, not, length, position, drop, take, MatchOption, IfSome, option_copied, option_map, true};
+ghost use Rattle.std.specs.Prelude.{◌≡◌, ◌≤◌, ◌∷◌, [], ◌++◌, not, length, position, drop, take, MatchOption, IfSome, Some, option_copied, option_map, true};
 ghost use Rattle.std.specs.List.{list_all};
-ghost use Rattle.mt_plain.specs.Script.{is_blank, is_readable, is_visible, one_word, two_words, words_of};
+ghost use Rattle.mt_plain.specs.Script.{Command, is_blank, is_readable, is_visible, no_word, one_word, two_words, words_of};
 
 use std::str;
 
@@ -54,6 +54,16 @@ pub fn text_of(word: &[u8]) -> &str
     match str::from_utf8(word) {
         Ok(text) => text,
         Err(_) => unreachable!(),
+    }
+}
+
+/// Nothing, of a line that has no word.
+pub fn no_word(line: &[u8]) -> Option<()>
+    ensures { (c : Command) → option_map (λ done. c) result ≡ no_word (words_of line.now) (Some c) }
+{
+    match first_word(line) {
+        Some(_) => None,
+        None => Some(()),
     }
 }
 

@@ -83,6 +83,13 @@ impl Topology {
         }
     }
 
+    /// The routing rules. It takes no memory.
+    pub fn rules(&self) -> &RoutingRules
+        ensures { result.now ≡ self.now.rules }
+    {
+        &self.rules
+    }
+
     /// What the topology says at a key. It takes no memory.
     pub fn value(&self, key: &EntryKey) -> Entry
         ensures value { result ≡ value_of self.now key.now }

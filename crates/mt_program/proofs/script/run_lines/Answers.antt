@@ -11,13 +11,13 @@ pub returns-in_err-run_line : goal.returns-in_err-run_line
 returns-in_err-run_line g c = λ p stands.
     let e = err_from_is_err_and c.from_residual.result c.from_residual.ensures.1 in
     let same : e.0 ≡ c.in_err-run_line.field-0.0 = search (e.2) in
-    rw (e.1, same) (line_failed p c.args.script.now c.loop-line.rest.now c.in-Some.line.now c.in-Some.after.now c.loop-line.core c.run_line.new.core _ _ _ c.loop-line.waiting.items c.run_line.new.waiting.items c.in_err-run_line.field-0.0
-    (c.loop-line.invariant p stands) c.in-Some.ensures c.in_err-run_line.ensures)
+    rw (e.1, same) (line_failed p c.args.script.now c.loop-line.rest.now c.in-Some.line.now c.in-Some.after.now c.loop-line.core c.run_line.new.core _ _ _ c.loop-line.waiting.items c.run_line.new.waiting.items c.in-Some.ensures c.in_err-run_line.field-0.0
+    (c.loop-line.invariant p stands) c.in_err-run_line.ensures)
 
 pub loop-line-preserved : goal.loop-line-preserved
 loop-line-preserved g c = λ p stands.
-    line_done p c.args.script.now c.loop-line.rest.now c.in-Some.line.now c.in-Some.after.now c.loop-line.core c.run_line.new.core _ _ _ c.loop-line.waiting.items c.run_line.new.waiting.items
-    (c.loop-line.invariant p stands) c.in-Some.ensures c.in_ok-run_line.ensures
+    line_done p c.args.script.now c.loop-line.rest.now c.in-Some.line.now c.in-Some.after.now c.loop-line.core c.run_line.new.core _ _ _ c.loop-line.waiting.items c.run_line.new.waiting.items c.in-Some.ensures
+    (c.loop-line.invariant p stands) c.in_ok-run_line.ensures
 
 pub loop-line-smaller : goal.loop-line-smaller
 loop-line-smaller g c = let first = ap length c.in-Some.ensures in omega (arith, first)

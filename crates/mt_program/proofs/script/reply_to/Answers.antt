@@ -1,7 +1,9 @@
 -- The answer is that of the core.
+use Rattle.std.proofs.Common.{◌++◌, Some, ap}
+use Rattle.mt_plain.specs.Output.{line_feed}
 use Rattle.mt_plain.specs.Events.{add_keyspace, add_table, edit_rule, read, write}
 use Rattle.mt_program.proofs.RunLemmas.{asks_told}
-use Rattle.mt_program.proofs.script.answer_request.Goals as goal
+use Rattle.mt_program.proofs.script.reply_to.Goals as goal
 
 pub returns-in-AddKeyspace : goal.returns-in-AddKeyspace
 returns-in-AddKeyspace c = λ p stands. rw c.in-AddKeyspace.is
@@ -22,3 +24,9 @@ returns-in-WriteAt c = λ p stands. rw c.in-WriteAt.is
 pub returns-in-ReadAt : goal.returns-in-ReadAt
 returns-in-ReadAt c = λ p stands. rw c.in-ReadAt.is
     (asks_told p (read c.in-ReadAt.keyspace c.in-ReadAt.table c.in-ReadAt.number c.in-ReadAt.tablet_type) c.read.result c.answer_line-in-ReadAt.result.items c.args.core.now c.answer_line-in-ReadAt.ensures (c.read.ensures p stands))
+
+pub returns-in-Ok : goal.returns-in-Ok
+returns-in-Ok c = λ p stands. rw c.in-Rules.is (ap (λ t. Some (t ++ line_feed)) (c.in-Ok.ensures.text p stands), stands)
+
+pub returns-in-Ok-dump : goal.returns-in-Ok-dump
+returns-in-Ok-dump c = λ p stands. rw c.in-Dump.is (ap (λ t. Some (t ++ line_feed)) (c.in-Ok-dump.ensures.text p stands), stands)
