@@ -1,3 +1,4 @@
 pub mod ChoiceLemmas
 pub mod NumberLemmas
+pub mod RunLemmas
 pub mod WordLemmas

@@ -86,6 +86,10 @@ Says meaning (Err wrong.Usage) = meaning ≡ misused
 Says meaning (Err (wrong.Words fault)) = meaning ≡ bad_words fault
 Says meaning (Err wrong.Memory) = ⊥
 
+-- clap takes the words, and this is what they ask for
+abbrev pub AsksFor : List Text → Meaning → Type 0
+AsksFor words meaning = (refusals_of words ≡ []) × (meaning_of words ≡ meaning)
+
 -- clap takes the words, and the answer says what they ask for
 abbrev pub Takes : List Text → Result Choice Wrong → Type 0
 Takes words answer = (refusals_of words ≡ []) × Says (meaning_of words) answer

@@ -2,12 +2,16 @@
 #![tactic(auto)]
 
 mod choice;
+mod laws;
 mod parser;
 mod reading;
 #[cfg(test)]
 mod tests;
+#[cfg(test)]
+mod tests_memory;
 mod words;
 
 pub use choice::{Choice, USAGE, Wrong};
+pub use laws::run_reads_its_keyspaces;
 pub use reading::choose;
 pub use words::{MAX_KEYSPACES, keyspaces};

@@ -17,7 +17,7 @@ fn bad_words(rt: &HostRuntime, words: &[&str]) -> Option<NameFault> {
 
 /// How many keyspaces a run has.
 fn watched(rt: &HostRuntime, words: &[&str]) -> Option<usize> {
-    match choose(rt.alloc(), words) {
+    match &choose(rt.alloc(), words) {
         Ok(Choice::Run(names)) => Some(names.len()),
         _ => None,
     }
@@ -74,7 +74,8 @@ fn keyspaces_of_a_run(rt: HostRuntime) -> Result<(), Fail> {
     assert!(rt; watched(&rt, &["mt", "run", "--", "commerce"]) == Some(1));
     assert!(rt; watched(&rt, &["mt", "run", "commerce", "--", "customer"]) == Some(2));
     assert!(rt; watched(&rt, &["mt", "run", "--"]) == Some(0));
-    let Ok(Choice::Run(names)) = choose(rt.alloc(), &["mt", "run", "b", "a", "b"]) else {
+    let choice = choose(rt.alloc(), &["mt", "run", "b", "a", "b"]).expect(&rt, "a choice");
+    let Choice::Run(names) = &choice else {
         return Err(Fail::from("no run"));
     };
     let mut texts = names.iter().map(|name| name.as_str());
