@@ -1,9 +1,6 @@
 pub mod DumpLemmas
 pub mod EditLemmas
-pub mod GatherLemmas
 pub mod InvariantLemmas
-pub mod KeyspaceLemmas
 pub mod LoadLemmas
 pub mod OnceLemmas
 pub mod ReserveLemmas
-pub mod SortLemmas

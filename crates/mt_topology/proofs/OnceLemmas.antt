@@ -14,12 +14,13 @@ use Rattle.mt_names.proofs.KeyLemmas.{name_lacks}
 use Rattle.mt_names.proofs.SameLemmas.{same_text_decides}
 use Rattle.mt_model.specs.Topology.{HasDistinctPlaces, Keyspaces, Marks, TopologyState}
 use Rattle.mt_model.specs.Documents.{comes_before, put_by_text}
-use Rattle.mt_topology.specs.Values.{IsNamedKeyspace, IsNamedTopology, by_name, by_themselves}
+use Rattle.mt_keyspace.specs.Values.{IsNamedKeyspace, by_name, by_themselves}
+use Rattle.mt_topology.specs.Values.{IsNamedTopology}
 use Rattle.mt_model.specs.Documents.{denied_sorted, denied_text, denied_texts, marked, sorted_texts}
-use Rattle.mt_topology.specs.Written.{denied_in_order, put_once}
-use Rattle.mt_topology.proofs.GatherLemmas.{all-put_once}
-use Rattle.mt_topology.proofs.LoadLemmas.{turned_text}
-use Rattle.mt_topology.proofs.SortLemmas.{marked-members}
+use Rattle.mt_keyspace.specs.Written.{denied_in_order, put_once}
+use Rattle.mt_keyspace.proofs.GatherLemmas.{all-put_once}
+use Rattle.mt_keyspace.proofs.LoadLemmas.{turned_text}
+use Rattle.mt_keyspace.proofs.SortLemmas.{marked-members}
 
 abbrev Differs : List ℕ → List (List ℕ) → Type 0
 Differs x ys = AllByRecursion (λ y. same_text x y ≡ false) ys
