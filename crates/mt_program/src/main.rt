@@ -5,7 +5,6 @@ ghost use Rattle.std.specs.Prelude.{◌≡◌, IfOk};
 ghost use Rattle.mt_watch.specs.Notices.{notice_of};
 
 mod script;
-mod watching;
 #[cfg(test)]
 mod tests;
 #[cfg(test)]
@@ -16,6 +15,7 @@ mod tests_limits;
 mod tests_operations;
 #[cfg(test)]
 mod tests_refusals;
+mod watching;
 
 use crate::script::run_script;
 use crate::watching::scopes_of;
