@@ -94,7 +94,7 @@ is_marked-with (table ∷ tables) state other apart =
     ∙ is_marked-set_elsewhere (with_mark_place state.tables table) table other true (apart table (inl refl))
     ∙ is_marked-with_mark_place state.tables table other
 
-denied-with : (tables : List (List ℕ)) (state : KeyspaceState) → (with_tables tables state).denied ≡ state.denied
+pub denied-with : (tables : List (List ℕ)) (state : KeyspaceState) → (with_tables tables state).denied ≡ state.denied
 denied-with [] state = refl
 denied-with (table ∷ tables) state = denied-with tables (with_new_table table state)
 

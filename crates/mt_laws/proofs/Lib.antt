@@ -1,6 +1,8 @@
+pub mod AllWritesLemmas
 pub mod AnswerLemmas
 pub mod ChangeLemmas
 pub mod CleanLemmas
+pub mod CompleteLemmas
 pub mod CopyLemmas
 pub mod DocumentLemmas
 pub mod DriveLemmas
@@ -14,6 +16,7 @@ pub mod ListLemmas
 pub mod LiveLemmas
 pub mod LogLemmas
 pub mod NumberLemmas
+pub mod NumberedLemmas
 pub mod OpenLemmas
 pub mod OutputLemmas
 pub mod OwnerLemmas
