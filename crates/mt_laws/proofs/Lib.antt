@@ -8,6 +8,9 @@ pub mod DocumentLemmas
 pub mod DriveLemmas
 pub mod EntriesLemmas
 pub mod EntryValueLemmas
+pub mod FedLemmas
+pub mod FedRunLemmas
+pub mod FedStepLemmas
 pub mod FeedLemmas
 pub mod HeadlineLemmas
 pub mod KeepLemmas
@@ -21,6 +24,7 @@ pub mod OpenLemmas
 pub mod OutputLemmas
 pub mod OwnerLemmas
 pub mod PartLemmas
+pub mod PastLemmas
 pub mod PlainWords
 pub mod PositionLemmas
 pub mod ReachLemmas
