@@ -1,6 +1,6 @@
 -- All acknowledged writes to the tables of a live workflow: a write to one of them at one of its sides adds itself, and no other event
 -- changes them.
-use Rattle.std.proofs.Common.{◌≡◌, ◌≢◌, ◌⊎◌, inl, inr, ℕ, suc, ◌+◌, Bool, true, false, not, cond, eqb, List, [], ◌∷◌, ◌++◌, length, filter, map, Option, None, Some, refl, sym, ap, ◌∙◌, subst, arith, unwrap_or, eqb-true, append-nil, length-append}
+use Rattle.std.proofs.Common.{◌≡◌, inl, inr, ℕ, ◌+◌, Bool, true, false, not, cond, eqb, List, [], ◌∷◌, ◌++◌, length, filter, Option, None, Some, refl, sym, ap, ◌∙◌, subst, arith, unwrap_or, eqb-true, length-append}
 use Rattle.std.proofs.lemmas.Bool.{true≢false, eq-eqb}
 use Rattle.std.proofs.lemmas.List.Elements.{filter-append}
 use Rattle.std.specs.List.{list_any}
@@ -16,23 +16,23 @@ use Rattle.mt_model.specs.Limits.{longest_log}
 use Rattle.mt_model.specs.Rows.{op_key, op_row}
 use Rattle.mt_model.specs.Topology.{is_present}
 use Rattle.mt_plain.specs.Answers.{Answers, Run, after}
-use Rattle.mt_plain.specs.Events.{Event, write, add_table, advance, complete, Answer, done, row, advanced, shown, refused, denied, full, no_keyspace, no_table}
-use Rattle.mt_plain.specs.Next.{next, next_taken, row_left, with_completed, with_write}
+use Rattle.mt_plain.specs.Events.{Event, write, add_table, complete, Answer, done, row, advanced, shown, refused, denied, full, no_keyspace, no_table}
+use Rattle.mt_plain.specs.Next.{next, row_left, with_completed}
 use Rattle.mt_plain.specs.Plain.{Live, Plain, Write, has_keyspace, in_keyspace, is_side, live_at, mover, moves, number_of, opening}
 use Rattle.mt_plain.specs.Refuse.{or_else, refusal_of, refuse_if, row_refusal, unknown_table}
 use Rattle.mt_plain.specs.Serve.{has_table, refuses}
 use Rattle.mt_plain.specs.Slots.{log_length}
 use Rattle.mt_plain.specs.Writes.{client_number, client_row, is_write_to, writes_to}
-use Rattle.mt_laws.specs.Changes.{ChangesNumbers, ChangesWrites, HasSides}
-use Rattle.mt_laws.specs.Numbers.{Numbers, number_at}
+use Rattle.mt_laws.specs.Changes.{HasSides}
+use Rattle.mt_laws.specs.Numbers.{number_at}
 use Rattle.mt_laws.specs.WayBack.{IsReached, ends_workflow}
 use Rattle.mt_laws.proofs.CompleteLemmas.{number-unmoved}
 use Rattle.mt_laws.proofs.CopyLemmas.{any_moved, client_number-side}
-use Rattle.mt_laws.proofs.LiveLemmas.{IsIn, find_none, find_some, find_the_one, unique}
+use Rattle.mt_laws.proofs.LiveLemmas.{IsIn, find_some, find_the_one, unique}
 use Rattle.mt_laws.proofs.NumberLemmas.{one_name-run}
-use Rattle.mt_laws.proofs.NumberedLemmas.{IsNumbered, reached_is_numbered}
+use Rattle.mt_laws.proofs.NumberedLemmas.{reached_is_numbered}
 use Rattle.mt_laws.proofs.PartLemmas.{HasParts}
-use Rattle.mt_laws.proofs.ReachLemmas.{named, reached_has_parts, there_unmoved}
+use Rattle.mt_laws.proofs.ReachLemmas.{reached_has_parts, there_unmoved}
 use Rattle.mt_laws.proofs.RefusalLemmas.{and-both, and-true, not-false, or-right, or_else-none, refuse_if-none}
 use Rattle.mt_laws.proofs.UntouchedLemmas.{same_numbers, same_writes}
 

@@ -1,34 +1,30 @@
 -- How many writes were fed: those of all acknowledged ones that don't stand past the position of the stream that feeds.
-use Rattle.std.proofs.Common.{◌≡◌, ◌≢◌, ◌⊎◌, inl, inr, ℕ, suc, ◌+◌, ◌-◌, ◌≤◌, Bool, true, false, not, cond, eqb, ltb, leb, List, drop, take, length, filter, Option, None, Some, refl, sym, ap, ◌∙◌, subst, arith, eqb-true, ltb-true, lt-ltb, le-leb}
+use Rattle.std.proofs.Common.{◌≡◌, ℕ, suc, ◌+◌, ◌-◌, ◌≤◌, Bool, true, false, not, cond, eqb, ltb, leb, List, drop, length, filter, None, Some, refl, sym, ap, ◌∙◌, subst, arith, ltb-true, lt-ltb, le-leb}
 use Rattle.std.proofs.lemmas.Bool.{true≢false, eq-eqb}
 use Rattle.std.specs.List.{count_by, list_any}
 use Rattle.std.specs.Prelude.{◌&&◌, ◌||◌}
-use Rattle.mt_names.specs.declared.types.TypeSet.{TypeSet}
 use Rattle.mt_names.specs.Names.{same_text}
 use Rattle.mt_names.proofs.SameLemmas.{same_text_decides}
 use Rattle.mt_model.specs.declared.rows.Op.{Op}
 use Rattle.mt_plain.specs.Answers.{Answers}
-use Rattle.mt_plain.specs.Events.{Event, write, step, StreamName, forward, back, Answer, done, row, advanced, shown, refused, Way}
-use Rattle.mt_plain.specs.Next.{live_stepped, live_undone, next, way_stepped, with_advance, with_fresh_stream, with_way_to}
-use Rattle.mt_plain.specs.Plain.{Live, LogEntry, Plain, behind_last, catch_up, changes_primary, create_back, first_step, is_side, live_at, moves, next_step, number_of, owner, refresh_source, refresh_target, stands_done, start_back, stop_feeding, write_journal}
-use Rattle.mt_plain.specs.Refuse.{new_owner}
-use Rattle.mt_plain.specs.Slots.{is_fresh, live_advanced, log_length, log_of, past, read_side, written_side}
+use Rattle.mt_plain.specs.Events.{Event, write, StreamName, forward, back, Answer, done, Way}
+use Rattle.mt_plain.specs.Next.{next}
+use Rattle.mt_plain.specs.Plain.{Live, LogEntry, Plain, catch_up, changes_primary, create_back, first_step, is_side, moves, next_step, number_of, owner, refresh_target, stands_done, write_journal}
+use Rattle.mt_plain.specs.Slots.{is_fresh, log_length, log_of, read_side}
 use Rattle.mt_plain.specs.Writes.{writes_to}
 use Rattle.mt_laws.specs.Changes.{HasSides}
 use Rattle.mt_laws.specs.WayBack.{IsReached, ends_workflow}
 use Rattle.mt_laws.proofs.AllWritesLemmas.{adds, all_after, found}
-use Rattle.mt_laws.proofs.ChangeLemmas.{sides-advanced, sides-live_stepped, sides-undone}
-use Rattle.mt_laws.proofs.CopyLemmas.{fed-stepped, fed-undone}
 use Rattle.mt_laws.proofs.LiveLemmas.{IsIn, sides_same}
 use Rattle.mt_laws.proofs.OwnerLemmas.{IsJournaled, done_in_order, reached_journaled}
 use Rattle.mt_laws.proofs.PartLemmas.{IsSettled}
-use Rattle.mt_laws.proofs.PastLemmas.{IsOther, adds_here, moved_past, past_after, past_end, past_own}
+use Rattle.mt_laws.proofs.PastLemmas.{IsOther, adds_here, moved_past, past_after}
 use Rattle.mt_laws.proofs.PlainWords.{changes_reads}
-use Rattle.mt_laws.proofs.PositionLemmas.{IsWithin, position_in, reached_within, rest_at}
+use Rattle.mt_laws.proofs.PositionLemmas.{position_in, reached_within, rest_at}
 use Rattle.mt_laws.proofs.ReachLemmas.{reached_has_parts}
 use Rattle.mt_laws.proofs.ReadLemmas.{no_write_between, writes_at_the_owner}
 use Rattle.mt_laws.proofs.RefusalLemmas.{and-both, and-true, or-right}
-use Rattle.mt_laws.proofs.StreamLemmas.{IsTurned, differ_not, differ_to, fewer, more, reached_turned, way-stepped, way-undone}
+use Rattle.mt_laws.proofs.StreamLemmas.{IsTurned, differ_not, differ_to, fewer, more, reached_turned}
 
 -- ---- what is fed, and what is past a position, is all
 

@@ -1,21 +1,18 @@
 -- What is fed, in each state that a run reaches.
-use Rattle.std.proofs.Common.{◌≡◌, ◌≢◌, ◌⊎◌, inl, inr, ℕ, suc, ◌+◌, ◌≤◌, Bool, true, false, not, cond, eqb, leb, List, [], ◌∷◌, drop, take, length, Option, None, Some, refl, sym, ap, ◌∙◌, subst, arith}
+use Rattle.std.proofs.Common.{◌≡◌, ◌≢◌, ◌⊎◌, inl, inr, ℕ, ◌+◌, Bool, true, false, not, cond, eqb, leb, List, [], length, Option, None, Some, refl, sym, ap, ◌∙◌, subst, arith}
 use Rattle.std.proofs.lemmas.Bool.{true≢false}
 use Rattle.std.specs.List.{count_by, filter, list_any}
 use Rattle.std.specs.Map.{lookup}
-use Rattle.std.specs.Option.{option_map_or}
 use Rattle.std.specs.Prelude.{◌&&◌, ◌||◌, unwrap_or}
 use Rattle.mt_names.specs.declared.types.TypeSet.{TypeSet}
 use Rattle.mt_names.specs.Names.{same_text}
 use Rattle.mt_names.specs.Same.{same_target}
-use Rattle.mt_names.proofs.SameLemmas.{same_text_decides}
-use Rattle.mt_model.specs.declared.entries.Scope.{Scope}
 use Rattle.mt_plain.specs.Answers.{Answers}
-use Rattle.mt_plain.specs.Events.{Event, create, advance, begin_switch, begin_reverse, step, undo, cancel, complete, Refusal, copying, full, nothing_to_reverse, nothing_to_switch, StreamName, forward, back, Slot, Answer, done, row, advanced, shown, refused, Way}
+use Rattle.mt_plain.specs.Events.{Event, create, advance, begin_switch, begin_reverse, step, undo, copying, full, nothing_to_reverse, nothing_to_switch, StreamName, forward, back, Slot, Answer, done, row, advanced, shown, refused, Way}
 use Rattle.mt_plain.specs.Next.{live_stepped, live_undone, next, on_way_of, types_and, types_without, with_advance, with_way_to}
-use Rattle.mt_plain.specs.Plain.{Live, LogEntry, Plain, Write, catch_up, changes_primary, create_back, in_keyspace, live_at, moves, next_step, opening, owner, refresh_target, stands_done, start_back, stop_feeding, write_journal}
+use Rattle.mt_plain.specs.Plain.{Live, Plain, Write, changes_primary, create_back, in_keyspace, live_at, moves, next_step, owner, stands_done, start_back, stop_feeding, write_journal}
 use Rattle.mt_plain.specs.Refuse.{advance_refusal, begin_reverse_refusal, begin_switch_refusal, has_more, is_still_copying, most_ways, or_else, refuse_if, share_type, undo_refusal, will_read_other_side}
-use Rattle.mt_plain.specs.Slots.{feeding_slot, is_feeding, is_fresh, live_advanced, log_length, log_of, other_slot, past, read_side, running_at, slot_before_way, slot_by_way, slot_of, with_position, written_side}
+use Rattle.mt_plain.specs.Slots.{feeding_slot, is_feeding, is_fresh, live_advanced, log_length, other_slot, read_side, running_at, slot_before_way, slot_by_way, slot_of, with_position, written_side}
 use Rattle.mt_plain.specs.Writes.{writes_to}
 use Rattle.mt_laws.specs.Changes.{ChangesLogs, ChangesNumbers, ChangesWrites, HasSides, IsAdvance}
 use Rattle.mt_laws.specs.Numbers.{Numbers}
@@ -26,14 +23,14 @@ use Rattle.mt_laws.proofs.CopyLemmas.{advance_runs, level_if_taken}
 use Rattle.mt_laws.proofs.FedLemmas.{IsFed, Level, at_by, fed_other, owner_before, owner_behind, past_same, side_by, side_same, writes_same}
 use Rattle.mt_laws.proofs.FedStepLemmas.{begun_fed, stepped_fed, undone_fed}
 use Rattle.mt_laws.proofs.KeepLemmas.{at_it, changed_has, on_way_has}
-use Rattle.mt_laws.proofs.LiveLemmas.{IsIn, changed, find_some, in-filter, in-map, in-push, text_apart, unique}
+use Rattle.mt_laws.proofs.LiveLemmas.{IsIn, find_some, in-filter, in-map, in-push, unique}
 use Rattle.mt_laws.proofs.OwnerLemmas.{IsJournaled, done_in_order, reached_journaled, reached_keeps}
-use Rattle.mt_laws.proofs.PartLemmas.{HasParts, IsSettled}
+use Rattle.mt_laws.proofs.PartLemmas.{IsSettled}
 use Rattle.mt_laws.proofs.PastLemmas.{moved_past, past_end, past_own}
 use Rattle.mt_laws.proofs.PositionLemmas.{advance_at_position, position_in, rest_at}
 use Rattle.mt_laws.proofs.ReachLemmas.{live_by_name, not_ended, reached_has_parts}
 use Rattle.mt_laws.proofs.RefusalLemmas.{and-both, and-true, at_rest-none}
-use Rattle.mt_laws.proofs.StreamLemmas.{IsTurned, feeding_runs, other_runs, reached_turned, runs_at_the_owner}
+use Rattle.mt_laws.proofs.StreamLemmas.{feeding_runs, other_runs, reached_turned, runs_at_the_owner}
 use Rattle.mt_laws.proofs.UntouchedLemmas.{same_logs, same_made, same_numbers, same_writes, traffic-advanced}
 use Rattle.mt_laws.proofs.WayLemmas.{undo_before_journal}
 

@@ -1,32 +1,24 @@
 -- What is fed, through the steps of a way, its undoing and the advances of its streams.
-use Rattle.std.proofs.Common.{◌≡◌, ◌≢◌, ◌⊎◌, inl, inr, ℕ, suc, ◌+◌, ◌-◌, ◌≤◌, Bool, true, false, not, cond, eqb, ltb, leb, List, drop, take, length, Option, None, Some, option_map, refl, sym, ap, ◌∙◌, subst, arith, eqb-true}
-use Rattle.std.proofs.lemmas.Bool.{true≢false, eq-eqb}
-use Rattle.std.specs.List.{count_by}
+use Rattle.std.proofs.Common.{◌≡◌, ℕ, suc, ◌+◌, ◌-◌, ◌≤◌, Bool, true, false, not, cond, eqb, length, Option, None, Some, refl, sym, ap, ◌∙◌, subst, arith, eqb-true}
+use Rattle.std.proofs.lemmas.Bool.{true≢false}
 use Rattle.std.specs.Option.{option_map_or}
-use Rattle.std.specs.Prelude.{◌&&◌, ◌||◌}
+use Rattle.std.specs.Prelude.{◌&&◌}
 use Rattle.mt_names.specs.declared.types.TypeSet.{TypeSet}
-use Rattle.mt_names.specs.Names.{same_text}
-use Rattle.mt_plain.specs.Answers.{Answers}
-use Rattle.mt_plain.specs.Events.{Event, write, create, advance, begin_switch, begin_reverse, step, undo, cancel, complete, Refusal, stale, undoing, StreamName, forward, back, Slot, Answer, done, row, advanced, shown, refused, Way}
-use Rattle.mt_plain.specs.Next.{live_stepped, live_undone, next, on_way_of, types_and, types_without, way_stepped, with_advance, with_fresh_stream, with_step, with_undo, with_way_to}
-use Rattle.mt_plain.specs.Plain.{Live, LogEntry, Plain, behind_last, catch_up, changes_primary, create_back, live_at, next_step, owner, refresh_target, stands_done, start_back, stop_feeding, write_journal}
-use Rattle.mt_plain.specs.Refuse.{advance_refusal, new_owner, or_else, own_refusal, refusal_of, refuse_if, step_refusal, undo_refusal}
-use Rattle.mt_plain.specs.Slots.{feeding_slot, is_feeding, is_fresh, live_advanced, log_length, log_of, other_slot, past, read_side, running_at, slot_at_rest, slot_by_way, slot_of, with_position, written_side}
+use Rattle.mt_plain.specs.Events.{Way}
+use Rattle.mt_plain.specs.Next.{live_stepped, live_undone, with_fresh_stream, with_way_to}
+use Rattle.mt_plain.specs.Plain.{Live, Plain, behind_last, catch_up, changes_primary, create_back, next_step, refresh_target, stands_done, write_journal}
+use Rattle.mt_plain.specs.Refuse.{new_owner}
+use Rattle.mt_plain.specs.Slots.{log_length}
 use Rattle.mt_plain.specs.Writes.{writes_to}
 use Rattle.mt_laws.specs.Changes.{HasSides}
-use Rattle.mt_laws.specs.WayBack.{IsReached}
-use Rattle.mt_laws.proofs.ChangeLemmas.{sides-advanced, sides-live_stepped, sides-undone}
-use Rattle.mt_laws.proofs.CopyLemmas.{advance_runs, fed-stepped, fed-undone, level_if_taken}
-use Rattle.mt_laws.proofs.FedLemmas.{IsFed, Level, at_by, at_same, before_then, done_by, level_moved, not_before, owner_before, owner_behind, side_by, side_same, undone_by, was_done, writes_same, past_same, and-right, if-not}
-use Rattle.mt_laws.proofs.LiveLemmas.{IsIn}
-use Rattle.mt_laws.proofs.OwnerLemmas.{IsJournaled, done_in_order}
+use Rattle.mt_laws.proofs.ChangeLemmas.{sides-live_stepped}
+use Rattle.mt_laws.proofs.CopyLemmas.{fed-stepped}
+use Rattle.mt_laws.proofs.FedLemmas.{IsFed, Level, at_by, before_then, done_by, level_moved, not_before, side_by, side_same, undone_by, was_done, writes_same, and-right, if-not}
+use Rattle.mt_laws.proofs.OwnerLemmas.{done_in_order}
 use Rattle.mt_laws.proofs.PartLemmas.{IsSettled}
-use Rattle.mt_laws.proofs.PastLemmas.{moved_past, past_end, past_own}
+use Rattle.mt_laws.proofs.PastLemmas.{past_end}
 use Rattle.mt_laws.proofs.PlainWords.{changes_reads}
-use Rattle.mt_laws.proofs.PositionLemmas.{advance_at_position, position_in, rest_at}
-use Rattle.mt_laws.proofs.RefusalLemmas.{and-both, and-true}
-use Rattle.mt_laws.proofs.StreamLemmas.{IsTurned, differ_not, differ_to, feeding_runs, fewer, more, other_runs, way-stepped, way-undone}
-use Rattle.mt_laws.proofs.UntouchedLemmas.{traffic-advanced}
+use Rattle.mt_laws.proofs.StreamLemmas.{IsTurned, differ_not, differ_to, fewer, more, way-stepped}
 
 one_way : (o : Option Way) (a b : Way) → o ≡ Some a → o ≡ Some b → a ≡ b
 one_way o a b e f = let g : Some a ≡ Some b = sym e ∙ f in let h : a ≡ b = cc in h

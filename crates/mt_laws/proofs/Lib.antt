@@ -12,8 +12,10 @@ pub mod FedLemmas
 pub mod FedRunLemmas
 pub mod FedStepLemmas
 pub mod FeedLemmas
+pub mod GoesOnLemmas
 pub mod HeadlineLemmas
 pub mod KeepLemmas
+pub mod LevelLemmas
 pub mod LineLemmas
 pub mod ListLemmas
 pub mod LiveLemmas

@@ -3,7 +3,6 @@ use Rattle.std.proofs.Common.{◌≡◌, ◌≢◌, ◌⊎◌, inl, inr, ℕ, Bo
 use Rattle.std.proofs.lemmas.Bool.{true≢false}
 use Rattle.std.specs.List.{list_any}
 use Rattle.std.specs.Prelude.{◌&&◌, nat_le}
-use Rattle.mt_names.specs.declared.keys.RuleKey.{RuleKey}
 use Rattle.mt_names.specs.declared.keys.RuleTarget.{RuleTarget}
 use Rattle.mt_names.specs.Names.{same_text}
 use Rattle.mt_names.specs.Same.{same_target}
@@ -21,15 +20,15 @@ use Rattle.mt_plain.specs.Next.{completed, next, next_taken, number_moved, with_
 use Rattle.mt_plain.specs.Plain.{Live, Plain, has_keyspace, in_keyspace, live_at, mover, moves, opening}
 use Rattle.mt_plain.specs.Refuse.{conflict_refusal, create_is_full, moved_table_refusal, moved_tables_refusal, or_else, refusal_of, refuse_if, table_count, watcher_refusal}
 use Rattle.mt_plain.specs.Serve.{has_table}
-use Rattle.mt_laws.specs.Changes.{ChangesNumbers, ChangesTopology, HasSides}
+use Rattle.mt_laws.specs.Changes.{ChangesTopology, HasSides}
 use Rattle.mt_laws.specs.Numbers.{Numbers, number_at}
 use Rattle.mt_laws.specs.WayBack.{IsReached, ends_workflow}
 use Rattle.mt_laws.proofs.ChangeLemmas.{lives_after, sides-next}
 use Rattle.mt_laws.proofs.CompleteLemmas.{absent_at_source, distinct-completed, number-at_source, number-at_target, number-elsewhere, number-unmoved, present_at_target, present_elsewhere}
 use Rattle.mt_laws.proofs.EntryValueLemmas.{present_from_value, value_of-completed}
-use Rattle.mt_laws.proofs.LiveLemmas.{IsIn, any-nowhere, find_some, text_apart}
+use Rattle.mt_laws.proofs.LiveLemmas.{IsIn, find_some, text_apart}
 use Rattle.mt_laws.proofs.OwnerLemmas.{reached_keeps}
-use Rattle.mt_laws.proofs.PartLemmas.{HasParts, IsPlaced, add_table-none, value-kept}
+use Rattle.mt_laws.proofs.PartLemmas.{HasParts, IsPlaced, value-kept}
 use Rattle.mt_laws.proofs.ReachLemmas.{ComesFrom, comes_from, new, not_ended, old, named}
 use Rattle.mt_laws.proofs.RefusalLemmas.{and-both, fold_or_else-none, not_some, or_else-none, or-right, refuse_if-none}
 use Rattle.mt_laws.proofs.TableLemmas.{is_present-with_keyspace, is_present-with_table, lookup-push_new, same_or_other}

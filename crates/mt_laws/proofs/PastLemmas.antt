@@ -1,14 +1,12 @@
 -- The entries of a workflow's tables past a position of a log: a write to one of them there adds itself, an advance that reads them takes
 -- them away, and no other event changes how many they are.
-use Rattle.std.proofs.Common.{◌≡◌, ◌≢◌, ◌⊎◌, inl, inr, ℕ, suc, ◌+◌, ◌≤◌, Bool, true, false, not, cond, List, [], ◌∷◌, ◌++◌, drop, take, length, filter, map, Option, None, Some, refl, sym, ap, ◌∙◌, subst, arith, append-nil}
-use Rattle.std.proofs.lemmas.Bool.{true≢false}
+use Rattle.std.proofs.Common.{◌≡◌, ◌≢◌, ℕ, suc, ◌+◌, ◌≤◌, Bool, true, false, not, cond, List, [], ◌∷◌, ◌++◌, drop, take, length, filter, map, Option, None, Some, refl, sym, ap, ◌∙◌, arith, append-nil}
 use Rattle.std.proofs.lemmas.List.{drop-append-le, drop_all, take-append-drop}
 use Rattle.std.proofs.lemmas.List.Elements.{filter-append}
 use Rattle.std.proofs.lemmas.List.Sums.{length-filter, sum_by-append, sum_by-cons}
-use Rattle.std.specs.List.{AllByRecursion, count_by, flat_map}
+use Rattle.std.specs.List.{AllByRecursion, count_by}
 use Rattle.std.specs.Prelude.{◌&&◌, zero}
 use Rattle.mt_names.specs.Names.{same_text}
-use Rattle.mt_names.proofs.SameLemmas.{same_text_decides}
 use Rattle.mt_plain.specs.Answers.{Answers}
 use Rattle.mt_plain.specs.Events.{Event, write, advance, StreamName, Answer, done, row, advanced, shown, refused}
 use Rattle.mt_plain.specs.Next.{next, with_advance}
@@ -17,7 +15,7 @@ use Rattle.mt_plain.specs.Slots.{entry_of_row, is_applied, keys_of_rows, log_len
 use Rattle.mt_plain.specs.Writes.{is_copied}
 use Rattle.mt_laws.proofs.EntryValueLemmas.{in_moved}
 use Rattle.mt_laws.proofs.ListLemmas.{append-all, each-mapped, flat_map-all, map-all}
-use Rattle.mt_laws.proofs.LiveLemmas.{IsIn, all_from_in, find_some, text_apart, text_differs}
+use Rattle.mt_laws.proofs.LiveLemmas.{all_from_in, text_differs}
 use Rattle.mt_laws.proofs.RefusalLemmas.{and-true}
 use Rattle.mt_laws.proofs.UntouchedLemmas.{same_logs}
 
