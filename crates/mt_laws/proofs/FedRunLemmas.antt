@@ -27,7 +27,7 @@ use Rattle.mt_laws.proofs.LiveLemmas.{IsIn, find_some, in-filter, in-map, in-pus
 use Rattle.mt_laws.proofs.OwnerLemmas.{IsJournaled, done_in_order, reached_journaled, reached_keeps}
 use Rattle.mt_laws.proofs.PartLemmas.{IsSettled}
 use Rattle.mt_laws.proofs.PastLemmas.{moved_past, past_end, past_own}
-use Rattle.mt_laws.proofs.PositionLemmas.{advance_at_position, position_in, rest_at}
+use Rattle.mt_laws.proofs.PositionLemmas.{position_in, rest_at, running_slot, slot_position}
 use Rattle.mt_laws.proofs.ReachLemmas.{live_by_name, not_ended, reached_has_parts}
 use Rattle.mt_laws.proofs.RefusalLemmas.{and-both, and-true, at_rest-none}
 use Rattle.mt_laws.proofs.StreamLemmas.{feeding_runs, other_runs, reached_turned, runs_at_the_owner}
@@ -37,7 +37,7 @@ use Rattle.mt_laws.proofs.WayLemmas.{undo_before_journal}
 -- ---- an advance of one of its streams
 
 module _ (p : Plain) (reached : IsReached p) (w : Live) (in_it : IsIn w p.lives) (is : IsFed p w) (workflow : List ℕ) (live : live_at p workflow ≡ Some w)
-    (stream : StreamName) (at at_most events rows : ℕ) (none : advance_refusal p stream at at_most w ≡ None) where
+    (stream : StreamName) (at at_most events rows : ℕ) (runs : running_at (slot_of w stream) ≡ Some at) where
   abbrev q : Plain
   q = with_advance p stream at at_most events rows (Some w)
 
@@ -53,14 +53,11 @@ module _ (p : Plain) (reached : IsReached p) (w : Live) (in_it : IsIn w p.lives)
   apart : w.source ≢ w.target
   apart = ((reached_has_parts p reached).placed w in_it).sides
 
-  runs : running_at (slot_of w stream) ≡ Some at
-  runs = advance_runs p w stream at at_most (running_at (slot_of w stream)) none
-
   reads : read_side w stream ≡ owner w
   reads = runs_at_the_owner p reached workflow w live stream at runs
 
   position : position_in w stream ≡ at
-  position = advance_at_position p w stream at at_most none
+  position = let r = running_slot (slot_of w stream) at runs in sym (slot_position w stream r.0 r.1) ∙ r.2
 
   sides : HasSides w v
   sides = sides-advanced p w stream at at_most events rows
@@ -146,14 +143,16 @@ module _ (p : Plain) (reached : IsReached p) (w : Live) (in_it : IsIn w p.lives)
         let r = rest_moves b here (not_fresh guard) in
         level_by b (at_by w b) (at_by v b) here r.0 r.1 (is.before way opens guard)
 
+    is_made : changes_primary way ≡ true → stands_done way create_back ≡ true → is_fresh w.way stream ≡ true
+    is_made changes created =
+        ap (λ o. is_fresh o stream) opens
+        ∙ and-both (changes_primary way && not (is_feeding way stream)) (stands_done way create_back)
+        (and-both (changes_primary way) (not (is_feeding way stream)) changes (ap not (made_runs changes created).0)) created
+
     fresh_read : changes_primary way ≡ true → stands_done way create_back ≡ true → Level q v (side_by v (not way.before.primary)) v.fresh_at
     fresh_read changes created =
-        let m = made_runs changes created in
-        let new : is_fresh w.way stream ≡ true =
-        ap (λ o. is_fresh o stream) opens
-        ∙ and-both (changes_primary way && not (is_feeding way stream)) (stands_done way create_back) (and-both (changes_primary way) (not (is_feeding way stream)) changes (ap not m.0)) created in
-        let here = reads ∙ owner_behind w settled journaled way opens changes (done_in_order way 5 start_back (omega arith) m.1) in
-        let r = fresh_moves new in
+        let here = reads ∙ owner_behind w settled journaled way opens changes (done_in_order way 5 start_back (omega arith) (made_runs changes created).1) in
+        let r = fresh_moves (is_made changes created) in
         level_by (not way.before.primary) w.fresh_at v.fresh_at here r.0 r.1 (is.fresh way opens changes created)
 
   rests_read : w.way ≡ None → Level q v (side_by v v.switched.primary) (at_by v v.switched.primary)
@@ -161,6 +160,27 @@ module _ (p : Plain) (reached : IsReached p) (w : Live) (in_it : IsIn w p.lives)
       let b = w.switched.primary in
       let r = rest_moves b reads (ap (λ o. is_fresh o stream) rests) in
       subst (λ s. Level q v (side_by v s.primary) (at_by v s.primary)) (sym same_types) (level_by b (at_by w b) (at_by v b) reads r.0 r.1 (is.rests rests))
+
+  -- what is not fed stands past the position
+  level_at : (b : Bool) (n : ℕ) → read_side w stream ≡ side_by w b → n ≡ at → Level p w (side_by w b) n → Level p w (read_side w stream) at
+  level_at b n reads_it from level = subst (λ k. Level p w k at) (sym reads_it) (subst (Level p w (side_by w b)) from level)
+
+  level_on_way : (way : Way) → w.way ≡ Some way → (t : Bool) → (changes_primary way && stands_done way write_journal) ≡ t → Level p w (read_side w stream) at
+  level_on_way way opens false guard =
+      let b = way.before.primary in
+      let here = reads ∙ owner_before w settled journaled way opens guard in
+      level_at b (at_by w b) here (rest_moves b here (not_fresh way opens guard)).0 (is.before way opens guard)
+  level_on_way way opens true guard =
+      let r = and-true (changes_primary way) (stands_done way write_journal) guard in
+      let created = done_in_order way 4 write_journal (omega arith) r.1 in
+      level_at (not way.before.primary) w.fresh_at (reads ∙ owner_behind w settled journaled way opens r.0 r.1) (fresh_moves (is_made way opens r.0 created)).0 (is.fresh way opens r.0 created)
+
+  pub level_running : Level p w (read_side w stream) at
+  level_running = by w.way refl
+    where
+      by : (o : Option Way) → w.way ≡ o → Level p w (read_side w stream) at
+      by None rests = let b = w.switched.primary in level_at b (at_by w b) reads (rest_moves b reads (ap (λ o. is_fresh o stream) rests)).0 (is.rests rests)
+      by (Some way) opens = level_on_way way opens (changes_primary way && stands_done way write_journal) refl
 
   pub advanced_fed : IsFed q v
   advanced_fed = record {
@@ -220,7 +240,7 @@ module _ (p : Plain) (reached : IsReached p) (w : Live) (in_it : IsIn w p.lives)
       by : (t : Bool) → same_text w.name workflow ≡ t → IsFed (with_advance p stream at at_most events rows (live_at p workflow)) (cond t (live_advanced p w stream at at_most events rows) w)
       by true t =
           subst (λ o. IsFed (with_advance p stream at at_most events rows o) (live_advanced p w stream at at_most events rows)) (sym (named workflow t))
-          (advanced_fed p reached w in_it is workflow (named workflow t) stream at at_most events rows (at_it p workflow w (advance_refusal p stream at at_most) (named workflow t) given.0))
+          (advanced_fed p reached w in_it is workflow (named workflow t) stream at at_most events rows (advance_runs p w stream at at_most (running_at (slot_of w stream)) (at_it p workflow w (advance_refusal p stream at at_most) (named workflow t) given.0)))
       by false t =
           fed_other p reached w in_it (advance workflow stream at at_most) (advanced events rows) given refl
           (λ keyspace from inside other_one name to most e u found. other_tables workflow t u (ap (live_at p) (of_it other_one e) ∙ found)) is

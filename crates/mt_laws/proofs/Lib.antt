@@ -23,6 +23,7 @@ pub mod LogLemmas
 pub mod NumberLemmas
 pub mod NumberedLemmas
 pub mod OpenLemmas
+pub mod OpenWayLemmas
 pub mod OutputLemmas
 pub mod OwnerLemmas
 pub mod PartLemmas

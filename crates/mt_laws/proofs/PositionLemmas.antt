@@ -405,7 +405,7 @@ advanced-le p workflow w stream at at_most events rows live given = by given.1
         (ltb 0 rows) (ltb rows (most_rows p w stream at at_most))
         (sym (ap (λ o. option_map_or (λ v. may_be_cut p v stream at at_most events rows) o false) live) ∙ cut)
 
-running_slot : (o : Option Slot) (at : ℕ) → running_at o ≡ Some at → (s : Slot) × (o ≡ Some s) × (s.position ≡ at)
+pub running_slot : (o : Option Slot) (at : ℕ) → running_at o ≡ Some at → (s : Slot) × (o ≡ Some s) × (s.position ≡ at)
 running_slot None at e = absurd cc
 running_slot (Some s) at e = (s, refl, by s.state e)
   where
