@@ -16,7 +16,7 @@ use Rattle.mt_choice.specs.Command.{keyspace_rule, mt, run_app}
 use Rattle.mt_choice.specs.Words.{is_dashed, keyspace_words}
 
 -- `run` as clap builds it
-abbrev leaf : Shape
+abbrev pub leaf : Shape
 leaf = built_leaf run_app.top
 
 -- what was found of the keyspaces
@@ -35,7 +35,7 @@ all_of-rows [] = refl
 all_of-rows (k ∷ ks) = refl
 
 -- where the walk stands: the words used, the last one that waits to be used, and whether `--` was met
-abbrev stands : List Text → Option Text → Bool → Walk
+abbrev pub stands : List Text → Option Text → Bool → Walk
 stands used None met = record {
   held = record { rows = rows_for used; pending = None; skip = 0 };
   waiting = idle;
@@ -51,7 +51,7 @@ stands used (Some last) met = record {
   stopped = None;
 }
 
-abbrev so_far : List Text → Option Text → List Text
+abbrev pub so_far : List Text → Option Text → List Text
 so_far used None = used
 so_far used (Some last) = used ++ last ∷ []
 
@@ -100,14 +100,14 @@ mark-fault used None word is = rw is refl
 mark-fault used (Some last) word is = rw is refl
 
 -- any other word that is no option
-plain-step : (used : List Text) (last : Option Text) (word : Text) → bytes_eq word (codes "--") ≡ false → is_dashed word ≡ false
+pub plain-step : (used : List Text) (last : Option Text) (word : Text) → bytes_eq word (codes "--") ≡ false → is_dashed word ≡ false
     → walked leaf.rules [] (stands used last false) word ≡ stands (so_far used last) (Some word) false
 unfolding clap_on_literals
 plain-step used None word other plain = rw (other, no_long word plain, no_short word plain) refl
 plain-step [] (Some last) word other plain = rw (other, no_long word plain, no_short word plain) refl
 plain-step (k ∷ ks) (Some last) word other plain = rw (other, no_long word plain, no_short word plain) refl
 
-plain-fault : (used : List Text) (last : Option Text) (word : Text) → bytes_eq word (codes "--") ≡ false → is_dashed word ≡ false
+pub plain-fault : (used : List Text) (last : Option Text) (word : Text) → bytes_eq word (codes "--") ≡ false → is_dashed word ≡ false
     → turn_fault leaf [] (stands used last false) word ≡ []
 unfolding clap_on_literals
 plain-fault used None word other plain = rw (other, no_long word plain, no_short word plain) refl
@@ -234,3 +234,14 @@ above-entering words ks is = rw (above-walk words, leaf-fault words ks is) refl
 pub run-fault : (program : Text) (words ks : List Text) → keyspace_words words ≡ Some ks → fault_of mt (program ∷ codes "run" ∷ words) ≡ []
 unfolding above
 run-fault program words ks is = ap (above words) (enters words) ∙ above-entering words ks is
+
+-- where the command takes the words, so does `run`
+pub run-fault-below : (program : Text) (words : List Text) → fault_of mt (program ∷ codes "run" ∷ words) ≡ [] → level_fault leaf [] nothing_held words false [] ≡ []
+unfolding clap_on_literals above
+run-fault-below program words none =
+    let there : above words (entering words) ≡ [] = sym (ap (above words) (enters words)) ∙ none in
+    first-none (level_fault leaf [] nothing_held words false []) [] (rw (above-walk words) at there)
+  where
+    first-none : (a b : Kinds) → or_else a b ≡ [] → a ≡ []
+    first-none [] b e = refl
+    first-none (k ∷ ks) b e = absurd cc
