@@ -1,5 +1,5 @@
 -- Keyspaces and denials as values of `serde_json`, and how their lists are made.
-use Rattle.std.specs.Prelude.{◌≡◌, ◌≢◌, ◌||◌, ℕ, List, [], ◌∷◌, codes, fold, map, Ok}
+use Rattle.std.specs.Prelude.{◌≤◌, length, ◌≡◌, ◌≢◌, ◌||◌, ℕ, List, [], ◌∷◌, codes, fold, map, Ok}
 use Rattle.std.specs.Cmp.Lexicographic.{slice_cmp}
 use Rattle.std.specs.List.{AllByRecursion, IsDistinct, list_any}
 use Rattle.std.specs.List.Sorted.{IsStrictlySortedBy}
@@ -9,6 +9,7 @@ use Rattle.serde_json.specs.View.{items_of}
 use Rattle.mt_names.specs.declared.keys.RuleTarget.{RuleTarget}
 use Rattle.mt_names.specs.Keys.{IsRuleTarget, read_target, target_text}
 use Rattle.mt_names.specs.Names.{IsKeyspaceName, IsTableName, same_text}
+use Rattle.mt_model.specs.Limits.{most_tables_in_keyspace}
 use Rattle.mt_model.specs.Topology.{KeyspaceState, Keyspaces}
 use Rattle.mt_rules.specs.Values.{values_in}
 use Rattle.mt_model.specs.Documents.{put_by_text}
@@ -75,7 +76,8 @@ pub record Gathers (ms : Members) (left all : List (List ℕ)) : Type 0 where
   pub good : AllByRecursion IsDenialText found
   pub each : (text : List ℕ) → (list_any (same_text text) found || list_any (same_text text) left) ≡ list_any (same_text text) all
 
--- the names of a keyspace and of its tables are names
+-- the names of a keyspace and of its tables are names, and its tables within their limit
 pub record IsNamedKeyspace (k : List ℕ × KeyspaceState) : Type 0 where
   pub name : IsKeyspaceName k.0
   pub tables : AllByRecursion IsTableName (tables_in_order k.1)
+  pub few : length k.1.tables ≤ most_tables_in_keyspace

@@ -177,6 +177,7 @@ impl Keyspace {
     pub(crate) fn value_of_tables(&self, alloc: Global) -> Result<Value, AllocError>
         ensures value { IfOk result (λ list. view list ≡ texts_value (tables_in_order self.now)) }
         ensures named { OnOk result (AllByRecursion IsTableName (tables_in_order self.now)) }
+        ensures few { length self.now.tables ≤ most_tables_in_keyspace }
     {
         write::value_of_tables(alloc, &self.tables)
     }

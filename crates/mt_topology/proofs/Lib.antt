@@ -1,6 +1,9 @@
+pub mod BackLemmas
 pub mod DumpLemmas
 pub mod EditLemmas
 pub mod InvariantLemmas
 pub mod LoadLemmas
 pub mod OnceLemmas
+pub mod OrderLemmas
 pub mod ReserveLemmas
+pub mod SaysLemmas

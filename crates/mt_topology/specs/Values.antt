@@ -1,8 +1,9 @@
 -- The dump as a value of `serde_json`, whose text is the document.
-use Rattle.std.specs.Prelude.{codes, map}
+use Rattle.std.specs.Prelude.{◌≤◌, length, codes, map}
 use Rattle.std.specs.List.{AllByRecursion}
 use Rattle.serde_json.specs.Data.{Data, number, array, object, unsigned, no_members, member}
 use Rattle.serde_json.specs.View.{items_of}
+use Rattle.mt_model.specs.Limits.{most_rules}
 use Rattle.mt_model.specs.Topology.{TopologyState}
 use Rattle.mt_rules.specs.Values.{IsWellSorted, rules_value}
 use Rattle.mt_model.specs.Documents.{keyspaces_in_order}
@@ -18,8 +19,9 @@ parts_value denied keyspaces rules =
 abbrev pub dump_value : TopologyState → Data
 dump_value t = parts_value (texts_value (denied_in_order t)) (array (items_of (map keyspace_value (keyspaces_in_order t)))) (rules_value t.rules)
 
--- all names are names, and the rules stand in their order
+-- all names are names, and the rules stand in their order and within their limit
 pub record IsNamedTopology (t : TopologyState) : Type 0 where
   pub denied : AllByRecursion IsDenialText (denied_in_order t)
   pub keyspaces : AllByRecursion IsNamedKeyspace (keyspaces_in_order t)
   pub rules : IsWellSorted t.rules
+  pub few : length t.rules ≤ most_rules

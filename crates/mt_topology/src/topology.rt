@@ -5,6 +5,7 @@ ghost use Rattle.mt_model.specs.Part.{part_keys, table_part_keys, with_place, wi
 ghost use Rattle.mt_topology.specs.Part.{lacks_a_place, reserve_refusal};
 ghost use Rattle.mt_keyspace.specs.Load.{IsUnlessMemory};
 ghost use Rattle.mt_topology.specs.Dump.{topology_of_text};
+ghost use Rattle.mt_topology.specs.Says.{HasDeniedTables, Says};
 ghost use Rattle.mt_model.specs.Documents.{dump_text};
 ghost use Rattle.mt_keyspace.specs.Edits.{Edits, add_keyspace_refusal, add_table_grows, add_table_refusal};
 ghost use Rattle.mt_topology.specs.Edits.{edit_rule_grows, edit_rule_refusal};
@@ -75,9 +76,12 @@ impl Topology {
 
     /// The dump of the topology, version 1, as `load` reads it: compact; the keyspaces sorted by their names, each with its
     /// tables sorted; the denied tables sorted by the bytes of their texts `keyspace.table`; the rules as routing rules are
-    /// written. Places without a rule, and tables that aren't there or denied, are left out. `T0 Memory`.
+    /// written. Places without a rule, and tables that aren't there or denied, are left out. Where each denied table is
+    /// there in its keyspace, `load` reads it back as the same topology: it has the same keyspaces, and says the same of
+    /// every entry. `T0 Memory`.
     pub fn dump(&self, alloc: Global) -> Result<String, TopologyFault>
         ensures text { IfOk result (λ text. string_bytes text ≡ dump_text self.now) }
+        ensures says { IfOk result (λ text. HasDeniedTables self.now → Says (string_bytes text) self.now) }
         ensures memory { IfErr result (λ fault. fault ≡ TopologyFault.Memory) }
     {
         match write::text_of_parts(alloc, &self.rules, &self.keyspaces) {

@@ -1,14 +1,16 @@
 //! Writing a dump.
-ghost use Rattle.std.specs.Prelude.{◌≡◌, ◌++◌, [], List, ℕ, map, flat_map, IfOk, OnOk, string_bytes};
+ghost use Rattle.std.specs.Prelude.{◌≤◌, length, ◌≡◌, ◌++◌, [], List, ℕ, map, flat_map, IfOk, OnOk, string_bytes};
 ghost use Rattle.std.specs.List.{AllByRecursion, IsDistinct};
 ghost use Rattle.std.specs.Map.{keys_of};
 ghost use Rattle.serde_json.specs.Data.{array, put, string};
 ghost use Rattle.serde_json.specs.View.{view, items_of, members_view};
 ghost use Rattle.mt_names.specs.Names.{IsTableName, same_text};
 ghost use Rattle.mt_names.specs.Keys.{target_text};
+ghost use Rattle.mt_model.specs.Limits.{most_keyspaces, most_rules};
 ghost use Rattle.mt_model.specs.Topology.{HasDistinctPlaces, Marks};
 ghost use Rattle.mt_rules.specs.Values.{IsWellSorted, rules_value, values_in};
 ghost use Rattle.mt_keyspace.specs.Values.{Gathers, IsDenialText, IsNamedKeyspace, IsSortedList, Sorts, by_name, by_themselves, keyspace_value, texts_value};
+ghost use Rattle.mt_topology.specs.Says.{HasDeniedTables, Says};
 ghost use Rattle.mt_topology.specs.Values.{IsNamedTopology, dump_value, parts_value};
 ghost use Rattle.mt_model.specs.Documents.{denied_text, denied_texts, dump_text, keyspaces_in_order, marked, sorted_texts, tables_in_order};
 ghost use Rattle.mt_keyspace.specs.Written.{denied_in_order};
@@ -22,6 +24,7 @@ use std::alloc::{AllocError, Global};
 fn value_of_rules(alloc: Global, rules: &RoutingRules) -> Result<Value, AllocError>
     ensures value { IfOk result (λ list. view list ≡ rules_value rules.now) }
     ensures sorted { OnOk result (IsWellSorted rules.now) }
+    ensures within { length rules.now ≤ most_rules }
 {
     match rules.to_value(alloc) {
         Ok(list) => Ok(list),
@@ -63,8 +66,11 @@ pub fn text_of_parts(
     rules: &RoutingRules,
     keyspaces: &Keyspaces,
 ) -> Result<String, AllocError>
-    requires { HasDistinctPlaces (record { rules = rules.now; keyspaces = keyspaces.now.entries }) }
-    ensures { IfOk result (λ text. string_bytes text ≡ dump_text (record { rules = rules.now; keyspaces = keyspaces.now.entries })) }
+    requires distinct { HasDistinctPlaces (record { rules = rules.now; keyspaces = keyspaces.now.entries }) }
+    requires few { length keyspaces.now.entries ≤ most_keyspaces }
+    ensures text { IfOk result (λ text. string_bytes text ≡ dump_text (record { rules = rules.now; keyspaces = keyspaces.now.entries })) }
+    ensures says { IfOk result (λ text. HasDeniedTables (record { rules = rules.now; keyspaces = keyspaces.now.entries })
+        → Says (string_bytes text) (record { rules = rules.now; keyspaces = keyspaces.now.entries })) }
 {
     let document = value_of_parts(alloc, rules, keyspaces)?;
     document.to_string(alloc)
