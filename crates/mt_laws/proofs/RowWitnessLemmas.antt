@@ -7,11 +7,11 @@ use Rattle.mt_names.specs.Types.{no_types}
 use Rattle.mt_model.specs.declared.entries.Scope.TheVariants as scope
 use Rattle.mt_model.specs.declared.entries.Scope.{Scope}
 use Rattle.mt_model.specs.declared.rows.Op.TheVariants.{Insert}
-use Rattle.mt_model.specs.Rows.{Row, RowValue}
+use Rattle.mt_model.specs.Rows.{RowValue}
 use Rattle.mt_plain.specs.Answers.{Answers, Run, after}
 use Rattle.mt_plain.specs.Events.{Event, write, read, add_keyspace, add_table, create, advance, forward, begin_switch, step, complete, Answer, done, row, advanced, refused, not_level, Way}
 use Rattle.mt_plain.specs.Next.{next}
-use Rattle.mt_plain.specs.Plain.{Live, Plain, ended, live_at, next_step, opening, owner, write_journal}
+use Rattle.mt_plain.specs.Plain.{Live, Plain, ended, live_at, next_step, opening, write_journal}
 use Rattle.mt_plain.specs.Writes.{writes_to}
 use Rattle.mt_laws.specs.Copies.{tests_level}
 use Rattle.mt_laws.specs.WayBack.{IsReached}
