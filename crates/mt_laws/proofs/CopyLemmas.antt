@@ -403,7 +403,7 @@ module _ (p : Plain) (table : List ℕ) (w : Live) (found : mover p table ≡ So
   abbrev fed_row : Row
   fed_row = row_after_writes (take w.fed (writes_to p w)) (number_of p w.source table) key
 
-  is_answer : (tablet_type : TabletType) (r : Row) → Answers p (read keyspace table key tablet_type) (row r) → r ≡ other_row p w table key
+  pub is_answer : (tablet_type : TabletType) (r : Row) → Answers p (read keyspace table key tablet_type) (row r) → r ≡ other_row p w table key
   is_answer tablet_type r given =
       let e : row r ≡ row (row_of p keyspace table key) = given.1 in
       let is : r ≡ row_of p keyspace table key = cc in

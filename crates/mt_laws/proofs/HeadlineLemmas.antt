@@ -1,17 +1,23 @@
 -- From the lines of a run to its pieces.
-use Rattle.std.proofs.Common.{◌≡◌, ℕ, suc, ◌+◌, ◌-◌, ◌<◌, ◌≤◌, true, false, List, [], ◌∷◌, take, drop, None, Some, is_some, option_map, refl, sym, ap, ◌∙◌, subst, arith}
+use Rattle.std.proofs.Common.{◌≡◌, ◌⊎◌, inl, inr, ℕ, suc, ◌+◌, ◌-◌, ◌<◌, ◌≤◌, true, false, List, [], ◌∷◌, take, drop, None, Some, is_some, option_map, refl, sym, ap, ◌∙◌, subst, arith}
 use Rattle.std.specs.Prelude.{slice_get, zero}
 use Rattle.mt_names.specs.declared.types.TabletType.TheVariants.{Primary}
 use Rattle.mt_model.specs.declared.entries.Scope.{Scope}
 use Rattle.mt_plain.specs.Answers.{Answers, Run, after}
 use Rattle.mt_plain.specs.Drive.{way_of}
-use Rattle.mt_plain.specs.Events.{Event, read, create, begin_switch, begin_reverse, step, undo, cancel, Answer, done, row}
+use Rattle.mt_plain.specs.Events.{Event, write, read, create, begin_switch, begin_reverse, step, undo, cancel, complete, Answer, done, row, Way}
 use Rattle.mt_plain.specs.Next.{next}
-use Rattle.mt_plain.specs.Plain.{Plain, changed_types, opening}
+use Rattle.mt_plain.specs.Plain.{Live, Plain, changed_types, live_at, moves, next_step, opening, owner, write_journal}
 use Rattle.mt_plain.specs.Serve.{served_entry}
+use Rattle.mt_plain.specs.Writes.{client_row, other_row}
+use Rattle.mt_laws.specs.Copies.{tests_level}
 use Rattle.mt_laws.specs.Headline.{Headline, IsLine, IsWay, LivesBetween, NoWayEndsBetween, state_at, types_changed}
 use Rattle.mt_laws.specs.WayBack.{EndsNoWay, IsReached, NoWayBetween, SinceCreate, StaysLive, StaysOpen, WayFrom, ends_way, ends_workflow}
-use Rattle.mt_laws.proofs.ReadLemmas.{primary_reads-run}
+use Rattle.mt_laws.proofs.CopyLemmas.{is_answer, nothing_lost}
+use Rattle.mt_laws.proofs.GoesOnLemmas.{completed-row}
+use Rattle.mt_laws.proofs.LevelLemmas.{fed_up_to_position, rows_at_the_journal}
+use Rattle.mt_laws.proofs.ReadLemmas.{primary_reads-run, writes_at_the_owner}
+use Rattle.mt_laws.proofs.StreamLemmas.{runs_at_the_owner}
 use Rattle.mt_laws.proofs.ReverseLemmas.{both_ways}
 use Rattle.mt_laws.proofs.TrafficLemmas.{abandon_back}
 use Rattle.mt_laws.proofs.WayBackLemmas.{cancel_back}
@@ -221,6 +227,11 @@ module _ (scopes : List Scope) (events : List Event) (answers : List Answer) (ru
   begun_types : (name : List ℕ) (begin : Event) (i : ℕ) → IsLine events answers i begin done → types_changed name (opening scopes) events answers i ≡ option_map changed_types (way_of (next (at_line i) begin done) name)
   begun_types name begin i begins = ap (λ s. option_map changed_types (way_of s name)) (here i begin done begins).1
 
+  kept_rows : (i : ℕ) (name : List ℕ) (at : ℕ) (w : Live) (way : Way) → IsLine events answers i (step name at) done → live_at (at_line i) name ≡ Some w → w.way ≡ Some way
+      → (tests_level w way ≡ true) ⊎ (next_step way ≡ write_journal) → (table : List ℕ) → moves w table ≡ true → (key : ℕ) → other_row (at_line i) w table key ≡ client_row (at_line i) (owner w) table key
+  kept_rows i name at w way is live opens (inl tests) = nothing_lost (at_line i) (reached_at i) name w way live opens at tests (here i (step name at) done is).0
+  kept_rows i name at w way is live opens (inr journal) = rows_at_the_journal (at_line i) (reached_at i) name w live way opens journal
+
   pub headline : Headline (opening scopes) events answers
   headline = record {
     cancel_gives_back = λ name source target tables i j order creates cancels lives key part.
@@ -235,6 +246,16 @@ module _ (scopes : List Scope) (events : List Event) (answers : List Answer) (ru
     undo_gives_back = λ name begin at i j is way.
         abandon_back name begin at (at_line i) (at_line (suc j)) (reached_at i) is (way_from name begin (undo name at) i j way);
     never_writable_in_two = λ i table w found. never_writable_in_two (at_line i) (reached_at i) table w found;
+    writes_at_the_owner = λ i keyspace table op w is found side. writes_at_the_owner (at_line i) (reached_at i) table w found keyspace side op (here i (write keyspace table op) done is).0;
+    others_answer_what_was_fed = λ i keyspace table key tablet_type r w is found side other.
+        is_answer (at_line i) table w found keyspace side other key tablet_type r (here i (read keyspace table key tablet_type) (row r) is).0;
+    no_write_is_skipped = λ i name w stream at live runs. (
+      runs_at_the_owner (at_line i) (reached_at i) name w live stream at runs,
+      fed_up_to_position (at_line i) (reached_at i) name w live stream at runs,
+    );
+    no_row_is_lost = λ i name at w way is live opens here_or_there. kept_rows i name at w way is live opens here_or_there;
+    completion_keeps_the_rows = λ i name w is live table moved key.
+        ap (λ s. client_row s w.target table key) (here i (complete name) done is).1 ∙ completed-row (at_line i) (reached_at i) name w live table moved key;
     reads_answer_the_writes = λ i keyspace table key r is.
         primary_reads-run scopes (take i events) (take i answers) (run_take i events answers (opening scopes) run) keyspace table key r (here i (read keyspace table key Primary) (row r) is).0;
   }

@@ -35,6 +35,7 @@ pub mod ReachedLemmas
 pub mod ReadLemmas
 pub mod RefusalLemmas
 pub mod ReverseLemmas
+pub mod RowWitnessLemmas
 pub mod RunLemmas
 pub mod ServeLemmas
 pub mod StepCountLemmas

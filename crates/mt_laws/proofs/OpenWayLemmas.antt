@@ -1,12 +1,10 @@
 -- A way that is open has a step left.
-use Rattle.std.proofs.Common.{◌≡◌, ℕ, suc, ◌+◌, ◌-◌, ◌≤◌, Bool, true, false, not, cond, eqb, leb, List, Option, None, Some, refl, sym, ap, ◌∙◌, subst, arith}
+use Rattle.std.proofs.Common.{◌≡◌, ℕ, suc, ◌+◌, ◌-◌, ◌≤◌, Bool, true, false, not, cond, eqb, leb, None, Some, refl, sym, ap, ◌∙◌, subst, arith}
 use Rattle.std.proofs.lemmas.Bool.{true≢false, eq-eqb}
-use Rattle.mt_names.specs.declared.types.TypeSet.{TypeSet}
 use Rattle.mt_plain.specs.Events.{Event, copying, full, nothing_to_reverse, nothing_to_switch, Way}
 use Rattle.mt_plain.specs.Next.{live_stepped, live_undone, types_and, types_without, with_way_to}
 use Rattle.mt_plain.specs.Plain.{Live, Plain, behind_last, changes_primary, first_step, next_step, write_journal}
 use Rattle.mt_plain.specs.Refuse.{has_more, is_still_copying, most_ways, or_else, refuse_if, share_type}
-use Rattle.mt_plain.specs.Slots.{live_advanced}
 use Rattle.mt_laws.specs.WayBack.{IsReached}
 use Rattle.mt_laws.proofs.ChangeLemmas.{made_live}
 use Rattle.mt_laws.proofs.KeepLemmas.{Keeps, reached_have}

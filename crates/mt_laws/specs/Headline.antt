@@ -1,16 +1,20 @@
 -- What is promised of a run from an opening. Its lines are counted from 0: each asks for an event, and has the answer to it.
-use Rattle.std.specs.Prelude.{◌≡◌, ℕ, suc, ◌<◌, ◌≤◌, true, false, List, take, slice_get, Option, None, Some, is_some, option_map}
+use Rattle.std.specs.Prelude.{◌≡◌, ◌≢◌, ◌⊎◌, ℕ, suc, ◌+◌, ◌<◌, ◌≤◌, true, false, List, count_by, length, take, slice_get, Option, None, Some, is_some, option_map}
+use Rattle.mt_names.specs.declared.types.TabletType.{TabletType}
 use Rattle.mt_names.specs.declared.types.TabletType.TheVariants.{Primary}
 use Rattle.mt_names.specs.declared.types.TypeSet.{TypeSet}
 use Rattle.mt_model.specs.declared.entries.EntryKey.{EntryKey}
+use Rattle.mt_model.specs.declared.rows.Op.{Op}
 use Rattle.mt_model.specs.Rows.{Row}
 use Rattle.mt_plain.specs.Answers.{after}
 use Rattle.mt_plain.specs.Drive.{way_of}
-use Rattle.mt_plain.specs.Events.{Event, read, create, begin_switch, begin_reverse, step, undo, cancel, Answer, done, row}
-use Rattle.mt_plain.specs.Plain.{Live, Plain, changed_types, mover}
+use Rattle.mt_plain.specs.Events.{Event, write, read, create, begin_switch, begin_reverse, step, undo, cancel, complete, StreamName, Answer, done, row, Way}
+use Rattle.mt_plain.specs.Plain.{Live, Plain, changed_types, is_side, live_at, mover, moves, next_step, owner, write_journal}
 use Rattle.mt_plain.specs.Serve.{IsWritable, served_entry}
-use Rattle.mt_plain.specs.Writes.{client_number}
+use Rattle.mt_plain.specs.Slots.{past, read_side, running_at, slot_of}
+use Rattle.mt_plain.specs.Writes.{client_number, client_row, other_row, writes_to}
 use Rattle.mt_laws.specs.Acknowledged.{acknowledged, row_by}
+use Rattle.mt_laws.specs.Copies.{tests_level}
 use Rattle.mt_laws.specs.WayBack.{IsBegin, ends_way, ends_workflow, in_part}
 
 -- the state before a line
@@ -67,6 +71,26 @@ pub record Headline (p : Plain) (events : List Event) (answers : List Answer) : 
   -- no moved table is ever writable in two keyspaces
   pub never_writable_in_two : (i : ℕ) (table : List ℕ) (w : Live) → mover (state_at p events answers i) table ≡ Some w
       → IsWritable (state_at p events answers i) w.source table → IsWritable (state_at p events answers i) w.target table → ⊥
+  -- each write to a moved table is acknowledged at the owner
+  pub writes_at_the_owner : (i : ℕ) (keyspace table : List ℕ) (op : Op) (w : Live) → IsLine events answers i (write keyspace table op) done
+      → mover (state_at p events answers i) table ≡ Some w → is_side w keyspace ≡ true → keyspace ≡ owner w
+  -- a read at the side that isn't the owner answers, in the copied range, what the writes that were fed leave
+  pub others_answer_what_was_fed : (i : ℕ) (keyspace table : List ℕ) (key : ℕ) (tablet_type : TabletType) (r : Row) (w : Live)
+      → IsLine events answers i (read keyspace table key tablet_type) (row r) → mover (state_at p events answers i) table ≡ Some w
+      → is_side w keyspace ≡ true → keyspace ≢ owner w → r ≡ other_row (state_at p events answers i) w table key
+  -- the writes that aren't fed yet are those past the position of the stream that runs, which reads the owner
+  pub no_write_is_skipped : (i : ℕ) (name : List ℕ) (w : Live) (stream : StreamName) (at : ℕ) → live_at (state_at p events answers i) name ≡ Some w
+      → running_at (slot_of w stream) ≡ Some at → (read_side w stream ≡ owner w)
+      × (w.fed + count_by (λ e. moves w e.table) (past (state_at p events answers i) w stream at) ≡ length (writes_to (state_at p events answers i) w))
+  -- where reads are switched to the side that isn't the owner, at the catch-up and at the journal, that side has every row of the owner
+  pub no_row_is_lost : (i : ℕ) (name : List ℕ) (at : ℕ) (w : Live) (way : Way) → IsLine events answers i (step name at) done
+      → live_at (state_at p events answers i) name ≡ Some w → w.way ≡ Some way
+      → (tests_level w way ≡ true) ⊎ (next_step way ≡ write_journal) → (table : List ℕ) → moves w table ≡ true → (key : ℕ)
+      → other_row (state_at p events answers i) w table key ≡ client_row (state_at p events answers i) (owner w) table key
+  -- Complete leaves the target the rows that it answers
+  pub completion_keeps_the_rows : (i : ℕ) (name : List ℕ) (w : Live) → IsLine events answers i (complete name) done
+      → live_at (state_at p events answers i) name ≡ Some w → (table : List ℕ) → moves w table ≡ true → (key : ℕ)
+      → client_row (state_at p events answers (suc i)) w.target table key ≡ client_row (state_at p events answers i) w.target table key
   -- each primary read answers from the acknowledged writes, each once
   pub reads_answer_the_writes : (i : ℕ) (keyspace table : List ℕ) (key : ℕ) (r : Row)
       → IsLine events answers i (read keyspace table key Primary) (row r)
