@@ -4,6 +4,7 @@ pub mod CopyOrder
 pub mod Drives
 pub mod Edges
 pub mod Ends
+pub mod ExampleFiles
 pub mod ExamplesOne
 pub mod ExamplesTwo
 pub mod FreeAnswers
