@@ -4,5 +4,7 @@
 
 mod commands;
 mod controller;
+#[cfg(test)]
+mod tests;
 
 pub use controller::Core;

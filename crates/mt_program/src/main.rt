@@ -5,9 +5,12 @@ ghost use Rattle.std.specs.Prelude.{◌≡◌, IfOk};
 ghost use Rattle.mt_watch.specs.Notices.{notice_of};
 ghost use Rattle.mt_model.specs.declared.entries.Scope.TheVariants.{Routes};
 
+mod canon;
 mod script;
 #[cfg(test)]
 mod tests;
+#[cfg(test)]
+mod tests_documents;
 #[cfg(test)]
 mod tests_faults;
 #[cfg(test)]
