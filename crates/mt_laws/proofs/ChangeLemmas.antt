@@ -51,13 +51,13 @@ sides-stepped w way =
     sides-cond (eqb (suc (next_step way)) (behind_last way)) w _ _ (sides-way w (with_fresh_stream w way) way.after None (sides-fresh w way))
     (record { name = refl; source = refl; target = refl; tables = refl })
 
-sides-live_stepped : (p : Plain) (w : Live) (way : Way) → HasSides w (live_stepped p w way)
+pub sides-live_stepped : (p : Plain) (w : Live) (way : Way) → HasSides w (live_stepped p w way)
 sides-live_stepped p w way =
     let same = sides-stepped w way in
     sides-cond (eqb (next_step way) create_back) w _ _ (record { name = same.name; source = same.source; target = same.target; tables = same.tables })
     (sides-cond (eqb (next_step way) write_journal) w _ _ (record { name = same.name; source = same.source; target = same.target; tables = same.tables }) same)
 
-sides-undone : (w : Live) (way : Way) → HasSides w (live_undone w way)
+pub sides-undone : (w : Live) (way : Way) → HasSides w (live_undone w way)
 sides-undone w way =
     sides-cond (eqb (way.done - 1) 0) w _ _ (record { name = refl; source = refl; target = refl; tables = refl }) (record { name = refl; source = refl; target = refl; tables = refl })
 
@@ -65,7 +65,7 @@ sides-on_way : (w : Live) (change : Way → Live) → ((way : Way) → HasSides 
 sides-on_way w change each None = sides_same w
 sides-on_way w change each (Some way) = each way
 
-sides-advanced : (p : Plain) (w : Live) (name : StreamName) (at at_most events rows : ℕ) → HasSides w (live_advanced p w name at at_most events rows)
+pub sides-advanced : (p : Plain) (w : Live) (name : StreamName) (at at_most events rows : ℕ) → HasSides w (live_advanced p w name at at_most events rows)
 sides-advanced p w name at at_most events rows =
     let same = sides-position w name (is_fresh w.way name) (at + events) in
     record { name = same.name; source = same.source; target = same.target; tables = same.tables }

@@ -125,7 +125,7 @@ fold_filter {A} {B} f test (x ∷ xs) first same = by (λ b. fold_filter f test 
     by again false t = rw t (again first ∙ ap (λ b. fold f b xs) (sym (same x first t)))
 
 -- a test that a moved table passes
-any_moved : (test : List ℕ → Bool) (tables : List (List ℕ)) (table : List ℕ) → list_any (λ t. same_text t table) tables ≡ true → test table ≡ true → list_any test tables ≡ true
+pub any_moved : (test : List ℕ → Bool) (tables : List (List ℕ)) (table : List ℕ) → list_any (λ t. same_text t table) tables ≡ true → test table ≡ true → list_any test tables ≡ true
 any_moved test [] table e holds = absurd (true≢false (sym e))
 any_moved test (t ∷ ts) table e holds = by (same_text t table) refl (any_moved test ts table)
   where

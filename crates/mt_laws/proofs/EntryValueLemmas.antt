@@ -65,7 +65,7 @@ of_twelve source target table key is = by (in-append (keys_of_name None table) (
     by (inl i) = of_name None table key i
     by (inr i) = later (in-append (keys_of_name (Some source) table) (keys_of_name (Some target) table) key i)
 
-in-flat_map : {X Y : Type 0} (f : X → List Y) (xs : List X) (y : Y) → IsIn y (flat_map f xs) → (x : X) × IsIn x xs × IsIn y (f x)
+pub in-flat_map : {X Y : Type 0} (f : X → List Y) (xs : List X) (y : Y) → IsIn y (flat_map f xs) → (x : X) × IsIn x xs × IsIn y (f x)
 in-flat_map f [] y is = absurd is
 in-flat_map f (x ∷ xs) y is = by (in-flat_map f xs y) (in-append (f x) (flat_map f xs) y is)
   where
@@ -73,7 +73,7 @@ in-flat_map f (x ∷ xs) y is = by (in-flat_map f xs y) (in-append (f x) (flat_m
     by again (inl i) = (x, inl refl, i)
     by again (inr i) = let r = again i in (r.0, inr r.1, r.2)
 
-in_moved : (w : Live) (table : List ℕ) → IsIn table w.tables → moves w table ≡ true
+pub in_moved : (w : Live) (table : List ℕ) → IsIn table w.tables → moves w table ≡ true
 in_moved w table is = any-in (λ t. same_text t table) w.tables table is ((same_text_decides table table).1 refl)
 
 not_moved : (w : Live) (table other : List ℕ) → moves w other ≡ false → IsIn table w.tables → table ≢ other
@@ -94,7 +94,7 @@ is_marked-with (table ∷ tables) state other apart =
     ∙ is_marked-set_elsewhere (with_mark_place state.tables table) table other true (apart table (inl refl))
     ∙ is_marked-with_mark_place state.tables table other
 
-denied-with : (tables : List (List ℕ)) (state : KeyspaceState) → (with_tables tables state).denied ≡ state.denied
+pub denied-with : (tables : List (List ℕ)) (state : KeyspaceState) → (with_tables tables state).denied ≡ state.denied
 denied-with [] state = refl
 denied-with (table ∷ tables) state = denied-with tables (with_new_table table state)
 

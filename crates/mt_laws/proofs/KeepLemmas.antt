@@ -26,14 +26,14 @@ pub record Keeps (P : Live → Type 0) (p : Plain) (event : Event) (w : Live) : 
   pub advances : (workflow : List ℕ) (stream : StreamName) (at at_most events rows : ℕ) → live_at p workflow ≡ Some w → advance_refusal p stream at at_most w ≡ None
       → Answers p (advance workflow stream at at_most) (advanced events rows) → P (live_advanced p w stream at at_most events rows)
 
-changed_has : (P : Live → Type 0) (change : Live → Live) (name : List ℕ) (w : Live) → P w → (same_text w.name name ≡ true → P (change w)) → P (changed change name w)
+pub changed_has : (P : Live → Type 0) (change : Live → Live) (name : List ℕ) (w : Live) → P w → (same_text w.name name ≡ true → P (change w)) → P (changed change name w)
 changed_has P change name w holds here = by (same_text w.name name) refl
   where
     by : (t : Bool) → same_text w.name name ≡ t → P (cond t (change w) w)
     by true t = here t
     by false t = holds
 
-on_way_has : (P : Live → Type 0) (w : Live) (change : Way → Live) → P w → ((way : Way) → w.way ≡ Some way → P (change way)) → (o : Option Way) → w.way ≡ o → P (option_map_or change o w)
+pub on_way_has : (P : Live → Type 0) (w : Live) (change : Way → Live) → P w → ((way : Way) → w.way ≡ Some way → P (change way)) → (o : Option Way) → w.way ≡ o → P (option_map_or change o w)
 on_way_has P w change holds each None is = holds
 on_way_has P w change holds each (Some way) is = each way is
 

@@ -103,7 +103,7 @@ there_if_kept p w keyspace table has is kept = by (or-cases (same_text w.source 
 
 -- ---- no event but Complete changes an entry that a live workflow keeps
 
-add_table-none : (p : Plain) (keyspace table : List ℕ) → refusal_of p (add_table keyspace table) ≡ None → has_table p keyspace table ≡ false
+pub add_table-none : (p : Plain) (keyspace table : List ℕ) → refusal_of p (add_table keyspace table) ≡ None → has_table p keyspace table ≡ false
 add_table-none p keyspace table none =
     let limit = refuse_if (nat_le most_tables_in_keyspace (table_count p keyspace)) full in
     let r = or_else-none (refuse_if (not (has_keyspace p keyspace)) no_keyspace) (or_else (refuse_if (has_table p keyspace table) exists) limit) none in

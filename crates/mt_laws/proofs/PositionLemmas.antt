@@ -31,11 +31,11 @@ use Rattle.mt_laws.proofs.LogLemmas.{logs_grow}
 
 -- ---- the position of a slot
 
-abbrev rest_at : Live → StreamName → ℕ
+abbrev pub rest_at : Live → StreamName → ℕ
 rest_at w forward = w.forward_at
 rest_at w back = w.back_at
 
-abbrev position_in : Live → StreamName → ℕ
+abbrev pub position_in : Live → StreamName → ℕ
 position_in w name = cond (is_fresh w.way name) w.fresh_at (rest_at w name)
 
 rest_position : (w : Live) (t : Bool) (name : StreamName) (s : Slot) → slot_at_rest w t name ≡ Some s → s.position ≡ rest_at w name
@@ -405,7 +405,7 @@ advanced-le p workflow w stream at at_most events rows live given = by given.1
         (ltb 0 rows) (ltb rows (most_rows p w stream at at_most))
         (sym (ap (λ o. option_map_or (λ v. may_be_cut p v stream at at_most events rows) o false) live) ∙ cut)
 
-running_slot : (o : Option Slot) (at : ℕ) → running_at o ≡ Some at → (s : Slot) × (o ≡ Some s) × (s.position ≡ at)
+pub running_slot : (o : Option Slot) (at : ℕ) → running_at o ≡ Some at → (s : Slot) × (o ≡ Some s) × (s.position ≡ at)
 running_slot None at e = absurd cc
 running_slot (Some s) at e = (s, refl, by s.state e)
   where
@@ -414,14 +414,14 @@ running_slot (Some s) at e = (s, refl, by s.state e)
     by stopped f = absurd cc
     by frozen f = absurd cc
 
-advance_at_position : (p : Plain) (w : Live) (stream : StreamName) (at at_most : ℕ) → advance_refusal p stream at at_most w ≡ None → position_in w stream ≡ at
+pub advance_at_position : (p : Plain) (w : Live) (stream : StreamName) (at at_most : ℕ) → advance_refusal p stream at at_most w ≡ None → position_in w stream ≡ at
 advance_at_position p w stream at at_most none =
     let r = running_slot (slot_of w stream) at (advance_runs p w stream at at_most (running_at (slot_of w stream)) none) in
     sym (slot_position w stream r.0 r.1) ∙ r.2
 
 -- ---- each position lies in its log
 
-abbrev Within : (StreamName → ℕ) → Live → Type 0
+abbrev pub Within : (StreamName → ℕ) → Live → Type 0
 Within bound v = (name : StreamName) → (rest_at v name ≤ bound name) × (position_in v name ≤ bound name)
 
 within_kept : (p : Plain) (event : Event) (w : Live) (bound : StreamName → ℕ) → ((name : StreamName) → log_length p (read_side w name) ≤ bound name) → IsTurned w
@@ -493,7 +493,7 @@ read_side-same : (w v : Live) → HasSides w v → (name : StreamName) → read_
 read_side-same w v same forward = same.source
 read_side-same w v same back = same.target
 
-abbrev IsWithin : Plain → Live → Type 0
+abbrev pub IsWithin : Plain → Live → Type 0
 IsWithin p w = IsTurned w × Within (λ name. log_length p (read_side w name)) w
 
 within_new : (p q : Plain) (name source target : List ℕ) (tables : List (List ℕ)) → log_length p source ≤ log_length q source → IsWithin q (made_live p name source target tables)
@@ -519,7 +519,7 @@ within_next p event answer w live given is = (
     bound : StreamName → ℕ
     bound name = log_length (next p event answer) (read_side w name)
 
-reached_within : (p : Plain) → IsReached p → (w : Live) → IsIn w p.lives → IsWithin p w
+pub reached_within : (p : Plain) → IsReached p → (w : Live) → IsIn w p.lives → IsWithin p w
 reached_within =
     reached_keeps (λ p. (w : Live) → IsIn w p.lives → IsWithin p w) (λ scopes w is. absurd is)
     (λ p event answer has given all.

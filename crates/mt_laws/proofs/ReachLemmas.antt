@@ -68,7 +68,7 @@ create-none p name source target tables none =
     }
 
 -- a table that a list names
-named : (tables : List (List ℕ)) (table : List ℕ) → list_any (λ t. same_text t table) tables ≡ true → IsIn table tables
+pub named : (tables : List (List ℕ)) (table : List ℕ) → list_any (λ t. same_text t table) tables ≡ true → IsIn table tables
 named [] table e = absurd (true≢false (sym e))
 named (t ∷ ts) table e = by (named ts table) (same_text t table) refl
   where
@@ -77,7 +77,7 @@ named (t ∷ ts) table e = by (named ts table) (same_text t table) refl
     by again false b = inr (again (rw b at e))
 
 -- where no live workflow moves a table, its keyspace has it by the topology alone
-there_unmoved : (p : Plain) (keyspace table : List ℕ) → mover p table ≡ None → has_table p keyspace table ≡ true → is_present p.topology.keyspaces keyspace table ≡ true
+pub there_unmoved : (p : Plain) (keyspace table : List ℕ) → mover p table ≡ None → has_table p keyspace table ≡ true → is_present p.topology.keyspaces keyspace table ≡ true
 there_unmoved p keyspace table none has =
     sym (ap (λ t. cond t true (is_present p.topology.keyspaces keyspace table))
     (any-nowhere (λ w. moves w table && same_text w.target keyspace) p.lives
@@ -105,7 +105,7 @@ module _ (p : Plain) (name source target : List ℕ) (tables : List (List ℕ)) 
 
 -- ---- where a live workflow comes from
 
-not_ended : (p : Plain) (event : Event) (answer : Answer) (w : Live) → IsIn w (next p event answer).lives → ends_workflow w.name event answer ≡ false
+pub not_ended : (p : Plain) (event : Event) (answer : Answer) (w : Live) → IsIn w (next p event answer).lives → ends_workflow w.name event answer ≡ false
 not_ended p (cancel name) done w is = by (same_text name w.name) refl
   where
     by : (t : Bool) → same_text name w.name ≡ t → same_text name w.name ≡ false
@@ -127,7 +127,7 @@ pub data ComesFrom (p : Plain) (event : Event) (answer : Answer) (w : Live) : Ty
   new : (name source target : List ℕ) (tables : List (List ℕ)) → event ≡ create name source target tables
       → w.name ≡ name → w.source ≡ source → w.target ≡ target → w.tables ≡ tables → w.way ≡ None → ComesFrom p event answer w
 
-comes_from : (p q : Plain) (event : Event) (answer : Answer) → LivesAfter p q event answer → (w : Live) → IsIn w q.lives → ComesFrom p event answer w
+pub comes_from : (p q : Plain) (event : Event) (answer : Answer) → LivesAfter p q event answer → (w : Live) → IsIn w q.lives → ComesFrom p event answer w
 comes_from p q event answer (mapped lives) w is =
     let r = in-map (live_next p event answer) p.lives w (subst (IsIn w) lives is) in
     old r.0 r.1 r.2

@@ -108,26 +108,26 @@ rest_runs w true back at e = refl
 rest_runs w false back at e = absurd cc
 
 -- a stream that feeds a way runs as it did before it, until it is stopped
-feeding_runs : (t : Bool) (o : Option Slot) (at : ℕ) → running_at (option_map (λ (s : Slot). cond t (record s { state = stopped }) s) o) ≡ Some at → (t ≡ false) × (running_at o ≡ Some at)
+pub feeding_runs : (t : Bool) (o : Option Slot) (at : ℕ) → running_at (option_map (λ (s : Slot). cond t (record s { state = stopped }) s) o) ≡ Some at → (t ≡ false) × (running_at o ≡ Some at)
 feeding_runs true None at e = absurd cc
 feeding_runs true (Some s) at e = absurd cc
 feeding_runs false None at e = absurd cc
 feeding_runs false (Some s) at e = (refl, e)
 
 -- the other stream runs as before the way until it is made anew, and then once it is started
-other_runs : (made started : Bool) (fresh : ℕ) (o : Option Slot) (at : ℕ) → running_at (cond made (Some (record { state = cond started running stopped; position = fresh })) o) ≡ Some at
+pub other_runs : (made started : Bool) (fresh : ℕ) (o : Option Slot) (at : ℕ) → running_at (cond made (Some (record { state = cond started running stopped; position = fresh })) o) ≡ Some at
     → (made ≡ true → started ≡ true) × (made ≡ false → running_at o ≡ Some at)
 other_runs true true fresh o at e = (λ m. refl, λ m. absurd (true≢false m))
 other_runs true false fresh o at e = absurd cc
 other_runs false started fresh o at e = (λ m. absurd (true≢false (sym m)), λ m. e)
 
-differ_to : (before after : Bool) → differ before after ≡ true → after ≡ not before
+pub differ_to : (before after : Bool) → differ before after ≡ true → after ≡ not before
 differ_to true true e = absurd (true≢false (sym e))
 differ_to true false e = refl
 differ_to false true e = refl
 differ_to false false e = absurd (true≢false (sym e))
 
-differ_not : (before after : Bool) → differ before after ≡ false → after ≡ before
+pub differ_not : (before after : Bool) → differ before after ≡ false → after ≡ before
 differ_not true true e = refl
 differ_not true false e = absurd (true≢false e)
 differ_not false true e = absurd (true≢false e)

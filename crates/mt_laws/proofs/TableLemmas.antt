@@ -35,7 +35,7 @@ opening_has_numbers scopes = record {
 -- ---- look-ups by cases
 
 -- whether a key is one or another
-same_or_other : (a b : RuleTarget) → (a ≡ b) ⊎ (a ≢ b)
+pub same_or_other : (a b : RuleTarget) → (a ≡ b) ⊎ (a ≢ b)
 same_or_other a b = by (same_target a b) refl
   where
     by : (t : Bool) → same_target a b ≡ t → (a ≡ b) ⊎ (a ≢ b)
@@ -51,7 +51,7 @@ same_or_other_name a b = by (same_text a b) refl
 
 module _ {K V : Type 0} (same : K → K → Bool) where
   -- what wasn't there before is the one added, or isn't there
-  lookup-push_new : (es : List (K × V)) (e : K × V) (k : K) → lookup (same k) es ≡ None → lookup (same k) (es ++ e ∷ []) ≡ cond (same k e.0) (Some e.1) None
+  pub lookup-push_new : (es : List (K × V)) (e : K × V) (k : K) → lookup (same k) es ≡ None → lookup (same k) (es ++ e ∷ []) ≡ cond (same k e.0) (Some e.1) None
   lookup-push_new [] e k none = refl
   lookup-push_new (d ∷ es) e k none = by (lookup-push_new es e k) (same k d.0) refl
     where
@@ -62,7 +62,7 @@ module _ {K V : Type 0} (same : K → K → Bool) where
 -- ---- which tables are there
 
 -- a keyspace that is made has no table
-is_present-with_keyspace : (t : TopologyState) (name keyspace table : List ℕ) → is_present (with_keyspace t name).keyspaces keyspace table ≡ true → is_present t.keyspaces keyspace table ≡ true
+pub is_present-with_keyspace : (t : TopologyState) (name keyspace table : List ℕ) → is_present (with_keyspace t name).keyspaces keyspace table ≡ true → is_present t.keyspaces keyspace table ≡ true
 is_present-with_keyspace t name keyspace table has = by (keyspace_at t.keyspaces keyspace) refl
   where
     made : KeyspaceState
@@ -97,7 +97,7 @@ is_marked-new marks name table other has = by (lookup (same_text name) marks) re
         let h = rw is at has in
         rw was at (rw place at h)
 
-is_present-with_table : (t : TopologyState) (k name keyspace table : List ℕ) → in_keyspace k name ≢ in_keyspace keyspace table → is_present (with_table t k name).keyspaces keyspace table ≡ true → is_present t.keyspaces keyspace table ≡ true
+pub is_present-with_table : (t : TopologyState) (k name keyspace table : List ℕ) → in_keyspace k name ≢ in_keyspace keyspace table → is_present (with_table t k name).keyspaces keyspace table ≡ true → is_present t.keyspaces keyspace table ≡ true
 is_present-with_table t k name keyspace table other has = by (keyspace_at t.keyspaces k) refl
   where
     by : (o : Option KeyspaceState) → keyspace_at t.keyspaces k ≡ o → is_present t.keyspaces keyspace table ≡ true

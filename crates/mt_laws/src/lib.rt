@@ -19,8 +19,8 @@ pub use changes::{
     rows_and_streams_change_no_entry, traffic_commands_change_their_own_part_alone,
 };
 pub use copies::{
-    level_is_what_it_says, the_other_side_answers_by_the_writes_that_were_fed,
-    what_was_fed_stays_fed,
+    all_writes_are_fed_at_the_journal, level_is_what_it_says,
+    the_other_side_answers_by_the_writes_that_were_fed, what_was_fed_stays_fed,
 };
 pub use events::{
     answers_are_determined, limits_are_told_last, reads_answer_the_row,
@@ -32,7 +32,9 @@ pub use rows::{
     each_primary_read_answers_from_the_acknowledged_writes,
     neither_side_serves_between_the_refreshes, the_owner_alone_serves_the_primary,
 };
-pub use runs::{reads_answer_the_acknowledged_writes, tables_are_told_apart};
+pub use runs::{
+    a_moved_table_keeps_its_number, reads_answer_the_acknowledged_writes, tables_are_told_apart,
+};
 pub use scripts::{
     drives_end_within_their_turns, each_line_that_writes_writes_one_line,
     output_is_what_is_written_where_memory_is_ample,

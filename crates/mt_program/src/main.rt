@@ -3,7 +3,6 @@
 
 ghost use Rattle.std.specs.Prelude.{◌≡◌, IfOk};
 ghost use Rattle.mt_watch.specs.Notices.{notice_of};
-ghost use Rattle.mt_model.specs.declared.entries.Scope.TheVariants.{Routes};
 
 mod canon;
 mod script;
@@ -19,67 +18,87 @@ mod tests_limits;
 mod tests_operations;
 #[cfg(test)]
 mod tests_refusals;
+mod watching;
 
 use crate::script::run_script;
+use crate::watching::scopes_of;
+use mt_choice::{Choice, Wrong, choose};
 use mt_io::ScriptFault;
-use mt_watch::{Callback, Change, Notice, Scope, WatchFault, Watcher, Watchers};
+use mt_names::KeyspaceName;
+use mt_watch::{Callback, Change, Notice, WatchFault, Watcher, Watchers};
 use std::io;
 use std::io::ErrorKind;
 use std::process::ExitCode;
 
-/// What a command line that isn't understood is answered with.
-const USAGE: &str =
-    "usage: mt run [KEYSPACE].. | mt rules | mt topology | mt race [--clients N] [--writes N]";
-
-/// Whether the words of a command line, without the program's own, are `run` alone. Words that are no UTF-8 are not.
-fn is_run(rt: &HostRuntime) -> Result<bool, ScriptFault> {
-    let mut words = match std::env::args(rt) {
+/// What the words of the command line ask for. Words that are no UTF-8 ask for nothing.
+fn asked(rt: &HostRuntime) -> Result<Choice, Wrong> {
+    let words = match std::env::args(rt) {
         Ok(words) => words,
-        Err(error) if error.kind() == ErrorKind::OutOfMemory => return Err(ScriptFault::Memory),
-        Err(_) => return Ok(false),
+        Err(error) if error.kind() == ErrorKind::OutOfMemory => return Err(Wrong::Memory),
+        Err(_) => return Err(Wrong::Usage),
     };
-    words.next();
-    let Some(word) = words.next() else {
-        return Ok(false);
+    let words: Vec<String> = match words.collect(rt.alloc()) {
+        Ok(words) => words,
+        Err(_) => return Err(Wrong::Memory),
     };
-    Ok(word.as_str() == "run" && words.next().is_none())
+    choose(rt.alloc(), words.as_slice())
 }
 
-/// Runs the script of standard input, with a watcher for the routers, which tells itself what concerns them.
-fn run(rt: &HostRuntime) -> Result<(), ScriptFault> {
+/// Runs the script of standard input, with a watcher for the routers and one for the primary of each keyspace. Each tells
+/// itself what of a change concerns its scope.
+fn run(rt: &HostRuntime, keyspaces: &[KeyspaceName]) -> Result<(), ScriptFault> {
     let alloc = rt.alloc();
-    let call: Callback = match Box::new(
-        alloc,
-        move |change: &Change| -> Result<Notice, WatchFault>
-            ensures { IfOk result (λ notice. notice ≡ notice_of Routes change.now) }
-        { Notice::of(alloc, &Scope::Routes, change).map_err(|_| WatchFault(0)) },
-    ) {
-        Ok(call) => call,
-        Err(_) => return Err(ScriptFault::Memory),
-    };
     let mut watchers = Watchers::new(alloc);
-    if watchers.add(Watcher::new(Scope::Routes, call)).is_err() {
-        return Err(ScriptFault::Memory);
+    for scope in scopes_of(alloc, keyspaces)? {
+        let own = scope.copied();
+        let call: Callback = match Box::new(
+            alloc,
+            move |change: &Change| -> Result<Notice, WatchFault>
+                ensures { IfOk result (λ notice. notice ≡ notice_of own change.now) }
+            { Notice::of(alloc, &own, change).map_err(|_| WatchFault(0)) },
+        ) {
+            Ok(call) => call,
+            Err(_) => return Err(ScriptFault::Memory),
+        };
+        if watchers.add(Watcher::new(scope, call)).is_err() {
+            return Err(ScriptFault::Memory);
+        }
     }
-    let mut reader = rt.reader();
-    let mut writer = io::writer(rt);
-    run_script(alloc, &mut reader, &mut writer, &watchers)
+    run_script(alloc, &mut rt.reader(), &mut io::writer(rt), &watchers)
 }
 
-fn main(rt: HostRuntime) -> io::Result<ExitCode> {
-    let ended = match is_run(&rt) {
-        Ok(true) => run(&rt),
-        Ok(false) => {
-            eprintln!(rt; "{USAGE}")?;
-            return Ok(ExitCode::from(2));
-        }
-        Err(fault) => Err(fault),
-    };
-    match ended {
-        Ok(()) => Ok(ExitCode::SUCCESS),
+/// How the program ends: a document that was refused is on standard output, a fault is told on standard error.
+fn ended(rt: &HostRuntime, end: Result<bool, ScriptFault>) -> io::Result<ExitCode> {
+    match end {
+        Ok(true) => Ok(ExitCode::SUCCESS),
+        Ok(false) => Ok(ExitCode::FAILURE),
         Err(fault) => {
             eprintln!(rt; "fault {fault}")?;
             Ok(ExitCode::FAILURE)
         }
+    }
+}
+
+/// Tells on standard error why a command line asks for nothing.
+fn refused(rt: &HostRuntime, wrong: Wrong) -> io::Result<ExitCode> {
+    eprintln!(rt; "{wrong}")?;
+    match wrong {
+        Wrong::Memory => Ok(ExitCode::FAILURE),
+        Wrong::Usage | Wrong::Words(_) => Ok(ExitCode::from(2)),
+    }
+}
+
+fn main(rt: HostRuntime) -> io::Result<ExitCode> {
+    match asked(&rt) {
+        Ok(Choice::Run(keyspaces)) => ended(&rt, run(&rt, &keyspaces).map(|()| true)),
+        Ok(Choice::Rules) => refused(&rt, Wrong::Usage),
+        Ok(Choice::Topology) => refused(&rt, Wrong::Usage),
+        // clients that race with a switch have not come yet
+        Ok(Choice::Race { .. }) => refused(&rt, Wrong::Usage),
+        Ok(Choice::Help(text)) => {
+            print!(rt; "{text}")?;
+            Ok(ExitCode::SUCCESS)
+        }
+        Err(wrong) => refused(&rt, wrong),
     }
 }

@@ -23,6 +23,8 @@ use Rattle.mt_rules.specs.Read.{rule_of, or_bad_name, rules_of_value, with_one_m
 use Rattle.mt_rules.specs.Rules.{has_rule_place}
 use Rattle.mt_rules.specs.Values.{IsNamed, IsWellSorted, Says, document_value, rule_value, ruled, rules_value}
 use Rattle.mt_model.specs.Documents.{rules_text, sorted_rules}
+use Rattle.std.specs.Prelude.{if◌then◌else◌, option_and_then, None}
+use Rattle.mt_rules.specs.Whole.{rules_in, rules_of, unless_fault, with_new_rule}
 use Rattle.mt_rules.proofs.ReadLemmas.{value_of_text-some}
 use Rattle.mt_rules.proofs.RulesLemmas.{with_one_more-new}
 use Rattle.mt_rules.proofs.TextLemmas.{compact_text-document}
@@ -33,7 +35,7 @@ no_float : (rs : List (RuleKey × RuleTarget)) → items_have_float (items_of (m
 no_float [] = refl
 no_float (r ∷ rs) = no_float rs
 
-not_deep : (rs : List (RuleKey × RuleTarget)) → items_depth (items_of (map rule_value rs)) ≤ 2
+pub not_deep : (rs : List (RuleKey × RuleTarget)) → items_depth (items_of (map rule_value rs)) ≤ 2
 not_deep [] = omega arith
 not_deep (r ∷ rs) = max-le {a = depth (rule_value r)} (omega arith) (not_deep rs)
 
@@ -88,6 +90,21 @@ with_rules-back acc (r ∷ rs) named lacks distinct room =
 nothing_lacks : (keys : List RuleKey) → AllByRecursion (λ k. has_rule_place [] k ≡ false) keys
 nothing_lacks [] = tt
 nothing_lacks (k ∷ keys) = (refl, nothing_lacks keys)
+
+-- the same of the rules as a member of a larger document
+rules_of-back : (acc : Rules) (rs : List (RuleKey × RuleTarget)) → AllByRecursion IsNamed rs → AllByRecursion (λ k. has_rule_place acc k ≡ false) (keys_of (ruled rs)) → IsDistinct same_key (keys_of (ruled rs))
+    → rules_of acc (items_of (map rule_value rs)) ≡ Some (acc ++ ruled rs)
+unfolding IsDistinct
+rules_of-back acc [] named lacks distinct = ap Some (sym (append-nil acc))
+rules_of-back acc (r ∷ rs) named lacks distinct =
+    let rest = items_of (map rule_value rs) in
+    ap (λ a. option_and_then (λ more. rules_of more rest) (option_and_then (with_new_rule acc) (unless_fault a))) (rule_of-rule r named.0)
+    ∙ ap (λ b. option_and_then (λ more. rules_of more rest) (if b then None else Some (acc ++ (r.0, Some r.1) ∷ []))) lacks.0
+    ∙ rules_of-back (acc ++ (r.0, Some r.1) ∷ []) rs named.1 (lacks_more acc r (keys_of (ruled rs)) lacks.1 distinct.0) distinct.1
+    ∙ ap Some (append_assoc acc ((r.0, Some r.1) ∷ []) (ruled rs))
+
+pub rules_read_back : (rules : Rules) → IsWellSorted rules → rules_in (Some (rules_value rules)) ≡ Some (ruled (sorted_rules rules))
+rules_read_back rules sorted = rules_of-back [] (sorted_rules rules) sorted.named (nothing_lacks (keys_of (ruled (sorted_rules rules)))) sorted.distinct
 
 pub document_says : (rules : Rules) (d : Data) (text : List ℕ) → d ≡ document_value rules → IsWellSorted rules → length rules ≤ most_rules → IsUtf8 text
     → (depth d ≤ max_depth → read text ≡ Some d) → Says text rules

@@ -95,6 +95,7 @@ impl RoutingRules {
     pub fn to_value(&self, alloc: Global) -> Result<Value, RulesFault>
         ensures value { IfOk result (λ value. view value ≡ rules_value self.now) }
         ensures sorted { OnOk result (IsWellSorted self.now) }
+        ensures within { length self.now ≤ most_rules }
         ensures memory { IfErr result (λ fault. fault ≡ RulesFault.Memory) }
     {
         match write::value_of_rules(alloc, &self.places) {

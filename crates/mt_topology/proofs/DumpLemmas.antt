@@ -16,9 +16,10 @@ use Rattle.mt_model.specs.Topology.{KeyspaceState, TopologyState}
 use Rattle.mt_rules.specs.Values.{rule_value}
 use Rattle.mt_model.specs.Documents.{quoted, rule_text, sorted_rules}
 use Rattle.mt_rules.proofs.TextLemmas.{escape-name, escape-target, items_text-rules}
-use Rattle.mt_topology.specs.Values.{IsDenialText, IsNamedKeyspace, IsNamedTopology, dump_value, keyspace_value}
+use Rattle.mt_keyspace.specs.Values.{IsDenialText, IsNamedKeyspace, keyspace_value}
+use Rattle.mt_topology.specs.Values.{IsNamedTopology, dump_value}
 use Rattle.mt_model.specs.Documents.{document_text, keyspace_text, keyspaces_in_order, tables_in_order}
-use Rattle.mt_topology.specs.Written.{denied_in_order}
+use Rattle.mt_keyspace.specs.Written.{denied_in_order}
 
 -- ---- it has no float
 

@@ -1,59 +1,12 @@
--- Edits by hand: one of a part is one of the whole; a table more in a keyspace, a keyspace more, a rule taken away.
-use Rattle.std.proofs.Common.{◌≡◌, ℕ, Bool, true, false, ◌==◌, List, [], ◌∷◌, ◌++◌, length, Option, None, Some, is_some, unwrap_or, Result, Ok, Err, refl, sym, ap, subst, ◌∙◌}
+-- A rule taken away.
+use Rattle.std.proofs.Common.{◌≡◌, Bool, true, false, List, [], ◌∷◌, Option, None, Some, is_some, unwrap_or, refl, ap, ◌∙◌}
 use Rattle.std.proofs.lemmas.Bool.{true≢false}
-use Rattle.std.proofs.lemmas.Map.Steps.{set_value_same}
 use Rattle.std.specs.Map.{lookup, remove_entry, set_value}
-use Rattle.std.specs.Option.{option_map_or}
-use Rattle.indexmap.proofs.CallerLemmas.{insert_entry-new}
-use Rattle.indexmap.specs.IndexMap.{IndexMap, insert_entry}
 use Rattle.mt_names.specs.declared.keys.RuleKey.{RuleKey}
 use Rattle.mt_names.specs.declared.keys.RuleTarget.{RuleTarget}
-use Rattle.mt_names.specs.Names.{same_text}
 use Rattle.mt_names.specs.Same.{same_key}
-use Rattle.mt_model.specs.declared.faults.TopologyFault.{TopologyFault}
-use Rattle.mt_model.specs.declared.faults.TopologyFault.TheVariants.{Memory, NoKeyspace, NoTable, Ambiguous, Exists, Full, BadDump}
-use Rattle.mt_model.specs.Limits.{most_keyspaces}
-use Rattle.mt_model.specs.Topology.{Keyspaces, KeyspaceState, Rules, keyspace_at, rule_at, with_keyspace_state, with_new_table, without_rule_place}
-use Rattle.mt_model.proofs.TopologyLemmas.{rule_at-set_here, with_keyspace_state-found}
-use Rattle.mt_topology.specs.Edits.{Edits, add_keyspace_refusal, add_table_grows, add_table_refusal, lacks_table_place, new_table_refusal}
-
--- what an edit makes or leaves of a part, it makes or leaves of the whole
-pub Edits-carried : {A B : Type 0} (old made new : A) (old_whole made_whole new_whole : B) (refusal : Option TopologyFault) (grows : Bool) (r : Result Unit TopologyFault)
-    → (new ≡ made → new_whole ≡ made_whole) → (new ≡ old → new_whole ≡ old_whole) → Edits old refusal grows made r new → Edits old_whole refusal grows made_whole r new_whole
-Edits-carried old made new old_whole made_whole new_whole refusal grows (Ok done) makes leaves e = (e.0, makes e.1)
-Edits-carried old made new old_whole made_whole new_whole refusal grows (Err Memory) makes leaves e = (e.0, e.1, leaves e.2)
-Edits-carried old made new old_whole made_whole new_whole refusal grows (Err NoKeyspace) makes leaves e = (e.0, leaves e.1)
-Edits-carried old made new old_whole made_whole new_whole refusal grows (Err NoTable) makes leaves e = (e.0, leaves e.1)
-Edits-carried old made new old_whole made_whole new_whole refusal grows (Err Ambiguous) makes leaves e = (e.0, leaves e.1)
-Edits-carried old made new old_whole made_whole new_whole refusal grows (Err Exists) makes leaves e = (e.0, leaves e.1)
-Edits-carried old made new old_whole made_whole new_whole refusal grows (Err Full) makes leaves e = (e.0, leaves e.1)
-Edits-carried old made new old_whole made_whole new_whole refusal grows (Err BadDump) makes leaves e = (e.0, leaves e.1)
-
--- a table more in the keyspace that is found
-pub table_added : (keyspaces new : Keyspaces) (keyspace table : List ℕ) (state state_new : KeyspaceState) (r : Result Unit TopologyFault) → keyspace_at keyspaces keyspace ≡ Some state
-    → new ≡ set_value (same_text keyspace) keyspaces state_new → Edits state (new_table_refusal state table) (lacks_table_place state table) (with_new_table table state) r state_new
-    → Edits keyspaces (add_table_refusal keyspaces keyspace table) (add_table_grows keyspaces keyspace table) (with_keyspace_state (with_new_table table) keyspaces keyspace) r new
-table_added keyspaces new keyspace table state state_new r found is e =
-    let whole : Edits keyspaces (new_table_refusal state table) (lacks_table_place state table) (with_keyspace_state (with_new_table table) keyspaces keyspace) r new =
-    Edits-carried state (with_new_table table state) state_new keyspaces (with_keyspace_state (with_new_table table) keyspaces keyspace) new (new_table_refusal state table) (lacks_table_place state table) r
-    (λ made. is ∙ ap (set_value (same_text keyspace) keyspaces) made ∙ sym (with_keyspace_state-found (with_new_table table) keyspaces keyspace state found))
-    (λ same. is ∙ ap (set_value (same_text keyspace) keyspaces) same ∙ set_value_same (same_text keyspace) keyspaces state found) e in
-    subst (λ k. Edits keyspaces (option_map_or (λ s. new_table_refusal s table) k (Some NoKeyspace)) (option_map_or (λ s. lacks_table_place s table) k false) (with_keyspace_state (with_new_table table) keyspaces keyspace) r new) (sym found) whole
-
--- no keyspace of the name, and room for one
-pub keyspace_taken : (keyspaces : Keyspaces) (name : List ℕ) → is_some (keyspace_at keyspaces name) ≡ false → (length keyspaces == most_keyspaces) ≡ false → add_keyspace_refusal keyspaces name ≡ None
-keyspace_taken keyspaces name absent room = rw (absent, room) refl
-
--- and where `insert` puts it
-pub keyspace_pushed : {S : Type 0} (m : IndexMap (List ℕ) KeyspaceState S) (name copy : List ℕ) (state blank : KeyspaceState) → copy ≡ name → state ≡ blank → is_some (keyspace_at m.entries name) ≡ false → insert_entry same_text m.entries copy state ≡ m.entries ++ (name, blank) ∷ []
-keyspace_pushed m name copy state blank copied new absent =
-    ap (λ n. insert_entry same_text m.entries n state) copied ∙ ap (insert_entry same_text m.entries name) new ∙ insert_entry-new same_text m name blank (by (keyspace_at m.entries name) absent)
-  where
-    by : (r : Option KeyspaceState) → is_some r ≡ false → r ≡ None
-    by None e = refl
-    by (Some found) e = absurd (true≢false e)
-
--- ---- a rule taken away
+use Rattle.mt_model.specs.Topology.{Rules, rule_at, without_rule_place}
+use Rattle.mt_model.proofs.TopologyLemmas.{rule_at-set_here}
 
 remove_entry-set_value : {K V : Type 0} (test : K → Bool) (es : List (K × V)) (v : V) → remove_entry test (set_value test es v) ≡ remove_entry test es
 remove_entry-set_value test [] v = refl

@@ -6,7 +6,7 @@ use Rattle.mt_model.specs.declared.faults.TopologyFault.TheVariants.{Memory, NoK
 use Rattle.mt_model.specs.Limits.{most_keyspaces}
 use Rattle.mt_model.specs.Topology.{TopologyState, HasDistinctPlaces, Keyspaces, KeyspaceState, keyspace_at, with_keyspace}
 use Rattle.mt_model.proofs.DistinctLemmas.{distinct-with_keyspace}
-use Rattle.mt_topology.specs.Edits.{Edits, add_keyspace_refusal}
+use Rattle.mt_keyspace.specs.Edits.{Edits, add_keyspace_refusal}
 
 -- a fact that holds before, and of what is made where nothing is refused, holds after
 pub Edits-keeps : {A : Type 0} (P : A → Type 0) (old made new : A) (refusal : Option TopologyFault) (grows : Bool) (r : Result Unit TopologyFault) → (refusal ≡ None → P made) → P old → Edits old refusal grows made r new → P new

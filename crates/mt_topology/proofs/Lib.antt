@@ -1,9 +1,9 @@
+pub mod BackLemmas
 pub mod DumpLemmas
 pub mod EditLemmas
-pub mod GatherLemmas
 pub mod InvariantLemmas
-pub mod KeyspaceLemmas
 pub mod LoadLemmas
 pub mod OnceLemmas
+pub mod OrderLemmas
 pub mod ReserveLemmas
-pub mod SortLemmas
+pub mod SaysLemmas

@@ -14,12 +14,13 @@ use Rattle.mt_names.proofs.KeyLemmas.{name_lacks}
 use Rattle.mt_names.proofs.SameLemmas.{same_text_decides}
 use Rattle.mt_model.specs.Topology.{HasDistinctPlaces, Keyspaces, Marks, TopologyState}
 use Rattle.mt_model.specs.Documents.{comes_before, put_by_text}
-use Rattle.mt_topology.specs.Values.{IsNamedKeyspace, IsNamedTopology, by_name, by_themselves}
+use Rattle.mt_keyspace.specs.Values.{IsNamedKeyspace, by_name, by_themselves}
+use Rattle.mt_topology.specs.Values.{IsNamedTopology}
 use Rattle.mt_model.specs.Documents.{denied_sorted, denied_text, denied_texts, marked, sorted_texts}
-use Rattle.mt_topology.specs.Written.{denied_in_order, put_once}
-use Rattle.mt_topology.proofs.GatherLemmas.{all-put_once}
-use Rattle.mt_topology.proofs.LoadLemmas.{turned_text}
-use Rattle.mt_topology.proofs.SortLemmas.{marked-members}
+use Rattle.mt_keyspace.specs.Written.{denied_in_order, put_once}
+use Rattle.mt_keyspace.proofs.GatherLemmas.{all-put_once}
+use Rattle.mt_keyspace.proofs.LoadLemmas.{turned_text}
+use Rattle.mt_keyspace.proofs.SortLemmas.{marked-members}
 
 abbrev Differs : List ℕ → List (List ℕ) → Type 0
 Differs x ys = AllByRecursion (λ y. same_text x y ≡ false) ys
@@ -62,13 +63,13 @@ tail_or : List ℕ → List ℕ
 tail_or [] = []
 tail_or (b ∷ bs) = bs
 
-of_tables : (k t u : List ℕ) → same_text t u ≡ false → same_text (denied_text k t) (denied_text k u) ≡ false
+pub of_tables : (k t u : List ℕ) → same_text t u ≡ false → same_text (denied_text k t) (denied_text k u) ≡ false
 unfolding tail_or
 of_tables k t u other = apart same_text same_text_decides (denied_text k t) (denied_text k u) (λ e.
     let same : t ≡ u = ap tail_or (append_cancel_left k (dot ∷ t) (dot ∷ u) e) in
     let found : true ≡ false = sym ((same_text_decides t u).1 same) ∙ other in cc)
 
-of_keyspaces : (k l t u : List ℕ) → IsKeyspaceName k → IsKeyspaceName l → same_text k l ≡ false → same_text (denied_text k t) (denied_text l u) ≡ false
+pub of_keyspaces : (k l t u : List ℕ) → IsKeyspaceName k → IsKeyspaceName l → same_text k l ≡ false → same_text (denied_text k t) (denied_text l u) ≡ false
 of_keyspaces k l t u named other_named other = apart same_text same_text_decides (denied_text k t) (denied_text l u) (λ e.
     let same : k ≡ l = sym (before-append dot k t (name_lacks Plain dot k refl named)) ∙ ap (before dot) e ∙ before-append dot l u (name_lacks Plain dot l refl other_named) in
     let found : true ≡ false = sym ((same_text_decides k l).1 same) ∙ other in cc)
@@ -99,10 +100,10 @@ unfolding IsDistinct
 distinct-append [] ys one two all = two
 distinct-append (x ∷ xs) ys one two all = (all-append (λ y. same_text x y ≡ false) xs ys one.0 all.0, distinct-append xs ys one.1 two all.1)
 
-marked_distinct : (marks : Marks) → IsDistinct same_text (keys_of marks) → IsDistinct same_text (marked marks)
+pub marked_distinct : (marks : Marks) → IsDistinct same_text (keys_of marks) → IsDistinct same_text (marked marks)
 marked_distinct marks distinct = subst (IsDistinct same_text) (sym (marked-members marks)) (IsDistinct-keys_filter same_text (λ m. m.1) marks distinct)
 
-texts_differ : (ks : Keyspaces) → IsDistinct same_text (keys_of ks) → AllByRecursion (λ k. IsDistinct same_text (keys_of k.1.denied)) ks → AllByRecursion (λ k. IsKeyspaceName k.0) ks
+pub texts_differ : (ks : Keyspaces) → IsDistinct same_text (keys_of ks) → AllByRecursion (λ k. IsDistinct same_text (keys_of k.1.denied)) ks → AllByRecursion (λ k. IsKeyspaceName k.0) ks
     → IsDistinct same_text (flat_map denied_texts ks)
 unfolding IsDistinct
 texts_differ [] distinct denied names = tt
@@ -124,17 +125,17 @@ out-put {A} P (y ∷ ys) x all = by (λ h. out-put P ys x h) (comes_before x.0 y
     by later true h = (h.0, h.1)
     by later false h = let inside = later h.1 in (inside.0, (h.0, inside.1))
 
-of_pairs : {A : Type 0} (P : A → Type 0) (xs : List (List ℕ × A)) → AllByRecursion P (map (λ x. x.1) xs) → AllByRecursion (λ x. P x.1) xs
+pub of_pairs : {A : Type 0} (P : A → Type 0) (xs : List (List ℕ × A)) → AllByRecursion P (map (λ x. x.1) xs) → AllByRecursion (λ x. P x.1) xs
 of_pairs P [] all = tt
 of_pairs P (x ∷ xs) all = (all.0, of_pairs P xs all.1)
 
-unsorted : {A : Type 0} (P : A → Type 0) (found left : List (List ℕ × A)) → AllByRecursion (λ x. P x.1) (fold put_by_text found left) → AllByRecursion (λ x. P x.1) found × AllByRecursion (λ x. P x.1) left
+pub unsorted : {A : Type 0} (P : A → Type 0) (found left : List (List ℕ × A)) → AllByRecursion (λ x. P x.1) (fold put_by_text found left) → AllByRecursion (λ x. P x.1) found × AllByRecursion (λ x. P x.1) left
 unsorted P found [] all = (all, tt)
 unsorted P found (x ∷ left) all =
     let rest = unsorted P (put_by_text found x) left all in
     let first = out-put P found x rest.0 in (first.1, (first.0, rest.1))
 
-names_of : (ks : Keyspaces) → AllByRecursion (λ x. IsNamedKeyspace x.1) (by_name ks) → AllByRecursion (λ k. IsKeyspaceName k.0) ks
+pub names_of : (ks : Keyspaces) → AllByRecursion (λ x. IsNamedKeyspace x.1) (by_name ks) → AllByRecursion (λ k. IsKeyspaceName k.0) ks
 names_of [] all = tt
 names_of (k ∷ ks) all = (all.0.name, names_of ks all.1)
 

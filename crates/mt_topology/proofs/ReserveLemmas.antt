@@ -18,19 +18,12 @@ use Rattle.mt_model.specs.declared.entries.EntryKey.TheVariants as about
 use Rattle.mt_model.specs.Part.{part_keys, table_part_keys, with_place, with_places, without_places}
 use Rattle.mt_model.specs.Topology.{TopologyState, Keyspaces, KeyspaceState, Marks, Rules, has_place, keyspace_at, with_keyspace_state, with_mark_place, with_rule_place, with_table_place, with_denied_place}
 use Rattle.mt_model.proofs.PlaceLemmas.{place_back}
-use Rattle.mt_model.proofs.TopologyLemmas.{with_keyspace_state-found}
 use Rattle.mt_topology.specs.Part.{lacking_rules, lacks_a_place}
 
 -- a fact of what is made and of what was
 pub kept_if : {A : Type 0} (P : A → Type 0) (b : Bool) (made old new : A) → P made → P old → new ≡ (if b then made else old) → P new
 kept_if P true made old new holds was is = subst P (sym is) holds
 kept_if P false made old new holds was is = subst P (sym is) was
-
--- a change of one keyspace, or none
-pub changed_if : (change : KeyspaceState → KeyspaceState) (keyspaces new : Keyspaces) (name : List ℕ) (state state_new : KeyspaceState) (b : Bool) → keyspace_at keyspaces name ≡ Some state → state_new ≡ (if b then change state else state) → new ≡ set_value (same_text name) keyspaces state_new
-    → new ≡ (if b then with_keyspace_state change keyspaces name else keyspaces)
-changed_if change keyspaces new name state state_new true found made is = is ∙ ap (set_value (same_text name) keyspaces) made ∙ sym (with_keyspace_state-found change keyspaces name state found)
-changed_if change keyspaces new name state state_new false found made is = is ∙ ap (set_value (same_text name) keyspaces) made ∙ set_value_same (same_text name) keyspaces state found
 
 -- ---- a place that is there
 

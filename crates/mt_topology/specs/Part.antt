@@ -4,26 +4,18 @@ use Rattle.std.specs.List.{flat_map, list_any}
 use Rattle.std.specs.Map.{lookup}
 use Rattle.std.specs.Option.{option_map_or}
 use Rattle.mt_names.specs.declared.keys.RuleKey.{RuleKey}
-use Rattle.mt_names.specs.Names.{same_text}
 use Rattle.mt_names.specs.Same.{same_key}
 use Rattle.mt_model.specs.declared.entries.EntryKey.{EntryKey}
 use Rattle.mt_model.specs.declared.faults.TopologyFault.{TopologyFault}
 use Rattle.mt_model.specs.declared.faults.TopologyFault.TheVariants.{NoKeyspace, Full}
-use Rattle.mt_model.specs.Limits.{most_rules, most_tables_in_keyspace}
+use Rattle.mt_model.specs.Limits.{most_rules}
 use Rattle.mt_model.specs.Part.{table_rule_keys}
-use Rattle.mt_model.specs.Topology.{TopologyState, KeyspaceState, Marks, Rules, has_place, keyspace_at}
+use Rattle.mt_model.specs.Topology.{TopologyState, KeyspaceState, Rules, has_place, keyspace_at}
+use Rattle.mt_keyspace.specs.Room.{has_mark_room}
 
--- how many of some names lack a place, each counted as often as it is named (this profile's own)
-abbrev pub lacking_marks : Marks → List (List ℕ) → ℕ
-lacking_marks marks names = length (filter (λ name. not (is_some (lookup (same_text name) marks))) names)
-
--- the same of rule keys (this profile's own)
+-- how many of some rule keys lack a place, each counted as often as it is named (this profile's own)
 abbrev pub lacking_rules : Rules → List RuleKey → ℕ
 lacking_rules rules keys = length (filter (λ key. not (is_some (lookup (same_key key) rules))) keys)
-
--- there is room for the places that names lack (this profile's own)
-abbrev pub has_mark_room : Marks → List (List ℕ) → Bool
-has_mark_room marks names = not (nat_lt most_tables_in_keyspace (length marks + lacking_marks marks names))
 
 -- there is room for the places that rule keys lack (this profile's own)
 abbrev pub has_rule_room : Rules → List RuleKey → Bool

@@ -1,6 +1,6 @@
 //! Dumps, written and read.
 
-use crate::{Entry, Topology, TopologyFault};
+use crate::{Entry, EntryKey, Topology, TopologyFault};
 use mt_names::{KeyspaceName, RuleKey, RuleTarget, TableName};
 use std::alloc::Global;
 use std::test::Fail;
@@ -154,5 +154,65 @@ fn too_many_rules_in_a_dump(rt: HostRuntime) -> Result<(), Fail> {
         let text = format!(in alloc; "{{\"version\":1,\"rules\":[{list}{bad}]}}")?;
         assert_eq!(rt; loaded(alloc, text.as_str()), want);
     }
+    Ok(())
+}
+
+#[test]
+fn every_prefix_and_every_byte_that_is_none(rt: HostRuntime) -> Result<(), Fail> {
+    let text = TWO.as_bytes();
+    for end in 0..text.len() {
+        let cut = Topology::load(rt.alloc(), &text[..end]).err();
+        assert_eq!(rt; cut, Some(TopologyFault::BadDump));
+        let mut changed = Vec::new(rt.alloc());
+        changed.extend_from_slice(text)?;
+        changed[end] = 0xff;
+        let other = Topology::load(rt.alloc(), &changed).err();
+        assert_eq!(rt; other, Some(TopologyFault::BadDump));
+    }
+    Ok(())
+}
+
+/// Writes an entry that has a place.
+fn written(topology: &mut Topology, entry: Entry) -> Option<Entry> {
+    if topology.has_place(&entry.key()) {
+        return Some(topology.write(entry));
+    }
+    None
+}
+
+/// Whether two topologies say the same of a rule, of a denial and of a table.
+fn say_the_same(one: &Topology, other: &Topology) -> Result<bool, Fail> {
+    let (b, t) = (KeyspaceName::parse("b")?, TableName::parse("t")?);
+    let rule = EntryKey::Rule(RuleKey::parse("x")?);
+    let denied = EntryKey::Denied(b.copied(), t.copied());
+    let present = EntryKey::Present(b, t);
+    Ok(
+        one.value(&rule) == other.value(&rule)
+            && one.value(&denied) == other.value(&denied)
+            && one.value(&present) == other.value(&present),
+    )
+}
+
+#[test]
+fn a_topology_by_direct_calls(rt: HostRuntime) -> Result<(), Fail> {
+    let mut topology = Topology::new(rt.alloc());
+    let (a, b) = (KeyspaceName::parse("a")?, KeyspaceName::parse("b")?);
+    let t = TableName::parse("t")?;
+    assert_eq!(rt; topology.add_keyspace(&a), Ok(()));
+    assert_eq!(rt; topology.add_keyspace(&b), Ok(()));
+    assert_eq!(rt; topology.add_table(&b, &t), Ok(()));
+    assert_eq!(rt;
+        topology.edit_rule(&RuleKey::parse("x")?, Some(RuleTarget::parse("b.t")?)),
+        Ok(())
+    );
+    assert_eq!(rt; topology.reserve_part(&b, &a, &[t.copied()]), Ok(()));
+    let denied = Entry::Denied(b.copied(), t.copied(), true);
+    let allowed = Entry::Denied(b, t, false);
+    assert!(rt; written(&mut topology, denied.copied()) == Some(allowed.copied()));
+    assert!(rt; written(&mut topology, allowed) == Some(denied));
+    let text = topology.dump(rt.alloc())?;
+    let loaded = Topology::load(rt.alloc(), text.as_bytes())?;
+    assert!(rt; say_the_same(&loaded, &topology)?);
+    assert!(rt; is_dumped(rt.alloc(), &loaded, text.as_str())?);
     Ok(())
 }

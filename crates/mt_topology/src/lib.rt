@@ -1,15 +1,12 @@
 //! The topology: its keyspaces with their tables and denials, its routing rules, and how a name is looked up in it.
 #![tactic(auto)]
 
-mod draft;
 mod dump;
 #[cfg(test)]
 mod dump_tests;
-mod edits;
-mod keyspace;
 mod load;
-mod lookup;
 mod places;
+mod rules;
 #[cfg(test)]
 mod tests;
 mod topology;

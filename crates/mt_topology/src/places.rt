@@ -1,11 +1,10 @@
-//! Places that are made and dropped.
-ghost use Rattle.std.specs.Prelude.{◌≡◌, length, if◌then◌else◌};
+//! Whether the places of a part find room.
+ghost use Rattle.std.specs.Prelude.{◌≡◌};
 ghost use Rattle.std.specs.List.{flat_map};
 ghost use Rattle.mt_model.specs.Part.{table_rule_keys};
-ghost use Rattle.mt_model.specs.Topology.{with_denied_place, with_keyspace_state, with_rule_place, with_table_place, without_denied_place, without_table_place};
 ghost use Rattle.mt_topology.specs.Part.{has_rule_room, lacking_rules, reserve_refusal};
 
-use crate::lookup::Keyspaces;
+use mt_keyspace::Keyspaces;
 use mt_model::{MAX_RULES, TopologyFault, table_rule_keys};
 use mt_names::{KeyspaceName, RuleKey, TableName};
 use mt_rules::RoutingRules;
@@ -62,54 +61,4 @@ fn lacking_rules(rules: &RoutingRules, keys: &[RuleKey]) -> usize
     ensures { result ≡ lacking_rules rules.now keys.now }
 {
     keys.iter().filter(|key| !rules.has_place(key)).count()
-}
-
-/// Makes a place for a rule key, and answers whether it has one now.
-pub fn reserve_rule(rules: &mut RoutingRules, key: &RuleKey) -> bool
-    ensures { rules.new ≡ (if result then with_rule_place rules.old key.now else rules.old) }
-{
-    rules.reserve_key(key).is_ok()
-}
-
-/// Makes a place for a table in a keyspace, and answers whether it has one now, or the keyspace isn't there.
-pub fn reserve_table(keyspaces: &mut Keyspaces, keyspace: &KeyspaceName, table: &TableName) -> bool
-    ensures places { keyspaces.new.entries ≡ (if result then with_keyspace_state (with_table_place table.now) keyspaces.old.entries keyspace.now else keyspaces.old.entries) }
-    ensures len { length keyspaces.new.entries ≡ length keyspaces.old.entries }
-{
-    match keyspaces.get_mut(keyspace) {
-        Some(keyspace) => keyspace.reserve_table(table),
-        None => true,
-    }
-}
-
-/// Makes a place for the denial of a table in a keyspace, and answers whether it has one now, or the keyspace isn't
-/// there.
-pub fn reserve_denial(keyspaces: &mut Keyspaces, keyspace: &KeyspaceName, table: &TableName) -> bool
-    ensures places { keyspaces.new.entries ≡ (if result then with_keyspace_state (with_denied_place table.now) keyspaces.old.entries keyspace.now else keyspaces.old.entries) }
-    ensures len { length keyspaces.new.entries ≡ length keyspaces.old.entries }
-{
-    match keyspaces.get_mut(keyspace) {
-        Some(keyspace) => keyspace.reserve_denial(table),
-        None => true,
-    }
-}
-
-/// Drops the place of a table that isn't there.
-pub fn release_table(keyspaces: &mut Keyspaces, keyspace: &KeyspaceName, table: &TableName)
-    ensures places { keyspaces.new.entries ≡ with_keyspace_state (without_table_place table.now) keyspaces.old.entries keyspace.now }
-    ensures len { length keyspaces.new.entries ≡ length keyspaces.old.entries }
-{
-    if let Some(keyspace) = keyspaces.get_mut(keyspace) {
-        keyspace.release_table(table);
-    }
-}
-
-/// Drops the place of a denial that isn't there.
-pub fn release_denial(keyspaces: &mut Keyspaces, keyspace: &KeyspaceName, table: &TableName)
-    ensures places { keyspaces.new.entries ≡ with_keyspace_state (without_denied_place table.now) keyspaces.old.entries keyspace.now }
-    ensures len { length keyspaces.new.entries ≡ length keyspaces.old.entries }
-{
-    if let Some(keyspace) = keyspaces.get_mut(keyspace) {
-        keyspace.release_denial(table);
-    }
 }

@@ -3,17 +3,21 @@ ghost use Rattle.std.specs.Prelude.{◌≡◌, true, IsTrue, IfOk, IfErr, revers
 ghost use Rattle.mt_model.specs.Topology.{HasDistinctPlaces, empty_topology, has_place, key_of, resolution, value_of, with_entry, with_keyspace, with_keyspace_state, with_rule, with_table, without_table_place};
 ghost use Rattle.mt_model.specs.Part.{part_keys, table_part_keys, with_place, with_places, without_place, without_places};
 ghost use Rattle.mt_topology.specs.Part.{lacks_a_place, reserve_refusal};
-ghost use Rattle.mt_topology.specs.Dump.{IsUnlessMemory, topology_of_text};
+ghost use Rattle.mt_keyspace.specs.Load.{IsUnlessMemory};
+ghost use Rattle.mt_topology.specs.Dump.{topology_of_text};
+ghost use Rattle.mt_topology.specs.Says.{HasDeniedTables, Says};
 ghost use Rattle.mt_model.specs.Documents.{dump_text};
-ghost use Rattle.mt_topology.specs.Edits.{Edits, add_keyspace_refusal, add_table_grows, add_table_refusal, edit_rule_grows, edit_rule_refusal};
+ghost use Rattle.mt_keyspace.specs.Edits.{Edits, add_keyspace_refusal, add_table_grows, add_table_refusal};
+ghost use Rattle.mt_topology.specs.Edits.{edit_rule_grows, edit_rule_refusal};
 
-use crate::edits::{add_keyspace, add_table, put_rule, take_rule};
-use crate::lookup::{
-    Keyspaces, has_denied_place, has_place, is_denied, is_present, release_table, rule_for,
-    set_denied, set_present, sole_holder,
-};
+use crate::rules::{put_rule, reserve_rule, rule_for, take_rule};
 use crate::{load, places, write};
 use indexmap::IndexMap;
+use mt_keyspace::{
+    Keyspaces, add_keyspace, add_table, has_denied_place, has_place, is_denied, is_present,
+    release_denial, release_table, reserve_denial, reserve_table, set_denied, set_present,
+    sole_holder,
+};
 use mt_model::{Entry, EntryKey, TopologyFault, table_part_keys};
 use mt_names::{KeyspaceName, RuleKey, RuleTarget, TableName, TabletType};
 use mt_rules::RoutingRules;
@@ -72,9 +76,12 @@ impl Topology {
 
     /// The dump of the topology, version 1, as `load` reads it: compact; the keyspaces sorted by their names, each with its
     /// tables sorted; the denied tables sorted by the bytes of their texts `keyspace.table`; the rules as routing rules are
-    /// written. Places without a rule, and tables that aren't there or denied, are left out. `T0 Memory`.
+    /// written. Places without a rule, and tables that aren't there or denied, are left out. Where each denied table is
+    /// there in its keyspace, `load` reads it back as the same topology: it has the same keyspaces, and says the same of
+    /// every entry. `T0 Memory`.
     pub fn dump(&self, alloc: Global) -> Result<String, TopologyFault>
         ensures text { IfOk result (λ text. string_bytes text ≡ dump_text self.now) }
+        ensures says { IfOk result (λ text. HasDeniedTables self.now → Says (string_bytes text) self.now) }
         ensures memory { IfErr result (λ fault. fault ≡ TopologyFault.Memory) }
     {
         match write::text_of_parts(alloc, &self.rules, &self.keyspaces) {
@@ -342,12 +349,12 @@ impl Topology {
         ensures { self.new ≡ (if result then with_place self.old key.now else self.old) }
     {
         match key {
-            EntryKey::Rule(key) => places::reserve_rule(&mut self.rules, key),
+            EntryKey::Rule(key) => reserve_rule(&mut self.rules, key),
             EntryKey::Denied(keyspace, table) => {
-                places::reserve_denial(&mut self.keyspaces, keyspace, table)
+                reserve_denial(&mut self.keyspaces, keyspace, table)
             }
             EntryKey::Present(keyspace, table) => {
-                places::reserve_table(&mut self.keyspaces, keyspace, table)
+                reserve_table(&mut self.keyspaces, keyspace, table)
             }
         }
     }
@@ -377,10 +384,10 @@ impl Topology {
         match key {
             EntryKey::Rule(key) => self.rules.release_key(key),
             EntryKey::Denied(keyspace, table) => {
-                places::release_denial(&mut self.keyspaces, keyspace, table);
+                release_denial(&mut self.keyspaces, keyspace, table);
             }
             EntryKey::Present(keyspace, table) => {
-                places::release_table(&mut self.keyspaces, keyspace, table);
+                release_table(&mut self.keyspaces, keyspace, table);
             }
         }
     }

@@ -1,5 +1,5 @@
 -- The text of a line goes behind what waits, and so does a document.
-use Rattle.std.proofs.Common.{◌≡◌, ◌++◌, Some, append_assoc, subst, sym, ap, ◌∙◌}
+use Rattle.std.proofs.Common.{◌≡◌, ◌++◌, Some, append_assoc, subst}
 use Rattle.std.proofs.lemmas.Result.{err_from_is_err_and}
 use Rattle.std.specs.Prelude.{string_bytes}
 use Rattle.mt_plain.specs.Output.{line_feed}

@@ -8,7 +8,8 @@ use Rattle.mt_names.specs.Same.{same_key}
 use Rattle.mt_model.specs.Topology.{HasDistinctPlaces, TopologyState}
 use Rattle.mt_model.proofs.DistinctLemmas.{distinct-rules}
 use Rattle.mt_rules.specs.Whole.{rules_in}
-use Rattle.mt_topology.specs.Dump.{IsUnlessMemory, is_one, or_bad_dump, unless_many}
+use Rattle.mt_keyspace.specs.Load.{IsUnlessMemory, or_bad_dump}
+use Rattle.mt_topology.specs.Dump.{is_one, unless_many}
 use Rattle.mt_topology.proofs.LoadLemmas.{limits_looked_at}
 use Rattle.mt_topology.proofs.load.parts_of_value.Goals as goal
 

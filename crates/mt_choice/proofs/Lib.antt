@@ -1,0 +1,5 @@
+pub mod ChoiceLemmas
+pub mod NumberLemmas
+pub mod OptionLemmas
+pub mod RunLemmas
+pub mod WordLemmas

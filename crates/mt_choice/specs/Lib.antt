@@ -1,0 +1,4 @@
+pub mod Command
+pub mod Keyspaces
+pub mod Meaning
+pub mod Words

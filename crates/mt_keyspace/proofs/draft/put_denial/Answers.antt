@@ -1,0 +1,9 @@
+-- A denial that is reserved has a place.
+use Rattle.std.proofs.Common.{ap, is_some, ◌∙◌}
+use Rattle.std.specs.Map.{lookup}
+use Rattle.mt_names.specs.Names.{same_text}
+use Rattle.mt_model.proofs.TopologyLemmas.{with_mark_place-there}
+use Rattle.mt_keyspace.proofs.draft.put_denial.Goals as goal
+
+pub set-requires : goal.set-requires
+set-requires c = ap (λ marks. is_some (lookup (same_text c.args.table.now) marks)) c.in-Ok.ensures.1 ∙ with_mark_place-there c.args.denied.now c.args.table.now

@@ -1,0 +1,42 @@
+-- What an operator edits by hand: when a call on keyspaces is refused, and what it leaves.
+use Rattle.std.specs.Prelude.{◌≡◌, ℕ, ◌&&◌, ◌==◌, not, Bool, true, false, List, length, if◌then◌else◌, Option, None, Some, is_some, Result, Ok, Err}
+use Rattle.std.specs.Option.{option_map_or}
+use Rattle.std.specs.Map.{lookup}
+use Rattle.mt_names.specs.Names.{same_text}
+use Rattle.mt_model.specs.declared.faults.TopologyFault.{TopologyFault}
+use Rattle.mt_model.specs.declared.faults.TopologyFault.TheVariants.{Memory, NoKeyspace, Exists, Full}
+use Rattle.mt_model.specs.Limits.{most_keyspaces, most_tables_in_keyspace}
+use Rattle.mt_model.specs.Topology.{Keyspaces, KeyspaceState, is_marked, keyspace_at}
+
+-- what becomes of a value where an edit would make `made` of it, is refused as `refusal` says, and `grows` where it takes
+-- memory. A refusal leaves it as it was
+abbrev pub Edits : {A : Type 0} → A → Option TopologyFault → Bool → A → Result Unit TopologyFault → A → Type 0
+Edits old refusal grows made (Ok done) new = (refusal ≡ None) × (new ≡ made)
+Edits old refusal grows made (Err Memory) new = (refusal ≡ None) × (grows ≡ true) × (new ≡ old)
+Edits old refusal grows made (Err fault) new = (refusal ≡ Some fault) × (new ≡ old)
+
+-- a keyspace more
+abbrev pub add_keyspace_refusal : Keyspaces → List ℕ → Option TopologyFault
+add_keyspace_refusal keyspaces name =
+    if is_some (keyspace_at keyspaces name) then Some Exists
+    else if length keyspaces == most_keyspaces then Some Full
+    else None
+
+-- the table lacks a place in the keyspace
+abbrev pub lacks_table_place : KeyspaceState → List ℕ → Bool
+lacks_table_place state table = not (is_some (lookup (same_text table) state.tables))
+
+-- a table more in a keyspace
+abbrev pub new_table_refusal : KeyspaceState → List ℕ → Option TopologyFault
+new_table_refusal state table =
+    if is_marked state.tables table then Some Exists
+    else if lacks_table_place state table && (length state.tables == most_tables_in_keyspace) then Some Full
+    else None
+
+abbrev pub add_table_refusal : Keyspaces → List ℕ → List ℕ → Option TopologyFault
+add_table_refusal keyspaces keyspace table =
+    option_map_or (λ state. new_table_refusal state table) (keyspace_at keyspaces keyspace) (Some NoKeyspace)
+
+abbrev pub add_table_grows : Keyspaces → List ℕ → List ℕ → Bool
+add_table_grows keyspaces keyspace table =
+    option_map_or (λ state. lacks_table_place state table) (keyspace_at keyspaces keyspace) false

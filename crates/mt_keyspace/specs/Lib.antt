@@ -1,0 +1,5 @@
+pub mod Edits
+pub mod Load
+pub mod Room
+pub mod Values
+pub mod Written

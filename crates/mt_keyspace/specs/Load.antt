@@ -1,0 +1,121 @@
+-- The keyspaces of a dump: which a value says, however many and however large, or none.
+use Rattle.std.specs.Prelude.{◌≡◌, ◌⊎◌, ℕ, nat_lt, Bool, true, is_some, if◌then◌else◌, List, [], ◌∷◌, ◌++◌, length, codes, Option, None, Some, option_map, option_and_then, Result, Ok, Err}
+use Rattle.std.specs.Map.{lookup, set_value}
+use Rattle.indexmap.specs.IndexMap.{IndexMap}
+use Rattle.serde_json.specs.Data.{Data, null, boolean, number, string, array, object, Items, no_items, item}
+use Rattle.serde_json.specs.Find.{get, as_str}
+use Rattle.mt_names.specs.declared.keys.RuleTarget.{RuleTarget}
+use Rattle.mt_names.specs.Keys.{read_target}
+use Rattle.mt_names.specs.Names.{read_keyspace, read_table, same_text}
+use Rattle.mt_model.specs.declared.faults.TopologyFault.{TopologyFault}
+use Rattle.mt_model.specs.declared.faults.TopologyFault.TheVariants.{Memory, BadDump}
+use Rattle.mt_model.specs.Limits.{most_tables_in_keyspace}
+use Rattle.mt_model.specs.Topology.{Keyspaces, KeyspaceState, Marks, is_marked, keyspace_at}
+use Rattle.mt_rules.specs.Whole.{unless_fault}
+
+-- the list of a member, which may be missing
+abbrev pub list_of : Option Data → Option Items
+list_of None = Some no_items
+list_of (Some null) = None
+list_of (Some (boolean b)) = None
+list_of (Some (number n)) = None
+list_of (Some (string s)) = None
+list_of (Some (array ds)) = Some ds
+list_of (Some (object ms)) = None
+
+-- ---- tables
+
+-- the name of a table that a value is
+abbrev pub table_of : Data → Option (List ℕ)
+table_of d = option_and_then (λ text. unless_fault (read_table text)) (as_str d)
+
+-- marks with one more, of a name that has none yet
+abbrev pub with_new_mark : Marks → List ℕ → Option Marks
+with_new_mark marks name = if is_some (lookup (same_text name) marks) then None else Some (marks ++ (name, true) ∷ [])
+
+-- tables with one more, that is there
+abbrev pub with_table_of : Marks → Data → Option Marks
+with_table_of marks d = option_and_then (with_new_mark marks) (table_of d)
+
+-- tables of a list of texts, each a name and none of them twice; all are there
+abbrev pub tables_of : Marks → Items → Option Marks
+tables_of marks no_items = Some marks
+tables_of marks (item d ds) = option_and_then (λ more. tables_of more ds) (with_table_of marks d)
+
+-- ---- keyspaces
+
+-- the name of the keyspace that a value tells of
+abbrev pub name_of : Data → Option (List ℕ)
+name_of d = option_and_then (λ text. unless_fault (read_keyspace text)) (option_and_then as_str (get (codes "name") d))
+
+-- its tables; none is denied yet
+abbrev pub state_of : Data → Option KeyspaceState
+state_of d = option_map (λ tables. record { tables = tables; denied = [] }) (option_and_then (tables_of []) (list_of (get (codes "tables") d)))
+
+-- a keyspace more, of a name that has none yet
+abbrev pub with_new_keyspace : Keyspaces → List ℕ → KeyspaceState → Option Keyspaces
+with_new_keyspace keyspaces name state = if is_some (keyspace_at keyspaces name) then None else Some (keyspaces ++ (name, state) ∷ [])
+
+-- that of a value
+abbrev pub with_keyspace_of : Keyspaces → Data → Option Keyspaces
+with_keyspace_of keyspaces d = option_and_then (λ name. option_and_then (with_new_keyspace keyspaces name) (state_of d)) (name_of d)
+
+-- keyspaces of a list, none of them twice
+abbrev pub keyspaces_of : Keyspaces → Items → Option Keyspaces
+keyspaces_of keyspaces no_items = Some keyspaces
+keyspaces_of keyspaces (item d ds) = option_and_then (λ more. keyspaces_of more ds) (with_keyspace_of keyspaces d)
+
+-- ---- denials
+
+-- a keyspace with one denial more, of a table that is there and isn't denied yet
+abbrev pub with_new_denial : List ℕ → KeyspaceState → Option KeyspaceState
+with_new_denial table state =
+    if is_marked state.tables table then option_map (λ denied. record state { denied = denied }) (with_new_mark state.denied table) else None
+
+-- the same among the keyspaces
+abbrev pub with_denial : Keyspaces → RuleTarget → Option Keyspaces
+with_denial keyspaces target =
+    option_and_then (λ state. option_map (set_value (same_text target.keyspace) keyspaces) (with_new_denial target.table state))
+    (keyspace_at keyspaces target.keyspace)
+
+-- that of a value
+abbrev pub with_denial_of : Keyspaces → Data → Option Keyspaces
+with_denial_of keyspaces d = option_and_then (λ text. option_and_then (with_denial keyspaces) (unless_fault (read_target text))) (as_str d)
+
+-- denials of a list of texts
+abbrev pub denials_of : Keyspaces → Items → Option Keyspaces
+denials_of keyspaces no_items = Some keyspaces
+denials_of keyspaces (item d ds) = option_and_then (λ more. denials_of more ds) (with_denial_of keyspaces d)
+
+-- ---- the whole
+
+-- the keyspaces of a document, with their denials
+abbrev pub keyspaces_in : Data → Option Keyspaces
+keyspaces_in d =
+    option_and_then (λ keyspaces. option_and_then (denials_of keyspaces) (list_of (get (codes "denied") d)))
+    (option_and_then (keyspaces_of []) (list_of (get (codes "keyspaces") d)))
+
+-- a keyspace has more tables than it may have
+abbrev pub has_too_many_tables : List ℕ × KeyspaceState → Bool
+has_too_many_tables k = nat_lt most_tables_in_keyspace (length k.1.tables)
+
+-- ---- what a reading step answers
+
+-- an answer is this one, want of memory aside
+abbrev pub IsUnlessMemory : {A : Type 0} → Result A TopologyFault → Result A TopologyFault → Type 0
+IsUnlessMemory answer due = (answer ≡ Err Memory) ⊎ (answer ≡ due)
+
+-- what was read, or that the text is no dump
+abbrev pub or_bad_dump : {A : Type 0} → Option A → Result A TopologyFault
+or_bad_dump (Some x) = Ok x
+or_bad_dump None = Err BadDump
+
+-- the answer of a call that changes a value, which is this one after it
+abbrev pub answer_with : {A : Type 0} → A → Result Unit TopologyFault → Result A TopologyFault
+answer_with value (Ok done) = Ok value
+answer_with value (Err fault) = Err fault
+
+-- a map's entries, or a fault
+abbrev pub listed : {K V S : Type 0} → Result (IndexMap K V S) TopologyFault → Result (List (K × V)) TopologyFault
+listed (Ok map) = Ok map.entries
+listed (Err fault) = Err fault

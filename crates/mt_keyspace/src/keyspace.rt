@@ -1,0 +1,233 @@
+//! One keyspace of a topology.
+ghost use Rattle.std.specs.Prelude.{◌≡◌, ◌&&◌, ◌==◌, ◌≤◌, [], true, length, is_some, if◌then◌else◌, IfOk, OnOk};
+ghost use Rattle.std.specs.List.{AllByRecursion, IsDistinct};
+ghost use Rattle.std.specs.Map.{keys_of, lookup};
+ghost use Rattle.serde_json.specs.View.{view};
+ghost use Rattle.mt_names.specs.Names.{IsTableName, same_text};
+ghost use Rattle.mt_model.specs.Limits.{most_tables_in_keyspace};
+ghost use Rattle.mt_model.specs.Topology.{is_marked, with_table_mark, with_denied_mark, with_new_table, with_table_place, without_table_place, with_denied_place, without_denied_place};
+ghost use Rattle.mt_keyspace.specs.Edits.{Edits, new_table_refusal, lacks_table_place};
+ghost use Rattle.mt_keyspace.specs.Room.{has_mark_room, lacking_marks};
+ghost use Rattle.mt_keyspace.specs.Values.{HasSameTexts, texts_value};
+ghost use Rattle.mt_model.specs.Documents.{marked, tables_in_order};
+
+use crate::write;
+use indexmap::IndexMap;
+use mt_denied::DeniedTables;
+use mt_model::{MAX_TABLES_IN_KEYSPACE, TopologyFault};
+use mt_names::TableName;
+use serde_json::Value;
+use std::alloc::{AllocError, Global};
+use std::marker::Model;
+use std::mem;
+
+/// The tables of a keyspace, each there or not, and those that its primary is to refuse.
+#[derive(Drop)]
+pub struct Keyspace {
+    tables: IndexMap<TableName, bool>,
+    denied: DeniedTables,
+}
+
+impl Model for Keyspace {
+    ghost use Rattle.std.specs.Prelude.{◌≤◌, [], length};
+    ghost use Rattle.std.specs.List.{IsDistinct};
+    ghost use Rattle.std.specs.Map.{keys_of};
+    ghost use Rattle.mt_names.specs.Names.{same_text};
+    ghost use Rattle.mt_model.specs.Limits.{most_tables_in_keyspace};
+    ghost use Rattle.mt_model.specs.Topology.{KeyspaceState};
+
+    ghost Value = { KeyspaceState };
+
+    ghost view = { λ keyspace. record { tables = keyspace.tables.entries; denied = keyspace.denied } };
+
+    ghost invariant = { λ keyspace. IsDistinct same_text (keys_of keyspace.tables.entries) × (length keyspace.tables.entries ≤ most_tables_in_keyspace) };
+}
+
+impl Keyspace {
+    /// A keyspace without a table and without a denial.
+    pub(crate) fn new(alloc: Global) -> Self
+        ensures { result ≡ record { tables = []; denied = [] } }
+    {
+        Keyspace {
+            tables: IndexMap::new(alloc),
+            denied: DeniedTables::new(alloc),
+        }
+    }
+
+    /// A keyspace with these places, of which no table has two.
+    pub(crate) fn from_places(tables: IndexMap<TableName, bool>, denied: DeniedTables) -> Self
+        requires distinct { IsDistinct same_text (keys_of tables.entries) }
+        requires few { length tables.entries ≤ most_tables_in_keyspace }
+        ensures { result ≡ record { tables = tables.entries; denied = denied } }
+    {
+        Keyspace { tables, denied }
+    }
+
+    /// Whether the keyspace has a table.
+    pub(crate) fn is_present(&self, table: &TableName) -> bool
+        ensures { result ≡ is_marked self.now.tables table.now }
+    {
+        self.tables.get(table) == Some(&true)
+    }
+
+    /// Whether the keyspace's primary is to refuse a table.
+    pub(crate) fn is_denied(&self, table: &TableName) -> bool
+        ensures { result ≡ is_marked self.now.denied table.now }
+    {
+        self.denied.contains(table)
+    }
+
+    /// Whether the denial of a table has a place.
+    pub(crate) fn has_denied_place(&self, table: &TableName) -> bool
+        ensures { result ≡ is_some (lookup (same_text table.now) self.now.denied) }
+    {
+        self.denied.has_place(table)
+    }
+
+    /// Whether a table has a place.
+    pub(crate) fn has_place(&self, table: &TableName) -> bool
+        ensures { result ≡ is_some (lookup (same_text table.now) self.now.tables) }
+    {
+        self.tables.contains_key(table)
+    }
+
+    /// Says of a table that has a place whether it is there, and answers what was said before. It takes no memory.
+    pub(crate) fn set_present(&mut self, table: &TableName, is_present: bool) -> bool
+        requires { is_some (lookup (same_text table.now) self.old.tables) ≡ true }
+        ensures before { result ≡ is_marked self.old.tables table.now }
+        ensures after { self.new ≡ with_table_mark table.now is_present self.old }
+    {
+        match self.tables.get_mut(table) {
+            Some(mark) => mem::replace(mark, is_present),
+            None => false,
+        }
+    }
+
+    /// Says of a table whose denial has a place whether it is denied, and answers what was said before. It takes no
+    /// memory.
+    pub(crate) fn set_denied(&mut self, table: &TableName, is_denied: bool) -> bool
+        requires { is_some (lookup (same_text table.now) self.old.denied) ≡ true }
+        ensures before { result ≡ is_marked self.old.denied table.now }
+        ensures after { self.new ≡ with_denied_mark table.now is_denied self.old }
+    {
+        self.denied.set(table, is_denied)
+    }
+
+    /// Whether there is room for the places that tables lack.
+    pub fn has_room_for_tables(&self, tables: &[TableName]) -> bool
+        ensures { result ≡ has_mark_room self.now.tables tables.now }
+    {
+        lacking_tables(&self.tables, tables) <= MAX_TABLES_IN_KEYSPACE - self.tables.len()
+    }
+
+    /// Whether there is room for the places that denials of tables lack.
+    pub fn has_room_for_denials(&self, tables: &[TableName]) -> bool
+        ensures { result ≡ has_mark_room self.now.denied tables.now }
+    {
+        lacking_denials(&self.denied, tables) <= MAX_TABLES_IN_KEYSPACE - self.denied.len()
+    }
+
+    /// Makes a place for a table, and answers whether it has one now.
+    pub(crate) fn reserve_table(&mut self, table: &TableName) -> bool
+        ensures { self.new ≡ (if result then with_table_place table.now self.old else self.old) }
+    {
+        if self.has_place(table) {
+            return true;
+        }
+        if self.is_full_for(table) {
+            return false;
+        }
+        match self.tables.insert(table.copied(), false) {
+            Ok(_) => true,
+            Err(_) => false,
+        }
+    }
+
+    /// Makes a place for the denial of a table, and answers whether it has one now.
+    pub(crate) fn reserve_denial(&mut self, table: &TableName) -> bool
+        ensures { self.new ≡ (if result then with_denied_place table.now self.old else self.old) }
+    {
+        self.denied.reserve(table).is_ok()
+    }
+
+    /// Drops the place of a table that isn't there. It takes no memory.
+    pub(crate) fn release_table(&mut self, table: &TableName)
+        ensures { self.new ≡ without_table_place table.now self.old }
+    {
+        if !self.is_present(table) {
+            self.tables.shift_remove(table);
+        }
+    }
+
+    /// Drops the place of a denial that isn't there. It takes no memory.
+    pub(crate) fn release_denial(&mut self, table: &TableName)
+        ensures { self.new ≡ without_denied_place table.now self.old }
+    {
+        self.denied.release(table);
+    }
+
+    /// Whether a table lacks a place, and there are as many as there may be.
+    fn is_full_for(&self, table: &TableName) -> bool
+        ensures { result ≡ (lacks_table_place self.now table.now && (length self.now.tables == most_tables_in_keyspace)) }
+    {
+        !self.tables.contains_key(table) && self.tables.len() == MAX_TABLES_IN_KEYSPACE
+    }
+
+    /// The tables that are there, as the value of a list in the order of their names.
+    pub(crate) fn value_of_tables(&self, alloc: Global) -> Result<Value, AllocError>
+        ensures value { IfOk result (λ list. view list ≡ texts_value (tables_in_order self.now)) }
+        ensures named { OnOk result (AllByRecursion IsTableName (tables_in_order self.now)) }
+        ensures few { length self.now.tables ≤ most_tables_in_keyspace }
+    {
+        write::value_of_tables(alloc, &self.tables)
+    }
+
+    /// The denied tables, in the order of their names.
+    pub(crate) fn denied_tables(&self, alloc: Global) -> Result<Vec<TableName>, AllocError>
+        ensures { IfOk result (λ tables. HasSameTexts tables.items (marked self.now.denied)) }
+    {
+        if self.denied.len() == 0 {
+            return Ok(Vec::new(alloc));
+        }
+        match self.denied.sorted(alloc) {
+            Ok(tables) => Ok(tables),
+            Err(_) => Err(AllocError),
+        }
+    }
+
+    /// Adds a table. `T4 Exists`, `T5 Full` at a 257th place, `T0 Memory`.
+    pub(crate) fn add_table(&mut self, table: &TableName) -> Result<(), TopologyFault>
+        ensures { Edits self.old (new_table_refusal self.old table.now) (lacks_table_place self.old table.now) (with_new_table table.now self.old) result self.new }
+    {
+        if self.is_present(table) {
+            return Err(TopologyFault::Exists);
+        }
+        if self.is_full_for(table) {
+            return Err(TopologyFault::Full);
+        }
+        match self.tables.insert(table.copied(), true) {
+            Ok(_) => Ok(()),
+            Err(_) => Err(TopologyFault::Memory),
+        }
+    }
+}
+
+/// How many of some tables lack a place.
+fn lacking_tables(places: &IndexMap<TableName, bool>, tables: &[TableName]) -> usize
+    ensures { result ≡ lacking_marks places.now.entries tables.now }
+{
+    tables
+        .iter()
+        .filter(|table| !places.contains_key(*table))
+        .count()
+}
+
+/// How many denials of some tables lack a place.
+fn lacking_denials(denied: &DeniedTables, tables: &[TableName]) -> usize
+    ensures { result ≡ lacking_marks denied.now tables.now }
+{
+    tables
+        .iter()
+        .filter(|table| !denied.has_place(table))
+        .count()
+}

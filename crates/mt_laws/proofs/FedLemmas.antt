@@ -1,0 +1,243 @@
+-- How many writes were fed: those of all acknowledged ones that don't stand past the position of the stream that feeds.
+use Rattle.std.proofs.Common.{◌≡◌, ℕ, suc, ◌+◌, ◌-◌, ◌≤◌, Bool, true, false, not, cond, eqb, ltb, leb, List, drop, length, filter, None, Some, refl, sym, ap, ◌∙◌, subst, arith, ltb-true, lt-ltb, le-leb}
+use Rattle.std.proofs.lemmas.Bool.{true≢false, eq-eqb}
+use Rattle.std.specs.List.{count_by, list_any}
+use Rattle.std.specs.Prelude.{◌&&◌, ◌||◌}
+use Rattle.mt_names.specs.Names.{same_text}
+use Rattle.mt_names.proofs.SameLemmas.{same_text_decides}
+use Rattle.mt_model.specs.declared.rows.Op.{Op}
+use Rattle.mt_plain.specs.Answers.{Answers}
+use Rattle.mt_plain.specs.Events.{Event, write, StreamName, forward, back, Answer, done, Way}
+use Rattle.mt_plain.specs.Next.{next}
+use Rattle.mt_plain.specs.Plain.{Live, LogEntry, Plain, catch_up, changes_primary, create_back, first_step, is_side, moves, next_step, number_of, owner, refresh_target, stands_done, write_journal}
+use Rattle.mt_plain.specs.Slots.{is_fresh, log_length, log_of, read_side}
+use Rattle.mt_plain.specs.Writes.{writes_to}
+use Rattle.mt_laws.specs.Changes.{HasSides}
+use Rattle.mt_laws.specs.WayBack.{IsReached, ends_workflow}
+use Rattle.mt_laws.proofs.AllWritesLemmas.{adds, all_after, found}
+use Rattle.mt_laws.proofs.LiveLemmas.{IsIn, sides_same}
+use Rattle.mt_laws.proofs.OwnerLemmas.{IsJournaled, done_in_order, reached_journaled}
+use Rattle.mt_laws.proofs.PartLemmas.{IsSettled}
+use Rattle.mt_laws.proofs.PastLemmas.{IsOther, adds_here, moved_past, past_after}
+use Rattle.mt_laws.proofs.PlainWords.{changes_reads}
+use Rattle.mt_laws.proofs.PositionLemmas.{position_in, reached_within, rest_at}
+use Rattle.mt_laws.proofs.ReachLemmas.{reached_has_parts}
+use Rattle.mt_laws.proofs.ReadLemmas.{no_write_between, writes_at_the_owner}
+use Rattle.mt_laws.proofs.RefusalLemmas.{and-both, and-true, or-right}
+use Rattle.mt_laws.proofs.StreamLemmas.{IsTurned, differ_not, differ_to, fewer, more, reached_turned}
+
+-- ---- what is fed, and what is past a position, is all
+
+-- a side, and the position of the stream that reads it at rest, by whether that is the target
+abbrev pub side_by : Live → Bool → List ℕ
+side_by w is_target = cond is_target w.target w.source
+
+abbrev pub at_by : Live → Bool → ℕ
+at_by w is_target = cond is_target w.back_at w.forward_at
+
+abbrev pub Level : Plain → Live → (keyspace : List ℕ) → ℕ → Type 0
+Level p w keyspace at = w.fed + moved_past p w keyspace at ≡ length (writes_to p w)
+
+pub record IsFed (p : Plain) (w : Live) : Type 0 where
+  pub rests : w.way ≡ None → Level p w (side_by w w.switched.primary) (at_by w w.switched.primary)
+  pub before : (way : Way) → w.way ≡ Some way → (changes_primary way && stands_done way write_journal) ≡ false → Level p w (side_by w way.before.primary) (at_by w way.before.primary)
+  pub fresh : (way : Way) → w.way ≡ Some way → changes_primary way ≡ true → stands_done way create_back ≡ true → Level p w (side_by w (not way.before.primary)) w.fresh_at
+  pub window : (way : Way) → w.way ≡ Some way → changes_primary way ≡ true → stands_done way catch_up ≡ true → stands_done way refresh_target ≡ false → length (writes_to p w) ≤ w.fed
+
+-- ---- steps done
+
+pub before_then : (way : Way) (n : ℕ) → eqb (next_step way) n ≡ false → stands_done (more way) n ≡ true → stands_done way n ≡ true
+before_then way n other e =
+    let r = and-true (leb (first_step way) n) (ltb n (first_step way + suc way.done)) e in
+    and-both (leb (first_step way) n) (ltb n (first_step way + way.done)) r.0 (by (first_step way) r.1 other)
+  where
+    by : (first : ℕ) → ltb n (first + suc way.done) ≡ true → eqb (first + way.done) n ≡ false → ltb n (first + way.done) ≡ true
+    by first lt f =
+        let h = ltb-true n (first + suc way.done) lt in
+        let ne : first + way.done ≡ n → ⊥ = λ is. true≢false (sym (eq-eqb (first + way.done) n is) ∙ f) in
+        lt-ltb n (first + way.done) (omega arith)
+
+pub not_before : (way : Way) (n : ℕ) → stands_done (more way) n ≡ false → stands_done way n ≡ false
+not_before way n e = by (stands_done way n) refl
+  where
+    further : (first : ℕ) → ltb n (first + way.done) ≡ true → ltb n (first + suc way.done) ≡ true
+    further first lt = let h = ltb-true n (first + way.done) lt in lt-ltb n (first + suc way.done) (omega arith)
+
+    by : (t : Bool) → stands_done way n ≡ t → stands_done way n ≡ false
+    by false t = t
+    by true t =
+        let r = and-true (leb (first_step way) n) (ltb n (first_step way + way.done)) t in
+        absurd (true≢false (sym (and-both (leb (first_step way) n) (ltb n (first_step way + suc way.done)) r.0 (further (first_step way) r.1)) ∙ e))
+
+pub was_done : (way : Way) (n : ℕ) → stands_done (fewer way) n ≡ true → stands_done way n ≡ true
+was_done way n e =
+    let r = and-true (leb (first_step way) n) (ltb n (first_step way + (way.done - 1))) e in
+    and-both (leb (first_step way) n) (ltb n (first_step way + way.done)) r.0 (by (first_step way) r.1)
+  where
+    by : (first : ℕ) → ltb n (first + (way.done - 1)) ≡ true → ltb n (first + way.done) ≡ true
+    by first lt = let h = ltb-true n (first + (way.done - 1)) lt in lt-ltb n (first + way.done) (omega arith)
+
+early : (way : Way) (n : ℕ) → 1 ≤ n → leb (first_step way) n ≡ true
+early way n le = by (changes_reads way)
+  where
+    by : (t : Bool) → leb (cond t 0 1) n ≡ true
+    by true = le-leb 0 n (omega arith)
+    by false = le-leb 1 n le
+
+pub done_by : (way : Way) (n m : ℕ) → next_step way ≡ m → 1 ≤ n → suc n ≤ m → stands_done way n ≡ true
+done_by way n m is le lt = and-both (leb (first_step way) n) (ltb n (next_step way)) (early way n le) (lt-ltb n (next_step way) (omega arith))
+
+pub undone_by : (way : Way) (n m : ℕ) → next_step way ≡ m → m ≤ n → stands_done way n ≡ false
+undone_by way n m is le = by (stands_done way n) refl
+  where
+    by : (t : Bool) → stands_done way n ≡ t → stands_done way n ≡ false
+    by false t = t
+    by true t = let h = ltb-true n (next_step way) (and-true (leb (first_step way) n) (ltb n (next_step way)) t).1 in absurd (omega arith)
+
+pub and-right : (a b : Bool) → b ≡ false → (a && b) ≡ false
+and-right true b e = e
+and-right false b e = refl
+
+and-left : (a b : Bool) → a ≡ false → (a && b) ≡ false
+and-left a b e = ap (λ t. t && b) e
+
+pub if-not : (a b : Bool) → (a && b) ≡ false → a ≡ true → b ≡ false
+if-not true b e f = e
+if-not false b e f = absurd (true≢false (sym f))
+
+-- ---- the same rows, and a workflow of the same sides and tables
+
+pub writes_same : (p : Plain) (w v : Live) → HasSides w v → writes_to p v ≡ writes_to p w
+writes_same p w v same =
+    ap (λ k. filter (λ x. list_any (λ table. eqb (number_of p k table) x.table) v.tables) p.writes) (sym same.source)
+    ∙ ap (λ ts. filter (λ x. list_any (λ table. eqb (number_of p w.source table) x.table) ts) p.writes) (sym same.tables)
+
+pub past_same : (p : Plain) (w v : Live) → HasSides w v → (keyspace : List ℕ) (at : ℕ) → moved_past p v keyspace at ≡ moved_past p w keyspace at
+past_same p w v same keyspace at = ap (λ ts. count_by (λ (e : LogEntry). list_any (λ t. same_text t e.table) ts) (drop at (log_of p keyspace))) (sym same.tables)
+
+level_same : (p : Plain) (w v : Live) → HasSides w v → v.fed ≡ w.fed → (keyspace : List ℕ) (at : ℕ) → Level p w keyspace at → Level p v keyspace at
+level_same p w v same fed keyspace at level =
+    let a = past_same p w v same keyspace at in
+    let b : length (writes_to p v) ≡ length (writes_to p w) = ap length (writes_same p w v same) in
+    omega arith
+
+pub side_same : (w v : Live) → HasSides w v → (b : Bool) → side_by v b ≡ side_by w b
+side_same w v same true = sym same.target
+side_same w v same false = sym same.source
+
+-- with the positions given by equations
+pub level_moved : (p : Plain) (w v : Live) → HasSides w v → v.fed ≡ w.fed → (b : Bool) (n m : ℕ) → m ≡ n → Level p w (side_by w b) n → Level p v (side_by v b) m
+level_moved p w v same fed b n m is level =
+    subst (λ k. Level p v k m) (sym (side_same w v same b)) (subst (Level p v (side_by w b)) (sym is) (level_same p w v same fed (side_by w b) n level))
+
+pub at_same : (w v : Live) → v.forward_at ≡ w.forward_at → v.back_at ≡ w.back_at → (b : Bool) → at_by v b ≡ at_by w b
+at_same w v e f true = f
+at_same w v e f false = e
+
+-- ---- the owner
+
+module _ (w : Live) (settled : IsSettled w) (journaled : IsJournaled w) (way : Way) (opens : w.way ≡ Some way) where
+  owner_if : (b : Bool) → w.switched.primary ≡ b → owner w ≡ side_by w b
+  owner_if b e = ap (side_by w) e
+
+  pub owner_before : (changes_primary way && stands_done way write_journal) ≡ false → owner w ≡ side_by w way.before.primary
+  owner_before guard = by (stands_done way write_journal) refl (changes_primary way) refl
+    where
+      by : (j : Bool) → stands_done way write_journal ≡ j → (c : Bool) → changes_primary way ≡ c → owner w ≡ side_by w way.before.primary
+      by false j c e = owner_if way.before.primary (ap (λ s. s.primary) (settled way opens j))
+      by true j false e = owner_if way.before.primary (ap (λ s. s.primary) (journaled way opens j) ∙ differ_not way.before.primary way.after.primary e)
+      by true j true e = absurd (true≢false (sym (and-both (changes_primary way) (stands_done way write_journal) e j) ∙ guard))
+
+  pub owner_behind : changes_primary way ≡ true → stands_done way write_journal ≡ true → owner w ≡ side_by w (not way.before.primary)
+  owner_behind changes j = owner_if (not way.before.primary) (ap (λ s. s.primary) (journaled way opens j) ∙ differ_to way.before.primary way.after.primary changes)
+
+-- ---- an event that leaves the workflow as it is
+
+module _ (p : Plain) (reached : IsReached p) (w : Live) (in_it : IsIn w p.lives) where
+  settled : IsSettled w
+  settled = (reached_has_parts p reached).settled w in_it
+
+  journaled : IsJournaled w
+  journaled = reached_journaled p reached w in_it
+
+  turned : IsTurned w
+  turned = reached_turned p reached w in_it
+
+  pub at_within : (b : Bool) → at_by w b ≤ log_length p (side_by w b)
+  at_within true = ((reached_within p reached w in_it).1 back).0
+  at_within false = ((reached_within p reached w in_it).1 forward).0
+
+  fresh_within : (way : Way) → w.way ≡ Some way → changes_primary way ≡ true → stands_done way create_back ≡ true → w.fresh_at ≤ log_length p (side_by w (not way.before.primary))
+  fresh_within way opens changes created = subst (λ b. w.fresh_at ≤ log_length p (side_by w (not b))) (sym (turned way opens changes)) (by way.back refl)
+    where
+      new : (name : StreamName) → is_fresh (Some way) name ≡ true → w.fresh_at ≤ log_length p (read_side w name)
+      new name e =
+          let at : position_in w name ≡ w.fresh_at = ap (λ o. cond (is_fresh o name) w.fresh_at (rest_at w name)) opens ∙ ap (λ b. cond b w.fresh_at (rest_at w name)) e in
+          let le = ((reached_within p reached w in_it).1 name).1 in
+          omega arith
+
+      by : (b : Bool) → way.back ≡ b → w.fresh_at ≤ log_length p (side_by w (not b))
+      by true b = new forward (rw (changes, b, created) refl)
+      by false b = new back (rw (changes, b, created) refl)
+
+  side_is : (b : Bool) → is_side w (side_by w b) ≡ true
+  side_is true = or-right (same_text w.source w.target) (same_text w.target w.target) ((same_text_decides w.target w.target).1 refl)
+  side_is false = ap (λ t. t || same_text w.target w.source) ((same_text_decides w.source w.source).1 refl)
+
+  -- where each write to its tables is acknowledged at one side
+  abbrev Here : List ℕ → Type 0
+  Here keyspace = (k t : List ℕ) (op : Op) → Answers p (write k t op) done → moves w t ≡ true → is_side w k ≡ true → k ≡ keyspace
+
+  here_owner : (keyspace : List ℕ) → owner w ≡ keyspace → Here keyspace
+  here_owner keyspace is k t op given moved side = writes_at_the_owner p reached t w (found p reached w in_it t moved) k side op given ∙ is
+
+  module _ (event : Event) (answer : Answer) (given : Answers p event answer) (lives : ends_workflow w.name event answer ≡ false) where
+    level_other : (keyspace : List ℕ) (at : ℕ) (inside : at ≤ log_length p keyspace) → is_side w keyspace ≡ true → Here keyspace → IsOther p w keyspace at inside event → Level p w keyspace at → Level (next p event answer) w keyspace at
+    level_other keyspace at inside side one other level =
+        let a = all_after p reached w w in_it (sides_same w) event answer given lives in
+        let b = past_after p w keyspace at inside event answer given other in
+        let c = same event answer given in
+        omega arith
+      where
+        same : (event : Event) (answer : Answer) → Answers p event answer → adds w event answer ≡ adds_here p w keyspace at inside event answer
+        same (write k t op) done given = by (moves w t) refl (is_side w k) refl (same_text k keyspace) refl
+          where
+            by : (a : Bool) → moves w t ≡ a → (b : Bool) → is_side w k ≡ b → (c : Bool) → same_text k keyspace ≡ c → cond {A = ℕ} (moves w t && is_side w k) 1 0 ≡ cond {A = ℕ} (moves w t && same_text k keyspace) 1 0
+            by false a b e c f = rw a refl
+            by true a true e true f = ap (λ x. cond {A = ℕ} (moves w t && x) 1 0) (e ∙ sym f)
+            by true a false e false f = ap (λ x. cond {A = ℕ} (moves w t && x) 1 0) (e ∙ sym f)
+            by true a true e false f = absurd (true≢false (sym ((same_text_decides k keyspace).1 (one k t op given a e)) ∙ f))
+            by true a false e true f = absurd (true≢false (sym (ap (is_side w) ((same_text_decides k keyspace).0 f) ∙ side) ∙ e))
+        same event answer given = refl
+
+    window_other : (way : Way) → w.way ≡ Some way → changes_primary way ≡ true → stands_done way catch_up ≡ true → stands_done way refresh_target ≡ false → length (writes_to p w) ≤ w.fed → length (writes_to (next p event answer) w) ≤ w.fed
+    window_other way opens changes caught waits level =
+        let a = all_after p reached w w in_it (sides_same w) event answer given lives in
+        let b = none event answer given in
+        omega arith
+      where
+        none : (event : Event) (answer : Answer) → Answers p event answer → adds w event answer ≡ 0
+        none (write k t op) done given = by (moves w t) refl (is_side w k) refl
+          where
+            by : (a : Bool) → moves w t ≡ a → (b : Bool) → is_side w k ≡ b → cond {A = ℕ} (moves w t && is_side w k) 1 0 ≡ 0
+            by false a b e = rw a refl
+            by true a false e = rw (a, e) refl
+            by true a true e = absurd (no_write_between p reached t w way (found p reached w in_it t a) opens changes (done_in_order way 1 catch_up (omega arith) caught) waits k e op given)
+        none event answer given = refl
+
+    pub fed_other : ((keyspace : List ℕ) (at : ℕ) (inside : at ≤ log_length p keyspace) → IsOther p w keyspace at inside event) → IsFed p w → IsFed (next p event answer) w
+    fed_other other is = record {
+      rests = λ rests. let b = w.switched.primary in
+          level_other (side_by w b) (at_by w b) (at_within b) (side_is b) (here_owner (side_by w b) refl) (other (side_by w b) (at_by w b) (at_within b)) (is.rests rests);
+      before = λ way opens guard. let b = way.before.primary in
+          level_other (side_by w b) (at_by w b) (at_within b) (side_is b) (here_owner (side_by w b) (owner_before w settled journaled way opens guard)) (other (side_by w b) (at_by w b) (at_within b)) (is.before way opens guard);
+      fresh = λ way opens changes created. let b = not way.before.primary in
+          level_other (side_by w b) w.fresh_at (fresh_within way opens changes created) (side_is b) (here_fresh way opens changes created (stands_done way refresh_target) refl)
+          (other (side_by w b) w.fresh_at (fresh_within way opens changes created)) (is.fresh way opens changes created);
+      window = λ way opens changes caught waits. window_other way opens changes caught waits (is.window way opens changes caught waits);
+    }
+      where
+        here_fresh : (way : Way) → w.way ≡ Some way → changes_primary way ≡ true → stands_done way create_back ≡ true → (t : Bool) → stands_done way refresh_target ≡ t → Here (side_by w (not way.before.primary))
+        here_fresh way opens changes created true t = here_owner (side_by w (not way.before.primary)) (owner_behind w settled journaled way opens changes (done_in_order way 5 refresh_target (omega arith) t))
+        here_fresh way opens changes created false t = λ k table op given moved side.
+            absurd (no_write_between p reached table w way (found p reached w in_it table moved) opens changes (done_in_order way 1 create_back (omega arith) created) t k side op given)

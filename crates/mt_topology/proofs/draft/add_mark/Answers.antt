@@ -1,7 +1,0 @@
--- A new name goes last.
-use Rattle.std.proofs.Common.{inr, sym, ◌∙◌}
-use Rattle.mt_topology.proofs.LoadLemmas.{with_new_mark-new}
-use Rattle.mt_topology.proofs.draft.add_mark.Goals as goal
-
-pub returns-in-Ok-clause-answer : goal.returns-in-Ok-clause-answer
-returns-in-Ok-clause-answer c = inr (with_new_mark-new c.args.marks.now c.args.table _ (sym c.contains_key.ensures ∙ c.if-contains_key.false) c.in-Ok.ensures.entries)

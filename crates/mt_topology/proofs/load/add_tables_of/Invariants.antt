@@ -1,8 +1,0 @@
--- What completes the tables so far completes the whole.
-use Rattle.std.proofs.Common.{◌≡◌, drop}
-use Rattle.serde_json.specs.View.{items_view}
-use Rattle.mt_topology.specs.Dump.{tables_of}
-use Rattle.mt_topology.proofs.load.add_tables_of.Given as goal
-
-abbrev pub invariant-values : goal.invariant-values
-invariant-values l = (tables_of l.initial.draft.tables (items_view l.list) ≡ tables_of l.draft.tables (items_view (drop l.value-index l.list))) × (l.draft.denied ≡ l.initial.draft.denied)

@@ -1,9 +1,0 @@
--- One keyspace is changed, or none.
-use Rattle.std.proofs.Common.{sym}
-use Rattle.mt_model.specs.Topology.{with_table_place}
-use Rattle.mt_topology.proofs.ReserveLemmas.{changed_if}
-use Rattle.mt_topology.proofs.places.reserve_table.Goals as goal
-
-pub returns-in-Some-clause-places : goal.returns-in-Some-clause-places
-returns-in-Some-clause-places c =
-    changed_if (with_table_place c.args.table.now) c.args.keyspaces.now.entries _ c.args.keyspace.now c.in-Some.keyspace.now c.reserve_table.new.self c.reserve_table.result (sym c.in-Some.ensures.value) c.reserve_table.ensures (c.get_mut.follows.holds c.reserve_table.new.self).0

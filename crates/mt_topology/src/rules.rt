@@ -1,0 +1,57 @@
+//! What is looked up and edited at the rules.
+ghost use Rattle.std.specs.Prelude.{◌≡◌, Some, None, if◌then◌else◌};
+ghost use Rattle.mt_model.specs.Topology.{rule_for, with_rule, with_rule_place};
+ghost use Rattle.mt_keyspace.specs.Edits.{Edits};
+ghost use Rattle.mt_topology.specs.Edits.{edit_rule_grows, edit_rule_refusal};
+
+use mt_model::TopologyFault;
+use mt_names::{RuleKey, RuleTarget, TabletType};
+use mt_rules::{RoutingRules, RulesFault};
+
+/// The rule that applies to a name: that for the type, else that for all types.
+pub fn rule_for(rules: &RoutingRules, key: &RuleKey, tablet_type: TabletType) -> Option<RuleTarget>
+    ensures { result ≡ rule_for rules.now key.now tablet_type }
+{
+    let mut looked_up = key.copied();
+    looked_up.tablet_type = Some(tablet_type);
+    if let Some(target) = rules.get(&looked_up) {
+        return Some(target.copied());
+    }
+    looked_up.tablet_type = None;
+    rules.get(&looked_up).map(RuleTarget::copied)
+}
+
+/// Sets the rule of a key, and makes its place where it has none.
+pub fn put_rule(
+    rules: &mut RoutingRules,
+    key: &RuleKey,
+    target: RuleTarget,
+) -> Result<(), TopologyFault>
+    ensures { Edits rules.old (edit_rule_refusal rules.old key.now (Some target)) (edit_rule_grows rules.old key.now (Some target))
+        (with_rule rules.old key.now (Some target)) result rules.new }
+{
+    match rules.reserve_key(key) {
+        Ok(()) => {
+            rules.set(key, Some(target));
+            Ok(())
+        }
+        Err(RulesFault::Full) => Err(TopologyFault::Full),
+        Err(_) => Err(TopologyFault::Memory),
+    }
+}
+
+/// Takes the rule of a key away, with its place. It takes no memory.
+pub fn take_rule(rules: &mut RoutingRules, key: &RuleKey)
+    ensures { rules.new ≡ with_rule rules.old key.now None }
+{
+    if rules.has_place(key) {
+        rules.set(key, None);
+    }
+    rules.release_key(key);
+}
+/// Makes a place for a rule key, and answers whether it has one now.
+pub fn reserve_rule(rules: &mut RoutingRules, key: &RuleKey) -> bool
+    ensures { rules.new ≡ (if result then with_rule_place rules.old key.now else rules.old) }
+{
+    rules.reserve_key(key).is_ok()
+}
