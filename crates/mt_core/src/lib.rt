@@ -4,7 +4,5 @@
 
 mod commands;
 mod controller;
-#[cfg(test)]
-mod tests;
 
 pub use controller::Core;
