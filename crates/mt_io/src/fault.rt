@@ -6,7 +6,8 @@ use thiserror::Error;
 /// Why a script ends before its last line is answered. The topology and the rows are then gone, as after its last line.
 #[derive(Clone, Copy, Debug, Eq, Error, PartialEq)]
 pub enum ScriptFault {
-    /// No memory was left to read the script. Nothing was written.
+    /// No memory was left to read the script, and nothing was written; or none was left for a document, and what was written
+    /// is the answers to the lines before it.
     Memory,
     /// A read failed, or the script didn't come in 2,097,152 reads. Nothing was written.
     Read,

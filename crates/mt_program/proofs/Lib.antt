@@ -1,1 +1,2 @@
+pub mod CanonLemmas
 pub mod RunLemmas

@@ -4,9 +4,12 @@
 ghost use Rattle.std.specs.Prelude.{◌≡◌, IfOk};
 ghost use Rattle.mt_watch.specs.Notices.{notice_of};
 
+mod canon;
 mod script;
 #[cfg(test)]
 mod tests;
+#[cfg(test)]
+mod tests_documents;
 #[cfg(test)]
 mod tests_faults;
 #[cfg(test)]
@@ -17,6 +20,7 @@ mod tests_operations;
 mod tests_refusals;
 mod watching;
 
+use crate::canon::{canon_dump, canon_rules};
 use crate::script::run_script;
 use crate::watching::scopes_of;
 use mt_choice::{Choice, Wrong, choose};
@@ -88,8 +92,14 @@ fn refused(rt: &HostRuntime, wrong: Wrong) -> io::Result<ExitCode> {
 fn main(rt: HostRuntime) -> io::Result<ExitCode> {
     match asked(&rt) {
         Ok(Choice::Run(keyspaces)) => ended(&rt, run(&rt, &keyspaces).map(|()| true)),
-        Ok(Choice::Rules) => refused(&rt, Wrong::Usage),
-        Ok(Choice::Topology) => refused(&rt, Wrong::Usage),
+        Ok(Choice::Rules) => ended(
+            &rt,
+            canon_rules(rt.alloc(), &mut rt.reader(), &mut io::writer(&rt)),
+        ),
+        Ok(Choice::Topology) => ended(
+            &rt,
+            canon_dump(rt.alloc(), &mut rt.reader(), &mut io::writer(&rt)),
+        ),
         // clients that race with a switch have not come yet
         Ok(Choice::Race { .. }) => refused(&rt, Wrong::Usage),
         Ok(Choice::Help(text)) => {

@@ -11,7 +11,7 @@ use std::test::Fail;
 
 /// Gives one byte a call, after an interruption where it is told to, and fails in place of one call.
 #[derive(Drop)]
-struct Giver<'a> {
+pub struct Giver<'a> {
     bytes: &'a [u8],
     interrupts: bool,
     interrupted: bool,
@@ -39,7 +39,7 @@ impl<'a> Read for Giver<'a> {
 }
 
 /// A reader of some bytes.
-fn reader_of(bytes: &[u8], interrupts: bool, before_fault: Option<usize>) -> Giver<'_> {
+pub fn reader_of(bytes: &[u8], interrupts: bool, before_fault: Option<usize>) -> Giver<'_> {
     Giver {
         bytes,
         interrupts,
@@ -50,14 +50,14 @@ fn reader_of(bytes: &[u8], interrupts: bool, before_fault: Option<usize>) -> Giv
 
 /// What a writer without room does.
 #[derive(Clone, Copy, Eq, PartialEq)]
-enum NoRoom {
+pub enum NoRoom {
     Fails,
     TakesNoByte,
 }
 
 /// Takes a few bytes a call, after an interruption where it is told to, until it has no room.
 #[derive(Drop)]
-struct Taker {
+pub struct Taker {
     held: Vec<u8>,
     step: usize,
     room: usize,
@@ -87,8 +87,15 @@ impl Write for Taker {
     }
 }
 
+impl Taker {
+    /// What it took.
+    pub fn held(&self) -> &[u8] {
+        self.held.as_slice()
+    }
+}
+
 /// A writer that takes so many bytes a call, and as many as it has room for.
-fn writer_with(alloc: Global, step: usize, room: usize, no_room: NoRoom) -> Taker {
+pub fn writer_with(alloc: Global, step: usize, room: usize, no_room: NoRoom) -> Taker {
     Taker {
         held: Vec::new(alloc),
         step,
@@ -99,9 +106,9 @@ fn writer_with(alloc: Global, step: usize, room: usize, no_room: NoRoom) -> Take
     }
 }
 
-const SCRIPT: &[u8] = b"keyspace a\ntable a t\ninsert t 1 v\nget t 1\nget t 2\n";
+const SCRIPT: &[u8] = b"keyspace a\ntable a t\ninsert t 1 v\nget t 1\nrules\nget t 2\n";
 
-const OUTPUT: &[u8] = b"ok\nok\nok\nrow v\nnone\n";
+const OUTPUT: &[u8] = b"ok\nok\nok\nrow v\n{\"rules\":[]}\nnone\n";
 
 /// Whether a script read so ends so, and what was written is this.
 fn reads(alloc: Global, mut reader: Giver<'_>, end: Result<(), ScriptFault>, want: &[u8]) -> bool {

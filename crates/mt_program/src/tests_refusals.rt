@@ -24,6 +24,8 @@ fn a_long_line_is_told_first(rt: HostRuntime) -> Result<(), Fail> {
         "get t 1",
         "get a.t 1",
         "get a.t x",
+        "rules x",
+        "dump",
     ];
     for line in lines {
         long_line(&mut case, line)?;
