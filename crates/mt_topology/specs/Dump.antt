@@ -12,6 +12,7 @@ use Rattle.mt_model.specs.Topology.{KeyspaceState, Rules, TopologyState}
 use Rattle.mt_rules.specs.Read.{value_of_text}
 use Rattle.mt_rules.specs.Whole.{rules_in}
 use Rattle.mt_keyspace.specs.Load.{has_too_many_tables, keyspaces_in}
+pub use Rattle.mt_keyspace.specs.Load.{IsUnlessMemory}
 
 -- a number is the integer 1
 abbrev pub is_one : Option Num → Bool
