@@ -1,11 +1,10 @@
 -- A document that was read, and written again.
-use Rattle.std.proofs.Common.{◌≡◌, ℕ, Bool, List, [], ◌++◌, Result, Ok, Err, refl, sym, ap, ◌∙◌, subst, append-nil, inl, inr}
+use Rattle.std.proofs.Common.{ℕ, Bool, List, [], Result, Ok, Err, refl, sym, ◌∙◌, subst, append-nil, inl, inr}
 use Rattle.std.proofs.KnownBytes.{Appends-nil}
 use Rattle.std.specs.Io.KnownBytes.{Appends}
-use Rattle.mt_plain.specs.Output.{line_feed}
 use Rattle.mt_io.specs.declared.fault.ScriptFault.{ScriptFault}
 use Rattle.mt_io.specs.declared.fault.ScriptFault.TheVariants as fault
-use Rattle.mt_io.specs.Bytes.{GoesOut, Known, Reads, Writes}
+use Rattle.mt_io.specs.Bytes.{GoesOut, Known, Reads}
 use Rattle.mt_program.specs.Canon.{WritesAgain, WritesLine}
 
 -- all went out

@@ -1,13 +1,11 @@
 -- What a readable line tells is what its command tells.
-use Rattle.std.proofs.Common.{◌≡◌, ℕ, ◌≤◌, Bool, true, false, ltb, List, length, Option, None, Some, Result, Ok, Err, option_map, codes, refl, sym, ap, ◌∙◌}
+use Rattle.std.proofs.Common.{◌≡◌, ℕ, ◌≤◌, true, false, List, length, Option, None, Some, Result, option_map, codes, refl, sym, ap, ◌∙◌}
 use Rattle.std.proofs.lemmas.Bool.{le-ltb}
 use Rattle.mt_names.specs.declared.fault.NameFault.{NameFault}
-use Rattle.mt_names.specs.Faults.{fault_text}
 use Rattle.mt_plain.specs.Output.{says, refused_text, told, told_line, told_request}
 use Rattle.mt_plain.specs.Plain.{Plain}
 use Rattle.mt_plain.specs.Script.{Command, Request, MAX_LINE_LENGTH, commanded, is_readable, is_silent, request_of, words_of}
-use Rattle.mt_script.specs.declared.lines.Request as code
-use Rattle.mt_script.specs.Requests.{command_so_far, read_from, reading_so_far, request_from}
+use Rattle.mt_script.specs.Requests.{command_so_far, reading_so_far}
 
 -- a readable line tells what its words command
 told-readable : (p : Plain) (line : List ℕ) → is_silent line ≡ false → length line ≤ MAX_LINE_LENGTH → is_readable line ≡ true

@@ -1,5 +1,5 @@
 -- The words of a line, taken off from the front.
-use Rattle.std.proofs.Common.{◌≡◌, ℕ, zero, suc, ◌+◌, ◌<◌, ◌≤◌, Bool, true, false, cond, not, leb, ◌||◌, List, [], ◌∷◌, ◌++◌, length, get_or, take, drop, filter, position, ◌==◌, Option, None, Some, unwrap_or, refl, sym, ap, subst, ◌∙◌, append-nil, drop-cons, length-append, length-drop, ⊎_elim, arith}
+use Rattle.std.proofs.Common.{◌≡◌, ℕ, zero, suc, ◌<◌, Bool, true, false, not, leb, ◌||◌, List, [], ◌∷◌, ◌++◌, length, get_or, take, drop, filter, position, Option, None, Some, unwrap_or, refl, sym, ap, subst, ◌∙◌, append-nil, drop-cons, ⊎_elim, arith}
 use Rattle.std.proofs.lemmas.Bool.{true≢false, not-true, not-false, cases_lt, and_parts, leb-true}
 use Rattle.std.proofs.lemmas.Grind.{common_steps}
 use Rattle.std.proofs.lemmas.List.{take-append-drop, get_or-take, length-take-le}
@@ -12,7 +12,7 @@ use Rattle.std.proofs.lemmas.List.Sums.{AllPass-from_list_all, fails_before_firs
 use Rattle.std.proofs.lemmas.Str.{IsUtf8-from_ascii}
 use Rattle.std.proofs.lemmas.Str.Ascii.{IsAscii-from_all}
 use Rattle.std.specs.Str.{IsUtf8}
-use Rattle.std.specs.List.{AllByRecursion, list_all, position_or_len, slice_split}
+use Rattle.std.specs.List.{AllByRecursion, list_all, position_or_len}
 use Rattle.mt_plain.specs.Script.{is_blank, is_readable, is_visible, is_word, words_of}
 
 -- every byte is blank, and none is

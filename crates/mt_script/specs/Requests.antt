@@ -1,6 +1,5 @@
 -- The code's words for what lines ask, and the definitions' words.
 use Rattle.std.specs.Prelude.{ℕ, Bool, ◌==◌, ◌||◌, if◌then◌else◌, List, [], ◌∷◌, codes, Option, None, Some, Result, Ok, Err, option_and_then, option_map}
-use Rattle.std.specs.Result.{result_map_both}
 use Rattle.mt_names.specs.declared.fault.NameFault.{NameFault}
 use Rattle.mt_names.specs.Faults.{fault_text}
 use Rattle.mt_names.specs.Names.{same_text}

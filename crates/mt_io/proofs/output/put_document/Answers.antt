@@ -1,5 +1,5 @@
 -- First what waits, then the document, then its line feed.
-use Rattle.std.proofs.Common.{◌≡◌, ◌++◌, [], refl, ◌∙◌}
+use Rattle.std.proofs.Common.{◌≡◌, ◌++◌, ◌∙◌}
 use Rattle.std.proofs.lemmas.Result.{err_from_is_err_and}
 use Rattle.mt_plain.specs.Output.{line_feed}
 use Rattle.mt_io.proofs.GoesLemmas.{document_out, document_short, document_waits}

@@ -1,8 +1,8 @@
 -- The document that was read is written, or its refusal.
-use Rattle.std.proofs.Common.{◌≡◌, ℕ, Bool, List, false, true, sym, ap, ◌∙◌, subst, ⊎_elim, string_bytes}
+use Rattle.std.proofs.Common.{◌≡◌, ℕ, List, false, true, sym, ap, ◌∙◌, subst, ⊎_elim}
 use Rattle.mt_plain.specs.Output.{refused_text}
 use Rattle.mt_program.specs.Canon.{WritesLine, rules_again}
-use Rattle.mt_program.proofs.CanonLemmas.{no_memory_again, unread, written_again}
+use Rattle.mt_program.proofs.CanonLemmas.{written_again}
 use Rattle.mt_program.proofs.canon.canon_rules.Goals as goal
 
 pub returns-in-Ok : goal.returns-in-Ok

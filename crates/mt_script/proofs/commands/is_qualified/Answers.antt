@@ -1,5 +1,5 @@
 -- A name is qualified where its first mark is a dot.
-use Rattle.std.proofs.Common.{◌==◌, false, rules, sym, ap, ◌∙◌}
+use Rattle.std.proofs.Common.{◌==◌, false, sym, ap, ◌∙◌}
 use Rattle.std.specs.Option.{option_map_or}
 use Rattle.mt_names.specs.Keys.{dot}
 use Rattle.mt_script.proofs.RowLemmas.{qualified_by_mark}

@@ -1,5 +1,5 @@
 -- What the standard parser reads of up to 20 digits.
-use Rattle.std.proofs.Common.{arith, rules, sym, ◌∙◌}
+use Rattle.std.proofs.Common.{arith, rules, ◌∙◌}
 use Rattle.mt_script.proofs.NumberLemmas.{result_ok-parse}
 use Rattle.mt_script.proofs.commands.read_number.Goals as goal
 

@@ -1,5 +1,5 @@
 -- The first line ends at the first line feed, or with the input.
-use Rattle.std.proofs.Common.{sym, arith, rules}
+use Rattle.std.proofs.Common.{sym, rules}
 use Rattle.mt_script.proofs.CutLemmas.{lines-None, lines-Some}
 use Rattle.mt_script.proofs.cut.first_line.Goals as goal
 
