@@ -51,17 +51,12 @@ fn list_of(alloc: Global, front: &str, back: &str, count: u32) -> Result<String,
 
 #[test]
 fn a_dump_is_sorted_and_read_back(rt: HostRuntime) -> Result<(), Fail> {
-    let mut topology = two_keyspaces(rt.alloc())?;
-    assert!(rt; is_dumped(rt.alloc(), &topology, TWO)?);
     let (a, b) = (KeyspaceName::parse("a")?, KeyspaceName::parse("b")?);
     let t = TableName::parse("t")?;
-    topology.edit_rule(&RuleKey::parse("x")?, Some(RuleTarget::parse("b.t")?))?;
-    topology.reserve_part(&b, &a, &[t.copied()])?;
+    assert!(rt; is_dumped(rt.alloc(), &two_keyspaces(rt.alloc())?, TWO)?);
+    let mut topology = prepared(rt.alloc(), &a, &b, &t)?;
     let denial = Entry::Denied(b, t, true);
-    assert!(rt; topology.has_place(&denial.key()));
-    if topology.has_place(&denial.key()) {
-        topology.write(denial);
-    }
+    assert!(rt; written(&mut topology, denial).is_some());
     assert!(rt; is_dumped(rt.alloc(), &topology, DENIED)?);
     Ok(())
 }
@@ -193,26 +188,38 @@ fn say_the_same(one: &Topology, other: &Topology) -> Result<bool, Fail> {
     )
 }
 
+/// A topology of the keyspaces `a` and `b`, the table in `b`, and a rule, with the part of its move to `a` reserved.
+fn prepared(
+    alloc: Global,
+    a: &KeyspaceName,
+    b: &KeyspaceName,
+    t: &TableName,
+) -> Result<Topology, Fail> {
+    let mut topology = Topology::new(alloc);
+    topology.add_keyspace(a)?;
+    topology.add_keyspace(b)?;
+    topology.add_table(b, t)?;
+    topology.edit_rule(&RuleKey::parse("x")?, Some(RuleTarget::parse("b.t")?))?;
+    topology.reserve_part(b, a, &[t.copied()])?;
+    Ok(topology)
+}
+
+/// Whether what the topology dumps is loaded as the same topology, which dumps the same.
+fn is_loaded_back(alloc: Global, topology: &Topology) -> Result<bool, Fail> {
+    let text = topology.dump(alloc)?;
+    let loaded = Topology::load(alloc, text.as_bytes())?;
+    Ok(say_the_same(&loaded, topology)? && is_dumped(alloc, &loaded, text.as_str())?)
+}
+
 #[test]
 fn a_topology_by_direct_calls(rt: HostRuntime) -> Result<(), Fail> {
-    let mut topology = Topology::new(rt.alloc());
     let (a, b) = (KeyspaceName::parse("a")?, KeyspaceName::parse("b")?);
     let t = TableName::parse("t")?;
-    assert_eq!(rt; topology.add_keyspace(&a), Ok(()));
-    assert_eq!(rt; topology.add_keyspace(&b), Ok(()));
-    assert_eq!(rt; topology.add_table(&b, &t), Ok(()));
-    assert_eq!(rt;
-        topology.edit_rule(&RuleKey::parse("x")?, Some(RuleTarget::parse("b.t")?)),
-        Ok(())
-    );
-    assert_eq!(rt; topology.reserve_part(&b, &a, &[t.copied()]), Ok(()));
+    let mut topology = prepared(rt.alloc(), &a, &b, &t)?;
     let denied = Entry::Denied(b.copied(), t.copied(), true);
     let allowed = Entry::Denied(b, t, false);
     assert!(rt; written(&mut topology, denied.copied()) == Some(allowed.copied()));
     assert!(rt; written(&mut topology, allowed) == Some(denied));
-    let text = topology.dump(rt.alloc())?;
-    let loaded = Topology::load(rt.alloc(), text.as_bytes())?;
-    assert!(rt; say_the_same(&loaded, &topology)?);
-    assert!(rt; is_dumped(rt.alloc(), &loaded, text.as_str())?);
+    assert!(rt; is_loaded_back(rt.alloc(), &topology)?);
     Ok(())
 }
