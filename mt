@@ -1,14 +1,10 @@
-#!/bin/sh
+#!/bin/bash
 # Proves and builds the program `mt` where that is due, and then runs it with the words given.
 # Standard input and output are the program's own; what this script says goes to standard error.
 top=$(cd "$(dirname "$0")" && pwd) || exit 1
 crate=$top/crates/mt_program
 program=$crate/out/mt_program
 
-if [ ! -d "$crate" ]; then
-    echo "mt: the program has not been written yet; README.md says what stands" >&2
-    exit 1
-fi
 if ! command -v rt >/dev/null 2>&1; then
     echo "mt: the command rt is not on the path; it comes with the Rattle kit that README.md names" >&2
     exit 1
@@ -21,11 +17,11 @@ is_stale() {
 
 mkdir -p "$top/out" || exit 1
 if [ ! -x "$program" ] || is_stale; then
-    echo "mt: proving and building the program; a first build takes some ten minutes, a later one less" >&2
+    echo "mt: proving and building the program; a first build takes a quarter of an hour, a later one less" >&2
     if ! (cd "$crate" && rt run -- run) </dev/null >"$top/out/mt.log" 2>&1; then
         echo "mt: the build failed; out/mt.log has its messages" >&2
         exit 1
     fi
     touch "$program"
 fi
-exec "$program" "$@"
+exec -a mt "$program" "$@"
