@@ -1,7 +1,7 @@
 -- All acknowledged writes to the tables of a live workflow: a write to one of them at one of its sides adds itself, and no other event
 -- changes them.
 use Rattle.std.proofs.Common.{◌≡◌, inl, inr, ℕ, ◌+◌, Bool, true, false, not, cond, eqb, List, [], ◌∷◌, ◌++◌, length, filter, Option, None, Some, refl, sym, ap, ◌∙◌, subst, arith, unwrap_or, eqb-true, length-append}
-use Rattle.std.proofs.lemmas.Bool.{true≢false, eq-eqb}
+use Rattle.std.proofs.lemmas.Bool.{true≢false, eq-eqb, and_from, and_parts, not-false, or_right}
 use Rattle.std.proofs.lemmas.List.Elements.{filter-append}
 use Rattle.std.specs.List.{list_any}
 use Rattle.std.specs.Option.{option_map_or}
@@ -28,13 +28,15 @@ use Rattle.mt_laws.specs.Numbers.{number_at}
 use Rattle.mt_laws.specs.WayBack.{IsReached, ends_workflow}
 use Rattle.mt_laws.proofs.CompleteLemmas.{number-unmoved}
 use Rattle.mt_laws.proofs.CopyLemmas.{any_moved, client_number-side}
+use Rattle.mt_laws.proofs.EntryValueLemmas.{in_moved}
 use Rattle.mt_laws.proofs.LiveLemmas.{IsIn, find_some, find_the_one, unique}
 use Rattle.mt_laws.proofs.NumberLemmas.{one_name-run}
 use Rattle.mt_laws.proofs.NumberedLemmas.{reached_is_numbered}
 use Rattle.mt_laws.proofs.PartLemmas.{HasParts}
 use Rattle.mt_laws.proofs.ReachLemmas.{reached_has_parts, there_unmoved}
-use Rattle.mt_laws.proofs.RefusalLemmas.{and-both, and-true, not-false, or-right, or_else-none, refuse_if-none}
+use Rattle.mt_laws.proofs.RefusalLemmas.{or_else-none, refuse_if-none}
 use Rattle.mt_laws.proofs.UntouchedLemmas.{same_numbers, same_writes}
+use Rattle.mt_laws.proofs.WritableLemmas.{side_by-is_side}
 
 -- ---- each state that a run reaches, with the event that comes next
 
@@ -85,14 +87,6 @@ any_some {X} test (x ∷ xs) e = by (any_some test xs) (test x) refl
     by again true t = (x, inl refl, t)
     by again false t = let r = again (sym (ap (λ b. b || list_any test xs) t) ∙ e) in (r.0, inr r.1, r.2)
 
-in_moved : (w : Live) (table : List ℕ) → IsIn table w.tables → moves w table ≡ true
-in_moved w table is = by w.tables is
-  where
-    by : (ts : List (List ℕ)) → IsIn table ts → list_any (λ t. same_text t table) ts ≡ true
-    by [] i = absurd i
-    by (t ∷ ts) (inl e) = ap (λ b. b || list_any (λ x. same_text x table) ts) ((same_text_decides t table).1 e)
-    by (t ∷ ts) (inr i) = or-right (same_text t table) (list_any (λ x. same_text x table) ts) (by ts i)
-
 write_there : (p : Plain) (k t : List ℕ) (op : Op) → refusal_of p (write k t op) ≡ None → has_table p k t ≡ true
 write_there p k t op none =
     let by_row = or_else (row_refusal (op_row op (client_row p k t (op_key op)))) (refuse_if (nat_le longest_log (log_length p k)) full) in
@@ -121,9 +115,6 @@ module _ (p : Plain) (reached : IsReached p) (w : Live) (in_it : IsIn w p.lives)
   at_a_side : (k t table : List ℕ) → moves w table ≡ true → has_table p k t ≡ true → number_of p w.source table ≡ client_number p k t → (moves w t ≡ true) × (is_side w k ≡ true)
   at_a_side k t table moved here same = by (mover p t) refl
     where
-      itself : is_side w w.source ≡ true
-      itself = ap (λ b. b || same_text w.target w.source) ((same_text_decides w.source w.source).1 refl)
-
       number_by : Option Live → ℕ
       number_by o = number_of p (option_map_or (λ v. cond (is_side v k) v.source k) o k) t
 
@@ -131,7 +122,7 @@ module _ (p : Plain) (reached : IsReached p) (w : Live) (in_it : IsIn w p.lives)
       own : there_at k t ≡ true → number_of p w.source table ≡ number_of p k t → (moves w t ≡ true) × (is_side w k ≡ true)
       own at_k e =
           let one = one_table p reached w.source table k t (there table moved) at_k e in
-          (ap (moves w) (sym one.1) ∙ moved, ap (is_side w) (sym one.0) ∙ itself)
+          (ap (moves w) (sym one.1) ∙ moved, ap (is_side w) (sym one.0) ∙ side_by-is_side w false)
 
       listed : (x : Live) → mover p t ≡ Some x → is_side x k ≡ false → there_at k t ≡ true
       listed x f other = elsewhere (list_any (λ v. moves v t && same_text v.target k) p.lives) refl
@@ -140,10 +131,10 @@ module _ (p : Plain) (reached : IsReached p) (w : Live) (in_it : IsIn w p.lives)
           elsewhere false b = sym (ap (λ c. cond c true (there_at k t)) b) ∙ here
           elsewhere true b =
               let r = any_some (λ v. moves v t && same_text v.target k) p.lives b in
-              let s = and-true (moves r.0 t) (same_text r.0.target k) r.2 in
+              let s = and_parts (moves r.0 t) (same_text r.0.target k) r.2 in
               let in_x = find_some (λ v. moves v t) p.lives x f in
               let one = unique p.lives r.0 x has.apart r.1 in_x.0 (λ apart. apart.tables t s.0 in_x.1) in
-              absurd (true≢false (sym (or-right (same_text x.source k) (same_text x.target k) (ap (λ y. same_text y.target k) (sym one) ∙ s.1)) ∙ other))
+              absurd (true≢false (sym (or_right (same_text x.source k) (same_text x.target k) (ap (λ y. same_text y.target k) (sym one) ∙ s.1)) ∙ other))
 
       by_some : (x : Live) → mover p t ≡ Some x → (b : Bool) → is_side x k ≡ b → (moves w t ≡ true) × (is_side w k ≡ true)
       by_some x f true side =
@@ -169,12 +160,12 @@ module _ (p : Plain) (reached : IsReached p) (w : Live) (in_it : IsIn w p.lives)
       other true e = λ no.
           let r = any_some test w.tables e in
           let s = at_a_side k t r.0 (in_moved w r.0 r.1) here (eqb-true (number_of p w.source r.0) (client_number p k t) r.2) in
-          absurd (true≢false (sym (and-both (moves w t) (is_side w k) s.0 s.1) ∙ no))
+          absurd (true≢false (sym (and_from (moves w t) (is_side w k) s.0 s.1) ∙ no))
       other false e = λ no. refl
 
       by : (b : Bool) → (moves w t && is_side w k) ≡ b → list_any test w.tables ≡ b
       by true e =
-          let r = and-true (moves w t) (is_side w k) e in
+          let r = and_parts (moves w t) (is_side w k) e in
           any_moved test w.tables t r.0 (eq-eqb (number_of p w.source t) (client_number p k t) (sym (client_number-side p w t r.0 0 (found t r.0) k r.1)))
       by false e = other (list_any test w.tables) refl e
 

@@ -61,7 +61,7 @@ pub sides-undone : (w : Live) (way : Way) → HasSides w (live_undone w way)
 sides-undone w way =
     sides-cond (eqb (way.done - 1) 0) w _ _ (record { name = refl; source = refl; target = refl; tables = refl }) (record { name = refl; source = refl; target = refl; tables = refl })
 
-sides-on_way : (w : Live) (change : Way → Live) → ((way : Way) → HasSides w (change way)) → (o : Option Way) → HasSides w (option_map_or change o w)
+pub sides-on_way : (w : Live) (change : Way → Live) → ((way : Way) → HasSides w (change way)) → (o : Option Way) → HasSides w (option_map_or change o w)
 sides-on_way w change each None = sides_same w
 sides-on_way w change each (Some way) = each way
 

@@ -1,5 +1,5 @@
 -- States of which no text has a line feed: each event whose texts have none leaves such a state.
-use Rattle.std.proofs.Common.{◌≡◌, ℕ, zero, suc, ◌+◌, ◌-◌, take, unwrap_or, subst, sym, Bool, true, false, not, cond, eqb, List, [], ◌∷◌, ◌++◌, Option, None, Some, Ok, Err, refl, length}
+use Rattle.std.proofs.Common.{ℕ, ◌+◌, ◌-◌, take, unwrap_or, subst, Bool, true, false, not, cond, eqb, List, [], ◌∷◌, ◌++◌, Option, None, Some, Ok, Err, refl, length}
 use Rattle.std.specs.List.{AllByRecursion, fold}
 use Rattle.std.specs.Map.{lookup, remove_entry, set_value}
 use Rattle.std.specs.Option.{option_map_or}
@@ -18,17 +18,19 @@ use Rattle.mt_model.specs.declared.entries.Scope.{Scope}
 use Rattle.mt_model.specs.declared.rows.Op.{Op}
 use Rattle.mt_model.specs.declared.rows.Op.TheVariants.{Insert, Update, Append, Delete}
 use Rattle.mt_model.specs.Limits.{longest_value}
+use Rattle.mt_model.specs.Part.{keys_of_name}
 use Rattle.mt_model.specs.Rows.{Row, RowValue, op_key, op_row}
 use Rattle.mt_model.specs.Topology.{KeyspaceState, Keyspaces, Marks, Rules, TopologyState, keyspace_at, rule_at, with_keyspace_state, with_mark_place, with_new_table, with_rule, with_rule_place}
-use Rattle.mt_plain.specs.Events.{Event, write, read, add_keyspace, add_table, edit_rule, create, advance, begin_switch, begin_reverse, step, undo, cancel, complete, show, StreamName, forward, back, Answer, done, row, advanced, shown, refused, Way}
-use Rattle.mt_plain.specs.Next.{after_advance, completed, created, live_stepped, live_undone, next, next_taken, on_way_of, row_left, way_stepped, with_advance, with_completed, with_fresh_stream, with_live, with_tables, with_way_to, without_live, without_tables, types_and, types_without}
-use Rattle.mt_plain.specs.Plain.{Live, Plain, Write, is_side, mover, number_of, owner, behind_last, changes_primary, create_back, in_keyspace, keys_of_name, live_at, next_step, opening, rule_keys, twelve_keys, write_journal}
-use Rattle.mt_plain.specs.Refuse.{new_owner}
+use Rattle.mt_plain.specs.Events.{Event, write, read, add_keyspace, add_table, edit_rule, create, advance, begin_switch, begin_reverse, step, undo, cancel, complete, show, StreamName, Answer, done, row, advanced, shown, refused}
+use Rattle.mt_plain.specs.Next.{after_advance, completed, created, live_stepped, live_undone, next, next_taken, on_way_of, row_left, with_advance, with_completed, with_live, with_tables, with_way_to, without_live, without_tables, types_and, types_without}
+use Rattle.mt_plain.specs.Plain.{Live, Plain, Write, is_side, mover, number_of, owner, in_keyspace, live_at, opening, rule_keys, twelve_keys}
 use Rattle.mt_plain.specs.Serve.{denials_over, mark_in, rule_in, rule_step, rules_over, serve_plain, serve_rule, types_by, served, served_by, with_part_at, with_workflow}
-use Rattle.mt_plain.specs.Slots.{is_fresh, live_advanced, log_length, with_position}
+use Rattle.mt_plain.specs.Slots.{live_advanced, log_length}
 use Rattle.mt_plain.specs.Writes.{client_number, client_row, is_copied, is_write_to, other_row, row_by_mover, writes_to, row_after_write, row_after_writes, row_of}
-use Rattle.mt_laws.proofs.ListLemmas.{OfSome, append-all, cond-either, each-mapped, filter-all, find-of, flat_map-all, fold-holds, lookup-of, map-all, option_map_or-of, remove_entry-all, set_value-all}
+use Rattle.mt_laws.specs.Changes.{HasSides}
+use Rattle.mt_laws.proofs.ListLemmas.{OfSome, append-all, cond-either, each-mapped, filter-all, find-of, flat_map-all, fold-holds, lookup-of, map-all, option_map_or-of, remove_entry-all, set_value-all, take-all}
 use Rattle.mt_laws.proofs.TextLemmas.{NoFeed, no_feed-append}
+use Rattle.mt_laws.proofs.ChangeLemmas.{sides-advanced, sides-live_stepped, sides-on_way, sides-undone}
 
 -- ---- parts of a state
 
@@ -116,11 +118,6 @@ row_after_writes-clean : (writes : List Write) (number key : ℕ) → AllByRecur
 row_after_writes-clean writes number key all =
     fold-holds CleanWrite CleanRow (row_after_write number key) None writes
     (λ before w had is. cond-either CleanRow ((eqb w.table number) && (eqb w.key key)) w.after before is had) tt all
-
-take-all : {A : Type 0} (P : A → Type 0) (n : ℕ) (xs : List A) → AllByRecursion P xs → AllByRecursion P (take n xs)
-take-all P zero xs all = tt
-take-all P (suc n) [] all = tt
-take-all P (suc n) (x ∷ xs) all = (all.0, take-all P n xs all.1)
 
 other_row-clean : (p : Plain) (w : Live) (table : List ℕ) (key : ℕ) → IsClean p → CleanRow (other_row p w table key)
 other_row-clean p w table key clean =
@@ -260,70 +257,18 @@ served-clean p clean = fold-holds CleanLive CleanTopology with_workflow p.topolo
 -- ---- live workflows
 
 -- the names and the tables of a workflow stay
-pub record KeepsNames (w v : Live) : Type 0 where
-  pub name : v.name ≡ w.name
-  pub source : v.source ≡ w.source
-  pub target : v.target ≡ w.target
-  pub tables : v.tables ≡ w.tables
-
-kept_by : (w v : Live) → v.name ≡ w.name → v.source ≡ w.source → v.target ≡ w.target → v.tables ≡ w.tables → KeepsNames w v
-kept_by w v name source target tables = record { name = name; source = source; target = target; tables = tables }
-
-kept : (w : Live) → KeepsNames w w
-kept w = kept_by w w refl refl refl refl
-
-keeps-clean : (w v : Live) → KeepsNames w v → CleanLive w → CleanLive v
+keeps-clean : (w v : Live) → HasSides w v → CleanLive w → CleanLive v
 keeps-clean w v keeps live = record {
-  name = subst NoFeed (sym keeps.name) live.name;
-  source = subst NoFeed (sym keeps.source) live.source;
-  target = subst NoFeed (sym keeps.target) live.target;
-  tables = subst (AllByRecursion NoFeed) (sym keeps.tables) live.tables;
+  name = subst NoFeed keeps.name live.name;
+  source = subst NoFeed keeps.source live.source;
+  target = subst NoFeed keeps.target live.target;
+  tables = subst (AllByRecursion NoFeed) keeps.tables live.tables;
 }
 
-with_live-clean : (change : Live → Live) (name : List ℕ) (lives : List Live) → ((w : Live) → KeepsNames w (change w)) → AllByRecursion CleanLive lives → AllByRecursion CleanLive (with_live change name lives)
+with_live-clean : (change : Live → Live) (name : List ℕ) (lives : List Live) → ((w : Live) → HasSides w (change w)) → AllByRecursion CleanLive lives → AllByRecursion CleanLive (with_live change name lives)
 with_live-clean change name lives keeps all =
     map-all CleanLive CleanLive (λ w. cond (same_text w.name name) (change w) w) lives
     (λ w live. cond-either CleanLive (same_text w.name name) (change w) w (keeps-clean w (change w) (keeps w) live) live) all
-
-way_stepped-keeps : (w : Live) (way : Way) → KeepsNames w (way_stepped w way)
-way_stepped-keeps w way =
-    cond-either (KeepsNames w) (eqb (suc (next_step way)) (behind_last way)) (record (with_fresh_stream w way) { switched = way.after; way = None }) (record w { way = Some (record way { done = suc way.done }) })
-    (closed (with_fresh_stream w way) (cond-either (KeepsNames w) (not (changes_primary way)) w (cond way.back (record w { forward_at = w.fresh_at }) (record w { back_at = w.fresh_at })) (kept w)
-    (cond-either (KeepsNames w) way.back (record w { forward_at = w.fresh_at }) (record w { back_at = w.fresh_at }) (kept_by w _ refl refl refl refl) (kept_by w _ refl refl refl refl))))
-    (kept_by w _ refl refl refl refl)
-  where
-    closed : (v : Live) → KeepsNames w v → KeepsNames w (record v { switched = way.after; way = None })
-    closed v keeps = record { name = keeps.name; source = keeps.source; target = keeps.target; tables = keeps.tables }
-
-pub live_stepped-keeps : (p : Plain) (w : Live) (way : Way) → KeepsNames w (live_stepped p w way)
-live_stepped-keeps p w way =
-    let keeps = way_stepped-keeps w way in
-    let with_fresh = record (way_stepped w way) { fresh_at = log_length p (new_owner w) } in
-    let with_types = record (way_stepped w way) { switched = way.after } in
-    cond-either (KeepsNames w) (eqb (next_step way) create_back) with_fresh (cond (eqb (next_step way) write_journal) with_types (way_stepped w way))
-    (record { name = keeps.name; source = keeps.source; target = keeps.target; tables = keeps.tables })
-    (cond-either (KeepsNames w) (eqb (next_step way) write_journal) with_types (way_stepped w way) (record { name = keeps.name; source = keeps.source; target = keeps.target; tables = keeps.tables }) keeps)
-
-pub live_undone-keeps : (w : Live) (way : Way) → KeepsNames w (live_undone w way)
-live_undone-keeps w way =
-    cond-either (KeepsNames w) (eqb (way.done - 1) 0) (record w { way = None }) (record w { way = Some (record way { done = way.done - 1; undoing = true }) }) (kept_by w _ refl refl refl refl) (kept_by w _ refl refl refl refl)
-
-pub on_way_of-keeps : (change : Live → Way → Live) → ((w : Live) (way : Way) → KeepsNames w (change w way)) → (w : Live) → KeepsNames w (on_way_of (change w) w)
-on_way_of-keeps change keeps w = by w.way
-  where
-    by : (o : Option Way) → KeepsNames w (option_map_or (change w) o w)
-    by None = kept w
-    by (Some way) = keeps w way
-
-with_position-keeps : (w : Live) (name : StreamName) (fresh : Bool) (position : ℕ) → KeepsNames w (with_position w name fresh position)
-with_position-keeps w name true position = kept_by w _ refl refl refl refl
-with_position-keeps w forward false position = kept_by w _ refl refl refl refl
-with_position-keeps w back false position = kept_by w _ refl refl refl refl
-
-pub live_advanced-keeps : (p : Plain) (w : Live) (name : StreamName) (position at_most events rows : ℕ) → KeepsNames w (live_advanced p w name position at_most events rows)
-live_advanced-keeps p w name position at_most events rows =
-    let keeps = with_position-keeps w name (is_fresh w.way name) (position + events) in
-    record { name = keeps.name; source = keeps.source; target = keeps.target; tables = keeps.tables }
 
 pub live_at-clean : (p : Plain) (name : List ℕ) → IsClean p → OfSome CleanLive (live_at p name)
 live_at-clean p name clean = find-of CleanLive (λ w. same_text w.name name) p.lives clean.lives
@@ -342,7 +287,7 @@ with_advance-clean : (p : Plain) (name : StreamName) (position at_most events ro
 with_advance-clean p name position at_most events rows None clean = clean
 with_advance-clean p name position at_most events rows (Some w) clean = record {
   topology = clean.topology;
-  lives = with_live-clean (λ v. live_advanced p v name position at_most events rows) w.name p.lives (λ v. live_advanced-keeps p v name position at_most events rows) clean.lives;
+  lives = with_live-clean (λ v. live_advanced p v name position at_most events rows) w.name p.lives (λ v. sides-advanced p v name position at_most events rows) clean.lives;
   writes = clean.writes;
 }
 
@@ -391,21 +336,21 @@ next_taken-clean p (create workflow source target tables) clean is =
 next_taken-clean p (advance workflow name at at_most) clean is = clean
 next_taken-clean p (begin_switch workflow types) clean is = record {
   topology = clean.topology;
-  lives = with_live-clean (with_way_to false (λ switched. types_and switched types)) workflow p.lives (λ w. kept_by w _ refl refl refl refl) clean.lives;
+  lives = with_live-clean (with_way_to false (λ switched. types_and switched types)) workflow p.lives (λ w. record { name = refl; source = refl; target = refl; tables = refl }) clean.lives;
   writes = clean.writes;
 }
 next_taken-clean p (begin_reverse workflow types) clean is = record {
   topology = clean.topology;
-  lives = with_live-clean (with_way_to true (λ switched. types_without switched types)) workflow p.lives (λ w. kept_by w _ refl refl refl refl) clean.lives;
+  lives = with_live-clean (with_way_to true (λ switched. types_without switched types)) workflow p.lives (λ w. record { name = refl; source = refl; target = refl; tables = refl }) clean.lives;
   writes = clean.writes;
 }
 next_taken-clean p (step workflow at) clean is = record {
   topology = clean.topology;
-  lives = with_live-clean (λ w. on_way_of (live_stepped p w) w) workflow p.lives (on_way_of-keeps (live_stepped p) (live_stepped-keeps p)) clean.lives;
+  lives = with_live-clean (λ w. on_way_of (live_stepped p w) w) workflow p.lives (λ w. sides-on_way w (live_stepped p w) (sides-live_stepped p w) w.way) clean.lives;
   writes = clean.writes;
 }
 next_taken-clean p (undo workflow at) clean is =
-    with_lives-clean p (with_live (λ w. on_way_of (live_undone w) w) workflow p.lives) clean (with_live-clean (λ w. on_way_of (live_undone w) w) workflow p.lives (on_way_of-keeps live_undone live_undone-keeps) clean.lives)
+    with_lives-clean p (with_live (λ w. on_way_of (live_undone w) w) workflow p.lives) clean (with_live-clean (λ w. on_way_of (live_undone w) w) workflow p.lives (λ w. sides-on_way w (live_undone w) (sides-undone w) w.way) clean.lives)
 next_taken-clean p (cancel workflow) clean is =
     with_lives-clean p (without_live workflow p.lives) clean (filter-all CleanLive (λ w. not (same_text w.name workflow)) p.lives clean.lives)
 next_taken-clean p (complete workflow) clean is = with_completed-clean p (live_at p workflow) clean (live_at-clean p workflow clean)

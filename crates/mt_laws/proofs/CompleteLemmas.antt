@@ -1,36 +1,29 @@
 -- What Complete makes of the tables and of their numbers.
-use Rattle.std.proofs.Common.{◌≡◌, ◌≢◌, ◌⊎◌, inl, inr, ℕ, Bool, true, false, cond, List, [], ◌∷◌, ◌++◌, Option, None, Some, is_some, refl, sym, ap, ◌∙◌, subst}
-use Rattle.std.proofs.lemmas.Bool.{true≢false}
+use Rattle.std.proofs.Common.{◌≡◌, ◌≢◌, ◌⊎◌, inl, inr, ℕ, Bool, true, false, cond, List, [], ◌∷◌, Option, None, Some, is_some, refl, sym, ap, ◌∙◌, subst}
+use Rattle.std.specs.Cmp.{both_ways}
+use Rattle.std.proofs.lemmas.Bool.{true≢false, and_parts, and_from}
 use Rattle.std.specs.List.{IsDistinct, fold}
 use Rattle.std.specs.Map.{keys_of, lookup, remove_entry}
 use Rattle.std.specs.Option.{option_map_or}
 use Rattle.std.specs.Prelude.{◌&&◌, map, unwrap_or}
-use Rattle.mt_names.specs.declared.keys.RuleKey.{RuleKey}
 use Rattle.mt_names.specs.declared.keys.RuleTarget.{RuleTarget}
 use Rattle.mt_names.specs.Names.{same_text}
-use Rattle.mt_names.specs.Same.{same_key, same_target}
-use Rattle.mt_names.proofs.EntryLemmas.{IsDistinct-push, IsDistinct-remove_entry, IsDistinct-set_value, lookup-remove_entry_elsewhere, lookup-remove_entry_here}
+use Rattle.mt_names.specs.Same.{DecidesEquality, same_key, same_target}
+use Rattle.mt_names.proofs.EntryLemmas.{apart as other_test, same_or_other, IsDistinct-remove_entry, IsDistinct-set_value, lookup-remove_entry_elsewhere, lookup-remove_entry_here, some_from}
 use Rattle.mt_names.proofs.SameLemmas.{same_key_decides, same_target_decides, same_text_decides}
 use Rattle.mt_model.specs.Topology.{HasDistinctPlaces, KeyspaceState, Keyspaces, Marks, Rules, TopologyState, is_marked, is_present, keyspace_at, with_keyspace_state, with_mark_place, with_new_table}
-use Rattle.mt_model.proofs.DistinctLemmas.{distinct-changed, distinct-rules}
-use Rattle.mt_model.proofs.TopologyLemmas.{is_marked-set_elsewhere, is_marked-set_here, is_marked-with_mark_place, keyspace_at-changed_elsewhere, keyspace_at-changed_here, tables_distinct, the_one, with_mark_place-there}
+use Rattle.mt_model.proofs.DistinctLemmas.{distinct-changed, distinct-rules, distinct-with_mark_place}
+use Rattle.mt_model.proofs.TopologyLemmas.{is_marked-set_elsewhere, is_marked-set_here, is_marked-with_mark_place, keyspace_at-changed_elsewhere, keyspace_at-changed_here, tables_distinct, with_mark_place-there}
 use Rattle.mt_plain.specs.Next.{completed, number_moved, with_tables, without_tables}
 use Rattle.mt_plain.specs.Plain.{Live, in_keyspace, moves, rule_keys}
 use Rattle.mt_laws.specs.Numbers.{Numbers, number_at}
 use Rattle.mt_laws.proofs.EntryValueLemmas.{denied-with}
-use Rattle.mt_laws.proofs.LiveLemmas.{IsIn, text_apart}
-use Rattle.mt_laws.proofs.RefusalLemmas.{and-true, and-both}
+use Rattle.mt_laws.proofs.LiveLemmas.{IsIn}
+use Rattle.mt_laws.proofs.NumberLemmas.{moved-number}
 
 -- ---- the tables of a list, taken away and made
 
 -- a name that is taken away is unmarked, and one that is unmarked stays so
-same_or_other : (a b : List ℕ) → (a ≡ b) ⊎ (a ≢ b)
-same_or_other a b = by (same_text a b) refl
-  where
-    by : (t : Bool) → same_text a b ≡ t → (a ≡ b) ⊎ (a ≢ b)
-    by true t = inl ((same_text_decides a b).0 t)
-    by false t = inr (text_apart a b t)
-
 abbrev removed : List (List ℕ) → Marks → Marks
 removed tables marks = fold (λ m table. remove_entry (same_text table) m) marks tables
 
@@ -38,7 +31,7 @@ gone : (tables : List (List ℕ)) (marks : Marks) (table : List ℕ) → IsDisti
 gone [] marks table distinct (inl is) = absurd is
 gone [] marks table distinct (inr none) = none
 gone (t ∷ ts) marks table distinct either =
-    gone ts (remove_entry (same_text t) marks) table (IsDistinct-remove_entry same_text same_text_decides (same_text t) marks distinct) (by (same_or_other t table) either)
+    gone ts (remove_entry (same_text t) marks) table (IsDistinct-remove_entry same_text same_text_decides (same_text t) marks distinct) (by (same_or_other same_text same_text_decides t table) either)
   where
     by : (t ≡ table) ⊎ (t ≢ table) → IsIn table (t ∷ ts) ⊎ (lookup (same_text table) marks ≡ None) → IsIn table ts ⊎ (lookup (same_text table) (remove_entry (same_text t) marks) ≡ None)
     by (inl same) e = inr (subst (λ n. lookup (same_text n) (remove_entry (same_text t) marks) ≡ None) same (lookup-remove_entry_here same_text same_text_decides marks t distinct))
@@ -46,15 +39,11 @@ gone (t ∷ ts) marks table distinct either =
     by (inr other) (inl (inr is)) = inl is
     by (inr other) (inr none) = inr (lookup-remove_entry_elsewhere same_text same_text_decides marks t table other ∙ none)
 
-distinct-removed : (tables : List (List ℕ)) (marks : Marks) → IsDistinct same_text (keys_of marks) → IsDistinct same_text (keys_of (removed tables marks))
-distinct-removed [] marks distinct = distinct
-distinct-removed (t ∷ ts) marks distinct = distinct-removed ts (remove_entry (same_text t) marks) (IsDistinct-remove_entry same_text same_text_decides (same_text t) marks distinct)
-
 -- a name that is made is marked, and one that is marked stays so
 made : (tables : List (List ℕ)) (state : KeyspaceState) (table : List ℕ) → IsIn table tables ⊎ (is_marked state.tables table ≡ true) → is_marked (with_tables tables state).tables table ≡ true
 made [] state table (inl is) = absurd is
 made [] state table (inr marked) = marked
-made (t ∷ ts) state table either = made ts (with_new_table t state) table (by (same_or_other t table) either)
+made (t ∷ ts) state table either = made ts (with_new_table t state) table (by (same_or_other same_text same_text_decides t table) either)
   where
     here : is_marked (with_new_table t state).tables t ≡ true
     here = is_marked-set_here (with_mark_place state.tables t) t true (with_mark_place-there state.tables t)
@@ -77,14 +66,14 @@ module _ (u : TopologyState) (w : Live) (apart : w.source ≢ w.target) where
   -- the target has the tables
   pub present_at_target : is_some (keyspace_at u.keyspaces w.target) ≡ true → (table : List ℕ) → IsIn table w.tables → is_present (completed u w).keyspaces w.target table ≡ true
   present_at_target there table is =
-      let one = the_one (keyspace_at u.keyspaces w.target) there in
+      let one = some_from (keyspace_at u.keyspaces w.target) there in
       let found : keyspace_at without_source w.target ≡ Some one.0 = keyspace_at-changed_elsewhere (without_tables w.tables) u.keyspaces w.source w.target apart ∙ one.1 in
       ap (λ o. is_there o table) (keyspace_at-changed_here (with_tables w.tables) without_source w.target one.0 found) ∙ made w.tables one.0 table (inl is)
 
   -- the source has them no more
   pub absent_at_source : HasDistinctPlaces u → is_some (keyspace_at u.keyspaces w.source) ≡ true → (table : List ℕ) → IsIn table w.tables → is_present (completed u w).keyspaces w.source table ≡ false
   absent_at_source distinct there table is =
-      let one = the_one (keyspace_at u.keyspaces w.source) there in
+      let one = some_from (keyspace_at u.keyspaces w.source) there in
       ap (λ o. is_there o table) (keyspace_at-changed_elsewhere (with_tables w.tables) without_source w.target w.source (λ e. apart (sym e))
       ∙ keyspace_at-changed_here (without_tables w.tables) u.keyspaces w.source one.0 one.1)
       ∙ ap (λ o. unwrap_or o false) (gone w.tables one.0.tables table (tables_distinct u w.source one.0 distinct one.1) (inl is))
@@ -96,29 +85,22 @@ module _ (u : TopologyState) (w : Live) (apart : w.source ≢ w.target) where
 
 -- ---- places stay distinct
 
-distinct-rules_gone : (keys : List RuleKey) (rules : Rules) → IsDistinct same_key (keys_of rules) → IsDistinct same_key (keys_of (fold (λ rules key. remove_entry (same_key key) rules) rules keys))
-distinct-rules_gone [] rules distinct = distinct
-distinct-rules_gone (key ∷ keys) rules distinct = distinct-rules_gone keys (remove_entry (same_key key) rules) (IsDistinct-remove_entry same_key same_key_decides (same_key key) rules distinct)
-
-distinct-place : (marks : Marks) (name : List ℕ) → IsDistinct same_text (keys_of marks) → IsDistinct same_text (keys_of (with_mark_place marks name))
-distinct-place marks name distinct = by (lookup (same_text name) marks) refl
-  where
-    by : (o : Option Bool) → lookup (same_text name) marks ≡ o → IsDistinct same_text (keys_of (option_map_or (λ mark. marks) o (marks ++ (name, false) ∷ [])))
-    by None none = IsDistinct-push same_text same_text_decides marks name false none distinct
-    by (Some mark) some = distinct
+distinct-removed : {K V : Type 0} (same : K → K → Bool) (decides : DecidesEquality same) (keys : List K) (es : List (K × V)) → IsDistinct same (keys_of es) → IsDistinct same (keys_of (fold (λ es key. remove_entry (same key) es) es keys))
+distinct-removed same decides [] es distinct = distinct
+distinct-removed same decides (key ∷ keys) es distinct = distinct-removed same decides keys (remove_entry (same key) es) (IsDistinct-remove_entry same decides (same key) es distinct)
 
 distinct-made : (tables : List (List ℕ)) (state : KeyspaceState) → IsDistinct same_text (keys_of state.tables) → IsDistinct same_text (keys_of (with_tables tables state).tables)
 distinct-made [] state distinct = distinct
 distinct-made (t ∷ ts) state distinct =
-    distinct-made ts (with_new_table t state) (IsDistinct-set_value same_text same_text_decides (with_mark_place state.tables t) t true (distinct-place state.tables t distinct))
+    distinct-made ts (with_new_table t state) (IsDistinct-set_value same_text same_text_decides (with_mark_place state.tables t) t true (distinct-with_mark_place state.tables t distinct))
 
 pub distinct-completed : (u : TopologyState) (w : Live) → HasDistinctPlaces u → HasDistinctPlaces (completed u w)
 distinct-completed u w distinct =
     distinct-changed (record { rules = rules; keyspaces = with_keyspace_state (without_tables w.tables) u.keyspaces w.source }) (with_tables w.tables) w.target
     (λ state d. distinct-made w.tables state d)
     (λ state d. subst (λ marks. IsDistinct same_text (keys_of marks)) (sym (denied-with w.tables state)) d)
-    (distinct-changed (record u { rules = rules }) (without_tables w.tables) w.source (λ state d. distinct-removed w.tables state.tables d) (λ state d. d)
-    (distinct-rules u rules (distinct-rules_gone (rule_keys w) u.rules distinct.rules) distinct))
+    (distinct-changed (record u { rules = rules }) (without_tables w.tables) w.source (λ state d. distinct-removed same_text same_text_decides w.tables state.tables d) (λ state d. d)
+    (distinct-rules u rules (distinct-removed same_key same_key_decides (rule_keys w) u.rules distinct.rules) distinct))
   where
     rules : Rules
     rules = fold (λ rules key. remove_entry (same_key key) rules) u.rules (rule_keys w)
@@ -126,20 +108,12 @@ distinct-completed u w distinct =
 -- ---- the numbers behind Complete
 
 same_iff : (a x b y : RuleTarget) → (a ≡ x → b ≡ y) → (b ≡ y → a ≡ x) → same_target a x ≡ same_target b y
-same_iff a x b y to from = by (same_target a x) refl (same_target b y) refl
-  where
-    by : (s : Bool) → same_target a x ≡ s → (t : Bool) → same_target b y ≡ t → same_target a x ≡ same_target b y
-    by true s true t = s ∙ sym t
-    by true s false t = absurd (true≢false (sym ((same_target_decides b y).1 (to ((same_target_decides a x).0 s))) ∙ t))
-    by false s true t = absurd (true≢false (sym ((same_target_decides a x).1 (from ((same_target_decides b y).0 t))) ∙ s))
-    by false s false t = s ∙ sym t
+same_iff a x b y to from =
+    both_ways (same_target a x) (same_target b y) (λ t. (same_target_decides b y).1 (to ((same_target_decides a x).0 t)))
+    (λ t. (same_target_decides a x).1 (from ((same_target_decides b y).0 t)))
 
 target_apart : (a x : RuleTarget) → (a ≡ x → ⊥) → same_target a x ≡ false
-target_apart a x apart = by (same_target a x) refl
-  where
-    by : (t : Bool) → same_target a x ≡ t → same_target a x ≡ false
-    by true t = absurd (apart ((same_target_decides a x).0 t))
-    by false t = t
+target_apart = other_test same_target same_target_decides
 
 lookup_none : (a : RuleTarget) (es : Numbers) → number_at es a ≡ None → (e : RuleTarget × ℕ) → IsIn e es → same_target a e.0 ≡ false
 lookup_none a [] none e is = absurd is
@@ -154,20 +128,13 @@ module _ (w : Live) where
   abbrev moving : RuleTarget × ℕ → Bool
   moving e = same_text w.source e.0.keyspace && moves w e.0.table
 
-  kept_number : (e : RuleTarget × ℕ) → (number_moved w e).1 ≡ e.1
-  kept_number e = by (moving e)
-    where
-      by : (t : Bool) → (cond t (in_keyspace w.target e.0.table, e.1) e).1 ≡ e.1
-      by true = refl
-      by false = refl
-
   -- a key that each renamed entry has just where another key has the entry
   renamed : (a b : RuleTarget) (es : Numbers) → ((e : RuleTarget × ℕ) → IsIn e es → same_target a (number_moved w e).0 ≡ same_target b e.0) → number_at (map (number_moved w) es) a ≡ number_at es b
   renamed a b [] each = refl
   renamed a b (e ∷ es) each = by (same_target b e.0) (same_target a (number_moved w e).0) (each e (inl refl)) (renamed a b es (λ x is. each x (inr is)))
     where
       by : (s t : Bool) → t ≡ s → number_at (map (number_moved w) es) a ≡ number_at es b → cond t (Some (number_moved w e).1) (number_at (map (number_moved w) es) a) ≡ cond s (Some e.1) (number_at es b)
-      by true t is again = rw is (ap Some (kept_number e))
+      by true t is again = rw is (ap Some (moved-number w e))
       by false t is again = rw is again
 
   unnamed : (a : RuleTarget) (es : Numbers) → ((e : RuleTarget × ℕ) → same_target a (number_moved w e).0 ≡ false) → number_at (map (number_moved w) es) a ≡ None
@@ -183,7 +150,7 @@ module _ (w : Live) where
 
       by : (e : RuleTarget × ℕ) (t : Bool) → moving e ≡ t → same_target (in_keyspace keyspace table) (cond t (in_keyspace w.target e.0.table, e.1) e).0 ≡ same_target (in_keyspace keyspace table) e.0
       by e true t =
-          let moved = (and-true (same_text w.source e.0.keyspace) (moves w e.0.table) t).1 in
+          let moved = (and_parts (same_text w.source e.0.keyspace) (moves w e.0.table) t).1 in
           target_apart (in_keyspace keyspace table) (in_keyspace w.target e.0.table) (λ x. no e moved (ap (λ y. y.table) x))
           ∙ sym (target_apart (in_keyspace keyspace table) e.0 (λ x. no e moved (ap (λ y. y.table) x)))
       by e false t = refl
@@ -194,7 +161,7 @@ module _ (w : Live) where
     where
       by : (e : RuleTarget × ℕ) (t : Bool) → moving e ≡ t → same_target (in_keyspace keyspace table) (cond t (in_keyspace w.target e.0.table, e.1) e).0 ≡ same_target (in_keyspace keyspace table) e.0
       by e true t =
-          let here = (same_text_decides w.source e.0.keyspace).0 (and-true (same_text w.source e.0.keyspace) (moves w e.0.table) t).0 in
+          let here = (same_text_decides w.source e.0.keyspace).0 (and_parts (same_text w.source e.0.keyspace) (moves w e.0.table) t).0 in
           target_apart (in_keyspace keyspace table) (in_keyspace w.target e.0.table) (λ x. to (sym (ap (λ y. y.keyspace) x)))
           ∙ sym (target_apart (in_keyspace keyspace table) e.0 (λ x. from (here ∙ sym (ap (λ y. y.keyspace) x))))
       by e false t = refl
@@ -207,13 +174,13 @@ module _ (w : Live) where
         by : (e : RuleTarget × ℕ) → same_target (in_keyspace w.target table) e.0 ≡ false → (t : Bool) → moving e ≡ t
             → same_target (in_keyspace w.target table) (cond t (in_keyspace w.target e.0.table, e.1) e).0 ≡ same_target (in_keyspace w.source table) e.0
         by e absent true t =
-            let here = (same_text_decides w.source e.0.keyspace).0 (and-true (same_text w.source e.0.keyspace) (moves w e.0.table) t).0 in
+            let here = (same_text_decides w.source e.0.keyspace).0 (and_parts (same_text w.source e.0.keyspace) (moves w e.0.table) t).0 in
             same_iff (in_keyspace w.target table) (in_keyspace w.target e.0.table) (in_keyspace w.source table) e.0
             (λ x. ap (λ y. in_keyspace w.source y.table) x ∙ ap (λ k. in_keyspace k e.0.table) here)
             (λ x. ap (λ y. in_keyspace w.target y.table) x)
         by e absent false t =
             absent ∙ sym (target_apart (in_keyspace w.source table) e.0
-            (λ x. true≢false (sym (and-both (same_text w.source e.0.keyspace) (moves w e.0.table) ((same_text_decides w.source e.0.keyspace).1 (ap (λ y. y.keyspace) x)) (ap (moves w) (ap (λ y. y.table) (sym x)) ∙ moved)) ∙ t)))
+            (λ x. true≢false (sym (and_from (same_text w.source e.0.keyspace) (moves w e.0.table) ((same_text_decides w.source e.0.keyspace).1 (ap (λ y. y.keyspace) x)) (ap (moves w) (ap (λ y. y.table) (sym x)) ∙ moved)) ∙ t)))
 
     -- the source's has none any more
     pub number-at_source : w.source ≢ w.target → number_at (map (number_moved w) es) (in_keyspace w.source table) ≡ None
@@ -223,4 +190,4 @@ module _ (w : Live) where
         by e true t = target_apart (in_keyspace w.source table) (in_keyspace w.target e.0.table) (λ x. apart (ap (λ y. y.keyspace) x))
         by e false t =
             target_apart (in_keyspace w.source table) e.0
-            (λ x. true≢false (sym (and-both (same_text w.source e.0.keyspace) (moves w e.0.table) ((same_text_decides w.source e.0.keyspace).1 (ap (λ y. y.keyspace) x)) (ap (moves w) (ap (λ y. y.table) (sym x)) ∙ moved)) ∙ t))
+            (λ x. true≢false (sym (and_from (same_text w.source e.0.keyspace) (moves w e.0.table) ((same_text_decides w.source e.0.keyspace).1 (ap (λ y. y.keyspace) x)) (ap (moves w) (ap (λ y. y.table) (sym x)) ∙ moved)) ∙ t))

@@ -1,6 +1,7 @@
 -- The copy at the side that isn't the owner, and the tests that nothing is left to be fed.
-use Rattle.std.proofs.Common.{◌≡◌, ◌≢◌, ◌↔◌, ℕ, suc, ◌-◌, ◌<◌, ◌≤◌, Bool, true, false, not, cond, eqb, ltb, leb, List, [], ◌∷◌, take, length, filter, map, Option, None, Some, is_some, refl, sym, ap, ◌∙◌, subst, arith, eqb-true, ltb-true, lt-ltb}
-use Rattle.std.proofs.lemmas.Bool.{true≢false, eq-eqb}
+use Rattle.std.proofs.Common.{◌≡◌, ◌≢◌, ◌↔◌, ℕ, ◌-◌, ◌<◌, ◌≤◌, Bool, true, false, not, cond, eqb, ltb, leb, List, [], ◌∷◌, take, length, filter, map, Option, None, Some, is_some, refl, sym, ap, ◌∙◌, subst, arith, eqb-true, ltb-true, lt-ltb}
+use Rattle.std.proofs.Math.Bool.{and-false}
+use Rattle.std.proofs.lemmas.Bool.{true≢false, eq-eqb, and_parts, not-false, or_right}
 use Rattle.std.proofs.lemmas.List.{take_all}
 use Rattle.std.specs.List.{fold, list_any, flat_map}
 use Rattle.std.specs.Option.{option_map_or}
@@ -10,22 +11,23 @@ use Rattle.mt_names.specs.Names.{same_text}
 use Rattle.mt_names.proofs.SameLemmas.{same_text_decides}
 use Rattle.mt_model.specs.Rows.{Row}
 use Rattle.mt_plain.specs.Answers.{Answers}
-use Rattle.mt_plain.specs.Events.{Event, read, advance, step, StreamName, Refusal, copying, full, no_watcher, not_level, nothing_to_reverse, nothing_to_switch, nothing_under_way, stale, undoing, Answer, done, row, advanced, shown, refused, Way}
-use Rattle.mt_plain.specs.Next.{live_stepped, live_undone, next, way_stepped, with_fresh_stream}
-use Rattle.mt_plain.specs.Plain.{Copied, not_begun, up_to, Live, LogEntry, Plain, Write, behind_last, catch_up, changes_primary, create_back, is_side, live_at, mover, moves, next_step, number_of, owner, refresh_source, refresh_target, switch_reads, write_journal}
+use Rattle.mt_plain.specs.Events.{Event, read, advance, step, StreamName, Refusal, full, no_watcher, not_level, nothing_under_way, stale, undoing, Answer, done, row, advanced, shown, refused, Way}
+use Rattle.mt_plain.specs.Next.{live_stepped, live_undone, next}
+use Rattle.mt_plain.specs.Plain.{Copied, not_begun, up_to, Live, LogEntry, Plain, Write, catch_up, is_side, live_at, mover, moves, next_step, number_of, owner, refresh_source, refresh_target, switch_reads, write_journal}
 use Rattle.mt_plain.specs.Plain.{ended}
-use Rattle.mt_plain.specs.Refuse.{advance_at, advance_refusal, has_more, in_workflow, is_of_primary, is_still_copying, most_journal_entries, most_ways, new_owner, old_owner, or_else, own_refusal, refusal_of, refuse_if, share_type, step_refusal, will_read_other_side}
-use Rattle.mt_plain.specs.Slots.{copied_after, keys_of_rows, log_length, past, room_in_log, running_at, slot_of, to_copy, uncopied, writes_any, written_side}
+use Rattle.mt_plain.specs.Refuse.{advance_at, advance_refusal, in_workflow, is_of_primary, is_still_copying, most_journal_entries, new_owner, old_owner, or_else, own_refusal, refusal_of, refuse_if, step_refusal, will_read_other_side}
+use Rattle.mt_plain.specs.Slots.{copied_after, keys_of_rows, past, room_in_log, running_at, slot_of, to_copy, uncopied, writes_any, written_side}
 use Rattle.mt_plain.specs.Writes.{client_number, client_row, is_copied, is_write_to, other_row, row_after_write, row_after_writes, row_by_mover, row_of, writes_to}
 use Rattle.mt_laws.specs.Copies.{Feeds, tests_level}
 use Rattle.mt_laws.specs.WayBack.{IsReached}
 use Rattle.mt_laws.proofs.ChangeLemmas.{live_after, lives_after, made_live}
-use Rattle.mt_laws.proofs.KeepLemmas.{Keeps, next_has, reached_have}
+use Rattle.mt_laws.proofs.KeepLemmas.{Keeps, next_has}
 use Rattle.mt_laws.proofs.LiveLemmas.{IsIn, find_some, find_the_one, text_apart, text_differs}
-use Rattle.mt_laws.proofs.ReachLemmas.{live_by_name, reached_has_parts}
+use Rattle.mt_laws.proofs.ReachLemmas.{live_by_name, reached_has_parts, reached_have}
 use Rattle.mt_laws.proofs.StreamLemmas.{runs_at_the_owner}
-use Rattle.mt_laws.proofs.RefusalLemmas.{and-true, at_rest-none, in_workflow-none, not-false, or-right, or_else-none, refuse_if-none}
-use Rattle.mt_laws.proofs.UntouchedLemmas.{same_fed, same_workflow, traffic-advanced}
+use Rattle.mt_laws.proofs.RefusalLemmas.{in_workflow-none, or_else-none, refuse_if-none, reverse-none, switch-none}
+use Rattle.mt_laws.proofs.UntouchedLemmas.{same_fed, same_workflow, traffic-advanced, copy-live_stepped, copy-undone}
+use Rattle.mt_laws.proofs.WritableLemmas.{side_by-is_side}
 
 -- ---- the tests of the level
 
@@ -44,7 +46,7 @@ refuse_same false refusal e = absurd cc
 
 own-level : (a b c d t will behind one two three : Bool) → own_by a b c d t will behind one two three ≡ Some not_level → ((c || a && will) ≡ true) × (behind ≡ true)
 own-level true b c d t will behind one two three e =
-    let r = and-true will behind (refuse_same (will && behind) not_level e) in (or-right c will r.0, r.1)
+    let r = and_parts will behind (refuse_same (will && behind) not_level e) in (or_right c will r.0, r.1)
 own-level false true c d t will behind one two three e = absurd (refuse_other one no_watcher (λ x. absurd cc) e)
 own-level false false true d t will behind one two three e = (refl, refuse_same behind not_level e)
 own-level false false false true t will behind one two three e = absurd (refuse_other two full (λ x. absurd cc) e)
@@ -131,7 +133,7 @@ any_moved test (t ∷ ts) table e holds = by (same_text t table) refl (any_moved
   where
     by : (b : Bool) → same_text t table ≡ b → (list_any (λ x. same_text x table) ts ≡ true → test table ≡ true → list_any test ts ≡ true) → (test t || list_any test ts) ≡ true
     by true b again = ap (λ x. x || list_any test ts) (ap test ((same_text_decides t table).0 b) ∙ holds)
-    by false b again = or-right (test t) (list_any test ts) (again (rw b at e) holds)
+    by false b again = or_right (test t) (list_any test ts) (again (rw b at e) holds)
 
 module _ (p : Plain) (w : Live) (table : List ℕ) (moved : moves w table ≡ true) (key : ℕ) where
   abbrev number : ℕ
@@ -152,13 +154,6 @@ module _ (p : Plain) (w : Live) (table : List ℕ) (moved : moves w table ≡ tr
       ap (λ ws. row_after_writes ws number key) (take_all w.fed (writes_to p w) level)
       ∙ fold_filter (row_after_write number key) (is_write_to p w) p.writes None (λ write before other. other_write write before other)
 
-  owner_is_side : is_side w (owner w) ≡ true
-  owner_is_side = by w.switched.primary
-    where
-      by : (t : Bool) → is_side w (cond t w.target w.source) ≡ true
-      by true = or-right (same_text w.source w.target) (same_text w.target w.target) ((same_text_decides w.target w.target).1 refl)
-      by false = ap (λ t. t || same_text w.target w.source) ((same_text_decides w.source w.source).1 refl)
-
   pub client_number-side : mover p table ≡ Some w → (keyspace : List ℕ) → is_side w keyspace ≡ true → client_number p keyspace table ≡ number
   client_number-side found keyspace side =
       ap (λ o. number_of p (option_map_or (λ v. cond (is_side v keyspace) v.source keyspace) o keyspace) table) found
@@ -168,7 +163,7 @@ module _ (p : Plain) (w : Live) (table : List ℕ) (moved : moves w table ≡ tr
   pub copied_row : mover p table ≡ Some w → is_copied w table key ≡ true → length (writes_to p w) ≤ w.fed → other_row p w table key ≡ client_row p (owner w) table key
   copied_row found copied level =
       ap (λ t. cond t (row_after_writes (take w.fed (writes_to p w)) number key) None) copied ∙ all_fed level
-      ∙ ap (λ n. row_after_writes p.writes n key) (sym (client_number-side found (owner w) owner_is_side))
+      ∙ ap (λ n. row_after_writes p.writes n key) (sym (client_number-side found (owner w) (side_by-is_side w w.switched.primary)))
 
 -- ---- a copy has ended where something is switched, or a way is open
 
@@ -183,62 +178,25 @@ not_copying not_begun e = absurd (true≢false e)
 not_copying (up_to table key) e = absurd (true≢false e)
 not_copying ended e = refl
 
-and-no : (t : Bool) → (t && false) ≡ false
-and-no true = refl
-and-no false = refl
-
 share-any : (a b c x y z : Bool) → ((a && x || b && y) || c && z) ≡ true → (x || (y || z)) ≡ true
 share-any a b c true y z e = refl
 share-any a b c false true z e = refl
 share-any a b c false false true e = refl
-share-any a b c false false false e = absurd (true≢false (sym e ∙ rw (and-no a, and-no b, and-no c) refl))
-
-copied-cond : (t : Bool) (a b : Live) (x : Copied) → a.copied ≡ x → b.copied ≡ x → (cond t a b).copied ≡ x
-copied-cond true a b x e f = e
-copied-cond false a b x e f = f
-
-fed-cond : (t : Bool) (a b : Live) (x : ℕ) → a.fed ≡ x → b.fed ≡ x → (cond t a b).fed ≡ x
-fed-cond true a b x e f = e
-fed-cond false a b x e f = f
+share-any a b c false false false e = absurd (true≢false (sym e ∙ rw (and-false a, and-false b, and-false c) refl))
 
 -- a step and an undo leave the copy
 module _ (p : Plain) (w : Live) (way : Way) where
-  abbrev closed : Live
-  closed = record (with_fresh_stream w way) { switched = way.after; way = None }
-
-  abbrev goes_on : Live
-  goes_on = record w { way = Some (record way { done = suc way.done }) }
-
-  abbrev closes : Bool
-  closes = eqb (suc (next_step way)) (behind_last way)
-
-  copied-fresh : (with_fresh_stream w way).copied ≡ w.copied
-  copied-fresh = copied-cond (not (changes_primary way)) w _ w.copied refl (copied-cond way.back (record w { forward_at = w.fresh_at }) (record w { back_at = w.fresh_at }) w.copied refl refl)
-
-  fed-fresh : (with_fresh_stream w way).fed ≡ w.fed
-  fed-fresh = fed-cond (not (changes_primary way)) w _ w.fed refl (fed-cond way.back (record w { forward_at = w.fresh_at }) (record w { back_at = w.fresh_at }) w.fed refl refl)
-
-  copied-way_stepped : (way_stepped w way).copied ≡ w.copied
-  copied-way_stepped = copied-cond closes closed goes_on w.copied copied-fresh refl
-
-  fed-way_stepped : (way_stepped w way).fed ≡ w.fed
-  fed-way_stepped = fed-cond closes closed goes_on w.fed fed-fresh refl
-
-  pub copied-stepped : (live_stepped p w way).copied ≡ w.copied
-  copied-stepped =
-      copied-cond (eqb (next_step way) create_back) (record (way_stepped w way) { fresh_at = log_length p (new_owner w) }) _ w.copied copied-way_stepped
-      (copied-cond (eqb (next_step way) write_journal) (record (way_stepped w way) { switched = way.after }) (way_stepped w way) w.copied copied-way_stepped copied-way_stepped)
+  copied-stepped : (live_stepped p w way).copied ≡ w.copied
+  copied-stepped = ap (λ c. c.1) (copy-live_stepped p w way)
 
   pub fed-stepped : (live_stepped p w way).fed ≡ w.fed
-  fed-stepped =
-      fed-cond (eqb (next_step way) create_back) (record (way_stepped w way) { fresh_at = log_length p (new_owner w) }) _ w.fed fed-way_stepped
-      (fed-cond (eqb (next_step way) write_journal) (record (way_stepped w way) { switched = way.after }) (way_stepped w way) w.fed fed-way_stepped fed-way_stepped)
+  fed-stepped = ap (λ c. c.0) (copy-live_stepped p w way)
 
-  pub copied-undone : (live_undone w way).copied ≡ w.copied
-  copied-undone = copied-cond (eqb (way.done - 1) 0) (record w { way = None }) (record w { way = Some (record way { done = way.done - 1; undoing = true }) }) w.copied refl refl
+  copied-undone : (live_undone w way).copied ≡ w.copied
+  copied-undone = ap (λ c. c.1) (copy-undone w way)
 
-  pub fed-undone : (live_undone w way).fed ≡ w.fed
-  fed-undone = fed-cond (eqb (way.done - 1) 0) (record w { way = None }) (record w { way = Some (record way { done = way.done - 1; undoing = true }) }) w.fed refl refl
+  fed-undone : (live_undone w way).fed ≡ w.fed
+  fed-undone = ap (λ c. c.0) (copy-undone w way)
 
 -- nothing is left to copy behind the end
 none_kept : {A : Type 0} (test : A → Bool) (xs : List A) → ((x : A) → test x ≡ false) → filter test xs ≡ []
@@ -278,19 +236,11 @@ none_to_copy p w (entry ∷ entries) e = refl
 ended_kept : (p : Plain) (event : Event) (w : Live) → IsEnded w → Keeps IsEnded p event w
 ended_kept p event w holds = record {
   same = holds;
-  switch = λ types none any.
-      let full_at = refuse_if (leb most_ways p.ways) full in
-      let copies = or_else (refuse_if (is_still_copying w.copied) copying) full_at in
-      let r = (at_rest-none w (or_else (refuse_if (not (has_more types w.switched)) nothing_to_switch) copies) none).1 in
-      let s = (or_else-none (refuse_if (not (has_more types w.switched)) nothing_to_switch) copies r).1 in
-      not_copying w.copied (refuse_if-none (is_still_copying w.copied) copying (or_else-none (refuse_if (is_still_copying w.copied) copying) full_at s).0);
-  reverse = λ types none any.
-      let full_at = refuse_if (leb most_ways p.ways) full in
-      let r = (at_rest-none w (or_else (refuse_if (not (share_type types w.switched)) nothing_to_reverse) full_at) none).1 in
-      let shares = not-false (share_type types w.switched) (refuse_if-none (not (share_type types w.switched)) nothing_to_reverse (or_else-none (refuse_if (not (share_type types w.switched)) nothing_to_reverse) full_at r).0) in
-      holds (or-right (is_some w.way) (w.switched.primary || (w.switched.replica || w.switched.rdonly))
-      (share-any types.primary types.replica types.rdonly w.switched.primary w.switched.replica w.switched.rdonly shares));
-  steps = λ at way opens none any. copied-stepped p w way ∙ ended_open w way opens holds;
+  switch = λ types begins none any. not_copying w.copied (switch-none p types w none).2;
+  reverse = λ types begins none any.
+      holds (or_right (is_some w.way) (w.switched.primary || (w.switched.replica || w.switched.rdonly))
+      (share-any types.primary types.replica types.rdonly w.switched.primary w.switched.replica w.switched.rdonly (reverse-none p types w none).1));
+  steps = λ at way steps opens none any. copied-stepped p w way ∙ ended_open w way opens holds;
   undoes = λ at way undoes opens none any. copied-undone p w way ∙ ended_open w way opens holds;
   advances = λ workflow stream at at_most events rows live none given any.
       let same = traffic-advanced p w stream at at_most events rows in
@@ -329,9 +279,9 @@ module _ (p : Plain) (reached : IsReached p) (name : List ℕ) (w : Live) (way :
 fed_kept : (p : Plain) (event : Event) (w : Live) → Keeps (λ v. w.fed ≤ v.fed) p event w
 fed_kept p event w = record {
   same = omega arith;
-  switch = λ types none. omega arith;
-  reverse = λ types none. omega arith;
-  steps = λ at way opens none. let e = fed-stepped p w way in omega arith;
+  switch = λ types begins none. omega arith;
+  reverse = λ types begins none. omega arith;
+  steps = λ at way steps opens none. let e = fed-stepped p w way in omega arith;
   undoes = λ at way undoes opens none. let e = fed-undone p w way in omega arith;
   advances = λ workflow stream at at_most events rows live none given. omega arith;
 }

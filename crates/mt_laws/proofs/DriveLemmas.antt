@@ -3,21 +3,22 @@ use Rattle.std.proofs.Common.{◌≡◌, ◌≢◌, ◌⊎◌, inl, inr, ℕ, ze
 use Rattle.std.proofs.lemmas.Bool.{true≢false, eqb-true, eq-eqb}
 use Rattle.std.specs.List.{list_any}
 use Rattle.std.specs.Option.{option_map_or}
-use Rattle.std.specs.Prelude.{◌&&◌, is_some, option_and_then}
+use Rattle.std.specs.Prelude.{◌&&◌, option_and_then}
 use Rattle.mt_names.specs.declared.types.TypeSet.{TypeSet}
 use Rattle.mt_plain.specs.Answers.{Answers, Refuses}
 use Rattle.mt_plain.specs.Numbers.{number_text}
 use Rattle.mt_plain.specs.Drive.{Driving, begins, steps, feeds, gives_up, Heard, goes_on, ends, event_of, fails, feeding_stream, heard, most_at_once, most_tries, position_of, refused_step, steps_done, unless_closed, way_of}
-use Rattle.mt_plain.specs.Events.{begin_switch, begin_reverse, step, undo, Refusal, memory, under_way, nothing_under_way, nothing_to_switch, nothing_to_reverse, not_level, past_journal, watcher_refused, no_watcher, stale, full, undoing, refusal_text, Way, Answer, done, row, advanced, shown, refused}
+use Rattle.mt_plain.specs.Events.{begin_switch, begin_reverse, step, undo, Refusal, memory, nothing_under_way, not_level, past_journal, watcher_refused, no_watcher, stale, full, undoing, refusal_text, Way, Answer, done, row, advanced, shown, refused}
 use Rattle.mt_plain.specs.Next.{next, with_step, with_undo, with_way_to, types_and, types_without}
 use Rattle.mt_plain.specs.Output.{Drives, GoesOn, Rest, line_feed}
-use Rattle.mt_plain.specs.Plain.{Live, Plain, behind_last, catch_up, changed_types, first_step, live_at, next_step, refresh_source, refresh_target, stands_done, switch_reads, write_journal}
-use Rattle.mt_plain.specs.Refuse.{begin_reverse_refusal, begin_switch_refusal, has_more, in_workflow, is_behind, is_of_primary, most_journal_entries, new_owner, old_owner, or_else, own_refusal, refusal_of, refuse_if, share_type, step_refusal, undo_refusal, will_read_other_side}
+use Rattle.mt_plain.specs.Plain.{Live, Plain, behind_last, catch_up, first_step, live_at, next_step, refresh_source, refresh_target, stands_done, switch_reads, write_journal}
+use Rattle.mt_plain.specs.Refuse.{begin_reverse_refusal, begin_switch_refusal, in_workflow, is_behind, is_of_primary, most_journal_entries, new_owner, old_owner, or_else, own_refusal, refusal_of, refuse_if, step_refusal, undo_refusal, will_read_other_side}
 use Rattle.mt_laws.proofs.DocumentLemmas.{refusal-no_feed}
 use Rattle.mt_laws.proofs.ListLemmas.{cond-either, cond-holds}
 use Rattle.mt_laws.proofs.TextLemmas.{NoFeed, no_feed-append, no_feed-number}
 use Rattle.mt_laws.proofs.StepCountLemmas.{HasWay, backward_has_steps, few_done, few_undone, forward_has_steps, has_steps, has_way, way_of-advance, way_of-begun, way_of-step, way_of-undo}
 use Rattle.mt_laws.proofs.PlainWords.{changes_reads, gives_up_or_stops}
+use Rattle.mt_laws.proofs.RefusalLemmas.{in_workflow-none, reverse-none, switch-none}
 
 -- ---- how many turns are enough
 
@@ -263,59 +264,19 @@ begun-fits turns p workflow backward change w many found way is none left q next
   enough = subst (λ n. Enough turns most_tries (first_step way + n)) (sym none) (enough-begun (changes_reads way) turns many);
 }
 
--- a test that does not refuse
-refuse_if-taken : (test : Bool) (refusal : Refusal) (next : Option Refusal) → or_else (refuse_if test refusal) next ≡ None → (test ≡ false) × (next ≡ None)
-refuse_if-taken true refusal next e = absurd cc
-refuse_if-taken false refusal next e = (refl, e)
-
-not_false : (test : Bool) → not test ≡ false → test ≡ true
-not_false true e = refl
-not_false false e = sym e
-
--- a live workflow that does not refuse
-pub record Takes (p : Plain) (workflow : List ℕ) (refusal : Live → Option Refusal) : Type 0 where
-  pub live : Live
-  pub found : live_at p workflow ≡ Some live
-  pub none : refusal live ≡ None
-
-takes : (p : Plain) (workflow : List ℕ) (refusal : Live → Option Refusal) → in_workflow (live_at p workflow) refusal ≡ None → Takes p workflow refusal
-takes p workflow refusal is = by (live_at p workflow) refl
-  where
-    by : (o : Option Live) → live_at p workflow ≡ o → Takes p workflow refusal
-    by None e = absurd (let h = rw e at is in cc)
-    by (Some w) e = record { live = w; found = e; none = rw e at is }
-
 begun_switch-fits : (turns : ℕ) (p : Plain) (workflow : List ℕ) (types : TypeSet) → 300 ≤ turns → refusal_of p (begin_switch workflow types) ≡ None → Goes turns most_tries (next p (begin_switch workflow types) done) workflow
 begun_switch-fits turns p workflow types many none =
-    let t = takes p workflow (begin_switch_refusal p types) none in
-    let w = t.live in
-    let at_rest_is = refuse_if-taken (is_some w.way) under_way _ t.none in
-    let more_is = refuse_if-taken (not (has_more types w.switched)) nothing_to_switch _ at_rest_is.1 in
-    let more : has_more types w.switched ≡ true = not_false (has_more types w.switched) more_is.0 in
-    let change = types_and_with types in
-    let way : Way = record { back = false; before = w.switched; after = types_and w.switched types; done = 0; undoing = false } in
-    begun-fits turns p workflow false change w many t.found way refl refl
-    (has_steps (changed_types way).primary (changed_types way).replica (changed_types way).rdonly (forward_has_steps w.switched types more))
-    (next p (begin_switch workflow types) done) (way_of-begun p workflow false change w t.found)
-  where
-    types_and_with : TypeSet → TypeSet → TypeSet
-    types_and_with types switched = types_and switched types
+    let t = in_workflow-none (live_at p workflow) (begin_switch_refusal p types) none in
+    let change : TypeSet → TypeSet = λ switched. types_and switched types in
+    begun-fits turns p workflow false change t.0 many t.1 _ refl refl (has_steps _ _ _ (forward_has_steps t.0.switched types (switch-none p types t.0 t.2).1))
+    (next p (begin_switch workflow types) done) (way_of-begun p workflow false change t.0 t.1)
 
 begun_reverse-fits : (turns : ℕ) (p : Plain) (workflow : List ℕ) (types : TypeSet) → 300 ≤ turns → refusal_of p (begin_reverse workflow types) ≡ None → Goes turns most_tries (next p (begin_reverse workflow types) done) workflow
 begun_reverse-fits turns p workflow types many none =
-    let t = takes p workflow (begin_reverse_refusal p types) none in
-    let w = t.live in
-    let at_rest_is = refuse_if-taken (is_some w.way) under_way _ t.none in
-    let more_is = refuse_if-taken (not (share_type types w.switched)) nothing_to_reverse _ at_rest_is.1 in
-    let more : share_type types w.switched ≡ true = not_false (share_type types w.switched) more_is.0 in
-    let change = types_without_those types in
-    let way : Way = record { back = true; before = w.switched; after = types_without w.switched types; done = 0; undoing = false } in
-    begun-fits turns p workflow true change w many t.found way refl refl
-    (has_steps (changed_types way).primary (changed_types way).replica (changed_types way).rdonly (backward_has_steps w.switched types more))
-    (next p (begin_reverse workflow types) done) (way_of-begun p workflow true change w t.found)
-  where
-    types_without_those : TypeSet → TypeSet → TypeSet
-    types_without_those types switched = types_without switched types
+    let t = in_workflow-none (live_at p workflow) (begin_reverse_refusal p types) none in
+    let change : TypeSet → TypeSet = λ switched. types_without switched types in
+    begun-fits turns p workflow true change t.0 many t.1 _ refl refl (has_steps _ _ _ (backward_has_steps t.0.switched types (reverse-none p types t.0 t.2).1))
+    (next p (begin_reverse workflow types) done) (way_of-begun p workflow true change t.0 t.1)
 
 -- ---- each event of a drive
 

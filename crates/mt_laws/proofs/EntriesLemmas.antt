@@ -38,45 +38,32 @@ served-map : (u : TopologyState) (key : EntryKey) (f : Live → Live) (d : Entry
 served-map u key f d each None = refl
 served-map u key f d each (Some w) = each w
 
-no_topology : (event : Event) → IsOfRows event → ¬ (ChangesTopology event)
-no_topology (write keyspace table op) is = λ h. h
-no_topology (read keyspace table key tablet_type) is = λ h. h
-no_topology (advance workflow name at at_most) is = λ h. h
-no_topology (show workflow) is = λ h. h
-no_topology event is = absurd is
-
-no_way_changed : (event : Event) → IsOfRows event → ¬ (ChangesWay event)
-no_way_changed (write keyspace table op) is = λ h. h
-no_way_changed (read keyspace table key tablet_type) is = λ h. h
-no_way_changed (advance workflow name at at_most) is = λ h. h
-no_way_changed (show workflow) is = λ h. h
-no_way_changed event is = absurd is
-
-no_lives : (event : Event) → IsOfRows event → ¬ (ChangesLives event)
-no_lives (write keyspace table op) is = λ h. h
-no_lives (read keyspace table key tablet_type) is = λ h. h
-no_lives (advance workflow name at at_most) is = λ h. h
-no_lives (show workflow) is = λ h. h
-no_lives event is = absurd is
+-- an event on rows or streams changes neither
+rows_only : (event : Event) → IsOfRows event → (¬ (ChangesTopology event)) × (¬ (ChangesWay event)) × (¬ (ChangesLives event))
+rows_only (write keyspace table op) is = (λ h. h, λ h. h, λ h. h)
+rows_only (read keyspace table key tablet_type) is = (λ h. h, λ h. h, λ h. h)
+rows_only (advance workflow name at at_most) is = (λ h. h, λ h. h, λ h. h)
+rows_only (show workflow) is = (λ h. h, λ h. h, λ h. h)
+rows_only event is = absurd is
 
 pub same_entries : (p : Plain) (event : Event) (answer : Answer) → IsOfRows event → (key : EntryKey) → served_entry (next p event answer) key ≡ served_entry p key
 same_entries p event answer is key = by (lives_after p event answer)
   where
     each : (w : Live) → served_by p.topology (live_next p event answer w) key ≡ served_by p.topology w key
     each w =
-        let same = same_traffic p event answer w (no_way_changed event is) in
+        let same = same_traffic p event answer w (rows_only event is).1 in
         sym (served_by-same p.topology w (live_next p event answer w) (sides-next p event answer w) (sym (ap (λ t. t.0) same)) (sym (ap (λ t. t.1) same)) key)
 
     by : LivesAfter p (next p event answer) event answer → served_entry (next p event answer) key ≡ served_entry p key
     by (mapped lives) =
-        ap (λ u. option_map_or (λ w. served_by u w key) (part_owner (next p event answer) key) (value_of u key)) (same_topology p event answer (no_topology event is))
+        ap (λ u. option_map_or (λ w. served_by u w key) (part_owner (next p event answer) key) (value_of u key)) (same_topology p event answer (rows_only event is).0)
         ∙ ap (λ l. option_map_or (λ w. served_by p.topology w key) (find (λ w. has_part w key) l) (value_of p.topology key)) lives
         ∙ ap (λ o. option_map_or (λ w. served_by p.topology w key) o (value_of p.topology key))
         (find-map (λ w. has_part w key) (live_next p event answer) p.lives (λ w. sym (has_part-same w (live_next p event answer w) (sides-next p event answer w) key)))
         ∙ served-map p.topology key (live_next p event answer) (value_of p.topology key) each (part_owner p key)
-    by (made name source target tables e lives same) = absurd (no_lives event is (subst ChangesLives (sym e) tt))
-    by (ended name (inl e) lives same) = absurd (no_lives event is (subst ChangesLives (sym e) tt))
-    by (ended name (inr e) lives same) = absurd (no_lives event is (subst ChangesLives (sym e) tt))
+    by (made name source target tables e lives same) = absurd ((rows_only event is).2 (subst ChangesLives (sym e) tt))
+    by (ended name (inl e) lives same) = absurd ((rows_only event is).2 (subst ChangesLives (sym e) tt))
+    by (ended name (inr e) lives same) = absurd ((rows_only event is).2 (subst ChangesLives (sym e) tt))
 
 -- ---- traffic commands, outside of the part of their workflow
 

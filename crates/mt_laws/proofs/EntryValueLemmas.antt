@@ -1,41 +1,32 @@
 -- What an event leaves of the topology as if no workflow were live.
-use Rattle.std.proofs.Common.{◌≡◌, ◌≢◌, ◌⊎◌, inl, inr, ℕ, true, false, List, [], ◌∷◌, ◌++◌, fold, flat_map, Option, None, Some, unwrap_or, refl, sym, ap, ◌∙◌}
+use Rattle.std.proofs.Common.{◌≡◌, ◌≢◌, ◌⊎◌, inl, inr, ℕ, Bool, true, false, List, [], ◌∷◌, ◌++◌, fold, flat_map, Option, None, Some, unwrap_or, refl, sym, ap, ◌∙◌}
 use Rattle.std.proofs.lemmas.Bool.{true≢false}
-use Rattle.std.specs.Map.{remove_entry}
+use Rattle.std.specs.Map.{lookup, remove_entry}
 use Rattle.mt_names.specs.declared.keys.RuleKey.{RuleKey}
 use Rattle.mt_names.specs.declared.keys.RuleTarget.{RuleTarget}
 use Rattle.mt_names.specs.Names.{same_text}
-use Rattle.mt_names.specs.Same.{same_key}
+use Rattle.mt_names.specs.Same.{DecidesEquality, same_key}
 use Rattle.mt_names.proofs.EntryLemmas.{lookup-remove_entry_elsewhere}
 use Rattle.mt_names.proofs.SameLemmas.{same_key_decides, same_text_decides}
 use Rattle.mt_model.specs.declared.entries.Entry.TheVariants as entry
 use Rattle.mt_model.specs.declared.entries.EntryKey.{EntryKey}
 use Rattle.mt_model.specs.declared.entries.EntryKey.TheVariants as about
-use Rattle.mt_model.specs.Topology.{KeyspaceState, Marks, Rules, TopologyState, is_denied, is_marked, is_present, rule_at, value_of, with_keyspace_state, with_mark_place, with_new_table, with_rule}
+use Rattle.mt_model.specs.Part.{keys_of_name}
+use Rattle.mt_model.specs.Topology.{KeyspaceState, TopologyState, is_denied, is_marked, is_present, rule_at, value_of, with_keyspace_state, with_mark_place, with_new_table, with_rule}
+use Rattle.mt_model.proofs.PartLemmas.{table_of}
 use Rattle.mt_model.proofs.TopologyLemmas.{is_marked-set_elsewhere, is_marked-with_mark_place, read_at-unchanged, value_of-rules_changed, rule_at-with_rule_elsewhere}
 use Rattle.mt_plain.specs.Next.{completed, with_tables, without_tables}
-use Rattle.mt_plain.specs.Plain.{Live, keys_of_name, moves, rule_keys, twelve_keys}
+use Rattle.mt_plain.specs.Plain.{Live, moves, rule_keys, twelve_keys}
 use Rattle.mt_laws.proofs.LiveLemmas.{IsIn, any-in}
-
--- the table that an entry is about
-abbrev pub table_of : EntryKey → List ℕ
-table_of (about.Rule key) = key.table
-table_of (about.Denied keyspace table) = table
-table_of (about.Present keyspace table) = table
 
 -- ---- Complete, at another table
 
-rule_at-removed : (rules : Rules) (key other : RuleKey) → key ≢ other → rule_at (remove_entry (same_key key) rules) other ≡ rule_at rules other
-rule_at-removed rules key other apart = ap (λ o. unwrap_or o None) (lookup-remove_entry_elsewhere same_key same_key_decides rules key other apart)
-
-abbrev without_keys : Rules → List RuleKey → Rules
-without_keys rules keys = fold (λ rules key. remove_entry (same_key key) rules) rules keys
-
--- keys of other tables
-rule_at-without_keys : (keys : List RuleKey) (rules : Rules) (other : RuleKey) → ((key : RuleKey) → IsIn key keys → key ≢ other) → rule_at (without_keys rules keys) other ≡ rule_at rules other
-rule_at-without_keys [] rules other apart = refl
-rule_at-without_keys (key ∷ keys) rules other apart =
-    rule_at-without_keys keys (remove_entry (same_key key) rules) other (λ k is. apart k (inr is)) ∙ rule_at-removed rules key other (apart key (inl refl))
+-- look-ups of other keys than those that are removed
+pub lookup-without : {K V : Type 0} (same : K → K → Bool) (decides : DecidesEquality same) (keys : List K) (es : List (K × V)) (other : K) → ((key : K) → IsIn key keys → key ≢ other)
+    → lookup (same other) (fold (λ es key. remove_entry (same key) es) es keys) ≡ lookup (same other) es
+lookup-without same decides [] es other apart = refl
+lookup-without same decides (key ∷ keys) es other apart =
+    lookup-without same decides keys (remove_entry (same key) es) other (λ k is. apart k (inr is)) ∙ lookup-remove_entry_elsewhere same decides es key other (apart key (inl refl))
 
 -- each of the twelve keys of a table has that table
 of_name : (keyspace : Option (List ℕ)) (table : List ℕ) (key : RuleKey) → IsIn key (keys_of_name keyspace table) → key.table ≡ table
@@ -79,14 +70,6 @@ in_moved w table is = any-in (λ t. same_text t table) w.tables table is ((same_
 not_moved : (w : Live) (table other : List ℕ) → moves w other ≡ false → IsIn table w.tables → table ≢ other
 not_moved w table other unmoved is e = true≢false (sym (in_moved w table is) ∙ ap (moves w) e ∙ unmoved)
 
-is_marked-removed : (marks : Marks) (name other : List ℕ) → name ≢ other → is_marked (remove_entry (same_text name) marks) other ≡ is_marked marks other
-is_marked-removed marks name other apart = ap (λ o. unwrap_or o false) (lookup-remove_entry_elsewhere same_text same_text_decides marks name other apart)
-
-is_marked-without : (tables : List (List ℕ)) (marks : Marks) (other : List ℕ) → ((table : List ℕ) → IsIn table tables → table ≢ other) → is_marked (fold (λ m table. remove_entry (same_text table) m) marks tables) other ≡ is_marked marks other
-is_marked-without [] marks other apart = refl
-is_marked-without (table ∷ tables) marks other apart =
-    is_marked-without tables (remove_entry (same_text table) marks) other (λ t is. apart t (inr is)) ∙ is_marked-removed marks table other (apart table (inl refl))
-
 is_marked-with : (tables : List (List ℕ)) (state : KeyspaceState) (other : List ℕ) → ((table : List ℕ) → IsIn table tables → table ≢ other) → is_marked (with_tables tables state).tables other ≡ is_marked state.tables other
 is_marked-with [] state other apart = refl
 is_marked-with (table ∷ tables) state other apart =
@@ -109,13 +92,13 @@ is_present-completed u w keyspace table unmoved =
     read_at-unchanged (λ state. is_marked state.tables table) false (with_tables w.tables) (with_keyspace_state (without_tables w.tables) u.keyspaces w.source) w.target keyspace
     (λ state found e. is_marked-with w.tables state table (λ t. not_moved w t table unmoved))
     ∙ read_at-unchanged (λ state. is_marked state.tables table) false (without_tables w.tables) u.keyspaces w.source keyspace
-    (λ state found e. is_marked-without w.tables state.tables table (λ t. not_moved w t table unmoved))
+    (λ state found e. ap (λ o. unwrap_or o false) (lookup-without same_text same_text_decides w.tables state.tables table (λ t. not_moved w t table unmoved)))
 
 rule_at-completed : (u : TopologyState) (w : Live) (key : RuleKey) → moves w key.table ≡ false → rule_at (completed u w).rules key ≡ rule_at u.rules key
 rule_at-completed u w key unmoved =
-    rule_at-without_keys (rule_keys w) u.rules key
+    ap (λ o. unwrap_or o None) (lookup-without same_key same_key_decides (rule_keys w) u.rules key
     (λ k is e. let r = in-flat_map (twelve_keys w.source w.target) w.tables k is in
-    not_moved w r.0 key.table unmoved r.1 (sym (of_twelve w.source w.target r.0 k r.2) ∙ ap (λ x. x.table) e))
+    not_moved w r.0 key.table unmoved r.1 (sym (of_twelve w.source w.target r.0 k r.2) ∙ ap (λ x. x.table) e)))
 
 pub value_of-completed : (u : TopologyState) (w : Live) (key : EntryKey) → moves w (table_of key) ≡ false → value_of (completed u w) key ≡ value_of u key
 value_of-completed u w (about.Rule key) unmoved = ap (entry.Rule key) (rule_at-completed u w key unmoved)

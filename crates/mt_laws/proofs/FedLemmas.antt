@@ -1,37 +1,35 @@
 -- How many writes were fed: those of all acknowledged ones that don't stand past the position of the stream that feeds.
-use Rattle.std.proofs.Common.{◌≡◌, ℕ, suc, ◌+◌, ◌-◌, ◌≤◌, Bool, true, false, not, cond, eqb, ltb, leb, List, drop, length, filter, None, Some, refl, sym, ap, ◌∙◌, subst, arith, ltb-true, lt-ltb, le-leb}
-use Rattle.std.proofs.lemmas.Bool.{true≢false, eq-eqb}
+use Rattle.std.proofs.Common.{◌≡◌, ℕ, ◌+◌, ◌-◌, ◌≤◌, Bool, true, false, not, cond, eqb, List, drop, length, filter, None, Some, refl, sym, ap, ◌∙◌, subst, arith}
+use Rattle.std.proofs.lemmas.Bool.{true≢false, and_from}
 use Rattle.std.specs.List.{count_by, list_any}
-use Rattle.std.specs.Prelude.{◌&&◌, ◌||◌}
+use Rattle.std.specs.Prelude.{◌&&◌}
 use Rattle.mt_names.specs.Names.{same_text}
 use Rattle.mt_names.proofs.SameLemmas.{same_text_decides}
 use Rattle.mt_model.specs.declared.rows.Op.{Op}
 use Rattle.mt_plain.specs.Answers.{Answers}
 use Rattle.mt_plain.specs.Events.{Event, write, StreamName, forward, back, Answer, done, Way}
 use Rattle.mt_plain.specs.Next.{next}
-use Rattle.mt_plain.specs.Plain.{Live, LogEntry, Plain, catch_up, changes_primary, create_back, first_step, is_side, moves, next_step, number_of, owner, refresh_target, stands_done, write_journal}
+use Rattle.mt_plain.specs.Plain.{Live, LogEntry, Plain, catch_up, changes_primary, create_back, is_side, moves, number_of, owner, refresh_target, stands_done, write_journal}
 use Rattle.mt_plain.specs.Slots.{is_fresh, log_length, log_of, read_side}
 use Rattle.mt_plain.specs.Writes.{writes_to}
 use Rattle.mt_laws.specs.Changes.{HasSides}
 use Rattle.mt_laws.specs.WayBack.{IsReached, ends_workflow}
 use Rattle.mt_laws.proofs.AllWritesLemmas.{adds, all_after, found}
 use Rattle.mt_laws.proofs.LiveLemmas.{IsIn, sides_same}
-use Rattle.mt_laws.proofs.OwnerLemmas.{IsJournaled, done_in_order, reached_journaled}
+use Rattle.mt_laws.proofs.OwnerLemmas.{IsJournaled, reached_journaled}
 use Rattle.mt_laws.proofs.PartLemmas.{IsSettled}
 use Rattle.mt_laws.proofs.PastLemmas.{IsOther, adds_here, moved_past, past_after}
-use Rattle.mt_laws.proofs.PlainWords.{changes_reads}
+use Rattle.mt_laws.proofs.PlainWords.{side_by}
 use Rattle.mt_laws.proofs.PositionLemmas.{position_in, reached_within, rest_at}
 use Rattle.mt_laws.proofs.ReachLemmas.{reached_has_parts}
 use Rattle.mt_laws.proofs.ReadLemmas.{no_write_between, writes_at_the_owner}
-use Rattle.mt_laws.proofs.RefusalLemmas.{and-both, and-true, or-right}
-use Rattle.mt_laws.proofs.StreamLemmas.{IsTurned, differ_not, differ_to, fewer, more, reached_turned}
+use Rattle.mt_laws.proofs.StreamLemmas.{IsTurned, differ_not, differ_to, reached_turned}
+use Rattle.mt_laws.proofs.WayStepLemmas.{done_in_order}
+use Rattle.mt_laws.proofs.WritableLemmas.{owner-if, side_by-is_side}
 
 -- ---- what is fed, and what is past a position, is all
 
 -- a side, and the position of the stream that reads it at rest, by whether that is the target
-abbrev pub side_by : Live → Bool → List ℕ
-side_by w is_target = cond is_target w.target w.source
-
 abbrev pub at_by : Live → Bool → ℕ
 at_by w is_target = cond is_target w.back_at w.forward_at
 
@@ -43,63 +41,6 @@ pub record IsFed (p : Plain) (w : Live) : Type 0 where
   pub before : (way : Way) → w.way ≡ Some way → (changes_primary way && stands_done way write_journal) ≡ false → Level p w (side_by w way.before.primary) (at_by w way.before.primary)
   pub fresh : (way : Way) → w.way ≡ Some way → changes_primary way ≡ true → stands_done way create_back ≡ true → Level p w (side_by w (not way.before.primary)) w.fresh_at
   pub window : (way : Way) → w.way ≡ Some way → changes_primary way ≡ true → stands_done way catch_up ≡ true → stands_done way refresh_target ≡ false → length (writes_to p w) ≤ w.fed
-
--- ---- steps done
-
-pub before_then : (way : Way) (n : ℕ) → eqb (next_step way) n ≡ false → stands_done (more way) n ≡ true → stands_done way n ≡ true
-before_then way n other e =
-    let r = and-true (leb (first_step way) n) (ltb n (first_step way + suc way.done)) e in
-    and-both (leb (first_step way) n) (ltb n (first_step way + way.done)) r.0 (by (first_step way) r.1 other)
-  where
-    by : (first : ℕ) → ltb n (first + suc way.done) ≡ true → eqb (first + way.done) n ≡ false → ltb n (first + way.done) ≡ true
-    by first lt f =
-        let h = ltb-true n (first + suc way.done) lt in
-        let ne : first + way.done ≡ n → ⊥ = λ is. true≢false (sym (eq-eqb (first + way.done) n is) ∙ f) in
-        lt-ltb n (first + way.done) (omega arith)
-
-pub not_before : (way : Way) (n : ℕ) → stands_done (more way) n ≡ false → stands_done way n ≡ false
-not_before way n e = by (stands_done way n) refl
-  where
-    further : (first : ℕ) → ltb n (first + way.done) ≡ true → ltb n (first + suc way.done) ≡ true
-    further first lt = let h = ltb-true n (first + way.done) lt in lt-ltb n (first + suc way.done) (omega arith)
-
-    by : (t : Bool) → stands_done way n ≡ t → stands_done way n ≡ false
-    by false t = t
-    by true t =
-        let r = and-true (leb (first_step way) n) (ltb n (first_step way + way.done)) t in
-        absurd (true≢false (sym (and-both (leb (first_step way) n) (ltb n (first_step way + suc way.done)) r.0 (further (first_step way) r.1)) ∙ e))
-
-pub was_done : (way : Way) (n : ℕ) → stands_done (fewer way) n ≡ true → stands_done way n ≡ true
-was_done way n e =
-    let r = and-true (leb (first_step way) n) (ltb n (first_step way + (way.done - 1))) e in
-    and-both (leb (first_step way) n) (ltb n (first_step way + way.done)) r.0 (by (first_step way) r.1)
-  where
-    by : (first : ℕ) → ltb n (first + (way.done - 1)) ≡ true → ltb n (first + way.done) ≡ true
-    by first lt = let h = ltb-true n (first + (way.done - 1)) lt in lt-ltb n (first + way.done) (omega arith)
-
-early : (way : Way) (n : ℕ) → 1 ≤ n → leb (first_step way) n ≡ true
-early way n le = by (changes_reads way)
-  where
-    by : (t : Bool) → leb (cond t 0 1) n ≡ true
-    by true = le-leb 0 n (omega arith)
-    by false = le-leb 1 n le
-
-pub done_by : (way : Way) (n m : ℕ) → next_step way ≡ m → 1 ≤ n → suc n ≤ m → stands_done way n ≡ true
-done_by way n m is le lt = and-both (leb (first_step way) n) (ltb n (next_step way)) (early way n le) (lt-ltb n (next_step way) (omega arith))
-
-pub undone_by : (way : Way) (n m : ℕ) → next_step way ≡ m → m ≤ n → stands_done way n ≡ false
-undone_by way n m is le = by (stands_done way n) refl
-  where
-    by : (t : Bool) → stands_done way n ≡ t → stands_done way n ≡ false
-    by false t = t
-    by true t = let h = ltb-true n (next_step way) (and-true (leb (first_step way) n) (ltb n (next_step way)) t).1 in absurd (omega arith)
-
-pub and-right : (a b : Bool) → b ≡ false → (a && b) ≡ false
-and-right true b e = e
-and-right false b e = refl
-
-and-left : (a b : Bool) → a ≡ false → (a && b) ≡ false
-and-left a b e = ap (λ t. t && b) e
 
 pub if-not : (a b : Bool) → (a && b) ≡ false → a ≡ true → b ≡ false
 if-not true b e f = e
@@ -137,19 +78,16 @@ at_same w v e f false = e
 -- ---- the owner
 
 module _ (w : Live) (settled : IsSettled w) (journaled : IsJournaled w) (way : Way) (opens : w.way ≡ Some way) where
-  owner_if : (b : Bool) → w.switched.primary ≡ b → owner w ≡ side_by w b
-  owner_if b e = ap (side_by w) e
-
   pub owner_before : (changes_primary way && stands_done way write_journal) ≡ false → owner w ≡ side_by w way.before.primary
   owner_before guard = by (stands_done way write_journal) refl (changes_primary way) refl
     where
       by : (j : Bool) → stands_done way write_journal ≡ j → (c : Bool) → changes_primary way ≡ c → owner w ≡ side_by w way.before.primary
-      by false j c e = owner_if way.before.primary (ap (λ s. s.primary) (settled way opens j))
-      by true j false e = owner_if way.before.primary (ap (λ s. s.primary) (journaled way opens j) ∙ differ_not way.before.primary way.after.primary e)
-      by true j true e = absurd (true≢false (sym (and-both (changes_primary way) (stands_done way write_journal) e j) ∙ guard))
+      by false j c e = owner-if w way.before.primary (ap (λ s. s.primary) (settled way opens j))
+      by true j false e = owner-if w way.before.primary (ap (λ s. s.primary) (journaled way opens j) ∙ differ_not way.before.primary way.after.primary e)
+      by true j true e = absurd (true≢false (sym (and_from (changes_primary way) (stands_done way write_journal) e j) ∙ guard))
 
   pub owner_behind : changes_primary way ≡ true → stands_done way write_journal ≡ true → owner w ≡ side_by w (not way.before.primary)
-  owner_behind changes j = owner_if (not way.before.primary) (ap (λ s. s.primary) (journaled way opens j) ∙ differ_to way.before.primary way.after.primary changes)
+  owner_behind changes j = owner-if w (not way.before.primary) (ap (λ s. s.primary) (journaled way opens j) ∙ differ_to way.before.primary way.after.primary changes)
 
 -- ---- an event that leaves the workflow as it is
 
@@ -179,10 +117,6 @@ module _ (p : Plain) (reached : IsReached p) (w : Live) (in_it : IsIn w p.lives)
       by : (b : Bool) → way.back ≡ b → w.fresh_at ≤ log_length p (side_by w (not b))
       by true b = new forward (rw (changes, b, created) refl)
       by false b = new back (rw (changes, b, created) refl)
-
-  side_is : (b : Bool) → is_side w (side_by w b) ≡ true
-  side_is true = or-right (same_text w.source w.target) (same_text w.target w.target) ((same_text_decides w.target w.target).1 refl)
-  side_is false = ap (λ t. t || same_text w.target w.source) ((same_text_decides w.source w.source).1 refl)
 
   -- where each write to its tables is acknowledged at one side
   abbrev Here : List ℕ → Type 0
@@ -228,11 +162,11 @@ module _ (p : Plain) (reached : IsReached p) (w : Live) (in_it : IsIn w p.lives)
     pub fed_other : ((keyspace : List ℕ) (at : ℕ) (inside : at ≤ log_length p keyspace) → IsOther p w keyspace at inside event) → IsFed p w → IsFed (next p event answer) w
     fed_other other is = record {
       rests = λ rests. let b = w.switched.primary in
-          level_other (side_by w b) (at_by w b) (at_within b) (side_is b) (here_owner (side_by w b) refl) (other (side_by w b) (at_by w b) (at_within b)) (is.rests rests);
+          level_other (side_by w b) (at_by w b) (at_within b) (side_by-is_side w b) (here_owner (side_by w b) refl) (other (side_by w b) (at_by w b) (at_within b)) (is.rests rests);
       before = λ way opens guard. let b = way.before.primary in
-          level_other (side_by w b) (at_by w b) (at_within b) (side_is b) (here_owner (side_by w b) (owner_before w settled journaled way opens guard)) (other (side_by w b) (at_by w b) (at_within b)) (is.before way opens guard);
+          level_other (side_by w b) (at_by w b) (at_within b) (side_by-is_side w b) (here_owner (side_by w b) (owner_before w settled journaled way opens guard)) (other (side_by w b) (at_by w b) (at_within b)) (is.before way opens guard);
       fresh = λ way opens changes created. let b = not way.before.primary in
-          level_other (side_by w b) w.fresh_at (fresh_within way opens changes created) (side_is b) (here_fresh way opens changes created (stands_done way refresh_target) refl)
+          level_other (side_by w b) w.fresh_at (fresh_within way opens changes created) (side_by-is_side w b) (here_fresh way opens changes created (stands_done way refresh_target) refl)
           (other (side_by w b) w.fresh_at (fresh_within way opens changes created)) (is.fresh way opens changes created);
       window = λ way opens changes caught waits. window_other way opens changes caught waits (is.window way opens changes caught waits);
     }

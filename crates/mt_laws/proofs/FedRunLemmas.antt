@@ -1,6 +1,6 @@
 -- What is fed, in each state that a run reaches.
-use Rattle.std.proofs.Common.{◌≡◌, ◌≢◌, ◌⊎◌, inl, inr, ℕ, ◌+◌, Bool, true, false, not, cond, eqb, leb, List, [], length, Option, None, Some, refl, sym, ap, ◌∙◌, subst, arith}
-use Rattle.std.proofs.lemmas.Bool.{true≢false}
+use Rattle.std.proofs.Common.{◌≡◌, ◌≢◌, ℕ, ◌+◌, Bool, true, false, not, cond, eqb, List, [], length, Option, None, Some, refl, sym, ap, ◌∙◌, subst, arith}
+use Rattle.std.proofs.lemmas.Bool.{true≢false, and_from, and_parts}
 use Rattle.std.specs.List.{count_by, filter, list_any}
 use Rattle.std.specs.Map.{lookup}
 use Rattle.std.specs.Prelude.{◌&&◌, ◌||◌, unwrap_or}
@@ -8,31 +8,33 @@ use Rattle.mt_names.specs.declared.types.TypeSet.{TypeSet}
 use Rattle.mt_names.specs.Names.{same_text}
 use Rattle.mt_names.specs.Same.{same_target}
 use Rattle.mt_plain.specs.Answers.{Answers}
-use Rattle.mt_plain.specs.Events.{Event, create, advance, begin_switch, begin_reverse, step, undo, copying, full, nothing_to_reverse, nothing_to_switch, StreamName, forward, back, Slot, Answer, done, row, advanced, shown, refused, Way}
+use Rattle.mt_plain.specs.Events.{Event, create, advance, begin_switch, begin_reverse, step, undo, StreamName, forward, back, Slot, Answer, done, row, advanced, shown, refused, Way}
 use Rattle.mt_plain.specs.Next.{live_stepped, live_undone, next, on_way_of, types_and, types_without, with_advance, with_way_to}
 use Rattle.mt_plain.specs.Plain.{Live, Plain, Write, changes_primary, create_back, in_keyspace, live_at, moves, next_step, owner, stands_done, start_back, stop_feeding, write_journal}
-use Rattle.mt_plain.specs.Refuse.{advance_refusal, begin_reverse_refusal, begin_switch_refusal, has_more, is_still_copying, most_ways, or_else, refuse_if, share_type, undo_refusal, will_read_other_side}
+use Rattle.mt_plain.specs.Refuse.{advance_refusal, begin_reverse_refusal, begin_switch_refusal, undo_refusal, will_read_other_side}
 use Rattle.mt_plain.specs.Slots.{feeding_slot, is_feeding, is_fresh, live_advanced, log_length, other_slot, read_side, running_at, slot_before_way, slot_by_way, slot_of, with_position, written_side}
 use Rattle.mt_plain.specs.Writes.{writes_to}
 use Rattle.mt_laws.specs.Changes.{ChangesLogs, ChangesNumbers, ChangesWrites, HasSides, IsAdvance}
 use Rattle.mt_laws.specs.Numbers.{Numbers}
 use Rattle.mt_laws.specs.WayBack.{IsReached, ends_workflow}
 use Rattle.mt_laws.proofs.AllWritesLemmas.{reached_next}
-use Rattle.mt_laws.proofs.ChangeLemmas.{LivesAfter, ended, live_next, lives_after, made, made_live, mapped, sides-advanced, sides-next}
+use Rattle.mt_laws.proofs.ChangeLemmas.{live_next, made, made_live, sides-advanced, sides-next}
 use Rattle.mt_laws.proofs.CopyLemmas.{advance_runs, level_if_taken}
-use Rattle.mt_laws.proofs.FedLemmas.{IsFed, Level, at_by, fed_other, owner_before, owner_behind, past_same, side_by, side_same, writes_same}
+use Rattle.mt_laws.proofs.FedLemmas.{IsFed, Level, at_by, fed_other, owner_before, owner_behind, past_same, side_same, writes_same}
 use Rattle.mt_laws.proofs.FedStepLemmas.{begun_fed, stepped_fed, undone_fed}
 use Rattle.mt_laws.proofs.KeepLemmas.{at_it, changed_has, on_way_has}
-use Rattle.mt_laws.proofs.LiveLemmas.{IsIn, find_some, in-filter, in-map, in-push, unique}
-use Rattle.mt_laws.proofs.OwnerLemmas.{IsJournaled, done_in_order, reached_journaled, reached_keeps}
+use Rattle.mt_laws.proofs.LiveLemmas.{IsIn, find_some, unique}
+use Rattle.mt_laws.proofs.OwnerLemmas.{IsJournaled, reached_journaled}
 use Rattle.mt_laws.proofs.PartLemmas.{IsSettled}
 use Rattle.mt_laws.proofs.PastLemmas.{moved_past, past_end, past_own}
 use Rattle.mt_laws.proofs.PositionLemmas.{position_in, rest_at, running_slot, slot_position}
-use Rattle.mt_laws.proofs.ReachLemmas.{live_by_name, not_ended, reached_has_parts}
-use Rattle.mt_laws.proofs.RefusalLemmas.{and-both, and-true, at_rest-none}
+use Rattle.mt_laws.proofs.ReachLemmas.{live_by_name, not_ended, reached_has_parts, each_next, reached_keeps}
+use Rattle.mt_laws.proofs.RefusalLemmas.{reverse-none, switch-none}
 use Rattle.mt_laws.proofs.StreamLemmas.{feeding_runs, other_runs, reached_turned, runs_at_the_owner}
 use Rattle.mt_laws.proofs.UntouchedLemmas.{same_logs, same_made, same_numbers, same_writes, traffic-advanced}
 use Rattle.mt_laws.proofs.WayLemmas.{undo_before_journal}
+use Rattle.mt_laws.proofs.PlainWords.{side_by}
+use Rattle.mt_laws.proofs.WayStepLemmas.{done_in_order}
 
 -- ---- an advance of one of its streams
 
@@ -131,10 +133,10 @@ module _ (p : Plain) (reached : IsReached p) (w : Live) (in_it : IsIn w p.lives)
         by : (t : Bool) → is_fresh (Some way) stream ≡ t → is_fresh w.way stream ≡ false
         by false t = ap (λ o. is_fresh o stream) opens ∙ t
         by true t =
-            let r = and-true (changes_primary way && not (is_feeding way stream)) (stands_done way create_back) t in
-            let s = and-true (changes_primary way) (not (is_feeding way stream)) r.0 in
+            let r = and_parts (changes_primary way && not (is_feeding way stream)) (stands_done way create_back) t in
+            let s = and_parts (changes_primary way) (not (is_feeding way stream)) r.0 in
             let started = (made_runs s.0 r.1).1 in
-            absurd (true≢false (sym (and-both (changes_primary way) (stands_done way write_journal) s.0 (done_in_order way 5 start_back (omega arith) started)) ∙ guard))
+            absurd (true≢false (sym (and_from (changes_primary way) (stands_done way write_journal) s.0 (done_in_order way 5 start_back (omega arith) started)) ∙ guard))
 
     before_read : (changes_primary way && stands_done way write_journal) ≡ false → Level q v (side_by v way.before.primary) (at_by v way.before.primary)
     before_read guard =
@@ -146,8 +148,8 @@ module _ (p : Plain) (reached : IsReached p) (w : Live) (in_it : IsIn w p.lives)
     is_made : changes_primary way ≡ true → stands_done way create_back ≡ true → is_fresh w.way stream ≡ true
     is_made changes created =
         ap (λ o. is_fresh o stream) opens
-        ∙ and-both (changes_primary way && not (is_feeding way stream)) (stands_done way create_back)
-        (and-both (changes_primary way) (not (is_feeding way stream)) changes (ap not (made_runs changes created).0)) created
+        ∙ and_from (changes_primary way && not (is_feeding way stream)) (stands_done way create_back)
+        (and_from (changes_primary way) (not (is_feeding way stream)) changes (ap not (made_runs changes created).0)) created
 
     fresh_read : changes_primary way ≡ true → stands_done way create_back ≡ true → Level q v (side_by v (not way.before.primary)) v.fresh_at
     fresh_read changes created =
@@ -171,7 +173,7 @@ module _ (p : Plain) (reached : IsReached p) (w : Live) (in_it : IsIn w p.lives)
       let here = reads ∙ owner_before w settled journaled way opens guard in
       level_at b (at_by w b) here (rest_moves b here (not_fresh way opens guard)).0 (is.before way opens guard)
   level_on_way way opens true guard =
-      let r = and-true (changes_primary way) (stands_done way write_journal) guard in
+      let r = and_parts (changes_primary way) (stands_done way write_journal) guard in
       let created = done_in_order way 4 write_journal (omega arith) r.1 in
       level_at (not way.before.primary) w.fresh_at (reads ∙ owner_behind w settled journaled way opens r.0 r.1) (fresh_moves (is_made way opens r.0 created)).0 (is.fresh way opens r.0 created)
 
@@ -203,14 +205,10 @@ module _ (p : Plain) (reached : IsReached p) (w : Live) (in_it : IsIn w p.lives)
   named = live_by_name p (reached_has_parts p reached).apart w in_it
 
   switch_rests : (workflow : List ℕ) (types : TypeSet) → Answers p (begin_switch workflow types) done → same_text w.name workflow ≡ true → w.way ≡ None
-  switch_rests workflow types given here =
-      (at_rest-none w (or_else (refuse_if (not (has_more types w.switched)) nothing_to_switch) (or_else (refuse_if (is_still_copying w.copied) copying) (refuse_if (leb most_ways p.ways) full)))
-      (at_it p workflow w (begin_switch_refusal p types) (named workflow here) given.0)).0
+  switch_rests workflow types given here = (switch-none p types w (at_it p workflow w (begin_switch_refusal p types) (named workflow here) given.0)).0
 
   reverse_rests : (workflow : List ℕ) (types : TypeSet) → Answers p (begin_reverse workflow types) done → same_text w.name workflow ≡ true → w.way ≡ None
-  reverse_rests workflow types given here =
-      (at_rest-none w (or_else (refuse_if (not (share_type types w.switched)) nothing_to_reverse) (refuse_if (leb most_ways p.ways) full))
-      (at_it p workflow w (begin_reverse_refusal p types) (named workflow here) given.0)).0
+  reverse_rests workflow types given here = (reverse-none p types w (at_it p workflow w (begin_reverse_refusal p types) (named workflow here) given.0)).0
 
   step_fed : (workflow : List ℕ) (at : ℕ) → Answers p (step workflow at) done → same_text w.name workflow ≡ true → (way : Way) → w.way ≡ Some way → IsFed p (live_stepped p w way)
   step_fed workflow at given here way opens =
@@ -316,22 +314,13 @@ new_fed p event answer name source target tables e = record {
 -- ---- each state that a run reaches
 
 all_next : (p : Plain) (event : Event) (answer : Answer) → IsReached p → Answers p event answer → ((w : Live) → IsIn w p.lives → IsFed p w) → (w : Live) → IsIn w (next p event answer).lives → IsFed (next p event answer) w
-all_next p event answer reached given all w in_it = by (lives_after p event answer)
+all_next p event answer reached given all w in_it =
+    each_next Stays p event answer
+    (λ x i lives. next_fed p reached x i (all x i) event answer given (subst (λ n. ends_workflow n event answer ≡ false) (sym (sides-next p event answer x).name) lives))
+    (λ name source target tables e lives. new_fed p event answer name source target tables e) w in_it (not_ended p event answer w in_it)
   where
-    from : (x : Live) → IsIn x p.lives → live_next p event answer x ≡ w → IsFed (next p event answer) w
-    from x i e =
-        subst (IsFed (next p event answer)) e
-        (next_fed p reached x i (all x i) event answer given
-        (subst (λ n. ends_workflow n event answer ≡ false) (ap (λ y. y.name) (sym e) ∙ sym (sides-next p event answer x).name) (not_ended p event answer w in_it)))
-
-    by : LivesAfter p (next p event answer) event answer → IsFed (next p event answer) w
-    by (mapped lives) = let r = in-map (live_next p event answer) p.lives w (subst (IsIn w) lives in_it) in from r.0 r.1 r.2
-    by (made name source target tables e lives same) = pushed (in-push p.lives (made_live p name source target tables) w (subst (IsIn w) lives in_it))
-      where
-        pushed : IsIn w p.lives ⊎ (made_live p name source target tables ≡ w) → IsFed (next p event answer) w
-        pushed (inl i) = from w i (same w)
-        pushed (inr f) = subst (IsFed (next p event answer)) f (new_fed p event answer name source target tables e)
-    by (ended name e lives same) = from w (in-filter (λ x. not (same_text x.name name)) p.lives w (subst (IsIn w) lives in_it)).0 (same w)
+    Stays : Live → Type 0
+    Stays x = ends_workflow x.name event answer ≡ false → IsFed (next p event answer) x
 
 abbrev AllFed : Plain → Type 0
 AllFed p = IsReached p × ((w : Live) → IsIn w p.lives → IsFed p w)

@@ -1,6 +1,6 @@
 -- What is fed, through the steps of a way, its undoing and the advances of its streams.
-use Rattle.std.proofs.Common.{◌≡◌, ℕ, suc, ◌+◌, ◌-◌, ◌≤◌, Bool, true, false, not, cond, eqb, length, Option, None, Some, refl, sym, ap, ◌∙◌, subst, arith, eqb-true}
-use Rattle.std.proofs.lemmas.Bool.{true≢false}
+use Rattle.std.proofs.Common.{◌≡◌, ℕ, suc, ◌-◌, ◌≤◌, Bool, true, false, not, cond, eqb, length, None, Some, refl, sym, ap, ◌∙◌, subst, arith, eqb-true}
+use Rattle.std.proofs.lemmas.Bool.{true≢false, and_right}
 use Rattle.std.specs.Option.{option_map_or}
 use Rattle.std.specs.Prelude.{◌&&◌}
 use Rattle.mt_names.specs.declared.types.TypeSet.{TypeSet}
@@ -13,18 +13,12 @@ use Rattle.mt_plain.specs.Writes.{writes_to}
 use Rattle.mt_laws.specs.Changes.{HasSides}
 use Rattle.mt_laws.proofs.ChangeLemmas.{sides-live_stepped}
 use Rattle.mt_laws.proofs.CopyLemmas.{fed-stepped}
-use Rattle.mt_laws.proofs.FedLemmas.{IsFed, Level, at_by, before_then, done_by, level_moved, not_before, side_by, side_same, undone_by, was_done, writes_same, and-right, if-not}
-use Rattle.mt_laws.proofs.OwnerLemmas.{done_in_order}
+use Rattle.mt_laws.proofs.FedLemmas.{IsFed, Level, at_by, level_moved, side_same, writes_same, if-not}
 use Rattle.mt_laws.proofs.PartLemmas.{IsSettled}
 use Rattle.mt_laws.proofs.PastLemmas.{past_end}
-use Rattle.mt_laws.proofs.PlainWords.{changes_reads}
-use Rattle.mt_laws.proofs.StreamLemmas.{IsTurned, differ_not, differ_to, fewer, more, way-stepped}
-
-one_way : (o : Option Way) (a b : Way) → o ≡ Some a → o ≡ Some b → a ≡ b
-one_way o a b e f = let g : Some a ≡ Some b = sym e ∙ f in let h : a ≡ b = cc in h
-
-no_way : {X : Type 0} (o : Option Way) (a : Way) → o ≡ None → o ≡ Some a → X
-no_way o a e f = let g : None ≡ Some a = sym e ∙ f in absurd cc
+use Rattle.mt_laws.proofs.PlainWords.{side_by}
+use Rattle.mt_laws.proofs.StreamLemmas.{IsTurned, differ_not, differ_to}
+use Rattle.mt_laws.proofs.WayStepLemmas.{before_then, done_by, done_in_order, fewer, more, no_way, none_done, not_before, one_way, undone_by, was_done, way-stepped}
 
 -- ---- a step
 
@@ -145,7 +139,7 @@ module _ (p : Plain) (w : Live) (way : Way) (opens : w.way ≡ Some way) (is : I
       where
         by : (t : Bool) → changes_primary way ≡ t → (changes_primary way && stands_done way write_journal) ≡ false
         by false t = ap (λ x. x && stands_done way write_journal) t
-        by true t = and-right (changes_primary way) (stands_done way write_journal) (not_before way write_journal (if-not (changes_primary way) (stands_done (more way) write_journal) guard t))
+        by true t = and_right (changes_primary way) (stands_done way write_journal) (not_before way write_journal (if-not (changes_primary way) (stands_done (more way) write_journal) guard t))
 
     writes_are : length (writes_to p v) ≡ length (writes_to p w)
     writes_are = ap length (writes_same p w v sides)
@@ -166,7 +160,7 @@ module _ (p : Plain) (w : Live) (way : Way) (opens : w.way ≡ Some way) (is : I
     made_level changes makes =
         let five = eqb-true (next_step way) 5 makes in
         let early = undone_by way write_journal 5 five (omega arith) in
-        let a = is.before way opens (and-right (changes_primary way) (stands_done way write_journal) early) in
+        let a = is.before way opens (and_right (changes_primary way) (stands_done way write_journal) early) in
         let d = is.window way opens changes (done_by way catch_up 5 five (omega arith) (omega arith)) (undone_by way refresh_target 5 five (omega arith)) in
         let none = past_end p v (new_owner w) in
         let f = fed in
@@ -219,7 +213,7 @@ module _ (p : Plain) (w : Live) (way : Way) (opens : w.way ≡ Some way) (is : I
   undone t = cond t (record w { way = None }) (record w { way = Some (fewer way) })
 
   guard : (changes_primary way && stands_done way write_journal) ≡ false
-  guard = and-right (changes_primary way) (stands_done way write_journal) early
+  guard = and_right (changes_primary way) (stands_done way write_journal) early
 
   waiting : stands_done way refresh_target ≡ false
   waiting = by (stands_done way refresh_target) refl
@@ -261,14 +255,7 @@ module _ (p : Plain) (w : Live) (is : IsFed p w) (at_rest : w.way ≡ None) (bac
   first = record { back = backward; before = w.switched; after = change w.switched; done = 0; undoing = false }
 
   nothing_done : (n : ℕ) → stands_done first (suc n) ≡ true → ⊥
-  nothing_done n e = true≢false (sym e ∙ undone_by first (suc n) (next_step first) refl small)
-    where
-      by : (t : Bool) → cond {A = ℕ} t 0 1 + 0 ≤ 1
-      by true = omega arith
-      by false = omega arith
-
-      small : next_step first ≤ suc n
-      small = let few : next_step first ≤ 1 = by (changes_reads first) in omega arith
+  nothing_done n e = true≢false (sym e ∙ none_done first n refl)
 
   pub begun_fed : IsFed p (with_way_to backward change w)
   begun_fed = record {

@@ -18,17 +18,11 @@ use Rattle.mt_laws.proofs.CopyLemmas.{client_number-side}
 use Rattle.mt_laws.proofs.LiveLemmas.{IsIn, find-filter_gone, find-push_none, find_some, unique}
 use Rattle.mt_laws.proofs.NumberedLemmas.{number-goes_on, reached_is_numbered}
 use Rattle.mt_laws.proofs.ReachLemmas.{IsNew, create-none, named, not_ended, reached_has_parts}
-use Rattle.mt_laws.proofs.RefusalLemmas.{or-right}
 use Rattle.mt_laws.proofs.UntouchedLemmas.{same_sides}
+use Rattle.mt_laws.proofs.WritableLemmas.{side_by-is_side}
 
 abbrev home : Option Live → List ℕ → List ℕ
 home o keyspace = option_map_or (λ w. cond (is_side w keyspace) w.source keyspace) o keyspace
-
-source_is_side : (w : Live) → is_side w w.source ≡ true
-source_is_side w = ap (λ t. t || same_text w.target w.source) ((same_text_decides w.source w.source).1 refl)
-
-target_is_side : (w : Live) → is_side w w.target ≡ true
-target_is_side w = or-right (same_text w.source w.target) (same_text w.target w.target) ((same_text_decides w.target w.target).1 refl)
 
 -- ---- Create
 
@@ -107,10 +101,10 @@ module _ (p : Plain) (reached : IsReached p) (name : List ℕ) (w : Live) (live 
         ap not ((same_text_decides x.name w.name).1 (ap (λ y. y.name) (unique p.lives x w (reached_has_parts p reached).apart i in_it (λ apart. apart.tables table e moved)))))
 
     at_source : client_number p w.source table ≡ number_of p w.source table
-    at_source = client_number-side p w table moved 0 (found p reached w in_it table moved) w.source (source_is_side w)
+    at_source = client_number-side p w table moved 0 (found p reached w in_it table moved) w.source (side_by-is_side w false)
 
     at_target : client_number p w.target table ≡ number_of p w.source table
-    at_target = client_number-side p w table moved 0 (found p reached w in_it table moved) w.target (target_is_side w)
+    at_target = client_number-side p w table moved 0 (found p reached w in_it table moved) w.target (side_by-is_side w true)
 
     pub cancelled : client_number (next p (cancel name) done) w.source table ≡ client_number p w.source table
     cancelled =

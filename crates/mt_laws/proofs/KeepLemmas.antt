@@ -9,19 +9,17 @@ use Rattle.mt_plain.specs.Next.{live_stepped, live_undone, on_way_of, types_and,
 use Rattle.mt_plain.specs.Plain.{Live, Plain, live_at}
 use Rattle.mt_plain.specs.Refuse.{advance_refusal, begin_reverse_refusal, begin_switch_refusal, in_workflow, refusal_of, step_refusal, undo_refusal}
 use Rattle.mt_plain.specs.Slots.{live_advanced}
+use Rattle.mt_laws.specs.Changes.{BeginsWay, IsStep}
 use Rattle.mt_laws.specs.Copies.{Undoes}
-use Rattle.mt_laws.specs.WayBack.{IsReached}
-use Rattle.mt_laws.proofs.ChangeLemmas.{live_next, live_taken, made_live}
-use Rattle.mt_laws.proofs.LiveLemmas.{IsIn, changed}
-use Rattle.mt_laws.proofs.OwnerLemmas.{each_next, reached_keeps}
-use Rattle.mt_laws.proofs.ReachLemmas.{live_by_name}
+use Rattle.mt_laws.proofs.ChangeLemmas.{live_next, live_taken}
+use Rattle.mt_laws.proofs.LiveLemmas.{changed}
 
 -- what holds of a workflow holds of it after each event on it that is taken
 pub record Keeps (P : Live → Type 0) (p : Plain) (event : Event) (w : Live) : Type 0 where
   pub same : P w
-  pub switch : (types : TypeSet) → begin_switch_refusal p types w ≡ None → P (with_way_to false (λ switched. types_and switched types) w)
-  pub reverse : (types : TypeSet) → begin_reverse_refusal p types w ≡ None → P (with_way_to true (λ switched. types_without switched types) w)
-  pub steps : (at : ℕ) (way : Way) → w.way ≡ Some way → step_refusal p at w ≡ None → P (live_stepped p w way)
+  pub switch : (types : TypeSet) → BeginsWay event → begin_switch_refusal p types w ≡ None → P (with_way_to false (λ switched. types_and switched types) w)
+  pub reverse : (types : TypeSet) → BeginsWay event → begin_reverse_refusal p types w ≡ None → P (with_way_to true (λ switched. types_without switched types) w)
+  pub steps : (at : ℕ) (way : Way) → IsStep event → w.way ≡ Some way → step_refusal p at w ≡ None → P (live_stepped p w way)
   pub undoes : (at : ℕ) (way : Way) → Undoes event → w.way ≡ Some way → undo_refusal at w ≡ None → P (live_undone w way)
   pub advances : (workflow : List ℕ) (stream : StreamName) (at at_most events rows : ℕ) → live_at p workflow ≡ Some w → advance_refusal p stream at at_most w ≡ None
       → Answers p (advance workflow stream at at_most) (advanced events rows) → P (live_advanced p w stream at at_most events rows)
@@ -45,13 +43,13 @@ module _ (P : Live → Type 0) (p : Plain) (w : Live) (live : (name : List ℕ) 
   taken_has : (event : Event) → Keeps P p event w → refusal_of p event ≡ None → P (live_taken p event w)
   taken_has (begin_switch workflow types) keeps none =
       changed_has P (with_way_to false (λ switched. types_and switched types)) workflow w keeps.same
-      (λ here. keeps.switch types (at_it p workflow w (begin_switch_refusal p types) (live workflow here) none))
+      (λ here. keeps.switch types tt (at_it p workflow w (begin_switch_refusal p types) (live workflow here) none))
   taken_has (begin_reverse workflow types) keeps none =
       changed_has P (with_way_to true (λ switched. types_without switched types)) workflow w keeps.same
-      (λ here. keeps.reverse types (at_it p workflow w (begin_reverse_refusal p types) (live workflow here) none))
+      (λ here. keeps.reverse types tt (at_it p workflow w (begin_reverse_refusal p types) (live workflow here) none))
   taken_has (step workflow at) keeps none =
       changed_has P (λ v. on_way_of (live_stepped p v) v) workflow w keeps.same
-      (λ here. on_way_has P w (live_stepped p w) keeps.same (λ way opens. keeps.steps at way opens (at_it p workflow w (step_refusal p at) (live workflow here) none)) w.way refl)
+      (λ here. on_way_has P w (live_stepped p w) keeps.same (λ way opens. keeps.steps at way tt opens (at_it p workflow w (step_refusal p at) (live workflow here) none)) w.way refl)
   taken_has (undo workflow at) keeps none =
       changed_has P (λ v. on_way_of (live_undone v) v) workflow w keeps.same
       (λ here. on_way_has P w (live_undone w) keeps.same (λ way opens. keeps.undoes at way tt opens (at_it p workflow w (undo_refusal at) (live workflow here) none)) w.way refl)
@@ -66,16 +64,3 @@ module _ (P : Live → Type 0) (p : Plain) (w : Live) (live : (name : List ℕ) 
   next_has event (advanced events rows) keeps given = keeps.same
   next_has event (shown s) keeps given = keeps.same
   next_has event (refused refusal) keeps given = keeps.same
-
--- what a new workflow has, and each event keeps, has each live workflow in each state that a run reaches
-module _ (P : Live → Type 0) (new : (p : Plain) (name source target : List ℕ) (tables : List (List ℕ)) → P (made_live p name source target tables))
-    (keeps : (p : Plain) (event : Event) (w : Live) → P w → Keeps P p event w) where
-  abbrev AllHave : Plain → Type 0
-  AllHave p = (w : Live) → IsIn w p.lives → P w
-
-  pub reached_have : (p : Plain) → IsReached p → AllHave p
-  reached_have =
-      reached_keeps AllHave (λ scopes w is. absurd is)
-      (λ p event answer has given all.
-      each_next P p event answer (λ w is. next_has P p w (live_by_name p has.apart w is) event answer (keeps p event w (all w is)) given)
-      (λ name source target tables e. new p name source target tables))

@@ -1,5 +1,6 @@
 -- Where all acknowledged writes are fed.
 use Rattle.std.proofs.Common.{◌≡◌, ℕ, ◌+◌, ◌≤◌, Bool, true, false, List, length, Option, None, Some, refl, arith}
+use Rattle.std.proofs.lemmas.Bool.{and_parts}
 use Rattle.std.specs.List.{count_by}
 use Rattle.std.specs.Prelude.{◌&&◌}
 use Rattle.mt_names.specs.Names.{same_text}
@@ -11,12 +12,11 @@ use Rattle.mt_plain.specs.Writes.{client_row, other_row, writes_to}
 use Rattle.mt_laws.specs.Copies.{tests_level}
 use Rattle.mt_laws.specs.WayBack.{IsReached}
 use Rattle.mt_laws.proofs.CopyLemmas.{level_if_taken, same_rows}
-use Rattle.mt_laws.proofs.FedLemmas.{IsFed, done_by, undone_by}
+use Rattle.mt_laws.proofs.FedLemmas.{IsFed}
 use Rattle.mt_laws.proofs.FedRunLemmas.{level_running, reached_fed}
 use Rattle.mt_laws.proofs.LiveLemmas.{find_some}
 use Rattle.mt_laws.proofs.OpenWayLemmas.{journals}
-use Rattle.mt_laws.proofs.OwnerLemmas.{done_in_order}
-use Rattle.mt_laws.proofs.RefusalLemmas.{and-true}
+use Rattle.mt_laws.proofs.WayStepLemmas.{done_by, done_in_order, undone_by}
 
 module _ (p : Plain) (reached : IsReached p) (name : List ℕ) (w : Live) (live : live_at p name ≡ Some w) where
   is : IsFed p w
@@ -32,7 +32,7 @@ module _ (p : Plain) (reached : IsReached p) (name : List ℕ) (w : Live) (live 
       on_way : (way : Way) → w.way ≡ Some way → (t : Bool) → (changes_primary way && stands_done way write_journal) ≡ t → w.fed ≤ all
       on_way way opens false t = let e = is.before way opens t in omega arith
       on_way way opens true t =
-          let r = and-true (changes_primary way) (stands_done way write_journal) t in
+          let r = and_parts (changes_primary way) (stands_done way write_journal) t in
           let e = is.fresh way opens r.0 (done_in_order way 4 write_journal (omega arith) r.1) in
           omega arith
 

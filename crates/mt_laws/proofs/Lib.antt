@@ -46,6 +46,7 @@ pub mod TrafficLemmas
 pub mod UntouchedLemmas
 pub mod WayBackLemmas
 pub mod WayLemmas
+pub mod WayStepLemmas
 pub mod WitnessLemmas
 pub mod WordLemmas
 pub mod WritableLemmas

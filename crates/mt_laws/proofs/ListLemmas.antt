@@ -1,5 +1,5 @@
 -- What holds of each item of a list holds of each item of lists that are made of it.
-use Rattle.std.proofs.Common.{◌≡◌, ℕ, Bool, true, false, cond, List, [], ◌∷◌, ◌++◌, Option, None, Some, refl}
+use Rattle.std.proofs.Common.{◌≡◌, ℕ, Bool, true, false, cond, List, [], ◌∷◌, ◌++◌, Option, None, Some, refl, zero, suc, take}
 use Rattle.std.specs.List.{AllByRecursion, filter, flat_map, fold}
 use Rattle.std.specs.Map.{lookup, remove_entry, set_value}
 use Rattle.std.specs.Option.{option_map_or}
@@ -11,6 +11,11 @@ use Rattle.mt_model.specs.Documents.{comes_before, put_by_text, sorted_by_text}
 pub cond-holds : {A : Type 0} (P : A → Type 0) (test : Bool) (x y : A) → (test ≡ true → P x) → (test ≡ false → P y) → P (cond test x y)
 cond-holds P true x y first second = first refl
 cond-holds P false x y first second = second refl
+
+-- a function of either
+pub cond-ap : {A B : Type 0} (f : A → B) (test : Bool) (x y : A) → f (cond test x y) ≡ cond test (f x) (f y)
+cond-ap f true x y = refl
+cond-ap f false x y = refl
 
 pub cond-either : {A : Type 0} (P : A → Type 0) (test : Bool) (x y : A) → P x → P y → P (cond test x y)
 cond-either P true x y first second = first
@@ -47,6 +52,11 @@ module _ {A : Type 0} (P : A → Type 0) where
   filter-all test (x ∷ xs) all =
       let again = filter-all test xs all.1 in
       cond-either (AllByRecursion P) (test x) (x ∷ filter test xs) (filter test xs) (all.0, again) again
+
+  pub take-all : (n : ℕ) (xs : List A) → AllByRecursion P xs → AllByRecursion P (take n xs)
+  take-all zero xs all = tt
+  take-all (suc n) [] all = tt
+  take-all (suc n) (x ∷ xs) all = (all.0, take-all n xs all.1)
 
   pub find-of : (test : A → Bool) (xs : List A) → AllByRecursion P xs → OfSome P (find test xs)
   find-of test [] all = tt

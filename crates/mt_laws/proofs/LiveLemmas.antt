@@ -1,5 +1,6 @@
 -- Lists of live workflows, of which no two share a name or a table.
 use Rattle.std.proofs.Common.{◌≡◌, ◌≢◌, ◌⊎◌, inl, inr, ℕ, Bool, true, false, cond, List, [], ◌∷◌, ◌++◌, map, filter, find, Option, None, Some, option_map, refl, sym, ap, ◌∙◌, subst}
+use Rattle.mt_names.proofs.EntryLemmas.{apart, other_from}
 use Rattle.std.proofs.lemmas.Bool.{true≢false}
 use Rattle.std.specs.List.{AllByRecursion, list_any}
 use Rattle.std.specs.Prelude.{⊤, ◌||◌}
@@ -216,11 +217,7 @@ sides_back v w a = record { name = sym a.name; source = sym a.source; target = s
 
 -- a name is told from another
 pub text_apart : (a b : List ℕ) → same_text a b ≡ false → a ≢ b
-text_apart a b f e = true≢false (sym ((same_text_decides a b).1 e) ∙ f)
+text_apart = other_from same_text same_text_decides
 
 pub text_differs : (a b : List ℕ) → a ≢ b → same_text a b ≡ false
-text_differs a b other = by (same_text a b) refl
-  where
-    by : (t : Bool) → same_text a b ≡ t → same_text a b ≡ false
-    by true t = absurd (other ((same_text_decides a b).0 t))
-    by false t = t
+text_differs = apart same_text same_text_decides

@@ -50,7 +50,7 @@ distinct-push bound (e ∷ es) key all apart = (isnot-push e.1 bound es key all.
 
 -- ---- names that change keep their numbers
 
-moved-number : (w : Live) (e : RuleTarget × ℕ) → (number_moved w e).1 ≡ e.1
+pub moved-number : (w : Live) (e : RuleTarget × ℕ) → (number_moved w e).1 ≡ e.1
 moved-number w e = by (same_text w.source e.0.keyspace && moves w e.0.table)
   where
     by : (t : Bool) → (cond t (in_keyspace w.target e.0.table, e.1) e).1 ≡ e.1

@@ -1,37 +1,35 @@
 -- In each state that a run reaches a table has a number just where it is there, and no other table has it.
-use Rattle.std.proofs.Common.{◌≡◌, ◌≢◌, ◌⊎◌, inl, inr, ℕ, Bool, true, false, not, cond, eqb, List, [], ◌∷◌, ◌++◌, map, length, Option, None, Some, is_some, refl, sym, ap, ◌∙◌, subst}
-use Rattle.std.proofs.lemmas.Bool.{true≢false}
+use Rattle.std.proofs.Common.{◌≡◌, ◌≢◌, ◌⊎◌, inl, inr, ℕ, Bool, true, false, not, cond, List, [], ◌∷◌, ◌++◌, map, length, Option, None, Some, refl, sym, ap, ◌∙◌, subst}
+use Rattle.std.proofs.lemmas.Bool.{true≢false, and_from, or_right, not-false}
 use Rattle.std.specs.List.{list_any}
 use Rattle.std.specs.Prelude.{◌&&◌, nat_le}
-use Rattle.mt_names.specs.declared.keys.RuleTarget.{RuleTarget}
 use Rattle.mt_names.specs.Names.{same_text}
 use Rattle.mt_names.specs.Same.{same_target}
-use Rattle.mt_names.proofs.EntryLemmas.{lookup-push_stood}
+use Rattle.mt_names.proofs.EntryLemmas.{lookup-push_stood, none_from, same_or_other}
 use Rattle.mt_names.proofs.SameLemmas.{same_target_decides, same_text_decides}
 use Rattle.mt_model.specs.declared.entries.EntryKey.TheVariants as about
 use Rattle.mt_model.specs.declared.entries.Scope.{Scope}
 use Rattle.mt_model.specs.Limits.{most_keyspaces, most_tables_in_keyspace}
 use Rattle.mt_model.specs.Topology.{HasDistinctPlaces, TopologyState, is_present, keyspace_at, with_keyspace, with_rule, with_table}
 use Rattle.mt_model.proofs.DistinctLemmas.{distinct-empty, distinct-rules, distinct-with_keyspace, distinct-with_rule, distinct-with_table}
-use Rattle.mt_model.proofs.TopologyLemmas.{value_of-with_table_here, value_of-with_table_elsewhere, value_of-with_keyspace}
+use Rattle.mt_model.proofs.TopologyLemmas.{value_of-with_table_here, value_of-with_keyspace}
 use Rattle.mt_plain.specs.Answers.{Answers}
-use Rattle.mt_plain.specs.Events.{Event, add_keyspace, add_table, edit_rule, create, advance, complete, Answer, done, row, advanced, shown, refused, exists, full, no_keyspace, no_table, no_tables, same_keyspace, table_in_workflow, target_has_table, workflow_exists}
+use Rattle.mt_plain.specs.Events.{Event, add_keyspace, add_table, edit_rule, create, advance, complete, Answer, done, row, advanced, shown, refused, exists, full, no_keyspace}
 use Rattle.mt_plain.specs.Next.{completed, next, next_taken, number_moved, with_completed}
-use Rattle.mt_plain.specs.Plain.{Live, Plain, has_keyspace, in_keyspace, live_at, mover, moves, opening}
-use Rattle.mt_plain.specs.Refuse.{conflict_refusal, create_is_full, moved_table_refusal, moved_tables_refusal, or_else, refusal_of, refuse_if, table_count, watcher_refusal}
+use Rattle.mt_plain.specs.Plain.{Live, Plain, has_keyspace, in_keyspace, live_at, moves, opening}
+use Rattle.mt_plain.specs.Refuse.{or_else, refusal_of, refuse_if, table_count}
 use Rattle.mt_plain.specs.Serve.{has_table}
 use Rattle.mt_laws.specs.Changes.{ChangesTopology, HasSides}
 use Rattle.mt_laws.specs.Numbers.{Numbers, number_at}
 use Rattle.mt_laws.specs.WayBack.{IsReached, ends_workflow}
-use Rattle.mt_laws.proofs.ChangeLemmas.{lives_after, sides-next}
-use Rattle.mt_laws.proofs.CompleteLemmas.{absent_at_source, distinct-completed, number-at_source, number-at_target, number-elsewhere, number-unmoved, present_at_target, present_elsewhere}
+use Rattle.mt_laws.proofs.ChangeLemmas.{sides-next}
+use Rattle.mt_laws.proofs.CompleteLemmas.{absent_at_source, distinct-completed, number-at_source, number-at_target, number-elsewhere, number-unmoved, present_at_target, present_elsewhere as completed_elsewhere}
 use Rattle.mt_laws.proofs.EntryValueLemmas.{present_from_value, value_of-completed}
-use Rattle.mt_laws.proofs.LiveLemmas.{IsIn, find_some, text_apart}
-use Rattle.mt_laws.proofs.OwnerLemmas.{reached_keeps}
+use Rattle.mt_laws.proofs.LiveLemmas.{IsIn, find_some}
 use Rattle.mt_laws.proofs.PartLemmas.{HasParts, IsPlaced, value-kept}
-use Rattle.mt_laws.proofs.ReachLemmas.{ComesFrom, comes_from, new, not_ended, old, named}
-use Rattle.mt_laws.proofs.RefusalLemmas.{and-both, fold_or_else-none, not_some, or_else-none, or-right, refuse_if-none}
-use Rattle.mt_laws.proofs.TableLemmas.{is_present-with_keyspace, is_present-with_table, lookup-push_new, same_or_other}
+use Rattle.mt_laws.proofs.ReachLemmas.{ComesFrom, comes_from, create-none, new, not_ended, old, named, taken_or_same, reached_keeps}
+use Rattle.mt_laws.proofs.RefusalLemmas.{or_else-none, refuse_if-none}
+use Rattle.mt_laws.proofs.TableLemmas.{has-pushed, is_present-with_keyspace, is_present-with_table, number-pushed, present_elsewhere}
 use Rattle.mt_laws.proofs.UntouchedLemmas.{same_numbers, same_topology}
 
 -- a table is there by the topology alone just where it has a number; and the target has none of the tables that are moved to it
@@ -69,39 +67,29 @@ tables_of p is = record { places = is.places; numbered = is.numbered; present = 
 
 keyspace-tables : (p : Plain) (name : List ℕ) → IsNumbered p → refusal_of p (add_keyspace name) ≡ None → Tables (with_keyspace p.topology name) p.numbers
 keyspace-tables p name is none = record {
-  places = distinct-with_keyspace p.topology name (not_some (keyspace_at p.topology.keyspaces name) (refuse_if-none (has_keyspace p name) exists (or_else-none (refuse_if (has_keyspace p name) exists) (refuse_if (nat_le most_keyspaces (length p.topology.keyspaces)) full) none).0)) is.places;
+  places = distinct-with_keyspace p.topology name (none_from (keyspace_at p.topology.keyspaces name) (refuse_if-none (has_keyspace p name) exists (or_else-none (refuse_if (has_keyspace p name) exists) (refuse_if (nat_le most_keyspaces (length p.topology.keyspaces)) full) none).0)) is.places;
   numbered = λ keyspace table has. is.numbered keyspace table (is_present-with_keyspace p.topology name keyspace table has);
   present = λ keyspace table n e.
       present_from_value (with_keyspace p.topology name) p.topology keyspace table (value_of-with_keyspace p.topology name (about.Present keyspace table)) ∙ is.present keyspace table n e;
 }
 
 table_there : (p : Plain) (keyspace table : List ℕ) → refusal_of p (add_table keyspace table) ≡ None → has_keyspace p keyspace ≡ true
-table_there p keyspace table none = by (has_keyspace p keyspace) refl
-  where
-    by : (t : Bool) → has_keyspace p keyspace ≡ t → has_keyspace p keyspace ≡ true
-    by true t = t
-    by false t =
-        let rest = or_else (refuse_if (has_table p keyspace table) exists) (refuse_if (nat_le most_tables_in_keyspace (table_count p keyspace)) full) in
-        let r = refuse_if-none (not (has_keyspace p keyspace)) no_keyspace (or_else-none (refuse_if (not (has_keyspace p keyspace)) no_keyspace) rest none).0 in
-        absurd (true≢false (sym (ap not t) ∙ r))
+table_there p keyspace table none =
+    let rest = or_else (refuse_if (has_table p keyspace table) exists) (refuse_if (nat_le most_tables_in_keyspace (table_count p keyspace)) full) in
+    not-false (has_keyspace p keyspace) (refuse_if-none (not (has_keyspace p keyspace)) no_keyspace (or_else-none (refuse_if (not (has_keyspace p keyspace)) no_keyspace) rest none).0)
 
 made-tables : (p : Plain) (k t : List ℕ) → IsNumbered p → refusal_of p (add_table k t) ≡ None → Tables (with_table p.topology k t) (p.numbers ++ (in_keyspace k t, p.made) ∷ [])
 made-tables p k t is none = record {
   places = distinct-with_table p.topology k t is.places;
-  numbered = λ keyspace table has. numbered keyspace table has (same_or_other (in_keyspace k t) (in_keyspace keyspace table));
-  present = λ keyspace table n e. present keyspace table n e (same_or_other (in_keyspace k t) (in_keyspace keyspace table));
+  numbered = λ keyspace table has. numbered keyspace table has (same_or_other same_target same_target_decides (in_keyspace k t) (in_keyspace keyspace table));
+  present = λ keyspace table n e. present keyspace table n e (same_or_other same_target same_target_decides (in_keyspace k t) (in_keyspace keyspace table));
 }
   where
     more : Numbers
     more = p.numbers ++ (in_keyspace k t, p.made) ∷ []
 
-    new_number : (a : RuleTarget) (o : Option ℕ) → number_at p.numbers a ≡ o → in_keyspace k t ≡ a → (n : ℕ) × (number_at more a ≡ Some n)
-    new_number a (Some m) e same = (m, lookup-push_stood same_target p.numbers (in_keyspace k t, p.made) a m e)
-    new_number a None e same =
-        (p.made, lookup-push_new same_target p.numbers (in_keyspace k t, p.made) a e ∙ ap (λ b. cond b (Some p.made) None) ((same_target_decides a (in_keyspace k t)).1 (sym same)))
-
     numbered : (keyspace table : List ℕ) → is_present (with_table p.topology k t).keyspaces keyspace table ≡ true → (in_keyspace k t ≡ in_keyspace keyspace table) ⊎ (in_keyspace k t ≢ in_keyspace keyspace table) → (n : ℕ) × (number_at more (in_keyspace keyspace table) ≡ Some n)
-    numbered keyspace table has (inl same) = new_number (in_keyspace keyspace table) (number_at p.numbers (in_keyspace keyspace table)) refl same
+    numbered keyspace table has (inl same) = has-pushed p.numbers (in_keyspace k t) p.made (in_keyspace keyspace table) (sym same)
     numbered keyspace table has (inr other) =
         let was = is.numbered keyspace table (is_present-with_table p.topology k t keyspace table other has) in
         (was.0, lookup-push_stood same_target p.numbers (in_keyspace k t, p.made) (in_keyspace keyspace table) was.0 was.1)
@@ -109,25 +97,14 @@ made-tables p k t is none = record {
     here : is_present (with_table p.topology k t).keyspaces k t ≡ true
     here = let e = value_of-with_table_here p.topology k t (table_there p k t none) in cc
 
-    stood : (keyspace table : List ℕ) (n : ℕ) → number_at more (in_keyspace keyspace table) ≡ Some n → in_keyspace k t ≢ in_keyspace keyspace table → (o : Option ℕ) → number_at p.numbers (in_keyspace keyspace table) ≡ o → is_present p.topology.keyspaces keyspace table ≡ true
-    stood keyspace table n e other (Some m) f = is.present keyspace table m f
-    stood keyspace table n e other None f = absurd (by (same_target (in_keyspace keyspace table) (in_keyspace k t)) refl)
-      where
-        by : (b : Bool) → same_target (in_keyspace keyspace table) (in_keyspace k t) ≡ b → ⊥
-        by true b = other (sym ((same_target_decides (in_keyspace keyspace table) (in_keyspace k t)).0 b))
-        by false b =
-            let g : Some n ≡ None = sym e ∙ lookup-push_new same_target p.numbers (in_keyspace k t, p.made) (in_keyspace keyspace table) f ∙ ap (λ c. cond c (Some p.made) None) b in
-            absurd cc
-
     present : (keyspace table : List ℕ) (n : ℕ) → number_at more (in_keyspace keyspace table) ≡ Some n → (in_keyspace k t ≡ in_keyspace keyspace table) ⊎ (in_keyspace k t ≢ in_keyspace keyspace table) → is_present (with_table p.topology k t).keyspaces keyspace table ≡ true
     present keyspace table n e (inl same) = subst (λ x. is_present (with_table p.topology k t).keyspaces x.keyspace x.table ≡ true) same here
     present keyspace table n e (inr other) =
-        present_from_value (with_table p.topology k t) p.topology keyspace table
-        (value_of-with_table_elsewhere p.topology k t (about.Present keyspace table) (λ x. other (key_same x)))
-        ∙ stood keyspace table n e other (number_at p.numbers (in_keyspace keyspace table)) refl
+        present_elsewhere p.topology k t keyspace table other ∙ stood (number-pushed p.numbers (in_keyspace k t) p.made (in_keyspace keyspace table) n e)
       where
-        key_same : about.Present k t ≡ about.Present keyspace table → in_keyspace k t ≡ in_keyspace keyspace table
-        key_same x = let a : k ≡ keyspace = cc in let b : t ≡ table = cc in ap (λ z. in_keyspace z t) a ∙ ap (in_keyspace keyspace) b
+        stood : (number_at p.numbers (in_keyspace keyspace table) ≡ Some n) ⊎ ((in_keyspace keyspace table ≡ in_keyspace k t) × (n ≡ p.made)) → is_present p.topology.keyspaces keyspace table ≡ true
+        stood (inl before) = is.present keyspace table n before
+        stood (inr made) = absurd (other (sym made.0))
 
 module _ (p : Plain) (w : Live) (is : IsNumbered p) (placed : IsPlaced p.topology w) (in_it : IsIn w p.lives) where
   abbrev u : TopologyState
@@ -150,7 +127,7 @@ module _ (p : Plain) (w : Live) (is : IsNumbered p) (placed : IsPlaced p.topolog
       let was = is.numbered w.source table (placed.there table moved) in
       (was.0, ap (λ k. number_at numbers (in_keyspace k table)) (sym to) ∙ number-goes_on table moved ∙ was.1)
   moved-numbered keyspace table moved (inr from) (inr to) has =
-      let was = is.numbered keyspace table (sym (present_elsewhere p.topology w placed.sides keyspace table from to) ∙ has) in
+      let was = is.numbered keyspace table (sym (completed_elsewhere p.topology w placed.sides keyspace table from to) ∙ has) in
       (was.0, number-elsewhere w p.numbers keyspace table from to ∙ was.1)
 
   moved-present : (keyspace table : List ℕ) (n : ℕ) → moves w table ≡ true → (w.source ≡ keyspace) ⊎ (w.source ≢ keyspace) → (w.target ≡ keyspace) ⊎ (w.target ≢ keyspace) → number_at numbers (in_keyspace keyspace table) ≡ Some n → is_present u.keyspaces keyspace table ≡ true
@@ -159,14 +136,7 @@ module _ (p : Plain) (w : Live) (is : IsNumbered p) (placed : IsPlaced p.topolog
   moved-present keyspace table n moved (inr from) (inl to) e =
       ap (λ k. is_present u.keyspaces k table) (sym to) ∙ present_at_target p.topology w placed.sides placed.target table (named w.tables table moved)
   moved-present keyspace table n moved (inr from) (inr to) e =
-      present_elsewhere p.topology w placed.sides keyspace table from to ∙ is.present keyspace table n (sym (number-elsewhere w p.numbers keyspace table from to) ∙ e)
-
-  same_or_other_text : (a b : List ℕ) → (a ≡ b) ⊎ (a ≢ b)
-  same_or_other_text a b = by (same_text a b) refl
-    where
-      by : (t : Bool) → same_text a b ≡ t → (a ≡ b) ⊎ (a ≢ b)
-      by true t = inl ((same_text_decides a b).0 t)
-      by false t = inr (text_apart a b t)
+      completed_elsewhere p.topology w placed.sides keyspace table from to ∙ is.present keyspace table n (sym (number-elsewhere w p.numbers keyspace table from to) ∙ e)
 
   completed-tables : Tables u numbers
   completed-tables = record {
@@ -176,13 +146,13 @@ module _ (p : Plain) (w : Live) (is : IsNumbered p) (placed : IsPlaced p.topolog
   }
     where
       numbered : (keyspace table : List ℕ) → is_present u.keyspaces keyspace table ≡ true → (t : Bool) → moves w table ≡ t → (n : ℕ) × (number_at numbers (in_keyspace keyspace table) ≡ Some n)
-      numbered keyspace table has true t = moved-numbered keyspace table t (same_or_other_text w.source keyspace) (same_or_other_text w.target keyspace) has
+      numbered keyspace table has true t = moved-numbered keyspace table t (same_or_other same_text same_text_decides w.source keyspace) (same_or_other same_text same_text_decides w.target keyspace) has
       numbered keyspace table has false t =
           let was = is.numbered keyspace table (sym (unmoved-present keyspace table t) ∙ has) in
           (was.0, number-unmoved w p.numbers keyspace table t ∙ was.1)
 
       present : (keyspace table : List ℕ) (n : ℕ) → number_at numbers (in_keyspace keyspace table) ≡ Some n → (t : Bool) → moves w table ≡ t → is_present u.keyspaces keyspace table ≡ true
-      present keyspace table n e true t = moved-present keyspace table n t (same_or_other_text w.source keyspace) (same_or_other_text w.target keyspace) e
+      present keyspace table n e true t = moved-present keyspace table n t (same_or_other same_text same_text_decides w.source keyspace) (same_or_other same_text same_text_decides w.target keyspace) e
       present keyspace table n e false t = unmoved-present keyspace table t ∙ is.present keyspace table n (sym (number-unmoved w p.numbers keyspace table t) ∙ e)
 
 complete-tables : (p : Plain) (workflow : List ℕ) (o : Option Live) → live_at p workflow ≡ o → HasParts p → IsNumbered p → Tables (with_completed p o).topology (with_completed p o).numbers
@@ -227,35 +197,7 @@ absent_from_list p keyspace table e = by (list_any (λ w. moves w table && same_
 
 -- Create finds none there
 new_vacant : (p : Plain) (name source target : List ℕ) (tables : List (List ℕ)) → refusal_of p (create name source target tables) ≡ None → (table : List ℕ) → IsIn table tables → is_present p.topology.keyspaces target table ≡ false
-new_vacant p name source target tables none table is =
-    let h7 = refuse_if (create_is_full p source target tables) full in
-    let h6 = or_else (watcher_refusal p target) h7 in
-    let h5 = or_else (moved_tables_refusal p source target tables) h6 in
-    let h4 = or_else (refuse_if (not (has_keyspace p target)) no_keyspace) h5 in
-    let h3 = or_else (refuse_if (not (has_keyspace p source)) no_keyspace) h4 in
-    let h2 = or_else (refuse_if (same_text source target) same_keyspace) h3 in
-    let h1 = or_else (refuse_if (eqb (length tables) 0) no_tables) h2 in
-    let r0 = or_else-none (refuse_if (is_some (live_at p name)) workflow_exists) h1 none in
-    let r1 = or_else-none (refuse_if (eqb (length tables) 0) no_tables) h2 r0.1 in
-    let r2 = or_else-none (refuse_if (same_text source target) same_keyspace) h3 r1.1 in
-    let r3 = or_else-none (refuse_if (not (has_keyspace p source)) no_keyspace) h4 r2.1 in
-    let r4 = or_else-none (refuse_if (not (has_keyspace p target)) no_keyspace) h5 r3.1 in
-    let r5 = or_else-none (moved_tables_refusal p source target tables) h6 r4.1 in
-    let each = (fold_or_else-none (moved_table_refusal p source target) tables None r5.0).1 table is in
-    let at_target = refuse_if (has_table p target table) (target_has_table table) in
-    let rest = or_else at_target (conflict_refusal p source target table) in
-    let s0 = or_else-none (refuse_if (not (has_table p source table)) no_table) (or_else (refuse_if (is_some (mover p table)) table_in_workflow) rest) each in
-    let s1 = or_else-none (refuse_if (is_some (mover p table)) table_in_workflow) rest s0.1 in
-    let s2 = or_else-none at_target (conflict_refusal p source target table) s1.1 in
-    absent_from_list p target table (refuse_if-none (has_table p target table) (target_has_table table) s2.0)
-
--- an event that is not refused, or that changes nothing
-taken_or_same : (p : Plain) (event : Event) (answer : Answer) → Answers p event answer → (refusal_of p event ≡ None) ⊎ (next p event answer ≡ p)
-taken_or_same p event done given = inl given.0
-taken_or_same p event (row r) given = inl given.0
-taken_or_same p event (shown s) given = inl given.0
-taken_or_same p event (advanced events rows) given = inl given.0
-taken_or_same p event (refused refusal) given = inr refl
+new_vacant p name source target tables none table is = absent_from_list p target table ((create-none p name source target tables none).each table is).2
 
 module _ (p : Plain) (event : Event) (answer : Answer) (has : HasParts p) (given : Answers p event answer) (is : IsNumbered p) where
   abbrev q : Plain
@@ -266,7 +208,7 @@ module _ (p : Plain) (event : Event) (answer : Answer) (has : HasParts p) (given
       let sides : HasSides v w = subst (HasSides v) e (sides-next p event answer v) in
       let before : moves v table ≡ true = ap (list_any (λ t. same_text t table)) sides.tables ∙ moved in
       let lives = not_ended p event answer w in_it in
-      let keeps = and-both (moves v table) _ before (or-right (same_text v.source v.target) (same_text v.target v.target) ((same_text_decides v.target v.target).1 refl)) in
+      let keeps = and_from (moves v table) _ before (or_right (same_text v.source v.target) (same_text v.target v.target) ((same_text_decides v.target v.target).1 refl)) in
       ap (λ k. is_present q.topology.keyspaces k table) (sym sides.target)
       ∙ present_from_value q.topology p.topology v.target table
       (value-kept p v has i (about.Present v.target table) keeps event answer given (subst (λ n. ends_workflow n event answer ≡ false) (sym sides.name) lives))
@@ -286,7 +228,7 @@ module _ (p : Plain) (event : Event) (answer : Answer) (has : HasParts p) (given
         places = t.places;
         numbered = t.numbered;
         present = t.present;
-        vacant = λ w in_it table moved. vacant-next (taken_or_same p event answer given) w in_it (comes_from p q event answer (lives_after p event answer) w in_it) table moved;
+        vacant = λ w in_it table moved. vacant-next (taken_or_same p event answer given) w in_it (comes_from p event answer w in_it) table moved;
       }
 
 pub reached_is_numbered : (p : Plain) → IsReached p → IsNumbered p

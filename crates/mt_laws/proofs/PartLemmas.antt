@@ -1,6 +1,7 @@
 -- What holds of the live workflows and their parts in each state that a run reaches.
 use Rattle.std.proofs.Common.{◌≡◌, ◌≢◌, ◌⊎◌, inl, inr, ℕ, Bool, true, false, not, cond, List, Option, None, Some, is_some, refl, sym, ap, ◌∙◌, subst}
-use Rattle.std.proofs.lemmas.Bool.{true≢false}
+use Rattle.mt_names.proofs.EntryLemmas.{none_from}
+use Rattle.std.proofs.lemmas.Bool.{true≢false, and_from, and_parts, or_cases, or_right}
 use Rattle.std.specs.List.{list_any}
 use Rattle.std.specs.Prelude.{◌&&◌, nat_le}
 use Rattle.mt_names.specs.declared.keys.RuleKey.{RuleKey}
@@ -13,6 +14,7 @@ use Rattle.mt_model.specs.declared.entries.Scope.{Scope}
 use Rattle.mt_model.specs.Limits.{most_tables_in_keyspace}
 use Rattle.mt_model.specs.Topology.{TopologyState, is_denied, is_present, keyspace_at, value_of, with_table}
 use Rattle.mt_model.proofs.TopologyLemmas.{value_of-with_keyspace, value_of-with_table_elsewhere}
+use Rattle.mt_model.proofs.PartLemmas.{table_of}
 use Rattle.mt_plain.specs.Answers.{Answers}
 use Rattle.mt_plain.specs.Events.{Event, add_keyspace, add_table, edit_rule, complete, Answer, done, row, advanced, shown, refused, exists, full, no_keyspace, rule_owned, Way}
 use Rattle.mt_plain.specs.Next.{next, next_taken, with_completed}
@@ -20,9 +22,9 @@ use Rattle.mt_plain.specs.Plain.{Live, Plain, has_keyspace, has_part, is_side, l
 use Rattle.mt_plain.specs.Refuse.{or_else, refusal_of, refuse_if, rule_refusal, table_count}
 use Rattle.mt_plain.specs.Serve.{has_table}
 use Rattle.mt_laws.specs.WayBack.{ends_workflow}
-use Rattle.mt_laws.proofs.EntryValueLemmas.{table_of, value_of-completed, value_of-with_rule}
+use Rattle.mt_laws.proofs.EntryValueLemmas.{value_of-completed, value_of-with_rule}
 use Rattle.mt_laws.proofs.LiveLemmas.{Apart, IsIn, any-in, find_none, find_some, text_apart, unique}
-use Rattle.mt_laws.proofs.RefusalLemmas.{and-both, and-true, not_some, or-cases, or-right, or_else-none, refuse_if-none}
+use Rattle.mt_laws.proofs.RefusalLemmas.{or_else-none, refuse_if-none}
 use Rattle.mt_laws.proofs.UntouchedLemmas.{same_topology}
 
 -- a workflow's sides are two keyspaces, and the source has its tables in the topology as if no workflow were live
@@ -58,16 +60,16 @@ is_kept w (about.Denied keyspace table) = has_part w (about.Denied keyspace tabl
 is_kept w (about.Present keyspace table) = moves w table && is_side w keyspace
 
 pub moved_from_kept : (w : Live) (key : EntryKey) → is_kept w key ≡ true → moves w (table_of key) ≡ true
-moved_from_kept w (about.Rule key) e = (and-true _ _ e).0
-moved_from_kept w (about.Denied keyspace table) e = (and-true _ _ e).0
-moved_from_kept w (about.Present keyspace table) e = (and-true _ _ e).0
+moved_from_kept w (about.Rule key) e = (and_parts _ _ e).0
+moved_from_kept w (about.Denied keyspace table) e = (and_parts _ _ e).0
+moved_from_kept w (about.Present keyspace table) e = (and_parts _ _ e).0
 
 pub kept_from_part : (w : Live) (key : EntryKey) → has_part w key ≡ true → is_kept w key ≡ true
 kept_from_part w (about.Rule key) e = e
 kept_from_part w (about.Denied keyspace table) e = e
 kept_from_part w (about.Present keyspace table) e =
-    let r = and-true (moves w table) (same_text w.target keyspace) e in
-    and-both (moves w table) (is_side w keyspace) r.0 (or-right (same_text w.source keyspace) (same_text w.target keyspace) r.1)
+    let r = and_parts (moves w table) (same_text w.target keyspace) e in
+    and_from (moves w table) (is_side w keyspace) r.0 (or_right (same_text w.source keyspace) (same_text w.target keyspace) r.1)
 
 pub moved_from_part : (w : Live) (key : EntryKey) → has_part w key ≡ true → moves w (table_of key) ≡ true
 moved_from_part w key e = moved_from_kept w key (kept_from_part w key e)
@@ -86,16 +88,16 @@ there_from_topology p keyspace table e = by (list_any (λ w. moves w table && sa
 pub there_at_target : (p : Plain) (w : Live) (table : List ℕ) → IsIn w p.lives → moves w table ≡ true → has_table p w.target table ≡ true
 there_at_target p w table is moved =
     there_from_list p w.target table
-    (any-in (λ v. moves v table && same_text v.target w.target) p.lives w is (and-both (moves w table) (same_text w.target w.target) moved ((same_text_decides w.target w.target).1 refl)))
+    (any-in (λ v. moves v table && same_text v.target w.target) p.lives w is (and_from (moves w table) (same_text w.target w.target) moved ((same_text_decides w.target w.target).1 refl)))
 
 pub there_at_source : (p : Plain) (w : Live) (table : List ℕ) → HasParts p → IsIn w p.lives → moves w table ≡ true → has_table p w.source table ≡ true
 there_at_source p w table has is moved = there_from_topology p w.source table ((has.placed w is).there table moved)
 
 there_if_kept : (p : Plain) (w : Live) (keyspace table : List ℕ) → HasParts p → IsIn w p.lives → is_kept w (about.Present keyspace table) ≡ true → has_table p keyspace table ≡ true
-there_if_kept p w keyspace table has is kept = by (or-cases (same_text w.source keyspace) (same_text w.target keyspace) (and-true (moves w table) (is_side w keyspace) kept).1)
+there_if_kept p w keyspace table has is kept = by (or_cases (same_text w.source keyspace) (same_text w.target keyspace) (and_parts (moves w table) (is_side w keyspace) kept).1)
   where
     moved : moves w table ≡ true
-    moved = (and-true (moves w table) (is_side w keyspace) kept).0
+    moved = (and_parts (moves w table) (is_side w keyspace) kept).0
 
     by : (same_text w.source keyspace ≡ true) ⊎ (same_text w.target keyspace ≡ true) → has_table p keyspace table ≡ true
     by (inl e) = subst (λ k. has_table p k table ≡ true) ((same_text_decides w.source keyspace).0 e) (there_at_source p w table has is moved)
@@ -111,7 +113,7 @@ add_table-none p keyspace table none =
 
 edit_rule-none : (p : Plain) (key : RuleKey) (target : Option RuleTarget) → refusal_of p (edit_rule key target) ≡ None → part_owner p (about.Rule key) ≡ None
 edit_rule-none p key target none =
-    not_some (part_owner p (about.Rule key))
+    none_from (part_owner p (about.Rule key))
     (refuse_if-none (is_some (part_owner p (about.Rule key))) rule_owned (or_else-none (refuse_if (is_some (part_owner p (about.Rule key))) rule_owned) (rule_refusal p key target) none).0)
 
 -- Complete of another workflow

@@ -1,6 +1,7 @@
 -- The entries of a workflow's tables past a position of a log: a write to one of them there adds itself, an advance that reads them takes
 -- them away, and no other event changes how many they are.
 use Rattle.std.proofs.Common.{◌≡◌, ◌≢◌, ℕ, suc, ◌+◌, ◌≤◌, Bool, true, false, not, cond, List, [], ◌∷◌, ◌++◌, drop, take, length, filter, map, Option, None, Some, refl, sym, ap, ◌∙◌, arith, append-nil}
+use Rattle.std.proofs.lemmas.Bool.{and_parts}
 use Rattle.std.proofs.lemmas.List.{drop-append-le, drop_all, take-append-drop}
 use Rattle.std.proofs.lemmas.List.Elements.{filter-append}
 use Rattle.std.proofs.lemmas.List.Sums.{length-filter, sum_by-append, sum_by-cons}
@@ -14,9 +15,8 @@ use Rattle.mt_plain.specs.Plain.{Live, LogEntry, Plain, live_at, moves}
 use Rattle.mt_plain.specs.Slots.{entry_of_row, is_applied, keys_of_rows, log_length, log_of, logged, past, to_copy, uncopied, written_side}
 use Rattle.mt_plain.specs.Writes.{is_copied}
 use Rattle.mt_laws.proofs.EntryValueLemmas.{in_moved}
-use Rattle.mt_laws.proofs.ListLemmas.{append-all, each-mapped, flat_map-all, map-all}
+use Rattle.mt_laws.proofs.ListLemmas.{append-all, each-mapped, flat_map-all, map-all, filter-all, take-all}
 use Rattle.mt_laws.proofs.LiveLemmas.{all_from_in, text_differs}
-use Rattle.mt_laws.proofs.RefusalLemmas.{and-true}
 use Rattle.mt_laws.proofs.UntouchedLemmas.{same_logs}
 
 -- how many entries of its tables a log has past a position
@@ -49,19 +49,6 @@ all_filter P test (x ∷ xs) each = by (test x) refl (all_filter P test xs each)
     by true b all = (each x b, all)
     by false b all = all
 
-all_kept : {X : Type 0} (P : X → Type 0) (test : X → Bool) (xs : List X) → AllByRecursion P xs → AllByRecursion P (filter test xs)
-all_kept P test [] all = tt
-all_kept P test (x ∷ xs) all = by (test x) (all_kept P test xs all.1)
-  where
-    by : (b : Bool) → AllByRecursion P (filter test xs) → AllByRecursion P (cond b (x ∷ filter test xs) (filter test xs))
-    by true again = (all.0, again)
-    by false again = again
-
-all_take : {X : Type 0} (P : X → Type 0) (n : ℕ) (xs : List X) → AllByRecursion P xs → AllByRecursion P (take n xs)
-all_take P zero xs all = tt
-all_take P (suc n) [] all = tt
-all_take P (suc n) (x ∷ xs) all = (all.0, all_take P n xs all.1)
-
 drop_twice : {X : Type 0} (n m : ℕ) (xs : List X) → drop m (drop n xs) ≡ drop (n + m) xs
 drop_twice zero m xs = let e : 0 + m ≡ m = omega arith in ap (λ k. drop k xs) (sym e)
 drop_twice {X} (suc n) m [] = drop_all {X = X} m [] (omega arith) ∙ sym (drop_all {X = X} (suc n + m) [] (omega arith))
@@ -74,7 +61,7 @@ all_of_moved : (u : Live) (name : StreamName) (entries : List LogEntry) (rows : 
 all_of_moved u name entries rows all =
     append-all (λ e. moves u e.table ≡ true) (map (λ e. entry_of_row (written_side u name) (e.table, e.key)) (filter (is_applied u) entries)) (map (entry_of_row (written_side u name)) rows)
     (map-all (λ e. moves u e.table ≡ true) (λ e. moves u e.table ≡ true) (λ e. entry_of_row (written_side u name) (e.table, e.key)) (filter (is_applied u) entries) (λ e is. is)
-    (all_filter (λ e. moves u e.table ≡ true) (is_applied u) entries (λ e is. (and-true (moves u e.table) (is_copied u e.table e.key) is).0)))
+    (all_filter (λ e. moves u e.table ≡ true) (is_applied u) entries (λ e is. (and_parts (moves u e.table) (is_copied u e.table e.key) is).0)))
     (map-all (λ r. moves u r.0 ≡ true) (λ e. moves u e.table ≡ true) (entry_of_row (written_side u name)) rows (λ r is. is) all)
 
 all_uncopied : (p : Plain) (u : Live) → AllByRecursion (λ r. moves u r.0 ≡ true) (uncopied p u)
@@ -130,14 +117,14 @@ module _ (p : Plain) (w : Live) (keyspace : List ℕ) (at : ℕ) (inside : at �
     none_of : (name : StreamName) (entries : List LogEntry) (rows : List (List ℕ × ℕ)) → AllByRecursion (λ r. moves u r.0 ≡ true) rows → count_by (of_moved w) (filter here (logged u name entries rows)) ≡ 0
     none_of name entries rows all =
         count_none (of_moved w) (filter here (logged u name entries rows))
-        (all_kept (λ e. of_moved w e ≡ false) here (logged u name entries rows)
+        (filter-all (λ e. of_moved w e ≡ false) here (logged u name entries rows)
         (all_map (λ e. moves u e.table ≡ true) (λ e. of_moved w e ≡ false) (logged u name entries rows) (λ e moved. apart e.table moved) (all_of_moved u name entries rows all)))
 
     pub past_advance : (name : StreamName) (position at_most events rows : ℕ) → moved_past (with_advance p name position at_most events rows (Some u)) w keyspace at ≡ moved_past p w keyspace at
     past_advance name position at_most events rows =
         let entries = past p u name position in
         let e = past_more (logged u name (take events entries) (take rows (to_copy p u entries))) in
-        let f = none_of name (take events entries) (take rows (to_copy p u entries)) (all_take (λ r. moves u r.0 ≡ true) rows (to_copy p u entries) (all_to_copy p u entries)) in
+        let f = none_of name (take events entries) (take rows (to_copy p u entries)) (take-all (λ r. moves u r.0 ≡ true) rows (to_copy p u entries) (all_to_copy p u entries)) in
         e ∙ ap (λ n. moved_past p w keyspace at + n) f ∙ (let g : moved_past p w keyspace at + 0 ≡ moved_past p w keyspace at = omega arith in g)
 
   -- how many of its tables' writes an event acknowledges there

@@ -12,6 +12,10 @@ use Rattle.mt_plain.specs.Serve.{is_denied_at, owned_before, types_by}
 abbrev pub changes_reads : Way → Bool
 changes_reads way = (changed_types way).replica || (changed_types way).rdonly
 
+-- a side of a workflow, by whether it is the target
+abbrev pub side_by : Live → Bool → List ℕ
+side_by w is_target = if is_target then w.target else w.source
+
 -- the types at a step, by the way that is open
 abbrev pub types_by_way : TypeSet → Option Way → ℕ → TypeSet
 types_by_way switched o step = option_map_or (λ (way : Way). if stands_done way step then way.after else way.before) o switched

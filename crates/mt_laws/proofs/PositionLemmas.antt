@@ -1,6 +1,6 @@
 -- The positions of streams, and the logs that they read.
-use Rattle.std.proofs.Common.{◌≡◌, ◌⊎◌, inl, inr, ℕ, suc, ◌+◌, ◌-◌, ◌<◌, ◌≤◌, Bool, true, false, not, cond, eqb, ltb, leb, List, [], ◌∷◌, take, length, Option, None, Some, option_map, refl, sym, ap, ◌∙◌, subst, arith, eqb-true, ltb-true, lt-ltb}
-use Rattle.std.proofs.lemmas.Bool.{true≢false, eq-eqb}
+use Rattle.std.proofs.Common.{◌≡◌, ◌⊎◌, inl, inr, ℕ, suc, ◌+◌, ◌-◌, ◌≤◌, Bool, true, false, not, cond, eqb, ltb, List, [], ◌∷◌, take, length, Option, None, Some, option_map, refl, sym, ap, ◌∙◌, subst, arith, eqb-true, ltb-true}
+use Rattle.std.proofs.lemmas.Bool.{true≢false, and_from, or_cases, and_parts, not-false, not-true}
 use Rattle.std.proofs.lemmas.List.{length-drop, length-take}
 use Rattle.std.proofs.lemmas.List.Sums.{length-filter}
 use Rattle.std.proofs.Math.Nat.{min-le_right}
@@ -10,10 +10,10 @@ use Rattle.std.specs.Prelude.{◌&&◌, ◌||◌, slice_get}
 use Rattle.mt_names.specs.declared.types.TypeSet.{TypeSet}
 use Rattle.mt_names.specs.Names.{same_text}
 use Rattle.mt_plain.specs.Answers.{Answers, IsCut, advanced_of}
-use Rattle.mt_plain.specs.Events.{copying, full, nothing_to_reverse, nothing_to_switch, Event, advance, StreamName, forward, back, Slot, StreamState, running, stopped, frozen, Answer, advanced, Way}
+use Rattle.mt_plain.specs.Events.{Event, advance, StreamName, forward, back, Slot, StreamState, running, stopped, frozen, Answer, advanced, Way}
 use Rattle.mt_plain.specs.Next.{live_stepped, live_undone, next, types_and, types_without, way_stepped, with_fresh_stream, with_way_to}
-use Rattle.mt_plain.specs.Plain.{Live, LogEntry, Plain, behind_last, changes_primary, create_back, first_step, live_at, next_step, stands_done, write_journal}
-use Rattle.mt_plain.specs.Refuse.{advance_refusal, has_more, is_still_copying, most_ways, new_owner, or_else, refuse_if, share_type}
+use Rattle.mt_plain.specs.Plain.{Live, LogEntry, Plain, behind_last, changes_primary, create_back, live_at, next_step, stands_done, write_journal}
+use Rattle.mt_plain.specs.Refuse.{advance_refusal, new_owner}
 use Rattle.mt_plain.specs.Slots.{running_by, is_applied, is_feeding, is_fresh, live_advanced, log_length, log_of, may_be_cut, most_events, most_rows, past, read_side, readable, room_in_log, running_at, slot_at_rest, slot_by_way, slot_of, with_position, written_side}
 use Rattle.mt_laws.specs.Changes.{HasSides}
 use Rattle.mt_laws.specs.Copies.{Undoes}
@@ -22,12 +22,11 @@ use Rattle.mt_laws.proofs.ChangeLemmas.{live_after, live_next, lives_after, made
 use Rattle.mt_laws.proofs.CopyLemmas.{advance_runs}
 use Rattle.mt_laws.proofs.KeepLemmas.{Keeps, next_has}
 use Rattle.mt_laws.proofs.LiveLemmas.{IsIn, find_some}
-use Rattle.mt_laws.proofs.OwnerLemmas.{each_next, reached_keeps}
-use Rattle.mt_laws.proofs.PlainWords.{changes_reads}
-use Rattle.mt_laws.proofs.ReachLemmas.{live_by_name, reached_has_parts}
-use Rattle.mt_laws.proofs.RefusalLemmas.{at_rest-none, and-both, or-cases}
-use Rattle.mt_laws.proofs.StreamLemmas.{IsTurned, fewer, more, turned_kept, turned_rests}
+use Rattle.mt_laws.proofs.ReachLemmas.{live_by_name, reached_has_parts, each_next, reached_keeps}
+use Rattle.mt_laws.proofs.RefusalLemmas.{reverse-none, switch-none}
+use Rattle.mt_laws.proofs.StreamLemmas.{IsTurned, turned_kept, turned_rests}
 use Rattle.mt_laws.proofs.LogLemmas.{logs_grow}
+use Rattle.mt_laws.proofs.WayStepLemmas.{done_by, fewer, more, none_done, same_done, undone_by, was_done}
 
 -- ---- the position of a slot
 
@@ -114,26 +113,6 @@ not_last : (b : Bool) (n : ℕ) → n ≡ 5 → eqb (suc n) (cond b 12 1) ≡ tr
 not_last true n e f = let g = eqb-true (suc n) 12 f in omega arith
 not_last false n e f = let g = eqb-true (suc n) 1 f in omega arith
 
--- the stream is made with its own step
-made_then : (first n : ℕ) → eqb (first + n) 5 ≡ false → ltb 5 (first + suc n) ≡ ltb 5 (first + n)
-made_then first n other = by (ltb 5 (first + n)) refl (ltb 5 (first + suc n)) refl
-  where
-    ne : first + n ≡ 5 → ⊥
-    ne is = true≢false (sym (eq-eqb (first + n) 5 is) ∙ other)
-
-    by : (s : Bool) → ltb 5 (first + n) ≡ s → (t : Bool) → ltb 5 (first + suc n) ≡ t → ltb 5 (first + suc n) ≡ ltb 5 (first + n)
-    by true s true t = t ∙ sym s
-    by false s false t = t ∙ sym s
-    by true s false t = let lt = ltb-true 5 (first + n) s in absurd (true≢false (sym (lt-ltb 5 (first + suc n) (omega arith)) ∙ t))
-    by false s true t =
-        let lt = ltb-true 5 (first + suc n) t in
-        let no = ne in
-        let more_than : 5 < first + n = omega arith in
-        absurd (true≢false (sym (lt-ltb 5 (first + n) more_than) ∙ s))
-
-not_made_at : (first n : ℕ) → first + n ≡ 5 → ltb 5 (first + n) ≡ false
-not_made_at first n e = ap (ltb 5) e
-
 module _ (p : Plain) (w : Live) (way : Way) (opens : w.way ≡ Some way) (turned : IsTurned w) (name : StreamName) where
   abbrev fresh : ℕ
   fresh = log_length p (new_owner w)
@@ -151,37 +130,23 @@ module _ (p : Plain) (w : Live) (way : Way) (opens : w.way ≡ Some way) (turned
   reads_new_owner : is_fresh (Some (more way)) name ≡ true → read_side w name ≡ new_owner w
   reads_new_owner e = by name refl
     where
+      all : ((changes_primary way && not (is_feeding way name)) ≡ true) × (stands_done (more way) create_back ≡ true)
+      all = and_parts (changes_primary way && not (is_feeding way name)) (stands_done (more way) create_back) e
+
       changes : changes_primary way ≡ true
-      changes = first (changes_primary way) (not (is_feeding way name)) (stands_done (more way) create_back) e
-        where
-          first : (a b c : Bool) → (a && b && c) ≡ true → a ≡ true
-          first true b c f = refl
-          first false b c f = absurd (true≢false (sym f))
+      changes = (and_parts (changes_primary way) (not (is_feeding way name)) all.0).0
 
       other : not (is_feeding way name) ≡ true
-      other = second (changes_primary way) (not (is_feeding way name)) (stands_done (more way) create_back) e
-        where
-          second : (a b c : Bool) → (a && b && c) ≡ true → b ≡ true
-          second true true c f = refl
-          second true false c f = absurd (true≢false (sym f))
-          second false b c f = absurd (true≢false (sym f))
+      other = (and_parts (changes_primary way) (not (is_feeding way name)) all.0).1
 
       owner_is : new_owner w ≡ cond way.back w.source w.target
       owner_is = ap (λ o. cond (option_map_or (λ v. v.before) o w.switched).primary w.source w.target) opens ∙ ap (λ b. cond b w.source w.target) (turned way opens changes)
 
-      twice : (b : Bool) → not (not b) ≡ true → b ≡ true
-      twice true f = refl
-      twice false f = absurd (true≢false (sym f))
-
-      no : (b : Bool) → not b ≡ true → b ≡ false
-      no true f = absurd (true≢false (sym f))
-      no false f = refl
-
       by : (n : StreamName) → name ≡ n → read_side w name ≡ new_owner w
       by forward is =
-          ap (read_side w) is ∙ sym (ap (λ b. cond b w.source w.target) (twice way.back (sym (ap (λ m. not (is_feeding way m)) is) ∙ other))) ∙ sym owner_is
+          ap (read_side w) is ∙ sym (ap (λ b. cond b w.source w.target) (not-false way.back (not-true (not way.back) (sym (ap (λ m. not (is_feeding way m)) is) ∙ other)))) ∙ sym owner_is
       by back is =
-          ap (read_side w) is ∙ sym (ap (λ b. cond b w.source w.target) (no way.back (sym (ap (λ m. not (is_feeding way m)) is) ∙ other))) ∙ sym owner_is
+          ap (read_side w) is ∙ sym (ap (λ b. cond b w.source w.target) (not-true way.back (sym (ap (λ m. not (is_feeding way m)) is) ∙ other))) ∙ sym owner_is
 
   -- the step that makes it
   made_moves : next_step way ≡ 5 → (c : Bool) → eqb (suc (next_step way)) (behind_last way) ≡ c → Moves p w (record (cond c closed goes_on) { fresh_at = fresh }) name
@@ -192,11 +157,7 @@ module _ (p : Plain) (w : Live) (way : Way) (opens : w.way ≡ Some way) (turned
       v = record goes_on { fresh_at = fresh }
 
       not_yet : is_fresh (Some way) name ≡ false
-      not_yet = and-last (changes_primary way) (not (is_feeding way name)) (stands_done way create_back) (both (leb (first_step way) 5) (ltb 5 (first_step way + way.done)) (not_made_at (first_step way) way.done here))
-        where
-          both : (a b : Bool) → b ≡ false → (a && b) ≡ false
-          both true b e = e
-          both false b e = refl
+      not_yet = and-last (changes_primary way) (not (is_feeding way name)) (stands_done way create_back) (undone_by way create_back 5 here (omega arith))
 
       by : (t : Bool) → is_fresh (Some (more way)) name ≡ t → Moves p w v name
       by true t = renewed (position_if v name true t ∙ ap (log_length p) (sym (reads_new_owner t))) (rest_same w v refl refl name)
@@ -208,24 +169,18 @@ module _ (p : Plain) (w : Live) (way : Way) (opens : w.way ≡ Some way) (turned
   other_moves other false c =
       stays
       (rest_fresh ∙ ap (cond (is_fresh (Some (more way)) name) w.fresh_at) (rest_same w goes_on refl refl name)
-      ∙ ap (λ m. cond (changes_primary way && not (is_feeding way name) && m) w.fresh_at (rest_at w name)) same_made ∙ sym was)
+      ∙ ap (λ m. cond (changes_primary way && not (is_feeding way name) && m) w.fresh_at (rest_at w name)) (same_done way create_back other) ∙ sym was)
       (inl (rest_same w goes_on refl refl name))
     where
       rest_fresh : position_in goes_on name ≡ cond (is_fresh (Some (more way)) name) w.fresh_at (rest_at goes_on name)
       rest_fresh = refl
-
-      same_made : stands_done (more way) create_back ≡ stands_done way create_back
-      same_made = ap (λ b. leb (first_step way) 5 && b) (made_then (first_step way) way.done other)
   other_moves other true c = stays (rest_closed (changes_primary way) refl) (inr (rest_closed (changes_primary way) refl))
     where
       made : changes_primary way ≡ true → stands_done way create_back ≡ true
       made changes =
           let e : suc (next_step way) ≡ 12 = eqb-true (suc (next_step way)) (behind_last way) c ∙ ap (λ b. cond b 12 1) changes in
-          and-both (leb (first_step way) 5) (ltb 5 (next_step way)) (early (changes_reads way)) (lt-ltb 5 (next_step way) (omega arith))
-        where
-          early : (t : Bool) → leb (cond t 0 1) 5 ≡ true
-          early true = refl
-          early false = refl
+          let is : next_step way ≡ 11 = omega arith in
+          done_by way create_back 11 is (omega arith) (omega arith)
 
       by : (changes backward m : Bool) → (changes ≡ true → m ≡ true) → (n : StreamName)
           → rest_at (cond (not changes) w (cond backward (record w { forward_at = w.fresh_at }) (record w { back_at = w.fresh_at }))) n
@@ -253,9 +208,6 @@ module _ (p : Plain) (w : Live) (way : Way) (opens : w.way ≡ Some way) (turned
 
 -- ---- an undo
 
-made_before : (first n : ℕ) → ltb 5 (first + (n - 1)) ≡ true → ltb 5 (first + n) ≡ true
-made_before first n e = let lt = ltb-true 5 (first + (n - 1)) e in lt-ltb 5 (first + n) (omega arith)
-
 -- the position is that of the stream at rest, or as it was
 undo_position : (w : Live) (way : Way) → w.way ≡ Some way → (name : StreamName) → (position_in (live_undone w way) name ≡ rest_at w name) ⊎ (position_in (live_undone w way) name ≡ position_in w name)
 undo_position w way opens name = by (eqb (way.done - 1) 0)
@@ -266,17 +218,10 @@ undo_position w way opens name = by (eqb (way.done - 1) 0)
     rests : Live
     rests = record w { way = None }
 
-    still : (a b c d e : Bool) → (d ≡ true → e ≡ true) → (a && b && (c && d)) ≡ true → (a && b && (c && e)) ≡ true
-    still true true true true e holds f = holds refl
-    still true true true false e holds f = absurd (true≢false (sym f))
-    still true true false d e holds f = absurd (true≢false (sym f))
-    still true false c d e holds f = absurd (true≢false (sym f))
-    still false b c d e holds f = absurd (true≢false (sym f))
-
     was_fresh : is_fresh (Some (fewer way)) name ≡ true → is_fresh (Some way) name ≡ true
     was_fresh f =
-        still (changes_primary way) (not (is_feeding way name)) (leb (first_step way) 5) (ltb 5 (first_step way + (way.done - 1))) (ltb 5 (first_step way + way.done))
-        (made_before (first_step way) way.done) f
+        let r = and_parts (changes_primary way && not (is_feeding way name)) (stands_done (fewer way) create_back) f in
+        and_from (changes_primary way && not (is_feeding way name)) (stands_done way create_back) r.0 (was_done way create_back r.1)
 
     later : (t : Bool) → is_fresh (Some (fewer way)) name ≡ t → (position_in v name ≡ rest_at w name) ⊎ (position_in v name ≡ position_in w name)
     later true t = inr (position_if v name true t ∙ sym (ap (λ o. cond (is_fresh o name) w.fresh_at (rest_at w name)) opens ∙ ap (λ b. cond b w.fresh_at (rest_at w name)) (was_fresh t)))
@@ -298,16 +243,11 @@ undo_rest w way name = by (eqb (way.done - 1) 0)
 begin_position : (w : Live) (backward : Bool) (change : TypeSet → TypeSet) (name : StreamName) → position_in (with_way_to backward change w) name ≡ rest_at w name
 begin_position w backward change name =
     position_if (with_way_to backward change w) name false
-    (and-last (changes_primary way) (not (is_feeding way name)) (stands_done way create_back) (none_made (leb (first_step way) 5) (changes_reads way)))
+    (and-last (changes_primary way) (not (is_feeding way name)) (stands_done way create_back) (none_done way 4 refl))
     ∙ rest_same w (with_way_to backward change w) refl refl name
   where
     way : Way
     way = record { back = backward; before = w.switched; after = change w.switched; done = 0; undoing = false }
-
-    none_made : (a t : Bool) → (a && ltb 5 (cond t 0 1 + 0)) ≡ false
-    none_made true true = refl
-    none_made true false = refl
-    none_made false t = refl
 
 -- ---- an advance
 
@@ -376,20 +316,11 @@ most_events-le p w stream at at_most =
     omega arith
 
 cut-le : (events most : ℕ) (a b c d e : Bool) → (a && ltb events most && b && c || eqb events 0 && d && e) ≡ true → events ≤ most
-cut-le events most a b c d e cut = by (or-cases (a && ltb events most && b && c) (eqb events 0 && d && e) cut)
+cut-le events most a b c d e cut = by (or_cases (a && ltb events most && b && c) (eqb events 0 && d && e) cut)
   where
-    less : (x y z u : Bool) → (x && y && z && u) ≡ true → y ≡ true
-    less true true z u f = refl
-    less true false z u f = absurd (true≢false (sym f))
-    less false y z u f = absurd (true≢false (sym f))
-
-    none : (x y z : Bool) → (x && y && z) ≡ true → x ≡ true
-    none true y z f = refl
-    none false y z f = absurd (true≢false (sym f))
-
     by : ((a && ltb events most && b && c) ≡ true) ⊎ ((eqb events 0 && d && e) ≡ true) → events ≤ most
-    by (inl f) = let lt = ltb-true events most (less a (ltb events most) b c f) in omega arith
-    by (inr f) = let is = eqb-true events 0 (none (eqb events 0) d e f) in omega arith
+    by (inl f) = let lt = ltb-true events most (and_parts a (ltb events most) (and_parts (a && ltb events most) b (and_parts (a && ltb events most && b) c f).0).0).1 in omega arith
+    by (inr f) = let is = eqb-true events 0 (and_parts (eqb events 0) d (and_parts (eqb events 0 && d) e f).0).0 in omega arith
 
 advanced-le : (p : Plain) (workflow : List ℕ) (w : Live) (stream : StreamName) (at at_most events rows : ℕ) → live_at p workflow ≡ Some w → Answers p (advance workflow stream at at_most) (advanced events rows) → events ≤ most_events p w stream at at_most
 advanced-le p workflow w stream at at_most events rows live given = by given.1
@@ -428,9 +359,9 @@ within_kept : (p : Plain) (event : Event) (w : Live) (bound : StreamName → ℕ
     → Within (λ name. log_length p (read_side w name)) w → Keeps (Within bound) p event w
 within_kept p event w bound longer turned within = record {
   same = now;
-  switch = λ types none name. begun false (λ switched. types_and switched types) name;
-  reverse = λ types none name. begun true (λ switched. types_without switched types) name;
-  steps = λ at way opens none name. stepped way name (step_moves p w way opens turned name);
+  switch = λ types begins none name. begun false (λ switched. types_and switched types) name;
+  reverse = λ types begins none name. begun true (λ switched. types_without switched types) name;
+  steps = λ at way steps opens none name. stepped way name (step_moves p w way opens turned name);
   undoes = λ at way undoes opens none name.
       let r = undo_rest w way name in
       let b = now name in
@@ -540,11 +471,10 @@ IsFurther w v = (name : StreamName) → position_in w name ≤ position_in v nam
 further_kept : (p : Plain) (event : Event) (w : Live) → ¬ (Undoes event) → IsWithin p w → Keeps (IsFurther w) p event w
 further_kept p event w other is = record {
   same = λ name. omega arith;
-  switch = λ types none name.
-      begun false (λ switched. types_and switched types) (at_rest-none w (or_else (refuse_if (not (has_more types w.switched)) nothing_to_switch) (or_else (refuse_if (is_still_copying w.copied) copying) (refuse_if (leb most_ways p.ways) full))) none).0 name;
-  reverse = λ types none name.
-      begun true (λ switched. types_without switched types) (at_rest-none w (or_else (refuse_if (not (share_type types w.switched)) nothing_to_reverse) (refuse_if (leb most_ways p.ways) full)) none).0 name;
-  steps = λ at way opens none name. stepped way name (step_moves p w way opens is.0 name);
+  switch = λ types begins none name.
+      begun false (λ switched. types_and switched types) (switch-none p types w none).0 name;
+  reverse = λ types begins none name. begun true (λ switched. types_without switched types) (reverse-none p types w none).0 name;
+  steps = λ at way steps opens none name. stepped way name (step_moves p w way opens is.0 name);
   undoes = λ at way undoes opens none. absurd (other undoes);
   advances = λ workflow stream at at_most events rows live none given name. read stream at at_most events rows none name (advance_reads p w stream at at_most events rows name);
 }

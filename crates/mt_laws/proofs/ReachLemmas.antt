@@ -1,14 +1,16 @@
 -- Each state that a run reaches has the parts of its live workflows apart.
-use Rattle.std.proofs.Common.{◌≡◌, ◌⊎◌, inl, inr, ℕ, Bool, true, false, not, cond, eqb, List, [], ◌∷◌, ◌++◌, length, Option, None, Some, is_some, refl, sym, ap, ◌∙◌, subst}
-use Rattle.std.proofs.lemmas.Bool.{true≢false}
+use Rattle.std.proofs.Common.{◌≡◌, ◌⊎◌, inl, inr, ℕ, Bool, true, false, not, cond, eqb, List, [], ◌∷◌, length, Option, None, Some, is_some, refl, sym, ap, ◌∙◌, subst}
+use Rattle.mt_names.proofs.EntryLemmas.{none_from}
+use Rattle.std.proofs.lemmas.Bool.{true≢false, and_from, not-false}
 use Rattle.std.specs.List.{list_any}
 use Rattle.std.specs.Prelude.{◌&&◌, ◌||◌}
 use Rattle.mt_names.specs.Names.{same_text}
 use Rattle.mt_names.proofs.SameLemmas.{same_text_decides}
 use Rattle.mt_model.specs.declared.entries.EntryKey.TheVariants as about
-use Rattle.mt_model.specs.Topology.{KeyspaceState, Keyspaces, is_denied, is_present, keyspace_at, with_keyspace, with_keyspace_state, with_new_table, with_table}
-use Rattle.mt_model.proofs.PlaceLemmas.{keyspace_at-stays}
+use Rattle.mt_model.specs.Topology.{is_denied, is_present, keyspace_at, with_keyspace, with_keyspace_state, with_new_table, with_table}
+use Rattle.mt_model.proofs.PlaceLemmas.{keyspace_at-stays, place-push}
 use Rattle.mt_model.proofs.TopologyLemmas.{value_of-with_keyspace, value_of-with_table_elsewhere}
+use Rattle.mt_model.specs.declared.entries.Scope.{Scope}
 use Rattle.mt_plain.specs.Answers.{Answers, Run, after}
 use Rattle.mt_plain.specs.Events.{Event, add_keyspace, add_table, edit_rule, create, advance, cancel, complete, Answer, done, row, advanced, shown, refused, full, no_keyspace, no_table, no_tables, same_keyspace, table_in_workflow, target_has_table, workflow_exists}
 use Rattle.mt_plain.specs.Next.{next, next_taken, with_completed, with_tables, without_tables}
@@ -19,11 +21,13 @@ use Rattle.mt_laws.specs.Changes.{ChangesTopology, HasSides}
 use Rattle.mt_laws.specs.WayBack.{IsReached, ends_workflow}
 use Rattle.mt_laws.proofs.ChangeLemmas.{LivesAfter, ended, live_next, lives-completed, lives_after, made, made_live, mapped, sides-next}
 use Rattle.mt_laws.proofs.EntryValueLemmas.{denied_from_value, is_denied-completed, present_from_value}
+use Rattle.mt_laws.proofs.KeepLemmas.{Keeps, next_has}
 use Rattle.mt_laws.proofs.LiveLemmas.{Apart, IsApart, IsIn, any-nowhere, apart-filter, apart-map, apart-push, find_none, find_the_one, in-filter, in-map, in-push, text_apart}
 use Rattle.mt_laws.proofs.PartLemmas.{HasParts, IsPlaced, IsSettled, opening_has_parts, value-kept}
-use Rattle.mt_laws.proofs.RefusalLemmas.{and-both, fold_or_else-none, not-false, not_some, or_else-none, refuse_if-none}
+use Rattle.mt_laws.proofs.RefusalLemmas.{fold_or_else-none, or_else-none, refuse_if-none}
 use Rattle.mt_laws.proofs.UntouchedLemmas.{same_topology}
 use Rattle.mt_laws.proofs.WayLemmas.{WayChange, abandoned, begun, completed, goes_on, kept, way_change}
+use Rattle.mt_laws.proofs.WayStepLemmas.{no_way, one_way}
 
 -- ---- the workflow that Create makes
 
@@ -32,16 +36,17 @@ pub record IsNew (p : Plain) (name source target : List ℕ) (tables : List (Lis
   pub sides : same_text source target ≡ false
   pub source_there : has_keyspace p source ≡ true
   pub target_there : has_keyspace p target ≡ true
-  pub each : (table : List ℕ) → IsIn table tables → (has_table p source table ≡ true) × (mover p table ≡ None)
+  pub each : (table : List ℕ) → IsIn table tables → (has_table p source table ≡ true) × (mover p table ≡ None) × (has_table p target table ≡ false)
 
-each_new : (p : Plain) (source target table : List ℕ) → moved_table_refusal p source target table ≡ None → (has_table p source table ≡ true) × (mover p table ≡ None)
+each_new : (p : Plain) (source target table : List ℕ) → moved_table_refusal p source target table ≡ None → (has_table p source table ≡ true) × (mover p table ≡ None) × (has_table p target table ≡ false)
 each_new p source target table none =
     let at_target = refuse_if (has_table p target table) (target_has_table table) in
     let rest = or_else at_target (conflict_refusal p source target table) in
     let r = or_else-none (refuse_if (not (has_table p source table)) no_table) (or_else (refuse_if (is_some (mover p table)) table_in_workflow) rest) none in
     let s = or_else-none (refuse_if (is_some (mover p table)) table_in_workflow) rest r.1 in (
       not-false (has_table p source table) (refuse_if-none (not (has_table p source table)) no_table r.0),
-      not_some (mover p table) (refuse_if-none (is_some (mover p table)) table_in_workflow s.0),
+      none_from (mover p table) (refuse_if-none (is_some (mover p table)) table_in_workflow s.0),
+      refuse_if-none (has_table p target table) (target_has_table table) (or_else-none at_target (conflict_refusal p source target table) s.1).0,
     )
 
 pub create-none : (p : Plain) (name source target : List ℕ) (tables : List (List ℕ)) → refusal_of p (create name source target tables) ≡ None → IsNew p name source target tables
@@ -60,7 +65,7 @@ create-none p name source target tables none =
     let r4 = or_else-none (refuse_if (not (has_keyspace p target)) no_keyspace) h5 r3.1 in
     let r5 = or_else-none (moved_tables_refusal p source target tables) h6 r4.1 in
     record {
-      unnamed = not_some (live_at p name) (refuse_if-none (is_some (live_at p name)) workflow_exists r0.0);
+      unnamed = none_from (live_at p name) (refuse_if-none (is_some (live_at p name)) workflow_exists r0.0);
       sides = refuse_if-none (same_text source target) same_keyspace r2.0;
       source_there = not-false (has_keyspace p source) (refuse_if-none (not (has_keyspace p source)) no_keyspace r3.0);
       target_there = not-false (has_keyspace p target) (refuse_if-none (not (has_keyspace p target)) no_keyspace r4.0);
@@ -127,17 +132,27 @@ pub data ComesFrom (p : Plain) (event : Event) (answer : Answer) (w : Live) : Ty
   new : (name source target : List ℕ) (tables : List (List ℕ)) → event ≡ create name source target tables
       → w.name ≡ name → w.source ≡ source → w.target ≡ target → w.tables ≡ tables → w.way ≡ None → ComesFrom p event answer w
 
-pub comes_from : (p q : Plain) (event : Event) (answer : Answer) → LivesAfter p q event answer → (w : Live) → IsIn w q.lives → ComesFrom p event answer w
-comes_from p q event answer (mapped lives) w is =
-    let r = in-map (live_next p event answer) p.lives w (subst (IsIn w) lives is) in
-    old r.0 r.1 r.2
-comes_from p q event answer (made name source target tables e lives same) w is = by (in-push p.lives (made_live p name source target tables) w (subst (IsIn w) lives is))
-  where
-    by : IsIn w p.lives ⊎ (made_live p name source target tables ≡ w) → ComesFrom p event answer w
-    by (inl i) = old w i (same w)
-    by (inr f) = new name source target tables e (ap (λ x. x.name) (sym f)) (ap (λ x. x.source) (sym f)) (ap (λ x. x.target) (sym f)) (ap (λ x. x.tables) (sym f)) (ap (λ x. x.way) (sym f))
-comes_from p q event answer (ended name e lives same) w is =
-    old w (in-filter (λ x. not (same_text x.name name)) p.lives w (subst (IsIn w) lives is)).0 (same w)
+-- each live workflow after an event is one from before it, as the event leaves it, or the one that Create made
+module _ (P : Live → Type 0) (p : Plain) (event : Event) (answer : Answer)
+    (each : (w : Live) → IsIn w p.lives → P (live_next p event answer w))
+    (new_one : (name source target : List ℕ) (tables : List (List ℕ)) → event ≡ create name source target tables → P (made_live p name source target tables)) where
+  pub each_next : (w : Live) → IsIn w (next p event answer).lives → P w
+  each_next w is = by (lives_after p event answer)
+    where
+      by : LivesAfter p (next p event answer) event answer → P w
+      by (mapped lives) =
+          let r = in-map (live_next p event answer) p.lives w (subst (IsIn w) lives is) in
+          subst P r.2 (each r.0 r.1)
+      by (made name source target tables e lives same) = pushed (in-push p.lives (made_live p name source target tables) w (subst (IsIn w) lives is))
+        where
+          pushed : IsIn w p.lives ⊎ (made_live p name source target tables ≡ w) → P w
+          pushed (inl i) = subst P (same w) (each w i)
+          pushed (inr f) = subst P f (new_one name source target tables e)
+      by (ended name e lives same) = subst P (same w) (each w (in-filter (λ x. not (same_text x.name name)) p.lives w (subst (IsIn w) lives is)).0)
+
+pub comes_from : (p : Plain) (event : Event) (answer : Answer) (w : Live) → IsIn w (next p event answer).lives → ComesFrom p event answer w
+comes_from p event answer =
+    each_next (ComesFrom p event answer) p event answer (λ v is. old v is refl) (λ name source target tables e. new name source target tables e refl refl refl refl refl)
 
 -- ---- the next state
 
@@ -153,15 +168,12 @@ settled-change : (event : Event) (w v : Live) → WayChange event w v → IsSett
 settled-change event w v (kept same_way same_switched) settled way opens before =
     same_switched ∙ settled way (sym same_way ∙ opens) before
 settled-change event w v (begun first begins rests opens is same) settled way now before =
-    let e : Some first ≡ Some way = sym opens ∙ now in
-    let one : first ≡ way = cc in
-    same ∙ sym is ∙ ap (λ x. x.before) one
+    same ∙ sym is ∙ ap (λ x. x.before) (one_way v.way first way opens now)
 settled-change event w v (goes_on first later was is same_before same_after holds) settled way now before =
-    let e : Some later ≡ Some way = sym is ∙ now in
-    let one : later ≡ way = cc in
+    let one = one_way v.way later way is now in
     holds (settled first was) (ap (λ x. stands_done x write_journal) one ∙ before) ∙ ap (λ x. x.before) one
-settled-change event w v (completed first steps was rests is) settled way now before = let h : None ≡ Some way = sym rests ∙ now in absurd cc
-settled-change event w v (abandoned first undoes was rests is journal) settled way now before = let h : None ≡ Some way = sym rests ∙ now in absurd cc
+settled-change event w v (completed first steps was rests is) settled way now before = no_way v.way way rests now
+settled-change event w v (abandoned first undoes was rests is journal) settled way now before = no_way v.way way rests now
 
 undenied-taken : (p : Plain) (event : Event) (keyspace table : List ℕ) → refusal_of p event ≡ None → is_denied (next_taken p event).topology.keyspaces keyspace table ≡ is_denied p.topology.keyspaces keyspace table
 undenied-taken p (add_keyspace name) keyspace table none = denied_from_value (with_keyspace p.topology name) p.topology keyspace table (value_of-with_keyspace p.topology name (about.Denied keyspace table))
@@ -185,17 +197,8 @@ undenied-next p (advance workflow name at at_most) (advanced events rows) keyspa
 undenied-next p event (advanced events rows) keyspace table given = refl
 
 -- no keyspace is ever taken away
-keyspace-pushed : (keyspaces : Keyspaces) (name k : List ℕ) (state : KeyspaceState) → is_some (keyspace_at keyspaces k) ≡ true → is_some (keyspace_at (keyspaces ++ (name, state) ∷ []) k) ≡ true
-keyspace-pushed [] name k state has = absurd (true≢false (sym has))
-keyspace-pushed (e ∷ es) name k state has = by (keyspace-pushed es name k state) (same_text k e.0) refl
-  where
-    by : (is_some (keyspace_at es k) ≡ true → is_some (keyspace_at (es ++ (name, state) ∷ []) k) ≡ true) → (t : Bool) → same_text k e.0 ≡ t
-        → is_some (keyspace_at ((e ∷ es) ++ (name, state) ∷ []) k) ≡ true
-    by again true t = rw t refl
-    by again false t = rw t (again (rw t at has))
-
 keyspace-taken : (p : Plain) (event : Event) (k : List ℕ) → is_some (keyspace_at p.topology.keyspaces k) ≡ true → is_some (keyspace_at (next_taken p event).topology.keyspaces k) ≡ true
-keyspace-taken p (add_keyspace name) k has = keyspace-pushed p.topology.keyspaces name k _ has
+keyspace-taken p (add_keyspace name) k has = place-push (same_text k) p.topology.keyspaces _ has
 keyspace-taken p (add_table keyspace table) k has = keyspace_at-stays (with_new_table table) p.topology.keyspaces keyspace k ∙ has
 keyspace-taken p (edit_rule key target) k has = has
 keyspace-taken p (complete workflow) k has = by (live_at p workflow)
@@ -217,7 +220,7 @@ keyspace-next p (advance workflow name at at_most) (advanced events rows) k has 
 keyspace-next p event (advanced events rows) k has = has
 
 -- an event that is not refused, or that changes nothing
-taken_or_same : (p : Plain) (event : Event) (answer : Answer) → Answers p event answer → (refusal_of p event ≡ None) ⊎ (next p event answer ≡ p)
+pub taken_or_same : (p : Plain) (event : Event) (answer : Answer) → Answers p event answer → (refusal_of p event ≡ None) ⊎ (next p event answer ≡ p)
 taken_or_same p event done given = inl given.0
 taken_or_same p event (row r) given = inl given.0
 taken_or_same p event (shown s) given = inl given.0
@@ -250,7 +253,7 @@ module _ (p : Plain) (event : Event) (answer : Answer) (has : HasParts p) (given
         target = ap (λ k. is_some (keyspace_at q.topology.keyspaces k)) (sym sides.target) ∙ keyspace-next p event answer v.target was.target;
         there = λ table moved.
             let before : moves v table ≡ true = ap (list_any (λ t. same_text t table)) sides.tables ∙ moved in
-            let keeps = and-both (moves v table) (same_text v.source v.source || same_text v.target v.source) before (ap (λ t. t || same_text v.target v.source) ((same_text_decides v.source v.source).1 refl)) in
+            let keeps = and_from (moves v table) (same_text v.source v.source || same_text v.target v.source) before (ap (λ t. t || same_text v.target v.source) ((same_text_decides v.source v.source).1 refl)) in
             ap (λ k. is_present q.topology.keyspaces k table) (sym sides.source)
             ∙ present_from_value q.topology p.topology v.source table (value-kept p v has i (about.Present v.source table) keeps event answer given lives)
             ∙ was.there table before;
@@ -262,25 +265,55 @@ module _ (p : Plain) (event : Event) (answer : Answer) (has : HasParts p) (given
   settled-next : (w : Live) → ComesFrom p event answer w → IsSettled w
   settled-next w (old v i e) =
       subst IsSettled e (settled-change event v (live_next p event answer v) (way_change p event answer v (live_by_name p has.apart v i) given) (has.settled v i))
-  settled-next w (new name source target tables e is_name is_source is_target is_tables rests) = λ way opens before. let h : None ≡ Some way = sym rests ∙ opens in absurd cc
+  settled-next w (new name source target tables e is_name is_source is_target is_tables rests) = λ way opens before. no_way w.way way rests opens
 
   from_taken : (refusal_of p event ≡ None) ⊎ (q ≡ p) → HasParts q
   from_taken (inr same) = subst HasParts (sym same) has
   from_taken (inl none) = record {
     apart = apart-next none (lives_after p event answer);
-    placed = λ w is. placed-next none w is (comes_from p q event answer (lives_after p event answer) w is);
-    settled = λ w is. settled-next w (comes_from p q event answer (lives_after p event answer) w is);
+    placed = λ w is. placed-next none w is (comes_from p event answer w is);
+    settled = λ w is. settled-next w (comes_from p event answer w is);
     undenied = λ keyspace table. undenied-next p event answer keyspace table given ∙ has.undenied keyspace table;
   }
 
   pub next_has_parts : HasParts q
   next_has_parts = from_taken (taken_or_same p event answer given)
 
+-- ---- each state that a run reaches
+
+-- what each event keeps, a run keeps
+module _ (Q : Plain → Type 0) (keeps : (p : Plain) (event : Event) (answer : Answer) → Answers p event answer → Q p → Q (next p event answer)) where
+  pub run_keeps : (events : List Event) (answers : List Answer) (p : Plain) → Run p events answers → Q p → Q (after p events answers)
+  run_keeps [] answers p run holds = holds
+  run_keeps (event ∷ events) [] p run holds = holds
+  run_keeps (event ∷ events) (answer ∷ answers) p run holds = run_keeps events answers (next p event answer) run.1 (keeps p event answer run.0 holds)
+
+  pub reached_holds : ((scopes : List Scope) → Q (opening scopes)) → (p : Plain) → IsReached p → Q p
+  reached_holds first p reached = subst Q reached.is (run_keeps reached.events reached.answers (opening reached.scopes) reached.run (first reached.scopes))
+
 pub run_has_parts : (events : List Event) (answers : List Answer) (p : Plain) → Run p events answers → HasParts p → HasParts (after p events answers)
-run_has_parts [] [] p run has = has
-run_has_parts [] (answer ∷ answers) p run has = has
-run_has_parts (event ∷ events) [] p run has = has
-run_has_parts (event ∷ events) (answer ∷ answers) p run has = run_has_parts events answers (next p event answer) run.1 (next_has_parts p event answer has run.0)
+run_has_parts = run_keeps HasParts (λ p event answer given has. next_has_parts p event answer has given)
 
 pub reached_has_parts : (p : Plain) → IsReached p → HasParts p
-reached_has_parts p reached = subst HasParts reached.is (run_has_parts reached.events reached.answers (opening reached.scopes) reached.run (opening_has_parts reached.scopes))
+reached_has_parts = reached_holds HasParts (λ p event answer given has. next_has_parts p event answer has given) opening_has_parts
+
+-- what each event keeps where the parts are apart
+module _ (Q : Plain → Type 0) (first : (scopes : List Scope) → Q (opening scopes))
+    (keeps : (p : Plain) (event : Event) (answer : Answer) → HasParts p → Answers p event answer → Q p → Q (next p event answer)) where
+  pub reached_keeps : (p : Plain) → IsReached p → Q p
+  reached_keeps p reached =
+      (reached_holds (λ q. HasParts q × Q q) (λ q event answer given both. (next_has_parts q event answer both.0 given, keeps q event answer both.0 given both.1))
+      (λ scopes. (opening_has_parts scopes, first scopes)) p reached).1
+
+-- what a new workflow has, and each event keeps, has each live workflow in each state that a run reaches
+module _ (P : Live → Type 0) (new : (p : Plain) (name source target : List ℕ) (tables : List (List ℕ)) → P (made_live p name source target tables))
+    (keeps : (p : Plain) (event : Event) (w : Live) → P w → Keeps P p event w) where
+  abbrev AllHave : Plain → Type 0
+  AllHave p = (w : Live) → IsIn w p.lives → P w
+
+  pub reached_have : (p : Plain) → IsReached p → AllHave p
+  reached_have =
+      reached_keeps AllHave (λ scopes w is. absurd is)
+      (λ p event answer has given all.
+      each_next P p event answer (λ w is. next_has P p w (live_by_name p has.apart w is) event answer (keeps p event w (all w is)) given)
+      (λ name source target tables e. new p name source target tables))

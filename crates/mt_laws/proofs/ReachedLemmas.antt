@@ -2,11 +2,11 @@
 use Rattle.std.proofs.Common.{◌≡◌, Bool, true, false, List, [], ◌∷◌, refl}
 use Rattle.std.specs.List.{AllByRecursion}
 use Rattle.mt_model.specs.declared.entries.EntryKey.{EntryKey}
+use Rattle.mt_model.proofs.PartLemmas.{table_of}
 use Rattle.mt_plain.specs.Plain.{Live, Plain, has_part}
 use Rattle.mt_plain.specs.Serve.{Serves, served}
 use Rattle.mt_laws.specs.Parts.{AreApart, HasSides}
 use Rattle.mt_laws.specs.WayBack.{IsReached}
-use Rattle.mt_laws.proofs.EntryValueLemmas.{table_of}
 use Rattle.mt_laws.proofs.LiveLemmas.{Apart, IsApart, all_from_in, in_all}
 use Rattle.mt_laws.proofs.PartLemmas.{HasParts, moved_from_part}
 use Rattle.mt_laws.proofs.ReachLemmas.{reached_has_parts}

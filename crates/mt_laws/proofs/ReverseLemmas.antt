@@ -1,6 +1,6 @@
 -- A way, and one after it that changes the same types, give back the workflow's part.
 use Rattle.std.proofs.Common.{◌≡◌, ℕ, Bool, true, false, not, List, [], ◌∷◌, Option, None, Some, is_some, refl, sym, ap, ◌∙◌, subst}
-use Rattle.std.proofs.lemmas.Bool.{true≢false}
+use Rattle.std.proofs.lemmas.Bool.{true≢false, not-false}
 use Rattle.std.specs.Option.{option_map_or}
 use Rattle.std.specs.Prelude.{◌&&◌, option_map}
 use Rattle.mt_names.specs.declared.types.TabletType.{TabletType}
@@ -22,23 +22,21 @@ use Rattle.mt_laws.specs.Changes.{HasSides, IsStep}
 use Rattle.mt_laws.specs.WayBack.{EndsNoWay, IsBegin, IsReached, NoWayBetween, StaysLive, WayFrom, ends_way, in_part}
 use Rattle.mt_laws.proofs.LiveLemmas.{find_some, sides_joined, sides_same}
 use Rattle.mt_laws.proofs.PartLemmas.{HasParts, IsSettled}
-use Rattle.mt_laws.proofs.ReachLemmas.{next_has_parts, reached_has_parts}
-use Rattle.mt_laws.proofs.RefusalLemmas.{not-false}
+use Rattle.mt_laws.proofs.ReachLemmas.{next_has_parts, reached_has_parts, run_has_parts}
 use Rattle.mt_laws.proofs.TrafficLemmas.{closed, rest-same, way_at}
 use Rattle.mt_laws.proofs.UntouchedLemmas.{same_workflow}
-use Rattle.mt_laws.proofs.WayBackLemmas.{OneEvent, has_part-same, in_part-of, one_event, run_keeps_parts}
+use Rattle.mt_laws.proofs.WayBackLemmas.{OneEvent, has_part-same, in_part-of, one_event}
 use Rattle.mt_laws.proofs.WayLemmas.{WayChange, abandoned, begun, completed, goes_on, kept}
+use Rattle.mt_laws.proofs.WayStepLemmas.{no_way, one_way}
 
 -- ---- closed by its last step: the types after the way are switched
 
 stepped_switched : (name : List ℕ) (at : ℕ) (w v : Live) (way : Way) → WayChange (step name at) w v → w.way ≡ Some way → v.way ≡ None → v.switched ≡ way.after
-stepped_switched name at w v way (kept same_way same_switched) opens rests = let h : None ≡ Some way = sym rests ∙ same_way ∙ opens in absurd cc
+stepped_switched name at w v way (kept same_way same_switched) opens rests = no_way v.way way rests (same_way ∙ opens)
 stepped_switched name at w v way (begun first begins was now is same) opens rests = absurd begins
-stepped_switched name at w v way (goes_on first later was now same_before same_after holds) opens rests = let h : None ≡ Some later = sym rests ∙ now in absurd cc
+stepped_switched name at w v way (goes_on first later was now same_before same_after holds) opens rests = no_way v.way later rests now
 stepped_switched name at w v way (completed first steps was now is) opens rests =
-    let e : Some first ≡ Some way = sym was ∙ opens in
-    let one : first ≡ way = cc in
-    is ∙ ap (λ x. x.after) one
+    is ∙ ap (λ x. x.after) (one_way w.way first way was opens)
 stepped_switched name at w v way (abandoned first undoes was now is journal) opens rests = absurd undoes
 
 -- ---- between two ways
@@ -148,7 +146,7 @@ module _ (name : List ℕ) (begin again : Event) (at at_again : ℕ) (p q r s : 
       let has = reached_has_parts p reached in
       let c = closed name begin (step name at) p q has is refl there in
       let mid = between_run between.events between.answers q name c.final c.parts c.live_final between.run between.live between.none in
-      let has_r = subst HasParts between.is (run_keeps_parts between.events between.answers q c.parts between.run) in
+      let has_r = subst HasParts between.is (run_has_parts between.events between.answers q between.run c.parts) in
       let d = closed name again (step name at_again) r s has_r is_again refl back_again in
       let found : Some mid.later ≡ Some d.first = sym mid.live ∙ ap (λ x. live_at x name) between.is ∙ d.live_first in
       let one : mid.later ≡ d.first = cc in

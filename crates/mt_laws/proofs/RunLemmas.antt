@@ -20,10 +20,7 @@ use Rattle.mt_plain.specs.Serve.{refuses}
 use Rattle.mt_plain.specs.Slots.{log_length}
 use Rattle.mt_plain.specs.Writes.{client_number, client_row, row_after_write, row_after_writes}
 use Rattle.mt_laws.specs.Acknowledged.{acknowledged, acknowledged_by, row_by, row_or, row_with_op}
-
-pub or_else-none : (o next : Option Refusal) → or_else o next ≡ None → (o ≡ None) × (next ≡ None)
-or_else-none None next e = (refl, e)
-or_else-none (Some refusal) next e = absurd cc
+use Rattle.mt_laws.proofs.RefusalLemmas.{or_else-none}
 
 -- a write that isn't refused leaves the row of its operation
 pub row_is_left : (p : Plain) (keyspace table : List ℕ) (op : Op) → refusal_of p (write keyspace table op) ≡ None → row_refusal (op_row op (client_row p keyspace table (op_key op))) ≡ None

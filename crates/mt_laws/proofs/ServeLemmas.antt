@@ -1,6 +1,9 @@
 -- The topology that is served, as a list of entries, says at each entry what the part says in which the entry lies.
 use Rattle.std.proofs.Common.{◌≡◌, ◌⊎◌, inl, inr, ℕ, Bool, true, false, cond, List, [], ◌∷◌, ◌++◌, Option, None, Some, refl, sym, ap, ◌∙◌, subst}
-use Rattle.std.proofs.lemmas.Bool.{true≢false, false_from_ne_true}
+use Rattle.std.specs.Cmp.{both_ways}
+use Rattle.std.proofs.Math.Bool.{and-true, and-false}
+use Rattle.std.proofs.lemmas.List.Folds.{list_any-append}
+use Rattle.std.proofs.lemmas.Bool.{true≢false, false_from_ne_true, and_from, and_parts, or_left, or_right}
 use Rattle.std.specs.List.{AllByRecursion, flat_map, fold, list_any}
 use Rattle.std.specs.Map.{lookup, remove_entry, set_value}
 use Rattle.std.specs.Option.{option_map_or}
@@ -12,68 +15,31 @@ use Rattle.mt_names.specs.declared.types.TabletType.TheVariants.{Primary, Replic
 use Rattle.mt_names.specs.declared.types.TypeSet.{TypeSet}
 use Rattle.mt_names.specs.Names.{same_text}
 use Rattle.mt_names.specs.Same.{same_key}
-use Rattle.mt_names.proofs.EntryLemmas.{lookup-remove_entry_elsewhere, lookup-set_value_elsewhere, lookup-set_value_here, same_itself, apart}
+use Rattle.mt_names.proofs.EntryLemmas.{lookup-set_value_elsewhere, lookup-set_value_here, same_itself, apart, same_turned, some_from}
 use Rattle.mt_names.proofs.SameLemmas.{same_key_decides, same_text_decides}
 use Rattle.mt_model.specs.declared.entries.Entry.TheVariants as entry
 use Rattle.mt_model.specs.declared.entries.EntryKey.{EntryKey}
 use Rattle.mt_model.specs.declared.entries.EntryKey.TheVariants as about
+use Rattle.mt_model.specs.Part.{keys_of_name}
 use Rattle.mt_model.specs.Topology.{KeyspaceState, Keyspaces, Marks, Rules, TopologyState, is_denied, is_marked, is_present, keyspace_at, rule_at, value_of, with_keyspace_state}
-use Rattle.mt_plain.specs.Plain.{Live, has_part, is_side, keys_of_name, moves, rule_keys, twelve_keys}
+use Rattle.mt_plain.specs.Plain.{Live, has_part, is_side, moves, rule_keys, twelve_keys}
 use Rattle.mt_plain.specs.Serve.{denials_over, keyspaces_over, mark_in, rule_in, rules_over, serve_plain, serve_rule, served_by, types_by, step_of_entry, with_part_at, with_workflow}
 use Rattle.mt_laws.specs.Parts.{AreApart, HasSides}
+use Rattle.mt_laws.proofs.EntryValueLemmas.{lookup-without as lookup-removed}
+use Rattle.mt_laws.proofs.LiveLemmas.{any-in}
 use Rattle.mt_laws.proofs.ListLemmas.{append-all, each-mapped, flat_map-all}
-
--- ---- tests
-
-or-right : (a b : Bool) → b ≡ true → (a || b) ≡ true
-or-right true b is = refl
-or-right false b is = is
-
-or-left : (a b : Bool) → a ≡ true → (a || b) ≡ true
-or-left true b is = refl
-or-left false b is = absurd (true≢false (sym is))
-
-and-both : (a b : Bool) → a ≡ true → b ≡ true → (a && b) ≡ true
-and-both true b first second = second
-and-both false b first second = first
-
-and-each : (a b : Bool) → (a && b) ≡ true → (a ≡ true) × (b ≡ true)
-and-each true b is = (refl, is)
-and-each false b is = absurd (true≢false (sym is))
-
-or-neither : (a b : Bool) → (a || b) ≡ false → (a ≡ false) × (b ≡ false)
-or-neither true b is = absurd (true≢false is)
-or-neither false b is = (refl, is)
-
-same_either_way : (a b : List ℕ) → same_text a b ≡ same_text b a
-same_either_way a b = by (same_text a b) refl
-  where
-    by : (t : Bool) → same_text a b ≡ t → t ≡ same_text b a
-    by true t = sym ((same_text_decides b a).1 (sym ((same_text_decides a b).0 t)))
-    by false t = sym (false_from_ne_true (same_text b a) (λ e. true≢false (sym ((same_text_decides a b).1 (sym ((same_text_decides b a).0 e))) ∙ t)))
-
--- two tests that pass together
-agree : (a b : Bool) → (a ≡ true → b ≡ true) → (b ≡ true → a ≡ true) → a ≡ b
-agree true b there back = sym (there refl)
-agree false true there back = back refl
-agree false false there back = refl
 
 -- ---- the rule keys of a part
 
 any-append : {A : Type 0} (p : A → Bool) (xs ys : List A) → (list_any p xs ≡ true) ⊎ (list_any p ys ≡ true) → list_any p (xs ++ ys) ≡ true
-any-append p [] ys (inl is) = absurd (true≢false (sym is))
-any-append p [] ys (inr is) = is
-any-append p (x ∷ xs) ys is = by (any-append p xs ys) (p x) is
-  where
-    by : ((list_any p xs ≡ true) ⊎ (list_any p ys ≡ true) → list_any p (xs ++ ys) ≡ true) → (t : Bool) → ((t || list_any p xs) ≡ true) ⊎ (list_any p ys ≡ true) → (t || list_any p (xs ++ ys)) ≡ true
-    by again true is = refl
-    by again false is = again is
+any-append p xs ys (inl is) = list_any-append p xs ys ∙ or_left (list_any p xs) (list_any p ys) is
+any-append p xs ys (inr is) = list_any-append p xs ys ∙ or_right (list_any p xs) (list_any p ys) is
 
 four-any : {A : Type 0} (p : A → Bool) (a b c d : A) → (p a ≡ true) ⊎ ((p b ≡ true) ⊎ ((p c ≡ true) ⊎ (p d ≡ true))) → list_any p (a ∷ b ∷ c ∷ d ∷ []) ≡ true
-four-any p a b c d (inl is) = or-left (p a) (p b || (p c || (p d || false))) is
-four-any p a b c d (inr (inl is)) = or-right (p a) (p b || (p c || (p d || false))) (or-left (p b) (p c || (p d || false)) is)
-four-any p a b c d (inr (inr (inl is))) = or-right (p a) (p b || (p c || (p d || false))) (or-right (p b) (p c || (p d || false)) (or-left (p c) (p d || false) is))
-four-any p a b c d (inr (inr (inr is))) = or-right (p a) (p b || (p c || (p d || false))) (or-right (p b) (p c || (p d || false)) (or-right (p c) (p d || false) (or-left (p d) false is)))
+four-any p a b c d (inl is) = or_left (p a) (p b || (p c || (p d || false))) is
+four-any p a b c d (inr (inl is)) = or_right (p a) (p b || (p c || (p d || false))) (or_left (p b) (p c || (p d || false)) is)
+four-any p a b c d (inr (inr (inl is))) = or_right (p a) (p b || (p c || (p d || false))) (or_right (p b) (p c || (p d || false)) (or_left (p c) (p d || false) is))
+four-any p a b c d (inr (inr (inr is))) = or_right (p a) (p b || (p c || (p d || false))) (or_right (p b) (p c || (p d || false)) (or_right (p c) (p d || false) (or_left (p d) false is)))
 
 abbrev named_for : Option (List ℕ) → List ℕ → Option TabletType → RuleKey
 named_for o table type = record { keyspace = o; table = table; tablet_type = type }
@@ -137,22 +103,22 @@ any-of P p Q (x ∷ xs) each all any = by (any-of P p Q xs each all.1) (p x) ref
 
 each_moved : (all tables : List (List ℕ)) → ((t : List ℕ) → list_any (λ s. same_text s t) tables ≡ true → list_any (λ s. same_text s t) all ≡ true) → AllByRecursion (λ t. list_any (λ s. same_text s t) all ≡ true) tables
 each_moved all [] each = tt
-each_moved all (t ∷ ts) each = (each t (or-left (same_text t t) (list_any (λ s. same_text s t) ts) (same_itself same_text same_text_decides t)), each_moved all ts (λ r is. each r (or-right (same_text t r) (list_any (λ s. same_text s r) ts) is)))
+each_moved all (t ∷ ts) each = (each t (or_left (same_text t t) (list_any (λ s. same_text s t) ts) (same_itself same_text same_text_decides t)), each_moved all ts (λ r is. each r (or_right (same_text t r) (list_any (λ s. same_text s r) ts) is)))
 
 twelve_keys-of : (w : Live) (table : List ℕ) → moves w table ≡ true → AllByRecursion (OfPart w) (twelve_keys w.source w.target table)
 twelve_keys-of w table moved =
     append-all (OfPart w) (keys_of_name None table ++ keys_of_name (Some w.source) table) (keys_of_name (Some w.target) table)
     (append-all (OfPart w) (keys_of_name None table) (keys_of_name (Some w.source) table) (named None refl)
-    (named (Some w.source) (or-left (same_text w.source w.source) (same_text w.target w.source) (same_itself same_text same_text_decides w.source))))
-    (named (Some w.target) (or-right (same_text w.source w.target) (same_text w.target w.target) (same_itself same_text same_text_decides w.target)))
+    (named (Some w.source) (or_left (same_text w.source w.source) (same_text w.target w.source) (same_itself same_text same_text_decides w.source))))
+    (named (Some w.target) (or_right (same_text w.source w.target) (same_text w.target w.target) (same_itself same_text same_text_decides w.target)))
   where
     named : (o : Option (List ℕ)) → option_map_or (is_side w) o true ≡ true → AllByRecursion (OfPart w) (keys_of_name o table)
     named o side =
         each-mapped (OfPart w) (λ type. record { keyspace = o; table = table; tablet_type = type }) (None ∷ Some Primary ∷ Some Replica ∷ Some Rdonly ∷ [])
-        (λ type. and-both (moves w table) (option_map_or (is_side w) o true) moved side)
+        (λ type. and_from (moves w table) (option_map_or (is_side w) o true) moved side)
 
 key_in_part : (w : Live) (key : RuleKey) → list_any (same_key key) (rule_keys w) ≡ has_part w (about.Rule key)
-key_in_part w key = agree (list_any (same_key key) (rule_keys w)) (has_part w (about.Rule key)) there back
+key_in_part w key = both_ways (list_any (same_key key) (rule_keys w)) (has_part w (about.Rule key)) there back
   where
     of_each : AllByRecursion (OfPart w) (rule_keys w)
     of_each = flat_map-all (λ t. moves w t ≡ true) (OfPart w) (twelve_keys w.source w.target) w.tables (twelve_keys-of w) (each_moved w.tables w.tables (λ t is. is))
@@ -162,7 +128,7 @@ key_in_part w key = agree (list_any (same_key key) (rule_keys w)) (has_part w (a
 
     back : OfPart w key → list_any (same_key key) (rule_keys w) ≡ true
     back of =
-        let (moved, side) = and-each (moves w key.table) (option_map_or (is_side w) key.keyspace true) of in
+        let (moved, side) = and_parts (moves w key.table) (option_map_or (is_side w) key.keyspace true) of in
         keys-any w key w.tables side moved
 
 -- ---- rules
@@ -176,11 +142,9 @@ lookup-over f (k ∷ ks) rest key = by (lookup-over f ks rest key) (same_key key
     by again false t = again
 
 lookup-without : (rules : Rules) (keys : List RuleKey) (key : RuleKey) → list_any (same_key key) keys ≡ false → lookup (same_key key) (fold (λ rules key. remove_entry (same_key key) rules) rules keys) ≡ lookup (same_key key) rules
-lookup-without rules [] key none = refl
-lookup-without rules (k ∷ ks) key none =
-    let (other, others) = or-neither (same_key key k) (list_any (same_key key) ks) none in
-    lookup-without (remove_entry (same_key k) rules) ks key others
-    ∙ lookup-remove_entry_elsewhere same_key same_key_decides rules k key (λ e. true≢false (sym ((same_key_decides key k).1 (sym e)) ∙ other))
+lookup-without rules keys key none =
+    lookup-removed same_key same_key_decides keys rules key
+    (λ k is e. true≢false (sym (any-in (same_key key) keys k is ((same_key_decides key k).1 (sym e))) ∙ none))
 
 rule_at-over : (u : TopologyState) (w : Live) (key : RuleKey) → rule_at (rules_over u w) key ≡ cond (has_part w (about.Rule key)) (rule_in (served_by u w (about.Rule key))) (rule_at u.rules key)
 rule_at-over u w key =
@@ -202,7 +166,7 @@ rule_at-over u w key =
 is_marked-over : (f : List ℕ → Bool) (tables : List (List ℕ)) (marks : Marks) (name : List ℕ) → is_marked (map (λ t. (t, f t)) tables ++ marks) name ≡ cond (list_any (λ t. same_text t name) tables) (f name) (is_marked marks name)
 is_marked-over f [] marks name = refl
 is_marked-over f (t ∷ ts) marks name =
-    ap (λ b. unwrap_or (cond b (Some (f t)) (lookup (same_text name) (map (λ t. (t, f t)) ts ++ marks))) false) (same_either_way name t) ∙ by (is_marked-over f ts marks name) (same_text t name) refl
+    ap (λ b. unwrap_or (cond b (Some (f t)) (lookup (same_text name) (map (λ t. (t, f t)) ts ++ marks))) false) (same_turned same_text same_text_decides name t) ∙ by (is_marked-over f ts marks name) (same_text t name) refl
   where
     by : is_marked (map (λ t. (t, f t)) ts ++ marks) name ≡ cond (list_any (λ t. same_text t name) ts) (f name) (is_marked marks name) → (b : Bool) → same_text t name ≡ b
         → unwrap_or (cond b (Some (f t)) (lookup (same_text name) (map (λ t. (t, f t)) ts ++ marks))) false ≡ cond (b || list_any (λ t. same_text t name) ts) (f name) (is_marked marks name)
@@ -249,11 +213,7 @@ module _ (u : TopologyState) (w : Live) (sides : HasSides u w) where
       by false t = inner
 
   some_at : (name side : List ℕ) → is_some (keyspace_at u.keyspaces side) ≡ true → same_text side name ≡ true → (s : KeyspaceState) × (keyspace_at u.keyspaces name ≡ Some s)
-  some_at name side has same = by (keyspace_at u.keyspaces name) refl (subst (λ n. is_some (keyspace_at u.keyspaces n) ≡ true) ((same_text_decides side name).0 same) has)
-    where
-      by : (o : Option KeyspaceState) → keyspace_at u.keyspaces name ≡ o → is_some (keyspace_at u.keyspaces name) ≡ true → (s : KeyspaceState) × (keyspace_at u.keyspaces name ≡ Some s)
-      by None e is = absurd (true≢false (sym (rw e at is)))
-      by (Some s) e is = (s, e)
+  some_at name side has same = some_from (keyspace_at u.keyspaces name) (subst (λ n. is_some (keyspace_at u.keyspaces n) ≡ true) ((same_text_decides side name).0 same) has)
 
   is_denied-over : (keyspace table : List ℕ) → is_denied (keyspaces_over u w) keyspace table ≡ cond (has_part w (about.Denied keyspace table)) (mark_in (served_by u w (about.Denied keyspace table))) (is_denied u.keyspaces keyspace table)
   is_denied-over keyspace table =
@@ -265,14 +225,6 @@ module _ (u : TopologyState) (w : Live) (sides : HasSides u w) where
       denied_in : Option KeyspaceState → Bool
       denied_in o = option_map_or (λ state. is_marked state.denied table) o false
 
-      and-true : (a : Bool) → (a && true) ≡ a
-      and-true true = refl
-      and-true false = refl
-
-      and-false : (a : Bool) → (a && false) ≡ false
-      and-false true = refl
-      and-false false = refl
-
       -- a side that is there
       of_side : (side : List ℕ) (change : KeyspaceState → KeyspaceState) (s : KeyspaceState) → side ≡ keyspace → (keyspace_at u.keyspaces keyspace) ≡ Some s → ((same_text w.source keyspace) || (same_text w.target keyspace)) ≡ true → (change s).denied ≡ denials_over u w side ++ s.denied → denied_in (option_map change (keyspace_at u.keyspaces keyspace)) ≡ cond (moves w table && ((same_text w.source keyspace) || (same_text w.target keyspace))) (mark_in (served_by u w (about.Denied keyspace table))) (denied_in (keyspace_at u.keyspaces keyspace))
       of_side side change s is found one made =
@@ -283,11 +235,11 @@ module _ (u : TopologyState) (w : Live) (sides : HasSides u w) where
       by true s t s' =
           let (there, found) = some_at keyspace w.target sides.target t in
           ap (λ b. denied_in (cond b (option_map at_target (keyspace_at u.keyspaces keyspace)) (cond (same_text w.source keyspace) (option_map at_source (keyspace_at u.keyspaces keyspace)) (keyspace_at u.keyspaces keyspace)))) t
-          ∙ of_side w.target at_target there ((same_text_decides w.target keyspace).0 t) found (or-right (same_text w.source keyspace) (same_text w.target keyspace) t) refl
+          ∙ of_side w.target at_target there ((same_text_decides w.target keyspace).0 t) found (or_right (same_text w.source keyspace) (same_text w.target keyspace) t) refl
       by false true t s =
           let (there, found) = some_at keyspace w.source sides.source s in
           ap (λ b. denied_in (cond b (option_map at_target (keyspace_at u.keyspaces keyspace)) (cond (same_text w.source keyspace) (option_map at_source (keyspace_at u.keyspaces keyspace)) (keyspace_at u.keyspaces keyspace)))) t
-          ∙ ap (λ b. denied_in (cond b (option_map at_source (keyspace_at u.keyspaces keyspace)) (keyspace_at u.keyspaces keyspace))) s ∙ of_side w.source at_source there ((same_text_decides w.source keyspace).0 s) found (or-left (same_text w.source keyspace) (same_text w.target keyspace) s) refl
+          ∙ ap (λ b. denied_in (cond b (option_map at_source (keyspace_at u.keyspaces keyspace)) (keyspace_at u.keyspaces keyspace))) s ∙ of_side w.source at_source there ((same_text_decides w.source keyspace).0 s) found (or_left (same_text w.source keyspace) (same_text w.target keyspace) s) refl
       by false false t s =
           ap (λ b. denied_in (cond b (option_map at_target (keyspace_at u.keyspaces keyspace)) (cond (same_text w.source keyspace) (option_map at_source (keyspace_at u.keyspaces keyspace)) (keyspace_at u.keyspaces keyspace)))) t
           ∙ ap (λ b. denied_in (cond b (option_map at_source (keyspace_at u.keyspaces keyspace)) (keyspace_at u.keyspaces keyspace))) s
@@ -299,14 +251,6 @@ module _ (u : TopologyState) (w : Live) (sides : HasSides u w) where
     where
       present_in : Option KeyspaceState → Bool
       present_in o = option_map_or (λ state. is_marked state.tables table) o false
-
-      and-true : (a : Bool) → (a && true) ≡ a
-      and-true true = refl
-      and-true false = refl
-
-      and-false : (a : Bool) → (a && false) ≡ false
-      and-false true = refl
-      and-false false = refl
 
       by : (t s : Bool) → same_text w.target keyspace ≡ t → same_text w.source keyspace ≡ s → present_in (cond (same_text w.target keyspace) (option_map at_target (keyspace_at u.keyspaces keyspace)) (cond (same_text w.source keyspace) (option_map at_source (keyspace_at u.keyspaces keyspace)) (keyspace_at u.keyspaces keyspace)))
           ≡ cond (moves w table && same_text w.target keyspace) true (present_in (keyspace_at u.keyspaces keyspace))

@@ -6,13 +6,15 @@ use Rattle.std.specs.Prelude.{◌&&◌, ◌||◌, find, option_and_then, option_
 use Rattle.mt_names.specs.declared.types.TypeSet.{TypeSet}
 use Rattle.mt_names.specs.Names.{same_text}
 use Rattle.mt_plain.specs.Drive.{way_of}
-use Rattle.mt_plain.specs.Events.{StreamName, forward, back, Way}
-use Rattle.mt_plain.specs.Next.{live_stepped, live_undone, on_way_of, way_stepped, with_advance, with_fresh_stream, with_live, with_step, with_undo, with_way_to}
-use Rattle.mt_plain.specs.Plain.{Live, Plain, behind_last, create_back, differ, first_step, live_at, next_step, stands_done, write_journal}
-use Rattle.mt_plain.specs.Refuse.{has_more, new_owner, share_type}
-use Rattle.mt_plain.specs.Slots.{is_fresh, live_advanced, log_length, with_position}
-use Rattle.mt_laws.proofs.CleanLemmas.{live_advanced-keeps, live_stepped-keeps, live_undone-keeps, on_way_of-keeps}
+use Rattle.mt_plain.specs.Events.{StreamName, Way}
+use Rattle.mt_plain.specs.Next.{live_stepped, live_undone, on_way_of, with_advance, with_live, with_step, with_undo, with_way_to}
+use Rattle.mt_plain.specs.Plain.{Live, Plain, behind_last, differ, first_step, live_at, next_step, stands_done, write_journal}
+use Rattle.mt_plain.specs.Refuse.{has_more, share_type}
+use Rattle.mt_plain.specs.Slots.{live_advanced}
+use Rattle.mt_laws.proofs.ChangeLemmas.{sides-advanced, sides-live_stepped, sides-on_way, sides-undone}
 use Rattle.mt_laws.proofs.ListLemmas.{cond-either}
+use Rattle.mt_laws.proofs.UntouchedLemmas.{traffic-advanced}
+use Rattle.mt_laws.proofs.WayStepLemmas.{first_step-le, way-stepped, way-undone}
 
 -- ---- the workflow of a name
 
@@ -81,50 +83,24 @@ way_of-changed p change workflow w keeps found =
 
 -- ---- steps, undos and advances
 
-stepped_way : (w : Live) (way : Way) → (way_stepped w way).way ≡ cond (eqb (suc (next_step way)) (behind_last way)) None (Some (record way { done = suc way.done }))
-stepped_way w way = by (eqb (suc (next_step way)) (behind_last way))
-  where
-    by : (t : Bool) → (cond t (record (with_fresh_stream w way) { switched = way.after; way = None }) (record w { way = Some (record way { done = suc way.done }) })).way ≡ cond t None (Some (record way { done = suc way.done }))
-    by true = refl
-    by false = refl
-
-live_stepped-way : (p : Plain) (w : Live) (way : Way) → (live_stepped p w way).way ≡ (way_stepped w way).way
-live_stepped-way p w way =
-    let with_fresh = record (way_stepped w way) { fresh_at = log_length p (new_owner w) } in
-    let with_types = record (way_stepped w way) { switched = way.after } in
-    cond-either (λ v. v.way ≡ (way_stepped w way).way) (eqb (next_step way) create_back) with_fresh (cond (eqb (next_step way) write_journal) with_types (way_stepped w way)) refl
-    (cond-either (λ v. v.way ≡ (way_stepped w way).way) (eqb (next_step way) write_journal) with_types (way_stepped w way) refl refl)
-
 on_way_of-way : (change : Way → Live) (w : Live) (way : Way) → w.way ≡ Some way → (on_way_of change w).way ≡ (change way).way
 on_way_of-way change w way is = ap (λ o. (option_map_or change o w).way) is
 
 pub way_of-step : (p : Plain) (workflow : List ℕ) (way : Way) → HasWay p workflow way → way_of (with_step p workflow) workflow ≡ cond (eqb (suc (next_step way)) (behind_last way)) None (Some (record way { done = suc way.done }))
 way_of-step p workflow way has =
-    way_of-changed p (λ w. on_way_of (live_stepped p w) w) workflow has.live (λ w. (on_way_of-keeps (live_stepped p) (live_stepped-keeps p) w).name) has.found
-    ∙ on_way_of-way (live_stepped p has.live) has.live way has.way_is ∙ live_stepped-way p has.live way ∙ stepped_way has.live way
-
-undone_way : (w : Live) (way : Way) → (live_undone w way).way ≡ cond (eqb (way.done - 1) 0) None (Some (record way { done = way.done - 1; undoing = true }))
-undone_way w way = by (eqb (way.done - 1) 0)
-  where
-    by : (t : Bool) → (cond t (record w { way = None }) (record w { way = Some (record way { done = way.done - 1; undoing = true }) })).way ≡ cond t None (Some (record way { done = way.done - 1; undoing = true }))
-    by true = refl
-    by false = refl
+    way_of-changed p (λ w. on_way_of (live_stepped p w) w) workflow has.live (λ w. sym (sides-on_way w (live_stepped p w) (sides-live_stepped p w) w.way).name) has.found
+    ∙ on_way_of-way (live_stepped p has.live) has.live way has.way_is ∙ way-stepped p has.live way
 
 pub way_of-undo : (p : Plain) (workflow : List ℕ) (way : Way) → HasWay p workflow way → way_of (with_undo p workflow) workflow ≡ cond (eqb (way.done - 1) 0) None (Some (record way { done = way.done - 1; undoing = true }))
 way_of-undo p workflow way has =
-    way_of-changed p (λ w. on_way_of (live_undone w) w) workflow has.live (λ w. (on_way_of-keeps live_undone live_undone-keeps w).name) has.found
-    ∙ on_way_of-way (live_undone has.live) has.live way has.way_is ∙ undone_way has.live way
-
-with_position-way : (w : Live) (name : StreamName) (fresh : Bool) (position : ℕ) → (with_position w name fresh position).way ≡ w.way
-with_position-way w name true position = refl
-with_position-way w forward false position = refl
-with_position-way w back false position = refl
+    way_of-changed p (λ w. on_way_of (live_undone w) w) workflow has.live (λ w. sym (sides-on_way w (live_undone w) (sides-undone w) w.way).name) has.found
+    ∙ on_way_of-way (live_undone has.live) has.live way has.way_is ∙ way-undone has.live way
 
 pub way_of-advance : (p : Plain) (workflow : List ℕ) (name : StreamName) (position at_most events rows : ℕ) (o : Option Live) → way_of (with_advance p name position at_most events rows o) workflow ≡ way_of p workflow
 way_of-advance p workflow name position at_most events rows None = refl
 way_of-advance p workflow name position at_most events rows (Some w) =
-    way_in-kept (λ v. live_advanced p v name position at_most events rows) w.name workflow p.lives (λ v. (live_advanced-keeps p v name position at_most events rows).name)
-    (λ v. with_position-way v name (is_fresh v.way name) (position + events))
+    way_in-kept (λ v. live_advanced p v name position at_most events rows) w.name workflow p.lives (λ v. sym (sides-advanced p v name position at_most events rows).name)
+    (λ v. ap (λ t. t.1) (traffic-advanced p v name position at_most events rows))
 
 -- a way that begins
 pub way_of-begun : (p : Plain) (workflow : List ℕ) (backward : Bool) (change : TypeSet → TypeSet) (w : Live) → live_at p workflow ≡ Some w → way_in workflow (with_live (with_way_to backward change) workflow p.lives) ≡ (with_way_to backward change w).way
@@ -136,12 +112,9 @@ way_of-begun p workflow backward change w found = way_of-changed p (with_way_to 
 pub few_done : (way : Way) → stands_done way write_journal ≡ false → next_step way ≤ 6
 few_done way none = by (leb (first_step way) 6) refl
   where
-    first : first_step way ≤ 1
-    first = cond-either (λ n. n ≤ 1) _ 0 1 (omega arith) (omega arith)
-
     by : (t : Bool) → leb (first_step way) 6 ≡ t → next_step way ≤ 6
     by true t = ltb-false 6 (next_step way) (rw t at none)
-    by false t = absurd (true≢false (sym (le-leb (first_step way) 6 (omega (arith, first))) ∙ t))
+    by false t = absurd (true≢false (sym (le-leb (first_step way) 6 (omega (arith, first_step-le way))) ∙ t))
 
 -- and conversely
 pub few_undone : (way : Way) → next_step way ≤ 6 → stands_done way write_journal ≡ false

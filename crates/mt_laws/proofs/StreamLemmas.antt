@@ -1,73 +1,40 @@
 -- Which stream runs, and whose log it reads.
-use Rattle.std.proofs.Common.{◌≡◌, ℕ, suc, ◌-◌, Bool, true, false, not, cond, eqb, List, Option, None, Some, option_map, refl, sym, ap, ◌∙◌, arith}
+use Rattle.std.proofs.Common.{◌≡◌, ℕ, ◌-◌, Bool, true, false, not, cond, eqb, List, Option, None, Some, option_map, refl, sym, ap, ◌∙◌, arith}
 use Rattle.std.proofs.lemmas.Bool.{true≢false}
 use Rattle.std.specs.Option.{option_map_or}
 use Rattle.std.specs.Prelude.{◌&&◌, ◌||◌}
 use Rattle.mt_names.specs.Names.{same_text}
 use Rattle.mt_plain.specs.Events.{Event, StreamName, forward, back, Slot, running, stopped, Way}
-use Rattle.mt_plain.specs.Next.{live_stepped, live_undone, types_and, types_without, way_stepped, with_fresh_stream, with_way_to}
-use Rattle.mt_plain.specs.Plain.{Live, Plain, behind_last, changes_primary, create_back, differ, live_at, next_step, owner, stands_done, start_back, stop_feeding, write_journal}
-use Rattle.mt_plain.specs.Refuse.{new_owner}
-use Rattle.mt_plain.specs.Slots.{feeding_slot, is_feeding, live_advanced, log_length, other_slot, read_side, running_at, slot_at_rest, slot_by_way, slot_of}
+use Rattle.mt_plain.specs.Next.{live_stepped, live_undone, types_and, types_without, with_way_to}
+use Rattle.mt_plain.specs.Plain.{Live, Plain, changes_primary, create_back, differ, live_at, owner, stands_done, start_back, stop_feeding, write_journal}
+use Rattle.mt_plain.specs.Slots.{feeding_slot, is_feeding, live_advanced, other_slot, read_side, running_at, slot_at_rest, slot_by_way, slot_of}
 use Rattle.mt_laws.specs.Copies.{frozen_at, runs_at}
 use Rattle.mt_laws.specs.WayBack.{IsReached}
 use Rattle.mt_laws.proofs.ChangeLemmas.{made_live}
-use Rattle.mt_laws.proofs.KeepLemmas.{Keeps, reached_have}
+use Rattle.mt_laws.proofs.KeepLemmas.{Keeps}
 use Rattle.mt_laws.proofs.LiveLemmas.{IsIn, find_some}
-use Rattle.mt_laws.proofs.OwnerLemmas.{IsJournaled, done_in_order, reached_journaled}
+use Rattle.mt_laws.proofs.OwnerLemmas.{IsJournaled, reached_journaled}
 use Rattle.mt_laws.proofs.PartLemmas.{IsSettled}
-use Rattle.mt_laws.proofs.ReachLemmas.{reached_has_parts}
+use Rattle.mt_laws.proofs.ReachLemmas.{reached_has_parts, reached_have}
 use Rattle.mt_laws.proofs.UntouchedLemmas.{traffic-advanced}
+use Rattle.mt_laws.proofs.PlainWords.{side_by}
+use Rattle.mt_laws.proofs.WayStepLemmas.{closes, done_in_order, fewer, more, no_way_holds, way-stepped, way-undone, way_holds, way_holds-by}
+use Rattle.mt_laws.proofs.WritableLemmas.{owner-if}
 
 -- ---- a way that changes writes leads back where primary was switched before it, and only there
 
 abbrev pub IsTurned : Live → Type 0
 IsTurned w = (way : Way) → w.way ≡ Some way → changes_primary way ≡ true → way.before.primary ≡ way.back
 
-pub turned_rests : (w : Live) → w.way ≡ None → IsTurned w
-turned_rests w rests way opens changes = let h : None ≡ Some way = sym rests ∙ opens in absurd cc
+-- of an open way
+abbrev Turned : Way → Type 0
+Turned way = changes_primary way ≡ true → way.before.primary ≡ way.back
 
-turned_open : (w : Live) (way : Way) → w.way ≡ Some way → (changes_primary way ≡ true → way.before.primary ≡ way.back) → IsTurned w
-turned_open w way opens holds other now changes =
-    let e : Some way ≡ Some other = sym opens ∙ now in
-    let one : way ≡ other = cc in
-    ap (λ x. x.before.primary) (sym one) ∙ holds (ap (λ x. changes_primary x) one ∙ changes) ∙ ap (λ x. x.back) one
+pub turned_rests : (w : Live) → w.way ≡ None → IsTurned w
+turned_rests = no_way_holds Turned
 
 turned_same : (w v : Live) → v.way ≡ w.way → IsTurned w → IsTurned v
 turned_same w v same holds way opens changes = holds way (sym same ∙ opens) changes
-
-turned_cond : (w : Live) (t : Bool) (way : Way) → w.way ≡ cond t None (Some way) → (changes_primary way ≡ true → way.before.primary ≡ way.back) → IsTurned w
-turned_cond w true way now holds = turned_rests w now
-turned_cond w false way now holds = turned_open w way now holds
-
-way-cond : (t : Bool) (a b : Live) → (cond t a b).way ≡ cond t a.way b.way
-way-cond true a b = refl
-way-cond false a b = refl
-
-abbrev pub more : Way → Way
-more way = record way { done = suc way.done }
-
--- a step closes the way, or one step more stands done
-pub way-stepped : (p : Plain) (w : Live) (way : Way) → (live_stepped p w way).way ≡ cond (eqb (suc (next_step way)) (behind_last way)) None (Some (more way))
-way-stepped p w way = by (eqb (next_step way) create_back) (eqb (next_step way) write_journal)
-  where
-    closes : Bool
-    closes = eqb (suc (next_step way)) (behind_last way)
-
-    now : (way_stepped w way).way ≡ cond closes None (Some (more way))
-    now = way-cond closes (record (with_fresh_stream w way) { switched = way.after; way = None }) (record w { way = Some (more way) })
-
-    by : (t u : Bool) → (cond t (record (way_stepped w way) { fresh_at = log_length p (new_owner w) }) (cond u (record (way_stepped w way) { switched = way.after }) (way_stepped w way))).way ≡ cond closes None (Some (more way))
-    by true u = now
-    by false true = now
-    by false false = now
-
-abbrev pub fewer : Way → Way
-fewer way = record way { done = way.done - 1; undoing = true }
-
--- an undo closes the way, or one step less stands done
-pub way-undone : (w : Live) (way : Way) → (live_undone w way).way ≡ cond (eqb (way.done - 1) 0) None (Some (fewer way))
-way-undone w way = way-cond (eqb (way.done - 1) 0) (record w { way = None }) (record w { way = Some (fewer way) })
 
 -- what a switch of primary changes it from
 switch_from : (before types : Bool) → differ before (before || types) ≡ true → before ≡ false
@@ -81,10 +48,10 @@ reverse_from false types e = absurd (true≢false (sym e))
 pub turned_kept : (p : Plain) (event : Event) (w : Live) → IsTurned w → Keeps IsTurned p event w
 turned_kept p event w holds = record {
   same = holds;
-  switch = λ types none. turned_open (with_way_to false (λ switched. types_and switched types) w) _ refl (λ changes. switch_from w.switched.primary types.primary changes);
-  reverse = λ types none. turned_open (with_way_to true (λ switched. types_without switched types) w) _ refl (λ changes. reverse_from w.switched.primary types.primary changes);
-  steps = λ at way opens none. turned_cond (live_stepped p w way) _ (more way) (way-stepped p w way) (holds way opens);
-  undoes = λ at way undoes opens none. turned_cond (live_undone w way) _ (fewer way) (way-undone w way) (holds way opens);
+  switch = λ types begins none. way_holds Turned (with_way_to false (λ switched. types_and switched types) w) _ refl (λ changes. switch_from w.switched.primary types.primary changes);
+  reverse = λ types begins none. way_holds Turned (with_way_to true (λ switched. types_without switched types) w) _ refl (λ changes. reverse_from w.switched.primary types.primary changes);
+  steps = λ at way steps opens none. way_holds-by Turned (live_stepped p w way) (closes way) (more way) (way-stepped p w way) (λ goes_on. holds way opens);
+  undoes = λ at way undoes opens none. way_holds-by Turned (live_undone w way) (eqb (way.done - 1) 0) (fewer way) (way-undone w way) (λ goes_on. holds way opens);
   advances = λ workflow stream at at_most events rows live none given.
       turned_same w (live_advanced p w stream at at_most events rows) (ap (λ t. t.1) (traffic-advanced p w stream at at_most events rows)) holds;
 }
@@ -94,14 +61,8 @@ reached_turned = reached_have IsTurned (λ p name source target tables. turned_r
 
 -- ---- a stream that runs reads the owner's log
 
-abbrev reads_by : Live → Bool → List ℕ
-reads_by w target_owns = cond target_owns w.target w.source
-
-owner_by_primary : (w : Live) (t : Bool) → w.switched.primary ≡ t → owner w ≡ reads_by w t
-owner_by_primary w t e = ap (λ b. cond b w.target w.source) e
-
 -- at rest
-rest_runs : (w : Live) (t : Bool) (name : StreamName) (at : ℕ) → running_at (slot_at_rest w t name) ≡ Some at → read_side w name ≡ reads_by w t
+rest_runs : (w : Live) (t : Bool) (name : StreamName) (at : ℕ) → running_at (slot_at_rest w t name) ≡ Some at → read_side w name ≡ side_by w t
 rest_runs w true forward at e = absurd cc
 rest_runs w false forward at e = refl
 rest_runs w true back at e = refl
@@ -134,7 +95,7 @@ differ_not false true e = absurd (true≢false e)
 differ_not false false e = refl
 
 -- whether a stream is not the feeding one, by the way's direction
-read_by_other : (w : Live) (way : Way) (name : StreamName) → is_feeding way name ≡ false → read_side w name ≡ reads_by w (not way.back)
+read_by_other : (w : Live) (way : Way) (name : StreamName) → is_feeding way name ≡ false → read_side w name ≡ side_by w (not way.back)
 read_by_other w way forward other = ap (λ b. cond b w.target w.source) (sym other)
 read_by_other w way back other = ap (λ b. cond (not b) w.target w.source) (sym other)
 
@@ -144,11 +105,11 @@ module _ (w : Live) (settled : IsSettled w) (journaled : IsJournaled w) (turned 
     owned = way.before.primary
 
     -- as long as the journal isn't done, the owner is that from before the way
-    before_journal : stands_done way write_journal ≡ false → owner w ≡ reads_by w owned
-    before_journal f = owner_by_primary w owned (ap (λ s. s.primary) (settled way opens f))
+    before_journal : stands_done way write_journal ≡ false → owner w ≡ side_by w owned
+    before_journal f = owner-if w owned (ap (λ s. s.primary) (settled way opens f))
 
-    behind_journal : stands_done way write_journal ≡ true → owner w ≡ reads_by w way.after.primary
-    behind_journal t = owner_by_primary w way.after.primary (ap (λ s. s.primary) (journaled way opens t))
+    behind_journal : stands_done way write_journal ≡ true → owner w ≡ side_by w way.after.primary
+    behind_journal t = owner-if w way.after.primary (ap (λ s. s.primary) (journaled way opens t))
 
     not_yet : (step : ℕ) → (stands_done way write_journal ≡ true → stands_done way step ≡ true) → stands_done way step ≡ false → stands_done way write_journal ≡ false
     not_yet step order f = by (stands_done way write_journal) refl
@@ -157,11 +118,11 @@ module _ (w : Live) (settled : IsSettled w) (journaled : IsJournaled w) (turned 
         by true t = absurd (true≢false (sym (order t) ∙ f))
         by false t = t
 
-    same_owner : differ owned way.after.primary ≡ false → owner w ≡ reads_by w owned
+    same_owner : differ owned way.after.primary ≡ false → owner w ≡ side_by w owned
     same_owner e = by (stands_done way write_journal) refl
       where
-        by : (t : Bool) → stands_done way write_journal ≡ t → owner w ≡ reads_by w owned
-        by true t = behind_journal t ∙ ap (reads_by w) (differ_not owned way.after.primary e)
+        by : (t : Bool) → stands_done way write_journal ≡ t → owner w ≡ side_by w owned
+        by true t = behind_journal t ∙ ap (side_by w) (differ_not owned way.after.primary e)
         by false t = before_journal t
 
     abbrev before_slot : StreamName → Option Slot
@@ -181,14 +142,14 @@ module _ (w : Live) (settled : IsSettled w) (journaled : IsJournaled w) (turned 
 
         by : (t : Bool) → stands_done way create_back ≡ t → read_side w name ≡ owner w
         by true t =
-            read_by_other w way name f ∙ ap (λ b. reads_by w (not b)) (sym (turned way opens c)) ∙ ap (reads_by w) (sym (differ_to owned way.after.primary c))
+            read_by_other w way name f ∙ ap (λ b. side_by w (not b)) (sym (turned way opens c)) ∙ ap (side_by w) (sym (differ_to owned way.after.primary c))
             ∙ sym (behind_journal (done_in_order way 5 start_back (omega arith) (r.0 t)))
         by false t = rest_runs w owned name at (r.1 t) ∙ sym (before_journal (not_yet create_back (done_in_order way 4 write_journal (omega arith)) t))
 
   pub runs_by_owner : (name : StreamName) (at : ℕ) (o : Option Way) → w.way ≡ o → running_at (slot_by_way w o name) ≡ Some at → read_side w name ≡ owner w
   runs_by_owner name at None rests e =
       rest_runs w w.switched.primary name at (sym (ap (λ o. running_at (slot_at_rest w (option_map_or (λ way. way.before) o w.switched).primary name)) rests) ∙ e)
-      ∙ sym (owner_by_primary w w.switched.primary refl)
+      ∙ sym (owner-if w w.switched.primary refl)
   runs_by_owner name at (Some way) opens e =
       runs_on_way way opens name at (changes_primary way) (is_feeding way name) refl refl (sym (ap (λ o. running_at (by_before (option_map_or (λ v. v.before) o w.switched).primary)) opens) ∙ e)
     where
@@ -219,7 +180,7 @@ module _ (p : Plain) (reached : IsReached p) (workflow : List ℕ) (w : Live) (f
   owned_by_source is = by w.switched.primary refl
     where
       by : (t : Bool) → w.switched.primary ≡ t → w.switched.primary ≡ false
-      by true t = absurd (differ_sides (sym is ∙ owner_by_primary w true t))
+      by true t = absurd (differ_sides (sym is ∙ owner-if w true t))
       by false t = t
 
   owned_by_target : owner w ≡ w.target → w.switched.primary ≡ true
@@ -227,7 +188,7 @@ module _ (p : Plain) (reached : IsReached p) (workflow : List ℕ) (w : Live) (f
     where
       by : (t : Bool) → w.switched.primary ≡ t → w.switched.primary ≡ true
       by true t = t
-      by false t = absurd (differ_sides (sym (owner_by_primary w false t) ∙ is))
+      by false t = absurd (differ_sides (sym (owner-if w false t) ∙ is))
 
   pub rest_of_source : w.way ≡ None → owner w ≡ w.source → (slot_of w forward ≡ runs_at w.forward_at) × (slot_of w back ≡ None)
   rest_of_source rests is = let e = owned_by_source is in (rest-slot rests false e forward, rest-slot rests false e back)

@@ -1,28 +1,30 @@
 -- Where no workflow is live: each table has a number of its own, and an answer changes a row by its operation alone.
 use Rattle.std.proofs.Common.{◌≡◌, ◌≢◌, ℕ, suc, ◌<◌, ◌≤◌, ◌⊎◌, Bool, true, false, not, cond, eqb, List, [], ◌∷◌, ◌++◌, Option, None, Some, refl, sym, ap, ◌∙◌, subst, arith, unwrap_or, inl, inr}
-use Rattle.std.proofs.lemmas.Bool.{true≢false, eqb-true, eq-eqb, ne_eqb}
+use Rattle.std.proofs.lemmas.Bool.{true≢false, eqb-true, eq-eqb, ne_eqb, not-false}
 use Rattle.std.proofs.lemmas.List.Sums.{fold-append}
 use Rattle.std.specs.List.{fold}
-use Rattle.std.specs.Map.{lookup, set_value}
-use Rattle.std.specs.Option.{option_map_or}
 use Rattle.std.specs.Prelude.{◌&&◌}
 use Rattle.mt_names.specs.declared.keys.RuleTarget.{RuleTarget}
 use Rattle.mt_names.specs.Names.{same_text}
 use Rattle.mt_names.specs.Same.{same_target}
-use Rattle.mt_names.proofs.EntryLemmas.{lookup-push_elsewhere, lookup-push_stood, lookup-set_value_elsewhere, lookup-set_value_here}
+use Rattle.mt_names.proofs.EntryLemmas.{lookup-push_new, lookup-push_stood, same_or_other}
 use Rattle.mt_names.proofs.SameLemmas.{same_target_decides, same_text_decides}
 use Rattle.mt_model.specs.declared.entries.Scope.{Scope}
 use Rattle.mt_model.specs.declared.rows.Op.{Op}
 use Rattle.mt_model.specs.Rows.{Row, op_key, op_row}
-use Rattle.mt_model.specs.Topology.{KeyspaceState, Marks, TopologyState, is_marked, is_present, keyspace_at, with_keyspace, with_keyspace_state, with_mark_place, with_new_table, with_table}
-use Rattle.mt_plain.specs.Events.{Event, write, read, add_keyspace, add_table, edit_rule, Refusal, no_keyspace, no_table, done}
+use Rattle.mt_model.specs.Topology.{TopologyState, is_present, with_keyspace, with_table}
+use Rattle.mt_model.specs.declared.entries.EntryKey.TheVariants as about
+use Rattle.mt_model.proofs.TopologyLemmas.{value_of-with_keyspace, value_of-with_table_elsewhere}
+use Rattle.mt_plain.specs.Events.{Event, write, read, add_keyspace, add_table, edit_rule, no_keyspace, no_table, done}
 use Rattle.mt_plain.specs.Next.{next, next_taken, row_left}
 use Rattle.mt_plain.specs.Plain.{Plain, Write, has_keyspace, in_keyspace, number_of, opening}
 use Rattle.mt_plain.specs.Refuse.{refusal_of, refuse_if}
 use Rattle.mt_plain.specs.Writes.{row_after_write, row_after_writes, row_of}
 use Rattle.mt_laws.specs.Acknowledged.{row_with_op}
 use Rattle.mt_laws.specs.Numbers.{Below, HasNumbers, IsByHand, Numbers, acknowledged_at, calm, number_at}
-use Rattle.mt_laws.proofs.RunLemmas.{op_left, or_else-none, row_is_left}
+use Rattle.mt_laws.proofs.EntryValueLemmas.{present_from_value}
+use Rattle.mt_laws.proofs.RefusalLemmas.{or_else-none, refuse_if-none}
+use Rattle.mt_laws.proofs.RunLemmas.{op_left, row_is_left}
 
 pub opening_has_numbers : (scopes : List Scope) → HasNumbers (opening scopes)
 opening_has_numbers scopes = record {
@@ -32,91 +34,22 @@ opening_has_numbers scopes = record {
   written = tt;
 }
 
--- ---- look-ups by cases
-
--- whether a key is one or another
-pub same_or_other : (a b : RuleTarget) → (a ≡ b) ⊎ (a ≢ b)
-same_or_other a b = by (same_target a b) refl
-  where
-    by : (t : Bool) → same_target a b ≡ t → (a ≡ b) ⊎ (a ≢ b)
-    by true t = inl ((same_target_decides a b).0 t)
-    by false t = inr (λ e. true≢false (sym ((same_target_decides a b).1 e) ∙ t))
-
-same_or_other_name : (a b : List ℕ) → (a ≡ b) ⊎ (a ≢ b)
-same_or_other_name a b = by (same_text a b) refl
-  where
-    by : (t : Bool) → same_text a b ≡ t → (a ≡ b) ⊎ (a ≢ b)
-    by true t = inl ((same_text_decides a b).0 t)
-    by false t = inr (λ e. true≢false (sym ((same_text_decides a b).1 e) ∙ t))
-
-module _ {K V : Type 0} (same : K → K → Bool) where
-  -- what wasn't there before is the one added, or isn't there
-  pub lookup-push_new : (es : List (K × V)) (e : K × V) (k : K) → lookup (same k) es ≡ None → lookup (same k) (es ++ e ∷ []) ≡ cond (same k e.0) (Some e.1) None
-  lookup-push_new [] e k none = refl
-  lookup-push_new (d ∷ es) e k none = by (lookup-push_new es e k) (same k d.0) refl
-    where
-      by : (lookup (same k) es ≡ None → lookup (same k) (es ++ e ∷ []) ≡ cond (same k e.0) (Some e.1) None) → (t : Bool) → same k d.0 ≡ t → lookup (same k) ((d ∷ es) ++ e ∷ []) ≡ cond (same k e.0) (Some e.1) None
-      by again true t = absurd (let h = rw t at none in cc)
-      by again false t = rw t (again (rw t at none))
-
 -- ---- which tables are there
 
 -- a keyspace that is made has no table
 pub is_present-with_keyspace : (t : TopologyState) (name keyspace table : List ℕ) → is_present (with_keyspace t name).keyspaces keyspace table ≡ true → is_present t.keyspaces keyspace table ≡ true
-is_present-with_keyspace t name keyspace table has = by (keyspace_at t.keyspaces keyspace) refl
-  where
-    made : KeyspaceState
-    made = record { tables = []; denied = [] }
+is_present-with_keyspace t name keyspace table has = sym (present_from_value (with_keyspace t name) t keyspace table (value_of-with_keyspace t name (about.Present keyspace table))) ∙ has
 
-    by : (o : Option KeyspaceState) → keyspace_at t.keyspaces keyspace ≡ o → is_present t.keyspaces keyspace table ≡ true
-    by (Some state) at_it =
-        let is = lookup-push_stood same_text t.keyspaces (name, made) keyspace state at_it in
-        rw at_it (rw is at has)
-    by None at_it =
-        let is = lookup-push_new same_text t.keyspaces (name, made) keyspace at_it in
-        absurd (new (same_text keyspace name) (rw is at has))
-      where
-        new : (b : Bool) → option_map_or (λ state. is_marked state.tables table) (cond b (Some made) None) false ≡ true → ⊥
-        new true h = true≢false (sym h)
-        new false h = true≢false (sym h)
-
--- a table that is made is there, and no other one with it
-is_marked-new : (marks : Marks) (name table : List ℕ) → name ≢ table → is_marked (set_value (same_text name) (with_mark_place marks name) true) table ≡ true → is_marked marks table ≡ true
-is_marked-new marks name table other has = by (lookup (same_text name) marks) refl
+-- a table that is made leaves each other one
+pub present_elsewhere : (t : TopologyState) (k name keyspace table : List ℕ) → in_keyspace k name ≢ in_keyspace keyspace table → is_present (with_table t k name).keyspaces keyspace table ≡ is_present t.keyspaces keyspace table
+present_elsewhere t k name keyspace table other =
+    present_from_value (with_table t k name) t keyspace table (value_of-with_table_elsewhere t k name (about.Present keyspace table) (λ x. other (key_same x)))
   where
-    by : (o : Option Bool) → lookup (same_text name) marks ≡ o → is_marked marks table ≡ true
-    by (Some mark) at_it =
-        let place : with_mark_place marks name ≡ marks = rw at_it refl in
-        let is = lookup-set_value_elsewhere same_text same_text_decides (with_mark_place marks name) name table true other in
-        let h = rw is at has in
-        rw place at h
-    by None at_it =
-        let place : with_mark_place marks name ≡ marks ++ (name, false) ∷ [] = rw at_it refl in
-        let is = lookup-set_value_elsewhere same_text same_text_decides (with_mark_place marks name) name table true other in
-        let was = lookup-push_elsewhere same_text same_text_decides marks name table false other in
-        let h = rw is at has in
-        rw was at (rw place at h)
+    key_same : about.Present k name ≡ about.Present keyspace table → in_keyspace k name ≡ in_keyspace keyspace table
+    key_same x = let a : k ≡ keyspace = cc in let b : name ≡ table = cc in ap (λ z. in_keyspace z name) a ∙ ap (in_keyspace keyspace) b
 
 pub is_present-with_table : (t : TopologyState) (k name keyspace table : List ℕ) → in_keyspace k name ≢ in_keyspace keyspace table → is_present (with_table t k name).keyspaces keyspace table ≡ true → is_present t.keyspaces keyspace table ≡ true
-is_present-with_table t k name keyspace table other has = by (keyspace_at t.keyspaces k) refl
-  where
-    by : (o : Option KeyspaceState) → keyspace_at t.keyspaces k ≡ o → is_present t.keyspaces keyspace table ≡ true
-    by None at_it = let h : is_present t.keyspaces keyspace table ≡ true = rw at_it at has in h
-    by (Some state) at_it = in_one (same_or_other_name k keyspace)
-      where
-        set : with_keyspace_state (with_new_table name) t.keyspaces k ≡ set_value (same_text k) t.keyspaces (with_new_table name state)
-        set = rw at_it refl
-
-        in_one : (k ≡ keyspace) ⊎ (k ≢ keyspace) → is_present t.keyspaces keyspace table ≡ true
-        in_one (inr apart) =
-            let is = lookup-set_value_elsewhere same_text same_text_decides t.keyspaces k keyspace (with_new_table name state) apart in
-            rw is at (rw set at has)
-        in_one (inl same) =
-            let is = lookup-set_value_here same_text same_text_decides t.keyspaces k (with_new_table name state) state at_it in
-            let here : is_present (set_value (same_text k) t.keyspaces (with_new_table name state)) k table ≡ true = subst (λ x. is_present (set_value (same_text k) t.keyspaces (with_new_table name state)) x table ≡ true) (sym same) (rw set at has) in
-            let marked = rw is at here in
-            let was = is_marked-new state.tables name table (λ e. other (ap (λ x. in_keyspace x name) same ∙ ap (in_keyspace keyspace) e)) marked in
-            subst (λ x. is_present t.keyspaces x table ≡ true) same (rw at_it was)
+is_present-with_table t k name keyspace table other has = sym (present_elsewhere t k name keyspace table other) ∙ has
 
 -- ---- the numbers after an event
 
@@ -128,25 +61,34 @@ Below-push : (bound : ℕ) (writes : List Write) (w : Write) → Below bound wri
 Below-push bound [] w all lt = (lt, tt)
 Below-push bound (v ∷ vs) w all lt = (all.0, Below-push bound vs w all.1 lt)
 
--- the numbers with one more, which is the bound
+-- the numbers with one more: a number there stood before, or is the new table's
+module _ (numbers : Numbers) (new : RuleTarget) (bound : ℕ) where
+  pub number-pushed : (a : RuleTarget) (n : ℕ) → number_at (numbers ++ (new, bound) ∷ []) a ≡ Some n → (number_at numbers a ≡ Some n) ⊎ ((a ≡ new) × (n ≡ bound))
+  number-pushed a n at_a = by (number_at numbers a) refl
+    where
+      new_one : (t : Bool) → same_target a new ≡ t → cond t (Some bound) None ≡ Some n → (a ≡ new) × (n ≡ bound)
+      new_one true t e = ((same_target_decides a new).0 t, cc)
+      new_one false t e = absurd cc
+
+      by : (o : Option ℕ) → number_at numbers a ≡ o → (number_at numbers a ≡ Some n) ⊎ ((a ≡ new) × (n ≡ bound))
+      by (Some m) at_it = let is = lookup-push_stood same_target numbers (new, bound) a m at_it in inl (at_it ∙ sym is ∙ at_a)
+      by None at_it = let is = lookup-push_new same_target numbers (new, bound) a at_it in inr (new_one (same_target a new) refl (sym is ∙ at_a))
+
+  -- and the new table has one
+  pub has-pushed : (a : RuleTarget) → a ≡ new → (n : ℕ) × (number_at (numbers ++ (new, bound) ∷ []) a ≡ Some n)
+  has-pushed a same = by (number_at numbers a) refl
+    where
+      by : (o : Option ℕ) → number_at numbers a ≡ o → (n : ℕ) × (number_at (numbers ++ (new, bound) ∷ []) a ≡ Some n)
+      by (Some m) at_it = (m, lookup-push_stood same_target numbers (new, bound) a m at_it)
+      by None at_it = (bound, lookup-push_new same_target numbers (new, bound) a at_it ∙ ap (λ t. cond t (Some bound) None) ((same_target_decides a new).1 same))
+
+-- the new one is the bound
 module _ (p : Plain) (reached : HasNumbers p) (new : RuleTarget) where
   abbrev pushed : Numbers
   pushed = p.numbers ++ (new, p.made) ∷ []
 
-  -- a number there stood before, or is the new table's
-  number-pushed : (a : RuleTarget) (n : ℕ) → number_at pushed a ≡ Some n → (number_at p.numbers a ≡ Some n) ⊎ ((a ≡ new) × (n ≡ p.made))
-  number-pushed a n at_a = by (number_at p.numbers a) refl
-    where
-      new_one : (t : Bool) → same_target a new ≡ t → cond t (Some p.made) None ≡ Some n → (a ≡ new) × (n ≡ p.made)
-      new_one true t e = ((same_target_decides a new).0 t, cc)
-      new_one false t e = absurd cc
-
-      by : (o : Option ℕ) → number_at p.numbers a ≡ o → (number_at p.numbers a ≡ Some n) ⊎ ((a ≡ new) × (n ≡ p.made))
-      by (Some m) at_it = let is = lookup-push_stood same_target p.numbers (new, p.made) a m at_it in inl (at_it ∙ sym is ∙ at_a)
-      by None at_it = let is = lookup-push_new same_target p.numbers (new, p.made) a at_it in inr (new_one (same_target a new) refl (sym is ∙ at_a))
-
   distinct-pushed : (a b : RuleTarget) (n : ℕ) → number_at pushed a ≡ Some n → number_at pushed b ≡ Some n → a ≡ b
-  distinct-pushed a b n at_a at_b = by (number-pushed a n at_a) (number-pushed b n at_b)
+  distinct-pushed a b n at_a at_b = by (number-pushed p.numbers new p.made a n at_a) (number-pushed p.numbers new p.made b n at_b)
     where
       by : (number_at p.numbers a ≡ Some n) ⊎ ((a ≡ new) × (n ≡ p.made)) → (number_at p.numbers b ≡ Some n) ⊎ ((b ≡ new) × (n ≡ p.made)) → a ≡ b
       by (inl x) (inl y) = reached.distinct a b n x y
@@ -155,26 +97,11 @@ module _ (p : Plain) (reached : HasNumbers p) (new : RuleTarget) where
       by (inr x) (inr y) = x.0 ∙ sym y.0
 
   below-pushed : (a : RuleTarget) (n : ℕ) → number_at pushed a ≡ Some n → n < suc p.made
-  below-pushed a n at_a = by (number-pushed a n at_a)
+  below-pushed a n at_a = by (number-pushed p.numbers new p.made a n at_a)
     where
       by : (number_at p.numbers a ≡ Some n) ⊎ ((a ≡ new) × (n ≡ p.made)) → n < suc p.made
       by (inl x) = let lt = reached.below a n x in omega arith
       by (inr x) = let e = x.1 in omega arith
-
-  has-pushed : (a : RuleTarget) → a ≡ new → (n : ℕ) × (number_at pushed a ≡ Some n)
-  has-pushed a same = by (number_at p.numbers a) refl
-    where
-      by : (o : Option ℕ) → number_at p.numbers a ≡ o → (n : ℕ) × (number_at pushed a ≡ Some n)
-      by (Some m) at_it = (m, lookup-push_stood same_target p.numbers (new, p.made) a m at_it)
-      by None at_it = (p.made, lookup-push_new same_target p.numbers (new, p.made) a at_it ∙ ap (λ t. cond t (Some p.made) None) ((same_target_decides a new).1 same))
-
-refuse_if-none : (test : Bool) (refusal : Refusal) → refuse_if test refusal ≡ None → test ≡ false
-refuse_if-none true refusal e = absurd cc
-refuse_if-none false refusal e = refl
-
-not-false : (t : Bool) → not t ≡ false → t ≡ true
-not-false true e = refl
-not-false false e = absurd (true≢false e)
 
 table_is_there : (p : Plain) (keyspace table : List ℕ) (op : Op) → refusal_of (calm p) (write keyspace table op) ≡ None → is_present p.topology.keyspaces keyspace table ≡ true
 table_is_there p keyspace table op none =
@@ -203,14 +130,14 @@ keyspace_has_numbers p name reached = record {
 
 table_has_numbers : (p : Plain) (k name : List ℕ) → HasNumbers p → HasNumbers (next_taken (calm p) (add_table k name))
 table_has_numbers p k name reached = record {
-  numbered = λ keyspace table has. at keyspace table has (same_or_other (in_keyspace k name) (in_keyspace keyspace table));
+  numbered = λ keyspace table has. at keyspace table has (same_or_other same_target same_target_decides (in_keyspace k name) (in_keyspace keyspace table));
   distinct = distinct-pushed p reached (in_keyspace k name);
   below = below-pushed p reached (in_keyspace k name);
   written = Below-more p.made (suc p.made) p.writes (omega arith) reached.written;
 }
   where
     at : (keyspace table : List ℕ) → is_present (with_table p.topology k name).keyspaces keyspace table ≡ true → (in_keyspace k name ≡ in_keyspace keyspace table) ⊎ (in_keyspace k name ≢ in_keyspace keyspace table) → (n : ℕ) × (number_at (p.numbers ++ (in_keyspace k name, p.made) ∷ []) (in_keyspace keyspace table) ≡ Some n)
-    at keyspace table has (inl same) = has-pushed p reached (in_keyspace k name) (in_keyspace keyspace table) (sym same)
+    at keyspace table has (inl same) = has-pushed p.numbers (in_keyspace k name) p.made (in_keyspace keyspace table) (sym same)
     at keyspace table has (inr other) =
         let there = reached.numbered keyspace table (is_present-with_table p.topology k name keyspace table other has) in
         (there.0, lookup-push_stood same_target p.numbers (in_keyspace k name, p.made) (in_keyspace keyspace table) there.0 there.1)

@@ -1,10 +1,9 @@
 -- Texts without a line feed.
 use Rattle.std.proofs.Common.{◌≡◌, ◌≢◌, ℕ, zero, suc, ◌+◌, ◌/◌, ◌%◌, Bool, true, false, not, cond, eqb, ltb, List, [], ◌∷◌, ◌++◌, codes, refl, sym, ap, arith}
-use Rattle.std.proofs.lemmas.Bool.{true≢false, ne_eqb}
+use Rattle.std.proofs.lemmas.Bool.{true≢false, ne_eqb, and_from, and_parts}
 use Rattle.std.proofs.lemmas.List.Sums.{sum_by-append, sum_by-cons, sum_by_push}
 use Rattle.std.specs.Fmt.{digit_glyph, digits_onto}
 use Rattle.std.specs.List.{AllByRecursion, join_with_byte, list_all, onto_first, slice_split}
-use Rattle.std.specs.Prelude.{◌&&◌}
 use Rattle.mt_model.specs.Documents.{array, member, object, quoted}
 use Rattle.mt_plain.specs.Numbers.{number_text}
 use Rattle.mt_plain.specs.Output.{line_feed}
@@ -22,29 +21,17 @@ pub record NoFeed (bytes : List ℕ) : Type 0 where
 
 -- ---- how it is made
 
-and-both : (a b : Bool) → a ≡ true → b ≡ true → (a && b) ≡ true
-and-both true b first second = second
-and-both false b first second = first
-
-and-left : (a b : Bool) → (a && b) ≡ true → a ≡ true
-and-left true b both = refl
-and-left false b both = both
-
-and-right : (a b : Bool) → (a && b) ≡ true → b ≡ true
-and-right true b both = both
-and-right false b both = absurd (true≢false (sym both))
-
 pub no_feed-nil : NoFeed []
 no_feed-nil = record { all = refl }
 
 pub no_feed-cons : (b : ℕ) (bs : List ℕ) → is_other b ≡ true → NoFeed bs → NoFeed (b ∷ bs)
-no_feed-cons b bs first others = record { all = and-both (is_other b) (list_all is_other bs) first others.all }
+no_feed-cons b bs first others = record { all = and_from (is_other b) (list_all is_other bs) first others.all }
 
 pub no_feed-first : (b : ℕ) (bs : List ℕ) → NoFeed (b ∷ bs) → is_other b ≡ true
-no_feed-first b bs none = and-left (is_other b) (list_all is_other bs) none.all
+no_feed-first b bs none = (and_parts (is_other b) (list_all is_other bs) none.all).0
 
 pub no_feed-others : (b : ℕ) (bs : List ℕ) → NoFeed (b ∷ bs) → NoFeed bs
-no_feed-others b bs none = record { all = and-right (is_other b) (list_all is_other bs) none.all }
+no_feed-others b bs none = record { all = (and_parts (is_other b) (list_all is_other bs) none.all).1 }
 
 pub no_feed-append : (xs ys : List ℕ) → NoFeed xs → NoFeed ys → NoFeed (xs ++ ys)
 no_feed-append [] ys first second = second

@@ -1,5 +1,5 @@
 -- A way from its begin to its end: what it leaves of the workflow's part.
-use Rattle.std.proofs.Common.{◌≡◌, ℕ, Bool, true, false, not, leb, List, [], ◌∷◌, find, Option, None, Some, is_some, refl, sym, ap, ◌∙◌, subst}
+use Rattle.std.proofs.Common.{◌≡◌, ℕ, Bool, true, false, not, List, [], ◌∷◌, find, Option, None, Some, is_some, refl, sym, ap, ◌∙◌, subst}
 use Rattle.std.proofs.lemmas.Bool.{true≢false}
 use Rattle.std.specs.Option.{option_map_or}
 use Rattle.std.specs.Prelude.{option_and_then}
@@ -16,10 +16,10 @@ use Rattle.mt_model.specs.declared.entries.EntryKey.TheVariants as about
 use Rattle.mt_model.specs.Topology.{TopologyState, rule_at, value_of}
 use Rattle.mt_plain.specs.Answers.{Run, after}
 use Rattle.mt_plain.specs.Drive.{way_of}
-use Rattle.mt_plain.specs.Events.{Event, begin_switch, begin_reverse, undo, cancel, complete, Answer, done, copying, full, nothing_to_reverse, nothing_to_switch, Way}
+use Rattle.mt_plain.specs.Events.{Event, begin_switch, begin_reverse, undo, cancel, complete, Answer, done, Way}
 use Rattle.mt_plain.specs.Next.{next}
 use Rattle.mt_plain.specs.Plain.{Live, Plain, has_part, live_at}
-use Rattle.mt_plain.specs.Refuse.{begin_reverse_refusal, begin_switch_refusal, has_more, is_still_copying, most_ways, or_else, refusal_of, refuse_if, share_type}
+use Rattle.mt_plain.specs.Refuse.{begin_reverse_refusal, begin_switch_refusal, refusal_of}
 use Rattle.mt_plain.specs.Serve.{serve, serve_plain, serve_rule, served_by, served_entry, step_of_entry}
 use Rattle.mt_laws.specs.Changes.{HasSides}
 use Rattle.mt_laws.specs.WayBack.{IsBegin, IsReached, StaysOpen, WayFrom, ends_workflow, in_part}
@@ -27,11 +27,12 @@ use Rattle.mt_laws.proofs.ChangeLemmas.{lives-completed}
 use Rattle.mt_laws.proofs.EntryValueLemmas.{rule_from_value}
 use Rattle.mt_laws.proofs.LiveLemmas.{find-filter_gone, find_some, sides_joined, sides_same}
 use Rattle.mt_laws.proofs.PartLemmas.{HasParts, IsSettled}
-use Rattle.mt_laws.proofs.ReachLemmas.{next_has_parts, reached_has_parts}
-use Rattle.mt_laws.proofs.RefusalLemmas.{at_rest-none, in_workflow-none}
-use Rattle.mt_laws.proofs.WayBackLemmas.{has_part-same, in_part-of, one_event, owner_of_part, run_keeps_parts}
+use Rattle.mt_laws.proofs.ReachLemmas.{next_has_parts, reached_has_parts, run_has_parts}
+use Rattle.mt_laws.proofs.RefusalLemmas.{in_workflow-none, reverse-none, switch-none}
+use Rattle.mt_laws.proofs.WayBackLemmas.{has_part-same, in_part-of, one_event, owner_of_part}
 use Rattle.mt_laws.proofs.WayLemmas.{WayChange, abandoned, begun, completed, goes_on, kept}
 use Rattle.mt_laws.proofs.PlainWords.{types_by_way}
+use Rattle.mt_laws.proofs.WayStepLemmas.{no_way, one_way}
 
 -- ---- what a part serves depends on its sides, the switched types and the topology at its keys alone
 
@@ -70,8 +71,8 @@ rest-same p q name w v key has_p has_q live_p live_q rest_w rest_v same switched
 pub way_at : (p : Plain) (name : List ℕ) (w : Live) → live_at p name ≡ Some w → way_of p name ≡ w.way
 way_at p name w live = ap (λ o. option_and_then (λ v. v.way) o) live
 
-no_way : (p : Plain) (name : List ℕ) → live_at p name ≡ None → way_of p name ≡ None
-no_way p name none = ap (λ o. option_and_then (λ v. v.way) o) none
+no_way_at : (p : Plain) (name : List ℕ) → live_at p name ≡ None → way_of p name ≡ None
+no_way_at p name none = ap (λ o. option_and_then (λ v. v.way) o) none
 
 ended_gone : (p : Plain) (event : Event) (answer : Answer) (name : List ℕ) → ends_workflow name event answer ≡ true → live_at (next p event answer) name ≡ None
 ended_gone p (cancel gone) done name ends =
@@ -93,7 +94,7 @@ not_ended_open : (p : Plain) (event : Event) (answer : Answer) (name : List ℕ)
 not_ended_open p event answer name opens = by (ends_workflow name event answer) refl
   where
     by : (t : Bool) → ends_workflow name event answer ≡ t → ends_workflow name event answer ≡ false
-    by true t = absurd (true≢false (sym opens ∙ ap is_some (no_way (next p event answer) name (ended_gone p event answer name t))))
+    by true t = absurd (true≢false (sym opens ∙ ap is_some (no_way_at (next p event answer) name (ended_gone p event answer name t))))
     by false t = t
 
 pub record OpenSince (p q : Plain) (name : List ℕ) (w : Live) (way : Way) : Type 0 where
@@ -109,10 +110,9 @@ pub record OpenSince (p q : Plain) (name : List ℕ) (w : Live) (way : Way) : Ty
 -- the way goes on
 still_open : (event : Event) (w v : Live) (way : Way) → WayChange event w v → w.way ≡ Some way → is_some v.way ≡ true → (later : Way) × (v.way ≡ Some later) × (later.before ≡ way.before) × (later.after ≡ way.after)
 still_open event w v way (kept same_way same_switched) was opens = (way, same_way ∙ was, refl, refl)
-still_open event w v way (begun first begins rests now is same) was opens = let h : None ≡ Some way = sym rests ∙ was in absurd cc
+still_open event w v way (begun first begins rests now is same) was opens = no_way w.way way rests was
 still_open event w v way (goes_on first later old now same_before same_after holds) was opens =
-    let e : Some first ≡ Some way = sym old ∙ was in
-    let one : first ≡ way = cc in
+    let one = one_way w.way first way old was in
     (later, now, same_before ∙ ap (λ x. x.before) one, same_after ∙ ap (λ x. x.after) one)
 still_open event w v way (completed first steps old rests is) was opens = absurd (true≢false (sym opens ∙ ap is_some rests))
 still_open event w v way (abandoned first undoes old rests is journal) was opens = absurd (true≢false (sym opens ∙ ap is_some rests))
@@ -146,13 +146,13 @@ begin_rests p name (begin_switch workflow types) is none =
     let r = in_workflow-none (live_at p workflow) (begin_switch_refusal p types) none in (
       r.0,
       ap (live_at p) (sym is) ∙ r.1,
-      (at_rest-none r.0 (or_else (refuse_if (not (has_more types r.0.switched)) nothing_to_switch) (or_else (refuse_if (is_still_copying r.0.copied) copying) (refuse_if (leb most_ways p.ways) full))) r.2).0,
+      (switch-none p types r.0 r.2).0,
     )
 begin_rests p name (begin_reverse workflow types) is none =
     let r = in_workflow-none (live_at p workflow) (begin_reverse_refusal p types) none in (
       r.0,
       ap (live_at p) (sym is) ∙ r.1,
-      (at_rest-none r.0 (or_else (refuse_if (not (share_type types r.0.switched)) nothing_to_reverse) (refuse_if (leb most_ways p.ways) full)) r.2).0,
+      (reverse-none p types r.0 r.2).0,
     )
 begin_rests p name event is none = absurd is
 
@@ -165,9 +165,9 @@ begin_ends_nothing name event is = absurd is
 begins_way : (event : Event) (w v : Live) → WayChange event w v → w.way ≡ None → is_some v.way ≡ true → (way : Way) × (v.way ≡ Some way) × (way.before ≡ w.switched)
 begins_way event w v (kept same_way same_switched) rests opens = absurd (true≢false (sym opens ∙ ap is_some (same_way ∙ rests)))
 begins_way event w v (begun way begins was now is same) rests opens = (way, now, is)
-begins_way event w v (goes_on way later was now same_before same_after holds) rests opens = let h : None ≡ Some way = sym rests ∙ was in absurd cc
-begins_way event w v (completed way steps was now is) rests opens = let h : None ≡ Some way = sym rests ∙ was in absurd cc
-begins_way event w v (abandoned way undoes was now is journal) rests opens = let h : None ≡ Some way = sym rests ∙ was in absurd cc
+begins_way event w v (goes_on way later was now same_before same_after holds) rests opens = no_way w.way way rests was
+begins_way event w v (completed way steps was now is) rests opens = no_way w.way way rests was
+begins_way event w v (abandoned way undoes was now is journal) rests opens = no_way w.way way rests was
 
 pub record Closed (name : List ℕ) (begin last : Event) (p q : Plain) : Type 0 where
   pub first : Live
@@ -206,7 +206,7 @@ module _ (name : List ℕ) (begin last : Event) (p q : Plain) (has : HasParts p)
       let has_begun = next_has_parts p begin done has way_from.begun in
       let opening_way = begins_way begin w one.later one.change start.2 (ap is_some (sym (way_at begun_at name one.later one.live)) ∙ now) in
       let since = open_run way_from.events way_from.answers begun_at name one.later opening_way.0 has_begun one.live opening_way.1 way_from.run way_from.stays_open in
-      let has_last = run_keeps_parts way_from.events way_from.answers begun_at has_begun way_from.run in
+      let has_last = run_has_parts way_from.events way_from.answers begun_at way_from.run has_begun in
       let end = one_event last_at last done name since.later has_last since.live way_from.taken ends_not in
       let sides_open = sides_joined w one.later since.later one.sides since.sides in
       record {
@@ -238,14 +238,12 @@ module _ (name : List ℕ) (begin last : Event) (p q : Plain) (has : HasParts p)
 -- ---- closed by an undo: nothing is switched that wasn't
 
 undone_switched : (name : List ℕ) (at : ℕ) (w v : Live) (way : Way) → WayChange (undo name at) w v → IsSettled w → w.way ≡ Some way → v.way ≡ None → v.switched ≡ way.before
-undone_switched name at w v way (kept same_way same_switched) settled opens rests = let h : None ≡ Some way = sym rests ∙ same_way ∙ opens in absurd cc
+undone_switched name at w v way (kept same_way same_switched) settled opens rests = no_way v.way way rests (same_way ∙ opens)
 undone_switched name at w v way (begun first begins was now is same) settled opens rests = absurd begins
-undone_switched name at w v way (goes_on first later was now same_before same_after holds) settled opens rests = let h : None ≡ Some later = sym rests ∙ now in absurd cc
+undone_switched name at w v way (goes_on first later was now same_before same_after holds) settled opens rests = no_way v.way later rests now
 undone_switched name at w v way (completed first steps was now is) settled opens rests = absurd steps
 undone_switched name at w v way (abandoned first undoes was now is journal) settled opens rests =
-    let e : Some first ≡ Some way = sym was ∙ opens in
-    let one : first ≡ way = cc in
-    is ∙ settled first was journal ∙ ap (λ x. x.before) one
+    is ∙ settled first was journal ∙ ap (λ x. x.before) (one_way w.way first way was opens)
 
 pub abandon_back : (name : List ℕ) (begin : Event) (at : ℕ) (p q : Plain) → IsReached p → IsBegin name begin → WayFrom name begin (undo name at) p q → (key : EntryKey) → in_part p name key ≡ true → served_entry q key ≡ served_entry p key
 abandon_back name begin at p q reached is way_from key part =

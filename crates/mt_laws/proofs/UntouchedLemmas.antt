@@ -6,7 +6,7 @@ use Rattle.mt_names.specs.Names.{same_text}
 use Rattle.mt_names.proofs.SameLemmas.{same_text_decides}
 use Rattle.mt_plain.specs.Events.{Event, write, read, add_keyspace, add_table, edit_rule, advance, begin_switch, begin_reverse, step, undo, cancel, complete, show, StreamName, forward, back, Answer, done, row, advanced, shown, refused, Way}
 use Rattle.mt_plain.specs.Next.{live_stepped, live_undone, next, next_taken, on_way_of, types_and, types_without, way_stepped, with_advance, with_completed, with_fresh_stream, with_way_to}
-use Rattle.mt_plain.specs.Plain.{Copied, Live, Plain, behind_last, changes_primary, create_back, live_at, next_step, write_journal}
+use Rattle.mt_plain.specs.Plain.{Copied, Live, Plain, behind_last, changes_primary, create_back, live_at, next_step, write_journal, LogEntry}
 use Rattle.mt_plain.specs.Slots.{is_fresh, live_advanced, with_position}
 use Rattle.mt_laws.specs.Changes.{BeginsWay, ChangesLives, ChangesLogs, ChangesNumbers, ChangesTopology, ChangesWay, ChangesWrites, HasSides, IsAdvance, IsOf, IsStep, MovesStream, OnlyTells}
 use Rattle.mt_laws.proofs.ChangeLemmas.{LivesAfter, ended, live_after, live_next, live_taken, lives_after, made, mapped, sides-next}
@@ -36,6 +36,12 @@ module _ {A : Type 0} (field : Plain → A) where
   next_leaves p event (shown s) taken advancing = refl
   next_leaves p event (refused refusal) taken advancing = refl
 
+  -- of what an advance does not write
+  leaves : ((p : Plain) (lives : List Live) (log : List LogEntry) → field (record p { lives = lives; log = log }) ≡ field p) → (p : Plain) (event : Event) (answer : Answer) → field (next_taken p event) ≡ field p → field (next p event answer) ≡ field p
+  leaves keeps p event answer taken =
+      next_leaves p event answer taken
+      (λ workflow name at at_most events rows o is. let q = with_advance p name at at_most events rows o in ap field (advance_leaves p name at at_most events rows o) ∙ keeps p q.lives q.log)
+
 taken-topology : (p : Plain) (event : Event) → ¬ (ChangesTopology event) → (next_taken p event).topology ≡ p.topology
 taken-topology p (add_keyspace keyspace) other = absurd (other tt)
 taken-topology p (add_table keyspace table) other = absurd (other tt)
@@ -44,9 +50,7 @@ taken-topology p (complete workflow) other = absurd (other tt)
 taken-topology p event other = refl
 
 pub same_topology : (p : Plain) (event : Event) (answer : Answer) → ¬ (ChangesTopology event) → (next p event answer).topology ≡ p.topology
-same_topology p event answer other =
-    next_leaves (λ q. q.topology) p event answer (taken-topology p event other)
-    (λ workflow name at at_most events rows o is. ap (λ q. q.topology) (advance_leaves p name at at_most events rows o))
+same_topology p event answer other = leaves (λ q. q.topology) (λ r lives log. refl) p event answer (taken-topology p event other)
 
 taken-numbers : (p : Plain) (event : Event) → ¬ (ChangesNumbers event) → (next_taken p event).numbers ≡ p.numbers
 taken-numbers p (add_table keyspace table) other = absurd (other tt)
@@ -54,9 +58,7 @@ taken-numbers p (complete workflow) other = absurd (other tt)
 taken-numbers p event other = refl
 
 pub same_numbers : (p : Plain) (event : Event) (answer : Answer) → ¬ (ChangesNumbers event) → (next p event answer).numbers ≡ p.numbers
-same_numbers p event answer other =
-    next_leaves (λ q. q.numbers) p event answer (taken-numbers p event other)
-    (λ workflow name at at_most events rows o is. ap (λ q. q.numbers) (advance_leaves p name at at_most events rows o))
+same_numbers p event answer other = leaves (λ q. q.numbers) (λ r lives log. refl) p event answer (taken-numbers p event other)
 
 taken-made : (p : Plain) (event : Event) → ¬ (ChangesNumbers event) → (next_taken p event).made ≡ p.made
 taken-made p (add_table keyspace table) other = absurd (other tt)
@@ -64,9 +66,7 @@ taken-made p (complete workflow) other = absurd (other tt)
 taken-made p event other = refl
 
 pub same_made : (p : Plain) (event : Event) (answer : Answer) → ¬ (ChangesNumbers event) → (next p event answer).made ≡ p.made
-same_made p event answer other =
-    next_leaves (λ q. q.made) p event answer (taken-made p event other)
-    (λ workflow name at at_most events rows o is. ap (λ q. q.made) (advance_leaves p name at at_most events rows o))
+same_made p event answer other = leaves (λ q. q.made) (λ r lives log. refl) p event answer (taken-made p event other)
 
 taken-writes : (p : Plain) (event : Event) → ¬ (ChangesWrites event) → (next_taken p event).writes ≡ p.writes
 taken-writes p (write keyspace table op) other = absurd (other tt)
@@ -74,9 +74,7 @@ taken-writes p (complete workflow) other = ap (λ q. q.writes) (complete_leaves 
 taken-writes p event other = refl
 
 pub same_writes : (p : Plain) (event : Event) (answer : Answer) → ¬ (ChangesWrites event) → (next p event answer).writes ≡ p.writes
-same_writes p event answer other =
-    next_leaves (λ q. q.writes) p event answer (taken-writes p event other)
-    (λ workflow name at at_most events rows o is. ap (λ q. q.writes) (advance_leaves p name at at_most events rows o))
+same_writes p event answer other = leaves (λ q. q.writes) (λ r lives log. refl) p event answer (taken-writes p event other)
 
 taken-logs : (p : Plain) (event : Event) → ¬ (ChangesLogs event) → (next_taken p event).log ≡ p.log
 taken-logs p (write keyspace table op) other = absurd (other tt)
@@ -95,9 +93,7 @@ taken-ways p (complete workflow) other = ap (λ q. q.ways) (complete_leaves p (l
 taken-ways p event other = refl
 
 pub same_ways : (p : Plain) (event : Event) (answer : Answer) → ¬ (BeginsWay event) → (next p event answer).ways ≡ p.ways
-same_ways p event answer other =
-    next_leaves (λ q. q.ways) p event answer (taken-ways p event other)
-    (λ workflow name at at_most events rows o is. ap (λ q. q.ways) (advance_leaves p name at at_most events rows o))
+same_ways p event answer other = leaves (λ q. q.ways) (λ r lives log. refl) p event answer (taken-ways p event other)
 
 taken-journal : (p : Plain) (event : Event) → ¬ (IsStep event) → (next_taken p event).journal ≡ p.journal
 taken-journal p (step workflow at) other = absurd (other tt)
@@ -105,18 +101,14 @@ taken-journal p (complete workflow) other = ap (λ q. q.journal) (complete_leave
 taken-journal p event other = refl
 
 pub same_journal : (p : Plain) (event : Event) (answer : Answer) → ¬ (IsStep event) → (next p event answer).journal ≡ p.journal
-same_journal p event answer other =
-    next_leaves (λ q. q.journal) p event answer (taken-journal p event other)
-    (λ workflow name at at_most events rows o is. ap (λ q. q.journal) (advance_leaves p name at at_most events rows o))
+same_journal p event answer other = leaves (λ q. q.journal) (λ r lives log. refl) p event answer (taken-journal p event other)
 
 taken-scopes : (p : Plain) (event : Event) → (next_taken p event).scopes ≡ p.scopes
 taken-scopes p (complete workflow) = ap (λ q. q.scopes) (complete_leaves p (live_at p workflow))
 taken-scopes p event = refl
 
 pub same_scopes : (p : Plain) (event : Event) (answer : Answer) → (next p event answer).scopes ≡ p.scopes
-same_scopes p event answer =
-    next_leaves (λ q. q.scopes) p event answer (taken-scopes p event)
-    (λ workflow name at at_most events rows o is. ap (λ q. q.scopes) (advance_leaves p name at at_most events rows o))
+same_scopes p event answer = leaves (λ q. q.scopes) (λ r lives log. refl) p event answer (taken-scopes p event)
 
 -- Read and Show
 pub told : (p : Plain) (event : Event) (answer : Answer) → OnlyTells event → next p event answer ≡ p
@@ -148,7 +140,7 @@ module _ {A : Type 0} (field : Live → A) where
 abbrev pub traffic : Live → TypeSet × Option Way
 traffic w = (w.switched, w.way)
 
-abbrev copy : Live → ℕ × Copied
+abbrev pub copy : Live → ℕ × Copied
 copy w = (w.fed, w.copied)
 
 abbrev positions : Live → ℕ × ℕ × ℕ
@@ -171,12 +163,12 @@ copy-fresh w way = field-cond copy (not (changes_primary way)) w _ (copy w) refl
 copy-stepped : (w : Live) (way : Way) → copy (way_stepped w way) ≡ copy w
 copy-stepped w way = field-cond copy (eqb (suc (next_step way)) (behind_last way)) _ _ (copy w) (copy-fresh w way) refl
 
-copy-live_stepped : (p : Plain) (w : Live) (way : Way) → copy (live_stepped p w way) ≡ copy w
+pub copy-live_stepped : (p : Plain) (w : Live) (way : Way) → copy (live_stepped p w way) ≡ copy w
 copy-live_stepped p w way =
     field-cond copy (eqb (next_step way) create_back) _ _ (copy w) (copy-stepped w way)
     (field-cond copy (eqb (next_step way) write_journal) _ _ (copy w) (copy-stepped w way) (copy-stepped w way))
 
-copy-undone : (w : Live) (way : Way) → copy (live_undone w way) ≡ copy w
+pub copy-undone : (w : Live) (way : Way) → copy (live_undone w way) ≡ copy w
 copy-undone w way = field-cond copy (eqb (way.done - 1) 0) _ _ (copy w) refl refl
 
 module _ {A : Type 0} (field : Live → A) where

@@ -7,6 +7,7 @@ use Rattle.mt_names.proofs.SameLemmas.{same_text_decides}
 use Rattle.mt_model.specs.declared.entries.EntryKey.{EntryKey}
 use Rattle.mt_model.specs.declared.entries.EntryKey.TheVariants as about
 use Rattle.mt_model.specs.Topology.{value_of}
+use Rattle.mt_model.proofs.PartLemmas.{table_of}
 use Rattle.mt_plain.specs.Answers.{Answers, Run, after}
 use Rattle.mt_plain.specs.Events.{Event, create, cancel, complete, Answer, done, row, advanced, shown, refused}
 use Rattle.mt_plain.specs.Next.{next}
@@ -15,10 +16,9 @@ use Rattle.mt_plain.specs.Serve.{served_by, served_entry}
 use Rattle.mt_laws.specs.Changes.{HasSides}
 use Rattle.mt_laws.specs.WayBack.{IsReached, SinceCreate, StaysLive, ends_workflow, in_part}
 use Rattle.mt_laws.proofs.ChangeLemmas.{LivesAfter, ended, live_after, live_next, lives_after, made, made_live, mapped, sides-next}
-use Rattle.mt_laws.proofs.EntryValueLemmas.{table_of}
 use Rattle.mt_laws.proofs.LiveLemmas.{IsIn, find-filter_gone, find-filter_kept, find-map, find-push_none, find-push_some, find_nowhere, find_some, find_none, find_the_one, sides_joined, sides_same, unique}
 use Rattle.mt_laws.proofs.PartLemmas.{HasParts, kept_from_part, moved_from_part, value-kept}
-use Rattle.mt_laws.proofs.ReachLemmas.{IsNew, create-none, live_by_name, moved_new, next_has_parts, reached_has_parts}
+use Rattle.mt_laws.proofs.ReachLemmas.{IsNew, create-none, live_by_name, moved_new, next_has_parts, reached_has_parts, run_has_parts}
 use Rattle.mt_laws.proofs.WayLemmas.{WayChange, way_change}
 
 -- ---- a part, by sides and tables
@@ -126,11 +126,6 @@ lasts_run (event ∷ events) (answer ∷ answers) p name w has live run stays =
     lasts_on p (next p event answer) (after (next p event answer) events answers) name w event one
     (lasts_run events answers (next p event answer) name one.later (next_has_parts p event answer has run.0) one.live run.1 stays.1)
 
-pub run_keeps_parts : (events : List Event) (answers : List Answer) (p : Plain) → HasParts p → Run p events answers → HasParts (after p events answers)
-run_keeps_parts [] answers p has run = has
-run_keeps_parts (event ∷ events) [] p has run = has
-run_keeps_parts (event ∷ events) (answer ∷ answers) p has run = run_keeps_parts events answers (next p event answer) (next_has_parts p event answer has run.0) run.1
-
 -- ---- the owner of an entry
 
 pub in_part-of : (p : Plain) (name : List ℕ) (w : Live) (key : EntryKey) → live_at p name ≡ Some w → in_part p name key ≡ has_part w key
@@ -214,7 +209,7 @@ module _ (p : Plain) (reached : IsReached p) (name source target : List ℕ) (ta
   lasts = lasts_run events answers begins name w begins_has live run stays
 
   before_has : HasParts (after begins events answers)
-  before_has = run_keeps_parts events answers begins begins_has run
+  before_has = run_has_parts events answers begins run begins_has
 
   pub cancel_gives_back : (key : EntryKey) → in_part (after begins events answers) name key ≡ true → served_entry (next (after begins events answers) (cancel name) done) key ≡ served_entry p key
   cancel_gives_back key part =

@@ -1,6 +1,6 @@
 -- Parts apart, and where a moved table is writable.
-use Rattle.std.proofs.Common.{◌≡◌, ◌≢◌, ◌⊎◌, ◌↔◌, inl, inr, ℕ, ◌+◌, Bool, true, false, not, cond, ltb, leb, List, [], ◌∷◌, Option, None, Some, refl, sym, ap, ◌∙◌, subst, arith, ltb-true, lt-ltb}
-use Rattle.std.proofs.lemmas.Bool.{true≢false}
+use Rattle.std.proofs.Common.{◌≡◌, ◌≢◌, ◌⊎◌, ◌↔◌, inl, inr, ℕ, Bool, true, false, not, cond, List, [], ◌∷◌, Option, None, Some, refl, sym, ap, ◌∙◌, subst, arith}
+use Rattle.std.proofs.lemmas.Bool.{true≢false, not-false, or_cases, or_left, or_right}
 use Rattle.std.proofs.lemmas.List.Elements.{All-from_recursion}
 use Rattle.std.proofs.lemmas.List.Kept.{AllPairs-cons}
 use Rattle.std.specs.Option.{option_map_or}
@@ -12,16 +12,17 @@ use Rattle.mt_model.specs.declared.entries.Entry.TheVariants as entry
 use Rattle.mt_model.specs.declared.entries.EntryKey.{EntryKey}
 use Rattle.mt_model.specs.declared.entries.EntryKey.TheVariants as about
 use Rattle.mt_model.specs.Topology.{value_of}
+use Rattle.mt_model.proofs.PartLemmas.{table_of}
 use Rattle.mt_plain.specs.Events.{Way}
-use Rattle.mt_plain.specs.Plain.{Live, Plain, before_way, first_step, has_part, is_side, mover, moves, owner, part_owner, refresh_source, refresh_target, stands_done}
+use Rattle.mt_plain.specs.Plain.{Live, Plain, before_way, has_part, is_side, mover, moves, owner, part_owner, refresh_source, refresh_target, stands_done}
 use Rattle.mt_plain.specs.Serve.{IsWritable, is_denied_at, owned_before, refuses, served_by, served_entry, types_by}
 use Rattle.mt_laws.specs.WayBack.{IsReached}
-use Rattle.mt_laws.proofs.EntryValueLemmas.{table_of}
 use Rattle.mt_laws.proofs.LiveLemmas.{Apart, IsApart, IsIn, all_from_in, find_none, find_some, in_all, text_differs}
 use Rattle.mt_laws.proofs.PartLemmas.{HasParts, moved_from_part, there_at_source, there_at_target}
 use Rattle.mt_laws.proofs.ReachLemmas.{reached_has_parts}
-use Rattle.mt_laws.proofs.RefusalLemmas.{and-both, and-true, not-false, or-cases}
-use Rattle.mt_laws.proofs.PlainWords.{changes_reads, refuses_moved, types_by_way}
+use Rattle.mt_laws.proofs.PlainWords.{refuses_moved, types_by_way, side_by}
+use Rattle.mt_laws.proofs.ListLemmas.{cond-ap}
+use Rattle.mt_laws.proofs.WayStepLemmas.{done_in_order}
 
 -- ---- parts
 
@@ -59,18 +60,6 @@ no_refusal_elsewhere p keyspace table none = refuses_elsewhere p keyspace table 
 
 -- ---- which side refuses
 
-refresh_order : (way : Way) → stands_done way refresh_target ≡ true → stands_done way refresh_source ≡ true
-refresh_order way e =
-    let r = and-true (leb (first_step way) 8) (ltb 8 (first_step way + way.done)) e in
-    and-both (leb (first_step way) 2) (ltb 2 (first_step way + way.done)) (early (changes_reads way)) (further (first_step way + way.done) r.1)
-  where
-    early : (t : Bool) → leb (cond t 0 1) 2 ≡ true
-    early true = refl
-    early false = refl
-
-    further : (n : ℕ) → ltb 8 n ≡ true → ltb 2 n ≡ true
-    further n lt = let h = ltb-true 8 n lt in lt-ltb 2 n (omega arith)
-
 -- by whether primary was switched before the way and is after it, and whether the two refreshes stand done
 not_both : (before source_done target_done after : Bool) → (target_done ≡ true → source_done ≡ true)
     → cond (cond (not before) source_done target_done) after before ≡ false → not (cond (cond before source_done target_done) after before) ≡ false → ⊥
@@ -83,25 +72,29 @@ not_both false s true false order e f = true≢false f
 not_both false true true true order e f = true≢false e
 not_both false false true true order e f = true≢false (sym (order refl))
 
-primary-cond : (t : Bool) (a b : TypeSet) → (cond t a b).primary ≡ cond t a.primary b.primary
-primary-cond true a b = refl
-primary-cond false a b = refl
-
-abbrev step_by : Bool → ℕ
+-- the step at which a side's primary takes its denials over, by whether it was the owner
+abbrev pub step_by : Bool → ℕ
 step_by owned = cond owned refresh_source refresh_target
 
-primary-step : (way : Way) (owned : Bool) → (cond (stands_done way (step_by owned)) way.after way.before).primary ≡ cond (cond owned (stands_done way refresh_source) (stands_done way refresh_target)) way.after.primary way.before.primary
-primary-step way true = primary-cond (stands_done way refresh_source) way.after way.before
-primary-step way false = primary-cond (stands_done way refresh_target) way.after way.before
+pub primary-step : (way : Way) (owned : Bool) → (cond (stands_done way (step_by owned)) way.after way.before).primary ≡ cond (cond owned (stands_done way refresh_source) (stands_done way refresh_target)) way.after.primary way.before.primary
+primary-step way true = cond-ap (λ s. s.primary) (stands_done way refresh_source) way.after way.before
+primary-step way false = cond-ap (λ s. s.primary) (stands_done way refresh_target) way.after way.before
 
-abbrev before_by : TypeSet → Option Way → TypeSet
+abbrev pub before_by : TypeSet → Option Way → TypeSet
 before_by switched o = option_map_or (λ way. way.before) o switched
+
+pub owner-if : (w : Live) (t : Bool) → w.switched.primary ≡ t → owner w ≡ side_by w t
+owner-if w t e = ap (side_by w) e
+
+pub side_by-is_side : (w : Live) (t : Bool) → is_side w (side_by w t) ≡ true
+side_by-is_side w true = or_right (same_text w.source w.target) (same_text w.target w.target) ((same_text_decides w.target w.target).1 refl)
+side_by-is_side w false = or_left (same_text w.source w.source) (same_text w.target w.source) ((same_text_decides w.source w.source).1 refl)
 
 not_both_sides : (switched : TypeSet) (o : Option Way) → (types_by_way switched o (step_by (not (before_by switched o).primary))).primary ≡ false
     → not (types_by_way switched o (step_by (before_by switched o).primary)).primary ≡ false → ⊥
 not_both_sides switched None e f = true≢false (sym (not-false switched.primary f) ∙ e)
 not_both_sides switched (Some way) e f =
-    not_both way.before.primary (stands_done way refresh_source) (stands_done way refresh_target) way.after.primary (refresh_order way)
+    not_both way.before.primary (stands_done way refresh_source) (stands_done way refresh_target) way.after.primary (done_in_order way 1 refresh_target (omega arith))
     (sym (primary-step way (not way.before.primary)) ∙ e) (ap not (sym (primary-step way way.before.primary)) ∙ f)
 
 module _ (p : Plain) (w : Live) (table : List ℕ) (has : HasParts p) (found : mover p table ≡ Some w) where
@@ -165,9 +158,6 @@ module _ (p : Plain) (w : Live) (table : List ℕ) (has : HasParts p) (found : m
     rest-target : refuses p w.target table ≡ not w.switched.primary
     rest-target = refused-target ∙ ap (λ o. not (types_by_way w.switched o (step_by (before_by w.switched o).primary)).primary) rests
 
-    owner-if : (t : Bool) → w.switched.primary ≡ t → owner w ≡ cond t w.target w.source
-    owner-if t e = ap (λ b. cond b w.target w.source) e
-
     writable-owner : (t : Bool) → w.switched.primary ≡ t → IsWritable p (cond t w.target w.source) table
     writable-owner true e = (there_at_target p w table is_live moved, rest-target ∙ ap not e)
     writable-owner false e = (there_at_source p w table has is_live moved, rest-source ∙ e)
@@ -175,15 +165,15 @@ module _ (p : Plain) (w : Live) (table : List ℕ) (has : HasParts p) (found : m
     owner-writable : (keyspace : List ℕ) → (same_text w.source keyspace ≡ true) ⊎ (same_text w.target keyspace ≡ true) → IsWritable p keyspace table → keyspace ≡ owner w
     owner-writable keyspace (inl e) writable =
         let is = (same_text_decides w.source keyspace).0 e in
-        sym is ∙ sym (owner-if false (sym rest-source ∙ ap (λ k. refuses p k table) is ∙ writable.1))
+        sym is ∙ sym (owner-if w false (sym rest-source ∙ ap (λ k. refuses p k table) is ∙ writable.1))
     owner-writable keyspace (inr e) writable =
         let is = (same_text_decides w.target keyspace).0 e in
-        sym is ∙ sym (owner-if true (not-false w.switched.primary (sym rest-target ∙ ap (λ k. refuses p k table) is ∙ writable.1)))
+        sym is ∙ sym (owner-if w true (not-false w.switched.primary (sym rest-target ∙ ap (λ k. refuses p k table) is ∙ writable.1)))
 
     pub writable_at_rest : (keyspace : List ℕ) → is_side w keyspace ≡ true → IsWritable p keyspace table ↔ (keyspace ≡ owner w)
     writable_at_rest keyspace side = (
-      owner-writable keyspace (or-cases (same_text w.source keyspace) (same_text w.target keyspace) side),
-      λ e. subst (λ k. IsWritable p k table) (sym (owner-if w.switched.primary refl) ∙ sym e) (writable-owner w.switched.primary refl),
+      owner-writable keyspace (or_cases (same_text w.source keyspace) (same_text w.target keyspace) side),
+      λ e. subst (λ k. IsWritable p k table) (sym (owner-if w w.switched.primary refl) ∙ sym e) (writable-owner w.switched.primary refl),
     )
 
 pub never_writable_in_two : (p : Plain) → IsReached p → (table : List ℕ) (w : Live) → mover p table ≡ Some w → IsWritable p w.source table → IsWritable p w.target table → ⊥

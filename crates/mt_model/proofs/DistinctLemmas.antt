@@ -44,7 +44,7 @@ distinct-with_rule rules key (Some target) distinct = IsDistinct-set_value same_
 distinct-with_mark : (marks : Marks) (name : List ℕ) (mark : Bool) → IsDistinct same_text (keys_of marks) → IsDistinct same_text (keys_of (set_value (same_text name) marks mark))
 distinct-with_mark marks name mark = IsDistinct-set_value same_text same_text_decides marks name mark
 
-distinct-with_mark_place : (marks : Marks) (name : List ℕ) → IsDistinct same_text (keys_of marks) → IsDistinct same_text (keys_of (with_mark_place marks name))
+pub distinct-with_mark_place : (marks : Marks) (name : List ℕ) → IsDistinct same_text (keys_of marks) → IsDistinct same_text (keys_of (with_mark_place marks name))
 distinct-with_mark_place marks name = distinct-place same_text same_text_decides marks name false
 
 distinct-without_mark_place : (marks : Marks) (name : List ℕ) → IsDistinct same_text (keys_of marks) → IsDistinct same_text (keys_of (without_mark_place marks name))

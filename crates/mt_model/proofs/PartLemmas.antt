@@ -1,11 +1,12 @@
 -- The keys of a part: none stands twice, and each has a keyspace where both sides are there.
-use Rattle.std.proofs.Common.{◌≡◌, ◌≢◌, ℕ, ◌<◌, ◌+◌, Bool, true, false, cond, List, [], ◌∷◌, ◌++◌, map, Option, None, Some, is_some, All, AllPairs, slice_index_or, refl, sym, ap, ◌∙◌, zero, suc, arith}
+use Rattle.std.proofs.Common.{◌≡◌, ◌≢◌, ℕ, ◌<◌, ◌+◌, true, false, cond, List, [], ◌∷◌, ◌++◌, map, Option, None, Some, is_some, All, AllPairs, slice_index_or, refl, sym, ap, ◌∙◌, zero, suc, arith}
 use Rattle.std.proofs.lemmas.List.{get_or-map}
 use Rattle.std.proofs.lemmas.List.Elements.{All-append, All-from_recursion, All-head, All-nil, All-tail}
 use Rattle.std.proofs.lemmas.List.Kept.{AllPairs-cons}
 use Rattle.mt_names.specs.declared.types.TabletType.{TabletType}
 use Rattle.mt_names.specs.declared.types.TabletType.TheVariants.{Primary, Replica, Rdonly}
 use Rattle.mt_names.specs.Names.{same_text}
+use Rattle.mt_names.proofs.EntryLemmas.{apart as differs}
 use Rattle.mt_names.proofs.SameLemmas.{same_text_decides}
 use Rattle.mt_model.specs.declared.entries.EntryKey.{EntryKey}
 use Rattle.mt_model.specs.declared.entries.EntryKey.TheVariants as about
@@ -29,7 +30,7 @@ part_places t source target tables at_source at_target = places_made t (part_key
 -- ---- none stands twice
 
 -- the table that a key is about
-abbrev table_of : EntryKey → List ℕ
+abbrev pub table_of : EntryKey → List ℕ
 table_of (about.Rule key) = key.table
 table_of (about.Denied keyspace table) = table
 table_of (about.Present keyspace table) = table
@@ -66,11 +67,7 @@ numbers source target table apart = rw (here, there) refl
     here = (same_text_decides source source).1 refl
 
     there : same_text source target ≡ false
-    there = by (same_text source target) refl
-      where
-        by : (b : Bool) → same_text source target ≡ b → b ≡ false
-        by true b = absurd (apart ((same_text_decides source target).0 b))
-        by false b = refl
+    there = differs same_text same_text_decides source target apart
 
 number_at : (source target table : List ℕ) → source ≢ target → (i : ℕ) (d : EntryKey) → i < 15 → number source (slice_index_or (table_part_keys source target table) i d) ≡ i
 number_at source target table apart i d inside =

@@ -7,11 +7,10 @@ use Rattle.std.proofs.lemmas.List.Sums.{fold_push}
 use Rattle.std.specs.Map.{lookup, remove_entry, set_value}
 use Rattle.std.specs.Option.{option_map_or, option_or}
 use Rattle.mt_names.specs.declared.keys.RuleKey.{RuleKey}
-use Rattle.mt_names.specs.declared.keys.RuleTarget.{RuleTarget}
 use Rattle.mt_names.specs.declared.types.TabletType.{TabletType}
 use Rattle.mt_names.specs.Names.{same_text}
 use Rattle.mt_names.specs.Same.{same_key}
-use Rattle.mt_names.proofs.EntryLemmas.{remove_entry-push}
+use Rattle.mt_names.proofs.EntryLemmas.{is_some-set_value, none_from, other_from, remove_entry-push, some_from}
 use Rattle.mt_names.proofs.SameLemmas.{same_key_decides, same_text_decides}
 use Rattle.mt_model.specs.declared.entries.Entry.{Entry}
 use Rattle.mt_model.specs.declared.entries.Entry.TheVariants as entry
@@ -20,7 +19,7 @@ use Rattle.mt_model.specs.declared.entries.EntryKey.TheVariants as about
 use Rattle.mt_model.specs.Part.{IsSameTopology, befores, with_entries, with_place, with_places, without_place, without_places}
 use Rattle.mt_model.specs.Topology.{TopologyState, HasDistinctPlaces, Keyspaces, KeyspaceState, Marks, Rules, key_of, value_of, has_place, holders, is_marked, rule_at, rule_for, resolution, unruled, sole_holder, for_type, for_all_types, keyspace_at, with_entry, with_keyspace_state, with_table_mark, with_denied_mark, with_mark_place, without_mark_place, with_rule_place, without_rule_place, with_table_place, without_table_place, with_denied_place, without_denied_place}
 use Rattle.mt_model.proofs.DistinctLemmas.{distinct-rules, distinct-with_rule_place, distinct-without_rule_place, distinct-table_made, distinct-table_dropped, distinct-denial_made, distinct-denial_dropped}
-use Rattle.mt_model.proofs.TopologyLemmas.{keyspace_at-changed_here, keyspace_at-changed_elsewhere, found_at, is_marked-with_mark_place, is_marked-without_mark_place, read_at-unchanged, rule_at-with_rule_place, rule_at-without_rule_place, tables_distinct, denied_distinct, value_of-keyspace_changed, value_of-rules_changed, with_entry-back, with_keyspace_state-back, with_mark_place-there, with_rule_place-there, the_one}
+use Rattle.mt_model.proofs.TopologyLemmas.{keyspace_at-changed_here, keyspace_at-changed_elsewhere, found_at, is_marked-with_mark_place, is_marked-without_mark_place, read_at-unchanged, rule_at-with_rule_place, rule_at-without_rule_place, tables_distinct, denied_distinct, value_of-keyspace_changed, value_of-rules_changed, with_entry-back, with_keyspace_state-back, with_mark_place-there, with_rule_place-there}
 
 -- ---- a view that no step changes
 
@@ -40,30 +39,20 @@ module _ {A B : Type 0} (f : B → A → B) (P : B → Type 0) where
 
 -- ---- places after a write
 
-place-set_value : {K V : Type 0} (p q : K → Bool) (es : List (K × V)) (v : V) → is_some (lookup p (set_value q es v)) ≡ is_some (lookup p es)
-place-set_value p q [] v = refl
-place-set_value {K} {V} p q (e ∷ es) v = by (place-set_value p q es v) (q e.0) refl (p e.0) refl
-  where
-    by : is_some (lookup p (set_value q es v)) ≡ is_some (lookup p es) → (b : Bool) → q e.0 ≡ b → (c : Bool) → p e.0 ≡ c → is_some (lookup p (set_value q (e ∷ es) v)) ≡ is_some (lookup p (e ∷ es))
-    by again true b true c = rw (b, c) refl
-    by again true b false c = rw (b, c) refl
-    by again false b true c = rw (b, c) refl
-    by again false b false c = rw (b, c) again
-
 pub has_place-written : (t : TopologyState) (e : Entry) (k : EntryKey) → has_place (with_entry t e) k ≡ has_place t k
-has_place-written t (entry.Rule key target) (about.Rule other) = place-set_value (same_key other) (same_key key) t.rules target
+has_place-written t (entry.Rule key target) (about.Rule other) = is_some-set_value same_key t.rules key other target
 has_place-written t (entry.Rule key target) (about.Denied keyspace table) = refl
 has_place-written t (entry.Rule key target) (about.Present keyspace table) = refl
 has_place-written t (entry.Denied keyspace table mark) (about.Rule other) = refl
 has_place-written t (entry.Denied keyspace table mark) (about.Denied here other) =
-    read_at-unchanged (λ state. is_some (lookup (same_text other) state.denied)) false (with_denied_mark table mark) t.keyspaces keyspace here (λ state found is. place-set_value (same_text other) (same_text table) state.denied mark)
+    read_at-unchanged (λ state. is_some (lookup (same_text other) state.denied)) false (with_denied_mark table mark) t.keyspaces keyspace here (λ state found is. is_some-set_value same_text state.denied table other mark)
 has_place-written t (entry.Denied keyspace table mark) (about.Present here other) =
     read_at-unchanged (λ state. is_some (lookup (same_text other) state.tables)) false (with_denied_mark table mark) t.keyspaces keyspace here (λ state found is. refl)
 has_place-written t (entry.Present keyspace table mark) (about.Rule other) = refl
 has_place-written t (entry.Present keyspace table mark) (about.Denied here other) =
     read_at-unchanged (λ state. is_some (lookup (same_text other) state.denied)) false (with_table_mark table mark) t.keyspaces keyspace here (λ state found is. refl)
 has_place-written t (entry.Present keyspace table mark) (about.Present here other) =
-    read_at-unchanged (λ state. is_some (lookup (same_text other) state.tables)) false (with_table_mark table mark) t.keyspaces keyspace here (λ state found is. place-set_value (same_text other) (same_text table) state.tables mark)
+    read_at-unchanged (λ state. is_some (lookup (same_text other) state.tables)) false (with_table_mark table mark) t.keyspaces keyspace here (λ state found is. is_some-set_value same_text state.tables table other mark)
 
 -- ---- writes taken back
 
@@ -80,7 +69,7 @@ with_entries-back t (e ∷ es) places =
 
 -- ---- places after a place more
 
-place-push : {K V : Type 0} (p : K → Bool) (es : List (K × V)) (e : K × V) → is_some (lookup p es) ≡ true → is_some (lookup p (es ++ e ∷ [])) ≡ true
+pub place-push : {K V : Type 0} (p : K → Bool) (es : List (K × V)) (e : K × V) → is_some (lookup p es) ≡ true → is_some (lookup p (es ++ e ∷ [])) ≡ true
 place-push p [] e there = absurd (true≢false (sym there))
 place-push {K} {V} p (x ∷ es) e there = by (place-push p es e) (p x.0) refl
   where
@@ -88,19 +77,13 @@ place-push {K} {V} p (x ∷ es) e there = by (place-push p es e) (p x.0) refl
     by again true b = rw b refl
     by again false b = rw b (again (rw b at there))
 
-place-with_mark_place : (marks : Marks) (name other : List ℕ) → is_some (lookup (same_text other) marks) ≡ true → is_some (lookup (same_text other) (with_mark_place marks name)) ≡ true
-place-with_mark_place marks name other there = by (lookup (same_text name) marks)
+place-placed : {K V : Type 0} (same : K → K → Bool) (blank : V) (es : List (K × V)) (k other : K) → is_some (lookup (same other) es) ≡ true
+    → is_some (lookup (same other) (option_map_or (λ old. es) (lookup (same k) es) (es ++ (k, blank) ∷ []))) ≡ true
+place-placed {K} {V} same blank es k other there = by (lookup (same k) es)
   where
-    by : (r : Option Bool) → is_some (lookup (same_text other) (option_map_or (λ mark. marks) r (marks ++ (name, false) ∷ []))) ≡ true
-    by None = place-push (same_text other) marks (name, false) there
-    by (Some mark) = there
-
-place-with_rule_place : (rules : Rules) (key other : RuleKey) → is_some (lookup (same_key other) rules) ≡ true → is_some (lookup (same_key other) (with_rule_place rules key)) ≡ true
-place-with_rule_place rules key other there = by (lookup (same_key key) rules)
-  where
-    by : (r : Option (Option RuleTarget)) → is_some (lookup (same_key other) (option_map_or (λ rule. rules) r (rules ++ (key, None) ∷ []))) ≡ true
-    by None = place-push (same_key other) rules (key, None) there
-    by (Some rule) = there
+    by : (r : Option V) → is_some (lookup (same other) (option_map_or (λ old. es) r (es ++ (k, blank) ∷ []))) ≡ true
+    by None = place-push (same other) es (k, blank) there
+    by (Some old) = there
 
 -- what a change of a keyspace leaves true of it stays true of each
 read_at-kept : (read : KeyspaceState → Bool) (change : KeyspaceState → KeyspaceState) (keyspaces : Keyspaces) (name other : List ℕ) → ((state : KeyspaceState) → read state ≡ true → read (change state) ≡ true)
@@ -111,26 +94,26 @@ read_at-kept read change keyspaces name other keeps there = by (same_text name o
     found = found_at read keyspaces other there
 
     by : (t : Bool) → same_text name other ≡ t → option_map_or read (keyspace_at (with_keyspace_state change keyspaces name) other) false ≡ true
-    by false f = ap (λ s. option_map_or read s false) (keyspace_at-changed_elsewhere change keyspaces name other (λ e. true≢false (sym ((same_text_decides name other).1 e) ∙ f))) ∙ there
+    by false f = ap (λ s. option_map_or read s false) (keyspace_at-changed_elsewhere change keyspaces name other (other_from same_text same_text_decides name other f)) ∙ there
     by true t =
         let e : name ≡ other = (same_text_decides name other).0 t in
         subst (λ o. option_map_or read (keyspace_at (with_keyspace_state change keyspaces name) o) false ≡ true) e
         (ap (λ s. option_map_or read s false) (keyspace_at-changed_here change keyspaces name found.0 (ap (keyspace_at keyspaces) e ∙ found.1)) ∙ keeps found.0 found.2)
 
 pub has_place-kept : (t : TopologyState) (key k : EntryKey) → has_place t k ≡ true → has_place (with_place t key) k ≡ true
-has_place-kept t (about.Rule key) (about.Rule other) there = place-with_rule_place t.rules key other there
+has_place-kept t (about.Rule key) (about.Rule other) there = place-placed same_key None t.rules key other there
 has_place-kept t (about.Rule key) (about.Denied keyspace table) there = there
 has_place-kept t (about.Rule key) (about.Present keyspace table) there = there
 has_place-kept t (about.Denied keyspace table) (about.Rule other) there = there
 has_place-kept t (about.Denied keyspace table) (about.Denied here other) there =
-    read_at-kept (λ state. is_some (lookup (same_text other) state.denied)) (with_denied_place table) t.keyspaces keyspace here (λ state. place-with_mark_place state.denied table other) there
+    read_at-kept (λ state. is_some (lookup (same_text other) state.denied)) (with_denied_place table) t.keyspaces keyspace here (λ state. place-placed same_text false state.denied table other) there
 has_place-kept t (about.Denied keyspace table) (about.Present here other) there =
     read_at-kept (λ state. is_some (lookup (same_text other) state.tables)) (with_denied_place table) t.keyspaces keyspace here (λ state s. s) there
 has_place-kept t (about.Present keyspace table) (about.Rule other) there = there
 has_place-kept t (about.Present keyspace table) (about.Denied here other) there =
     read_at-kept (λ state. is_some (lookup (same_text other) state.denied)) (with_table_place table) t.keyspaces keyspace here (λ state s. s) there
 has_place-kept t (about.Present keyspace table) (about.Present here other) there =
-    read_at-kept (λ state. is_some (lookup (same_text other) state.tables)) (with_table_place table) t.keyspaces keyspace here (λ state. place-with_mark_place state.tables table other) there
+    read_at-kept (λ state. is_some (lookup (same_text other) state.tables)) (with_table_place table) t.keyspaces keyspace here (λ state. place-placed same_text false state.tables table other) there
 
 -- ---- the place that is made
 
@@ -167,10 +150,10 @@ has_keyspace-kept t key (about.Present keyspace table) there = keyspace-with_pla
 pub has_place-made : (t : TopologyState) (key : EntryKey) → has_keyspace t key ≡ true → has_place (with_place t key) key ≡ true
 has_place-made t (about.Rule key) there = with_rule_place-there t.rules key
 has_place-made t (about.Denied keyspace table) there =
-    let found = the_one (keyspace_at t.keyspaces keyspace) there in
+    let found = some_from (keyspace_at t.keyspaces keyspace) there in
     ap (λ r. option_map_or (λ state. is_some (lookup (same_text table) state.denied)) r false) (keyspace_at-changed_here (with_denied_place table) t.keyspaces keyspace found.0 found.1) ∙ with_mark_place-there found.0.denied table
 has_place-made t (about.Present keyspace table) there =
-    let found = the_one (keyspace_at t.keyspaces keyspace) there in
+    let found = some_from (keyspace_at t.keyspaces keyspace) there in
     ap (λ r. option_map_or (λ state. is_some (lookup (same_text table) state.tables)) r false) (keyspace_at-changed_here (with_table_place table) t.keyspaces keyspace found.0 found.1) ∙ with_mark_place-there found.0.tables table
 
 pub places_made : (t : TopologyState) (keys : List EntryKey) → All (λ k. has_keyspace t k ≡ true) keys → All (λ k. has_place (with_places t keys) k ≡ true) keys
@@ -280,13 +263,9 @@ resolution-denied t keyspace table mark name type = resolution-keyspaces t (with
 
 -- ---- a place that is made and dropped
 
-no_place : {A : Type 0} (r : Option A) → is_some r ≡ false → r ≡ None
-no_place None e = refl
-no_place (Some x) e = absurd (true≢false e)
-
 marks_back : (marks : Marks) (name : List ℕ) → is_some (lookup (same_text name) marks) ≡ false → without_mark_place (with_mark_place marks name) name ≡ marks
 marks_back marks name lacks =
-    let none = no_place (lookup (same_text name) marks) lacks in
+    let none = none_from (lookup (same_text name) marks) lacks in
     let unmarked : is_marked (with_mark_place marks name) name ≡ false = is_marked-with_mark_place marks name name ∙ ap (λ r. unwrap_or r false) none in
     ap (λ b. cond b (with_mark_place marks name) (remove_entry (same_text name) (with_mark_place marks name))) unmarked
     ∙ ap (λ r. remove_entry (same_text name) (option_map_or (λ mark. marks) r (marks ++ (name, false) ∷ []))) none
@@ -294,7 +273,7 @@ marks_back marks name lacks =
 
 rules_back : (rules : Rules) (key : RuleKey) → is_some (lookup (same_key key) rules) ≡ false → without_rule_place (with_rule_place rules key) key ≡ rules
 rules_back rules key lacks =
-    let none = no_place (lookup (same_key key) rules) lacks in
+    let none = none_from (lookup (same_key key) rules) lacks in
     let unruled_here : rule_at (with_rule_place rules key) key ≡ None = rule_at-with_rule_place rules key key ∙ ap (λ r. unwrap_or r None) none in
     ap (λ r. option_map_or (λ target. with_rule_place rules key) r (remove_entry (same_key key) (with_rule_place rules key))) unruled_here
     ∙ ap (λ r. remove_entry (same_key key) (option_map_or (λ rule. rules) r (rules ++ (key, None) ∷ []))) none

@@ -11,17 +11,12 @@ use Rattle.mt_names.specs.Same.{same_key}
 use Rattle.mt_names.specs.declared.keys.RuleKey.{RuleKey}
 use Rattle.mt_names.specs.declared.keys.RuleTarget.{RuleTarget}
 use Rattle.mt_names.proofs.SameLemmas.{same_key_decides, same_text_decides}
-use Rattle.mt_names.proofs.EntryLemmas.{lookup-set_value_here, lookup-set_value_elsewhere, set_value-back, lookup-push_here, lookup-remove_entry_here, lookup-remove_entry_elsewhere}
+use Rattle.mt_names.proofs.EntryLemmas.{other_from, some_from, lookup-set_value_here, lookup-set_value_elsewhere, set_value-back, lookup-push_here, lookup-remove_entry_here, lookup-remove_entry_elsewhere}
 use Rattle.mt_model.specs.declared.entries.Entry.{Entry}
 use Rattle.mt_model.specs.declared.entries.Entry.TheVariants as entry
 use Rattle.mt_model.specs.declared.entries.EntryKey.{EntryKey}
 use Rattle.mt_model.specs.declared.entries.EntryKey.TheVariants as about
 use Rattle.mt_model.specs.Topology.{TopologyState, HasDistinctPlaces, Keyspaces, KeyspaceState, Marks, Rules, key_of, value_of, has_place, is_marked, rule_at, keyspace_at, with_entry, with_keyspace_state, with_table_mark, with_denied_mark, with_mark_place, without_mark_place, with_rule_place, without_rule_place, with_keyspace, with_new_table, with_table, with_rule}
-
--- what there is, is something
-pub the_one : {A : Type 0} (r : Option A) → is_some r ≡ true → (x : A) × (r ≡ Some x)
-the_one None e = absurd (true≢false (sym e))
-the_one (Some x) e = (x, refl)
 
 -- ---- places of names or keys, each with a value; one without a place has the blank
 
@@ -29,15 +24,9 @@ module _ {K V : Type 0} (same : K → K → Bool) (decides : (a b : K) → Decid
   abbrev at : List (K × V) → K → V
   at es k = unwrap_or (lookup (same k) es) blank
 
-  is_key : (k j : K) → same k j ≡ true → k ≡ j
-  is_key k j t = (decides k j).0 t
-
-  is_other : (k j : K) → same k j ≡ false → k ≢ j
-  is_other k j f e = true≢false (sym ((decides k j).1 e) ∙ f)
-
   at-set_here : (es : List (K × V)) (k : K) (v : V) → is_some (lookup (same k) es) ≡ true → at (set_value (same k) es v) k ≡ v
   at-set_here es k v there =
-      let old = the_one (lookup (same k) es) there in
+      let old = some_from (lookup (same k) es) there in
       ap (λ r. unwrap_or r blank) (lookup-set_value_here same decides es k v old.0 old.1)
 
   at-set_elsewhere : (es : List (K × V)) (k j : K) (v : V) → k ≢ j → at (set_value (same k) es v) j ≡ at es j
@@ -45,7 +34,7 @@ module _ {K V : Type 0} (same : K → K → Bool) (decides : (a b : K) → Decid
 
   at-set_back : (es : List (K × V)) (k : K) (v : V) → is_some (lookup (same k) es) ≡ true → set_value (same k) (set_value (same k) es v) (at es k) ≡ es
   at-set_back es k v there =
-      let old = the_one (lookup (same k) es) there in
+      let old = some_from (lookup (same k) es) there in
       ap (λ r. set_value (same k) (set_value (same k) es v) (unwrap_or r blank)) old.1 ∙ set_value-back same decides es k v old.0 old.1
 
   -- a blank at the end
@@ -61,13 +50,31 @@ module _ {K V : Type 0} (same : K → K → Bool) (decides : (a b : K) → Decid
       by again true = refl
       by again false = again
 
+  -- a place made, unless there is one: it is there, and says nothing
+  abbrev placed : List (K × V) → K → List (K × V)
+  placed es k = option_map_or (λ old. es) (lookup (same k) es) (es ++ (k, blank) ∷ [])
+
+  at-placed : (es : List (K × V)) (k j : K) → at (placed es k) j ≡ at es j
+  at-placed es k j = by (lookup (same k) es)
+    where
+      by : (r : Option V) → at (option_map_or (λ old. es) r (es ++ (k, blank) ∷ [])) j ≡ at es j
+      by None = at-push es k j
+      by (Some old) = refl
+
+  placed-there : (es : List (K × V)) (k : K) → is_some (lookup (same k) (placed es k)) ≡ true
+  placed-there es k = by (lookup (same k) es) refl
+    where
+      by : (r : Option V) → lookup (same k) es ≡ r → is_some (lookup (same k) (option_map_or (λ old. es) r (es ++ (k, blank) ∷ []))) ≡ true
+      by None none = ap is_some (lookup-push_here same decides es k blank none)
+      by (Some old) some = ap is_some some
+
   -- a blank taken out
   at-remove_blank : (es : List (K × V)) (k j : K) → IsDistinct same (keys_of es) → at es k ≡ blank → at (remove_entry (same k) es) j ≡ at es j
   at-remove_blank es k j distinct is = by (same k j) refl
     where
       by : (t : Bool) → same k j ≡ t → at (remove_entry (same k) es) j ≡ at es j
-      by true t = subst (λ i. at (remove_entry (same k) es) i ≡ at es i) (is_key k j t) (ap (λ r. unwrap_or r blank) (lookup-remove_entry_here same decides es k distinct) ∙ sym is)
-      by false t = ap (λ r. unwrap_or r blank) (lookup-remove_entry_elsewhere same decides es k j (is_other k j t))
+      by true t = subst (λ i. at (remove_entry (same k) es) i ≡ at es i) ((decides k j).0 t) (ap (λ r. unwrap_or r blank) (lookup-remove_entry_here same decides es k distinct) ∙ sym is)
+      by false t = ap (λ r. unwrap_or r blank) (lookup-remove_entry_elsewhere same decides es k j (other_from same decides k j t))
 
 -- ---- rules
 
@@ -81,19 +88,11 @@ pub rule_at-set_back : (rules : Rules) (key : RuleKey) (target : Option RuleTarg
 rule_at-set_back = at-set_back same_key same_key_decides None
 
 pub rule_at-with_rule_place : (rules : Rules) (key other : RuleKey) → rule_at (with_rule_place rules key) other ≡ rule_at rules other
-rule_at-with_rule_place rules key other = by (lookup (same_key key) rules)
-  where
-    by : (r : Option (Option RuleTarget)) → rule_at (option_map_or (λ rule. rules) r (rules ++ (key, None) ∷ [])) other ≡ rule_at rules other
-    by None = at-push same_key same_key_decides None rules key other
-    by (Some rule) = refl
+rule_at-with_rule_place = at-placed same_key same_key_decides None
 
 -- the place that is made is there
 pub with_rule_place-there : (rules : Rules) (key : RuleKey) → is_some (lookup (same_key key) (with_rule_place rules key)) ≡ true
-with_rule_place-there rules key = by (lookup (same_key key) rules) refl
-  where
-    by : (r : Option (Option RuleTarget)) → lookup (same_key key) rules ≡ r → is_some (lookup (same_key key) (option_map_or (λ rule. rules) r (rules ++ (key, None) ∷ []))) ≡ true
-    by None none = ap is_some (lookup-push_here same_key same_key_decides rules key None none)
-    by (Some rule) some = ap is_some some
+with_rule_place-there = placed-there same_key same_key_decides None
 
 pub rule_at-without_rule_place : (rules : Rules) (key other : RuleKey) → IsDistinct same_key (keys_of rules) → rule_at (without_rule_place rules key) other ≡ rule_at rules other
 rule_at-without_rule_place rules key other distinct = by (rule_at rules key) refl
@@ -122,19 +121,11 @@ pub is_marked-set_back : (marks : Marks) (name : List ℕ) (mark : Bool) → is_
 is_marked-set_back = at-set_back same_text same_text_decides false
 
 pub is_marked-with_mark_place : (marks : Marks) (name other : List ℕ) → is_marked (with_mark_place marks name) other ≡ is_marked marks other
-is_marked-with_mark_place marks name other = by (lookup (same_text name) marks)
-  where
-    by : (r : Option Bool) → is_marked (option_map_or (λ mark. marks) r (marks ++ (name, false) ∷ [])) other ≡ is_marked marks other
-    by None = at-push same_text same_text_decides false marks name other
-    by (Some mark) = refl
+is_marked-with_mark_place = at-placed same_text same_text_decides false
 
 -- the place that is made is there
 pub with_mark_place-there : (marks : Marks) (name : List ℕ) → is_some (lookup (same_text name) (with_mark_place marks name)) ≡ true
-with_mark_place-there marks name = by (lookup (same_text name) marks) refl
-  where
-    by : (r : Option Bool) → lookup (same_text name) marks ≡ r → is_some (lookup (same_text name) (option_map_or (λ mark. marks) r (marks ++ (name, false) ∷ []))) ≡ true
-    by None none = ap is_some (lookup-push_here same_text same_text_decides marks name false none)
-    by (Some mark) some = ap is_some some
+with_mark_place-there = placed-there same_text same_text_decides false
 
 pub is_marked-without_mark_place : (marks : Marks) (name other : List ℕ) → IsDistinct same_text (keys_of marks) → is_marked (without_mark_place marks name) other ≡ is_marked marks other
 is_marked-without_mark_place marks name other distinct = by (is_marked marks name) refl
@@ -176,7 +167,7 @@ pub read_at-unchanged : {A : Type 0} (read : KeyspaceState → A) (none : A) (ch
 read_at-unchanged {A} read none change keyspaces name other same = by (same_text name other) refl (keyspace_at keyspaces name) refl
   where
     by : (t : Bool) → same_text name other ≡ t → (r : Option KeyspaceState) → keyspace_at keyspaces name ≡ r → read_at read none (with_keyspace_state change keyspaces name) other ≡ read_at read none keyspaces other
-    by false f r is = ap (λ s. option_map_or read s none) (keyspace_at-changed_elsewhere change keyspaces name other (λ e. true≢false (sym ((same_text_decides name other).1 e) ∙ f)))
+    by false f r is = ap (λ s. option_map_or read s none) (keyspace_at-changed_elsewhere change keyspaces name other (other_from same_text same_text_decides name other f))
     by true t None is = rw is refl
     by true t (Some state) is =
         let e : name ≡ other = (same_text_decides name other).0 t in
@@ -286,7 +277,7 @@ value_of-with_keyspace t name (about.Denied keyspace table) = ap (entry.Denied k
 
 pub value_of-with_table_here : (t : TopologyState) (keyspace table : List ℕ) → is_some (keyspace_at t.keyspaces keyspace) ≡ true → value_of (with_table t keyspace table) (about.Present keyspace table) ≡ entry.Present keyspace table true
 value_of-with_table_here t keyspace table there =
-    let found = the_one (keyspace_at t.keyspaces keyspace) there in
+    let found = some_from (keyspace_at t.keyspaces keyspace) there in
     ap (λ r. entry.Present keyspace table (option_map_or (λ state. is_marked state.tables table) r false)) (keyspace_at-changed_here (with_new_table table) t.keyspaces keyspace found.0 found.1)
     ∙ ap (entry.Present keyspace table) (is_marked-set_here (with_mark_place found.0.tables table) table true (with_mark_place-there found.0.tables table))
 

@@ -1,9 +1,10 @@
 -- A map as the list of its entries, under a test of keys that decides their equality: what is found here, elsewhere,
 -- and after what a write answered is written back, and that the keys stay distinct.
-use Rattle.std.proofs.Common.{◌≡◌, ◌≢◌, Bool, true, false, cond, List, [], ◌∷◌, ◌++◌, Option, None, Some, is_some, refl, sym, ap, subst, ◌∙◌}
+use Rattle.std.proofs.Common.{◌≡◌, ◌≢◌, ◌⊎◌, inl, inr, Bool, true, false, cond, List, [], ◌∷◌, ◌++◌, Option, None, Some, is_some, refl, sym, ap, subst, ◌∙◌}
 use Rattle.std.proofs.lemmas.Bool.{true≢false, false_from_ne_true}
 use Rattle.std.proofs.lemmas.Map.{keys-set_value}
 use Rattle.std.specs.Bool.{Decides}
+use Rattle.std.specs.Cmp.{both_ways}
 use Rattle.std.specs.List.{AllByRecursion, IsDistinct}
 use Rattle.std.specs.Map.{keys_of, lookup, remove_entry, set_value}
 use Rattle.std.specs.Prelude.{⊤}
@@ -13,6 +14,11 @@ pub none_from : {A : Type 0} (o : Option A) → is_some o ≡ false → o ≡ No
 none_from None lacks = refl
 none_from (Some x) lacks = absurd (true≢false lacks)
 
+-- what is some, is something
+pub some_from : {A : Type 0} (o : Option A) → is_some o ≡ true → (x : A) × (o ≡ Some x)
+some_from None has = absurd (true≢false (sym has))
+some_from (Some x) has = (x, refl)
+
 module _ {K : Type 0} (same : K → K → Bool) (decides : (a b : K) → Decides (same a b) (a ≡ b)) where
   -- a key is the same as itself, and as no other
   pub same_itself : (k : K) → same k k ≡ true
@@ -20,6 +26,20 @@ module _ {K : Type 0} (same : K → K → Bool) (decides : (a b : K) → Decides
 
   pub apart : (k j : K) → k ≢ j → same k j ≡ false
   apart k j other = false_from_ne_true (same k j) (λ t. other ((decides k j).0 t))
+
+  pub other_from : (k j : K) → same k j ≡ false → k ≢ j
+  other_from k j f e = true≢false (sym ((decides k j).1 e) ∙ f)
+
+  pub same_or_other : (k j : K) → (k ≡ j) ⊎ (k ≢ j)
+  same_or_other k j = by (same k j) refl
+    where
+      by : (t : Bool) → same k j ≡ t → (k ≡ j) ⊎ (k ≢ j)
+      by true t = inl ((decides k j).0 t)
+      by false t = inr (other_from k j t)
+
+  -- the other way round it is the same test
+  pub same_turned : (k j : K) → same k j ≡ same j k
+  same_turned k j = both_ways (same k j) (same j k) (λ t. (decides j k).1 (sym ((decides k j).0 t))) (λ t. (decides k j).1 (sym ((decides j k).0 t)))
 
 -- ---- a value that is set
 
@@ -94,17 +114,21 @@ module _ {K V : Type 0} (same : K → K → Bool) where
       by again true t = rw t (rw t at stood)
       by again false t = rw t (again (rw t at stood))
 
+  -- what wasn't there is the one added, or isn't there
+  pub lookup-push_new : (es : List (K × V)) (e : K × V) (k : K) → lookup (same k) es ≡ None → lookup (same k) (es ++ e ∷ []) ≡ cond (same k e.0) (Some e.1) None
+  lookup-push_new [] e k none = refl
+  lookup-push_new (d ∷ es) e k none = by (lookup-push_new es e k) (same k d.0) refl
+    where
+      by : (lookup (same k) es ≡ None → lookup (same k) (es ++ e ∷ []) ≡ cond (same k e.0) (Some e.1) None) → (t : Bool) → same k d.0 ≡ t → lookup (same k) ((d ∷ es) ++ e ∷ []) ≡ cond (same k e.0) (Some e.1) None
+      by again true t = absurd (let h = rw t at none in cc)
+      by again false t = rw t (again (rw t at none))
+
 -- of a key that wasn't there
 
 module _ {K V : Type 0} (same : K → K → Bool) (decides : (a b : K) → Decides (same a b) (a ≡ b)) where
   -- at its key
   pub lookup-push_here : (es : List (K × V)) (k : K) (v : V) → lookup (same k) es ≡ None → lookup (same k) (es ++ (k, v) ∷ []) ≡ Some v
-  lookup-push_here [] k v none = rw (same_itself same decides k) refl
-  lookup-push_here (e ∷ es) k v none = by (lookup-push_here es k v) (same k e.0) refl
-    where
-      by : (lookup (same k) es ≡ None → lookup (same k) (es ++ (k, v) ∷ []) ≡ Some v) → (t : Bool) → same k e.0 ≡ t → lookup (same k) ((e ∷ es) ++ (k, v) ∷ []) ≡ Some v
-      by again true t = absurd (let h = rw t at none in cc)
-      by again false t = rw t (again (rw t at none))
+  lookup-push_here es k v none = lookup-push_new same es (k, v) k none ∙ ap (λ t. cond t (Some v) None) (same_itself same decides k)
 
   -- at another key
   pub lookup-push_elsewhere : (es : List (K × V)) (k j : K) (v : V) → k ≢ j → lookup (same j) (es ++ (k, v) ∷ []) ≡ lookup (same j) es

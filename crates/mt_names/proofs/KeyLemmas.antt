@@ -1,5 +1,5 @@
 -- Keys and targets are read back from their texts, and each has one.
-use Rattle.std.proofs.Common.{◌≡◌, ◌≢◌, ℕ, ◌+◌, ◌<◌, Bool, true, false, cond, eqb, List, [], ◌∷◌, ◌++◌, length, get_or, Option, None, Some, Result, Ok, Err, IsOk, IfSome, ◌↔◌, option_map, refl, sym, ap, subst, ◌∙◌, append_assoc, append-nil, is_ok, ◌-◌, zero, suc, ⊎_elim, length-append, arith}
+use Rattle.std.proofs.Common.{◌≡◌, ◌≢◌, ℕ, ◌+◌, ◌<◌, Bool, true, false, cond, eqb, List, [], ◌∷◌, ◌++◌, length, get_or, Option, None, Some, Result, Ok, IsOk, IfSome, ◌↔◌, option_map, refl, sym, ap, subst, ◌∙◌, append_assoc, append-nil, is_ok, ◌-◌, zero, suc, ⊎_elim, length-append, arith}
 use Rattle.std.proofs.lemmas.Bool.{true≢false, cases_lt, ne_eqb}
 use Rattle.std.proofs.lemmas.List.{get_or_append_left, get_or-append_right}
 use Rattle.std.specs.Cmp.Lexicographic.{pointwise, same_text}
@@ -17,7 +17,7 @@ use Rattle.mt_names.specs.Types.{type_text, read_type}
 use Rattle.mt_names.proofs.CutLemmas.{Lacks, before-lacks, after-lacks, before-append, after-append, joined, joined-before}
 use Rattle.mt_names.proofs.NameLemmas.{read_name-name, name_from_read}
 use Rattle.mt_names.proofs.TypeLemmas.{read_type-type_text, text_from_read_type}
-use Rattle.mt_names.proofs.ResultLemmas.{after_step, Ok-fault_behind}
+use Rattle.mt_names.proofs.ResultLemmas.{accepts, after_step, Ok-fault_behind}
 
 -- ---- what a name lacks
 
@@ -185,15 +185,9 @@ target_from_read text target e = by (eqb (length text) 0) refl (after dot text) 
 -- ---- a text is read exactly where it is one
 
 pub key_accepts : (text : List ℕ) (r : Result RuleKey NameFault) → r ≡ read_key text → IsOk r ↔ IsKeyText text
-key_accepts text r e = (by r e, λ is. ap is_ok (e ∙ ap read_key (sym is.2) ∙ read_key-key_text is.0 is.1))
-  where
-    by : (r : Result RuleKey NameFault) → r ≡ read_key text → IsOk r → IsKeyText text
-    by (Ok key) e ok = let both = key_from_read text key (sym e) in (key, both.0, both.1)
-    by (Err fault) e ok = absurd (true≢false (sym ok))
+key_accepts text r e =
+    accepts (IsKeyText text) (read_key text) r e (λ key is. let both = key_from_read text key is in (key, both.0, both.1)) (λ is. ap is_ok (ap read_key (sym is.2) ∙ read_key-key_text is.0 is.1))
 
 pub target_accepts : (text : List ℕ) (r : Result RuleTarget NameFault) → r ≡ read_target text → IsOk r ↔ IsTargetText text
-target_accepts text r e = (by r e, λ is. ap is_ok (e ∙ ap read_target (sym is.2) ∙ read_target-target_text is.0 is.1))
-  where
-    by : (r : Result RuleTarget NameFault) → r ≡ read_target text → IsOk r → IsTargetText text
-    by (Ok target) e ok = let both = target_from_read text target (sym e) in (target, both.0, both.1)
-    by (Err fault) e ok = absurd (true≢false (sym ok))
+target_accepts text r e =
+    accepts (IsTargetText text) (read_target text) r e (λ target is. let both = target_from_read text target is in (target, both.0, both.1)) (λ is. ap is_ok (ap read_target (sym is.2) ∙ read_target-target_text is.0 is.1))

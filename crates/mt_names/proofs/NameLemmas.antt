@@ -7,6 +7,7 @@ use Rattle.std.specs.List.{AllPass, starts_with, position_or_len}
 use Rattle.mt_names.specs.declared.fault.NameFault.{NameFault}
 use Rattle.mt_names.specs.declared.text.Alphabet.{Alphabet}
 use Rattle.mt_names.specs.Names.{IsName, allows, bad_place, dash, longest_name, read_name, unless_bad}
+use Rattle.mt_names.proofs.ResultLemmas.{accepts}
 
 -- where every element passes, none is refused
 position-none : (p : ℕ → Bool) (xs : List ℕ) → AllPass p xs → position (λ x. not (p x)) xs ≡ None
@@ -76,11 +77,8 @@ module _ (alphabet : Alphabet) where
 
 -- a text is read exactly where it is a name
 pub read_accepts : (alphabet : Alphabet) (bytes : List ℕ) (r : Result (List ℕ) NameFault) → r ≡ read_name alphabet bytes → IsOk r ↔ IsName alphabet bytes
-read_accepts alphabet bytes r e = (by r e, λ name. ap is_ok (e ∙ read_name-name alphabet bytes name))
-  where
-    by : (r : Result (List ℕ) NameFault) → r ≡ read_name alphabet bytes → IsOk r → IsName alphabet bytes
-    by (Ok read) e ok = (name_from_read alphabet bytes read (sym e)).0
-    by (Err fault) e ok = absurd (true≢false (sym ok))
+read_accepts alphabet bytes r e =
+    accepts (IsName alphabet bytes) (read_name alphabet bytes) r e (λ read is. (name_from_read alphabet bytes read is).0) (λ name. ap is_ok (read_name-name alphabet bytes name))
 
 -- and what is read is a name
 pub read_is_name : (alphabet : Alphabet) (bytes : List ℕ) (r : Result (List ℕ) NameFault) → r ≡ read_name alphabet bytes → IfOk r (IsName alphabet)

@@ -16,6 +16,7 @@ use Rattle.mt_names.specs.declared.types.TabletType.TheVariants.{Primary, Replic
 use Rattle.mt_names.specs.declared.types.TypeSet.{TypeSet}
 use Rattle.mt_names.specs.Names.{same_text}
 use Rattle.mt_names.specs.Types.{comma, type_text, read_type, has, no_types, with_type, set_of, list_text, IsTypeSetText, all, none, listed, with_word, read_words, read_type_set}
+use Rattle.mt_names.proofs.ResultLemmas.{accepts}
 
 -- two sets with the same members are equal
 pub same_members : (S R : TypeSet) → ((t : TabletType) → has S t ≡ has R t) → S ≡ R
@@ -214,7 +215,7 @@ only_listed (u ∷ us) set e t =
 
 -- a text is read exactly where it follows the grammar
 pub read_accepts : (bytes : List ℕ) (r : Result TypeSet NameFault) → r ≡ read_type_set bytes → IsOk r ↔ IsTypeSetText bytes
-read_accepts bytes r e = (from_ok r e, λ text. ap is_ok e ∙ is_read bytes text)
+read_accepts bytes r e = accepts (IsTypeSetText bytes) (read_type_set bytes) r e (λ R is. from_ok R (sym is)) (is_read bytes)
   where
     is_read : (bytes : List ℕ) → IsTypeSetText bytes → IsOk (read_type_set bytes)
     is_read bytes (all is) = ap (λ b. is_ok (read_type_set b)) is
@@ -226,9 +227,8 @@ read_accepts bytes r e = (from_ok r e, λ text. ap is_ok e ∙ is_read bytes tex
         let some : 0 < length read.types = omega (arith, length-slice_split (λ b. eqb b comma) bytes, ap length read.texts, length-map read.types type_text) in
         listed read.types some read.distinct (sym (join_with_byte-slice_split comma bytes) ∙ ap (join_with_byte comma) read.texts)
 
-    from_ok : (r : Result TypeSet NameFault) → r ≡ read_type_set bytes → IsOk r → IsTypeSetText bytes
-    from_ok (Err fault) e ok = absurd (true≢false (sym ok))
-    from_ok (Ok R) e ok = by (same_text bytes []) refl (same_text bytes (codes "all")) refl (same_text bytes (codes "-")) refl
+    from_ok : (R : TypeSet) → Ok R ≡ read_type_set bytes → IsTypeSetText bytes
+    from_ok R e = by (same_text bytes []) refl (same_text bytes (codes "all")) refl (same_text bytes (codes "-")) refl
       where
         by : (p : Bool) → same_text bytes [] ≡ p → (q : Bool) → same_text bytes (codes "all") ≡ q → (s : Bool) → same_text bytes (codes "-") ≡ s → IsTypeSetText bytes
         by true p q is_all s is_none = absurd (let h = rw p at e in cc)

@@ -1,18 +1,18 @@
 -- The plain state: the topology as if no workflow were live, the client tables as one list of acknowledged writes, the live
 -- workflows, and what the logs list (this profile's own; topology, workflows and streams are Vitess's).
-use Rattle.std.specs.Prelude.{ℕ, ◌+◌, Bool, true, not, ◌&&◌, ◌||◌, nat_le, nat_lt, if◌then◌else◌, List, [], ◌∷◌, ◌++◌, find, flat_map, map, Option, None, Some, unwrap_or, is_some}
+use Rattle.std.specs.Prelude.{ℕ, ◌+◌, Bool, true, not, ◌&&◌, ◌||◌, nat_le, nat_lt, if◌then◌else◌, List, [], find, flat_map, Option, unwrap_or, is_some}
 use Rattle.std.specs.List.{list_any}
 use Rattle.std.specs.Map.{lookup}
 use Rattle.std.specs.Option.{option_map_or}
 use Rattle.mt_names.specs.declared.keys.RuleKey.{RuleKey}
 use Rattle.mt_names.specs.declared.keys.RuleTarget.{RuleTarget}
-use Rattle.mt_names.specs.declared.types.TabletType.TheVariants.{Primary, Replica, Rdonly}
 use Rattle.mt_names.specs.declared.types.TypeSet.{TypeSet}
 use Rattle.mt_names.specs.Names.{same_text}
 use Rattle.mt_names.specs.Same.{same_target}
 use Rattle.mt_model.specs.declared.entries.EntryKey.{EntryKey}
 use Rattle.mt_model.specs.declared.entries.EntryKey.TheVariants as about
 use Rattle.mt_model.specs.declared.entries.Scope.{Scope}
+use Rattle.mt_model.specs.Part.{table_rule_keys}
 use Rattle.mt_model.specs.Rows.{Row}
 use Rattle.mt_model.specs.Topology.{TopologyState, empty_topology, keyspace_at}
 use Rattle.mt_plain.specs.Events.{Way}
@@ -113,13 +113,10 @@ before_way w = option_map_or (λ way. way.before) w.way w.switched
 
 -- ---- the part of a workflow
 
--- the four keys of a name: for all types, and for each (Routing Rules: the from-table, plain or with a tablet type)
-abbrev pub keys_of_name : Option (List ℕ) → (table : List ℕ) → List RuleKey
-keys_of_name keyspace table = map (λ type. record { keyspace = keyspace; table = table; tablet_type = type }) (None ∷ Some Primary ∷ Some Replica ∷ Some Rdonly ∷ [])
-
--- the twelve rule keys of a table that moves: its name alone, at the source, at the target (MoveTables: the routing rules)
+-- the twelve rule keys of a table that moves: its name alone, at the source, at the target, each for all types and for each
+-- (MoveTables: the routing rules)
 abbrev pub twelve_keys : (source target table : List ℕ) → List RuleKey
-twelve_keys source target table = keys_of_name None table ++ keys_of_name (Some source) table ++ keys_of_name (Some target) table
+twelve_keys = table_rule_keys
 
 -- the rule keys of a workflow's part (MoveTables: the routing rules of its tables)
 abbrev pub rule_keys : Live → List RuleKey

@@ -155,9 +155,13 @@ with_value make op words = option_and_then (λ w. change_of make w.0 (op_of op (
 abbrev pub without_value : (List ℕ → Op → Command) → List (List ℕ) → Option Command
 without_value make words = option_and_then (λ w. change_of make w.0 (option_map Delete (read_number w.1))) (two_words words)
 
+-- a name and a number
+abbrev pub with_number : (List ℕ → ℕ → Command) → List (List ℕ) → Option Command
+with_number make words = option_and_then (λ w. option_map (make w.0) (read_number w.1)) (two_words words)
+
 -- a read
 abbrev pub read_get : (List ℕ → ℕ → Command) → List (List ℕ) → Option Command
-read_get make words = option_and_then (λ w. option_map (make w.0) (read_number w.1)) (two_words words)
+read_get = with_number
 
 -- an operation on a row, by its verb
 abbrev pub read_row_command : (List ℕ → Op → Command) → (List ℕ → ℕ → Command) → (verb : List ℕ) → List (List ℕ) → Option Command
@@ -188,10 +192,6 @@ read_at words = None
 abbrev pub read_advance : List (List ℕ) → Option Command
 read_advance words =
     option_and_then (λ w. option_and_then (λ stream. option_and_then (λ at. option_map (advance w.0 stream at) (read_small_number w.3)) (read_number w.2)) (read_stream w.1)) (four_words words)
-
--- a workflow and a number
-abbrev pub with_number : (List ℕ → ℕ → Command) → List (List ℕ) → Option Command
-with_number make words = option_and_then (λ w. option_map (make w.0) (read_number w.1)) (two_words words)
 
 -- a workflow and tablet types
 abbrev pub with_types : (List ℕ → List ℕ → Command) → List (List ℕ) → Option Command

@@ -6,7 +6,7 @@ use Rattle.mt_plain.specs.Events.{write, add_table, edit_rule, advance, begin_sw
 use Rattle.mt_plain.specs.Output.{watchers_of}
 use Rattle.mt_plain.specs.Plain.{Plain, in_keyspace}
 use Rattle.mt_rows.specs.Answers.{commerce, customer, corder, value}
-use Rattle.mt_rows.specs.Workflows.{Gets, after_events, before_journal, begun, behind_by_two, copied, journalled, live, live_of_two, made, mv, opened, plain, stepped, switched}
+use Rattle.mt_rows.specs.Workflows.{Gets, after_events, allowed, before_journal, begun, behind_by_two, copied, journalled, live, live_of_two, made, mv, opened, plain, refreshed, stepped, switched}
 
 -- a way back with six steps done, and with eight
 abbrev pub back_stepped : Plain
@@ -14,13 +14,6 @@ back_stepped = after_events switched (begin_reverse mv all_types ∷ step mv 0 �
 
 abbrev pub back_allowed : Plain
 back_allowed = after_events back_stepped (step mv 2 ∷ step mv 3 ∷ step mv 4 ∷ step mv 5 ∷ step mv 6 ∷ step mv 7 ∷ [])
-
--- a way forward whose tables the topology allows at the target; and the steps behind
-abbrev pub allowed : Plain
-allowed = after_events journalled (step mv 7 ∷ [])
-
-abbrev pub refreshed : Plain
-refreshed = after_events stepped (step mv 2 ∷ [])
 
 -- two watchers of the target
 abbrev pub watched_twice : Plain

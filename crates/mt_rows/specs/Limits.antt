@@ -1,12 +1,12 @@
 -- The limits: what is taken at each, and what is refused one past it.
 use Rattle.std.specs.Prelude.{◌≡◌, ℕ, zero, suc, ◌+◌, ◌/◌, ◌%◌, true, List, [], ◌∷◌, ◌++◌, map, replicate, codes, None, Some}
-use Rattle.mt_names.specs.declared.keys.RuleKey.{RuleKey}
 use Rattle.mt_names.specs.declared.keys.RuleTarget.{RuleTarget}
 use Rattle.mt_model.specs.Topology.{empty_topology}
 use Rattle.mt_plain.specs.Events.{add_keyspace, edit_rule, done, refused, full}
 use Rattle.mt_plain.specs.Answers.{Run}
 use Rattle.mt_plain.specs.Plain.{Plain, opening}
 use Rattle.mt_plain.specs.Refuse.{rule_refusal, table_refusal}
+use Rattle.mt_rows.specs.Workflows.{plain}
 
 -- a name of two letters for a number below 676
 abbrev pub name_of : ℕ → List ℕ
@@ -34,26 +34,23 @@ abbrev pub table_257_is_refused : Type 0
 table_257_is_refused = table_refusal (with_tables 256) (codes "k") (codes "t") ≡ Some full
 
 -- a rule entry, and lists of as many as there may be and of one less
-abbrev pub key_of_table : List ℕ → RuleKey
-key_of_table table = record { keyspace = None; table = table; tablet_type = None }
-
 abbrev pub target : RuleTarget
 target = record { keyspace = codes "k"; table = codes "t" }
 
 abbrev pub with_rules : ℕ → Plain
-with_rules n = record (opening []) { topology = record empty_topology { rules = replicate n (key_of_table (codes "t"), Some target) } }
+with_rules n = record (opening []) { topology = record empty_topology { rules = replicate n (plain (codes "t"), Some target) } }
 
 abbrev pub rule_4096_is_taken : Type 0
-rule_4096_is_taken = rule_refusal (with_rules 4095) (key_of_table (codes "u")) (Some target) ≡ None
+rule_4096_is_taken = rule_refusal (with_rules 4095) (plain (codes "u")) (Some target) ≡ None
 
 abbrev pub rule_4097_is_refused : Type 0
-rule_4097_is_refused = rule_refusal (with_rules 4096) (key_of_table (codes "u")) (Some target) ≡ Some full
+rule_4097_is_refused = rule_refusal (with_rules 4096) (plain (codes "u")) (Some target) ≡ Some full
 
 abbrev pub rule_is_changed_at_the_limit : Type 0
-rule_is_changed_at_the_limit = rule_refusal (with_rules 4096) (key_of_table (codes "t")) (Some target) ≡ None
+rule_is_changed_at_the_limit = rule_refusal (with_rules 4096) (plain (codes "t")) (Some target) ≡ None
 
 abbrev pub rule_is_taken_away_at_the_limit : Type 0
-rule_is_taken_away_at_the_limit = rule_refusal (with_rules 4096) (key_of_table (codes "t")) None ≡ None
+rule_is_taken_away_at_the_limit = rule_refusal (with_rules 4096) (plain (codes "t")) None ≡ None
 
 abbrev pub taking_away_no_rule_is_done : Type 0
-taking_away_no_rule_is_done = Run (opening []) (edit_rule (key_of_table (codes "t")) None ∷ []) (done ∷ [])
+taking_away_no_rule_is_done = Run (opening []) (edit_rule (plain (codes "t")) None ∷ []) (done ∷ [])

@@ -12,17 +12,11 @@ use Rattle.mt_plain.specs.Events.{Event, write, read, advance, begin_switch, ste
 use Rattle.mt_plain.specs.Plain.{Plain, in_keyspace}
 use Rattle.mt_plain.specs.Serve.{served_entry}
 use Rattle.mt_rows.specs.Answers.{commerce, customer, corder, value}
-use Rattle.mt_rows.specs.Workflows.{Gets, after_events, before_journal, behind_by_others, cut, journalled, live, mv, opened, stepped, switched}
+use Rattle.mt_rows.specs.Workflows.{Gets, after_events, allowed, before_journal, behind_by_others, cut, journalled, live, mv, opened, refreshed, stepped, switched}
 
 -- a way forward with so many steps done, and some of them taken back
 abbrev pub refreshed_and_undone : Plain
 refreshed_and_undone = after_events stepped (step mv 2 ∷ undo mv 3 ∷ [])
-
-abbrev pub refreshed : Plain
-refreshed = after_events stepped (step mv 2 ∷ [])
-
-abbrev pub allowed : Plain
-allowed = after_events journalled (step mv 7 ∷ [])
 
 abbrev pub allowed_and_refreshed : Plain
 allowed_and_refreshed = after_events allowed (step mv 8 ∷ [])

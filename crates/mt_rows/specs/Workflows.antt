@@ -48,7 +48,8 @@ ruled = after_events begun (edit_rule (at_target corder) (Some (in_keyspace cust
 abbrev pub full_target : Plain
 full_target = after_events begun (add_table customer corder ∷ [])
 
--- a workflow; its copy at the end; a way of all types, with no step done, with two, with two undone to one, and with six and seven
+-- a workflow; its copy at the end; a way of all types, with no step done, with two, with two undone to one, and with three, six, seven
+-- and eight
 abbrev pub live : Plain
 live = after_events begun (made mv ∷ [])
 
@@ -67,11 +68,17 @@ stepped = after_events opened (step mv 0 ∷ step mv 1 ∷ [])
 abbrev pub undone : Plain
 undone = after_events stepped (undo mv 2 ∷ [])
 
+abbrev pub refreshed : Plain
+refreshed = after_events stepped (step mv 2 ∷ [])
+
 abbrev pub before_journal : Plain
 before_journal = after_events stepped (step mv 2 ∷ step mv 3 ∷ step mv 4 ∷ step mv 5 ∷ [])
 
 abbrev pub journalled : Plain
 journalled = after_events before_journal (step mv 6 ∷ [])
+
+abbrev pub allowed : Plain
+allowed = after_events journalled (step mv 7 ∷ [])
 
 abbrev pub switched : Plain
 switched = after_events journalled (step mv 7 ∷ step mv 8 ∷ step mv 9 ∷ step mv 10 ∷ step mv 11 ∷ [])
