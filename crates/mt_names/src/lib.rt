@@ -6,8 +6,6 @@ mod fault;
 mod keys;
 mod names;
 mod tables;
-#[cfg(test)]
-mod tests;
 mod text;
 mod types;
 mod values;

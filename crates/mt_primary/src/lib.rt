@@ -5,8 +5,6 @@ mod before;
 mod laws;
 mod primary;
 mod table;
-#[cfg(test)]
-mod tests;
 
 pub use before::Before;
 pub use laws::{

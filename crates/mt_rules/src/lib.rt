@@ -4,8 +4,6 @@
 mod fault;
 mod read;
 mod rules;
-#[cfg(test)]
-mod tests;
 mod whole;
 mod write;
 

@@ -2,13 +2,9 @@
 #![tactic(auto)]
 
 mod dump;
-#[cfg(test)]
-mod dump_tests;
 mod load;
 mod places;
 mod rules;
-#[cfg(test)]
-mod tests;
 mod topology;
 mod write;
 

@@ -9,8 +9,6 @@ mod fault;
 mod laws;
 mod notice;
 mod step;
-#[cfg(test)]
-mod tests;
 mod watcher;
 mod watchers;
 

@@ -1,7 +1,7 @@
 //! A topology by direct calls.
 
-use crate::{Entry, Topology, TopologyFault};
 use mt_names::{KeyspaceName, RuleKey, RuleTarget, TableName, TabletType};
+use mt_topology::{Entry, Topology, TopologyFault};
 use std::alloc::Global;
 use std::test::Fail;
 

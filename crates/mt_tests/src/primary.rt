@@ -1,6 +1,6 @@
 //! Tests.
-use crate::{Op, Primary, PrimaryFault};
 use mt_names::{KeyspaceName, TableName, TabletType, Value};
+use mt_primary::{Op, Primary, PrimaryFault};
 use mt_watch::{Entry, Notice};
 use std::alloc::Global;
 use std::test::Fail;

@@ -1,7 +1,7 @@
 //! Dumps, written and read.
 
-use crate::{Entry, EntryKey, Topology, TopologyFault};
 use mt_names::{KeyspaceName, RuleKey, RuleTarget, TableName};
+use mt_topology::{Entry, EntryKey, Topology, TopologyFault};
 use std::alloc::Global;
 use std::test::Fail;
 

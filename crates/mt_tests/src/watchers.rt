@@ -3,9 +3,9 @@ ghost use Rattle.std.specs.Prelude.{◌≡◌, IfOk};
 ghost use Rattle.mt_watch.specs.Notices.{notice_of};
 ghost use Rattle.mt_model.specs.declared.entries.Scope.TheVariants.{Routes};
 
-use crate::{Asks, Callback, Change, Notice, WatchFault, Watcher, Watchers, WatchersFault};
 use mt_model::{Entry, Scope};
 use mt_names::{KeyspaceName, RuleKey, RuleTarget, TableName};
+use mt_watch::{Asks, Callback, Change, Notice, WatchFault, Watcher, Watchers, WatchersFault};
 use std::alloc::Global;
 use std::test::Fail;
 

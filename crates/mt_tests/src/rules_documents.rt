@@ -1,6 +1,6 @@
 //! Tests of documents.
-use crate::{RoutingRules, RulesFault};
 use mt_names::{RuleKey, RuleTarget};
+use mt_rules::{RoutingRules, RulesFault};
 use std::alloc::Global;
 use std::test::Fail;
 

@@ -1,5 +1,5 @@
 //! What each reader takes and refuses, and how the answers are printed.
-use crate::{KeyspaceName, NameFault, RuleKey, RuleTarget, TableName, WorkflowName, table_list};
+use mt_names::{KeyspaceName, NameFault, RuleKey, RuleTarget, TableName, WorkflowName, table_list};
 use std::test::Fail;
 
 /// 64 letters, the longest name.
