@@ -1,0 +1,13 @@
+//! Tests of the layers that pass whichever allocation fails: `checks/fail_alloc` runs each with every allocation failing in turn.
+#![tactic(auto)]
+
+#[cfg(test)]
+mod denied;
+#[cfg(test)]
+mod primary;
+#[cfg(test)]
+mod rules;
+#[cfg(test)]
+mod topology;
+#[cfg(test)]
+mod watch;

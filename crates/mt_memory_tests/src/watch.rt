@@ -1,0 +1,64 @@
+//! Where an allocation fails, the answer is `Memory` or the one that there is without, and a refusal changes nothing.
+ghost use Rattle.std.specs.Prelude.{◌≡◌, IfOk};
+ghost use Rattle.mt_watch.specs.Notices.{notice_of};
+ghost use Rattle.mt_model.specs.declared.entries.Scope.TheVariants.{Routes};
+
+use mt_model::{Entry, Scope};
+use mt_names::RuleKey;
+use mt_watch::{Asks, Callback, Change, Notice, WatchFault, Watcher, Watchers, WatchersFault};
+use std::alloc::Global;
+use std::test::Fail;
+
+/// Whether an entry is added at once, or at a second try after a refusal that changed nothing.
+fn pushes(change: &mut Change, entry: &Entry) -> bool {
+    let before = change.as_slice().len();
+    if let Err(fault) = change.push(entry.copied()) {
+        let is_kept = change.as_slice().len() == before;
+        return fault == WatchersFault::Memory && is_kept && change.push(entry.copied()).is_ok();
+    }
+    change.as_slice().last() == Some(entry)
+}
+
+/// Whether a notice has the whole change at once, or at a second try.
+fn notes(alloc: Global, change: &Change) -> bool {
+    let notice = match Notice::of(alloc, &Scope::Routes, change) {
+        Err(WatchersFault::Memory) => Notice::of(alloc, &Scope::Routes, change),
+        answer => answer,
+    };
+    notice.is_ok_and(|notice| notice.as_slice() == change.as_slice())
+}
+
+/// Whether the routers' watchers answer the whole change, or one of them refuses.
+fn answers(watchers: &Watchers, change: &Change) -> bool {
+    match watchers.ask(&Scope::Routes, change) {
+        Ok(notice) => notice.as_slice() == change.as_slice(),
+        Err(WatchersFault::Refused(_)) => true,
+        Err(fault) => fault == WatchersFault::NoWatcher && !watchers.has(&Scope::Routes),
+    }
+}
+
+#[test]
+fn want_of_memory_is_no_other_answer(rt: HostRuntime) -> Result<(), Fail> {
+    let alloc = rt.alloc();
+    let mut change = Change::new(alloc);
+    for table in ["a", "b", "c", "d", "e"] {
+        assert!(rt; pushes(&mut change, &Entry::Rule(RuleKey::parse(table)?, None)));
+    }
+    assert!(rt; notes(alloc, &change));
+    let mut watchers = Watchers::new(alloc);
+    for _ in 0..5u8 {
+        let Ok(call) = Box::new(
+            alloc,
+            move |change: &Change| -> Result<Notice, WatchFault>
+                ensures { IfOk result (λ notice. notice ≡ notice_of Routes change.now) }
+            { Notice::of(alloc, &Scope::Routes, change).map_err(|_| WatchFault(0)) },
+        ) else {
+            continue;
+        };
+        let call: Callback = call;
+        let added = watchers.add(Watcher::new(Scope::Routes, call));
+        assert!(rt; added.is_ok() || added == Err(WatchersFault::Memory));
+        assert!(rt; answers(&watchers, &change));
+    }
+    Ok(())
+}
