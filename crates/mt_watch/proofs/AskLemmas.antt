@@ -1,13 +1,15 @@
 -- How far asking has come.
-use Rattle.std.proofs.Common.{◌≡◌, arith, ℕ, zero, suc, ◌+◌, ◌<◌, ◌≤◌, Bool, true, false, ◌||◌, List, [], ◌∷◌, length, slice_get, Option, None, Some, Result, Ok, Err, refl, sym, ap, subst, ◌∙◌}
-use Rattle.std.proofs.lemmas.Bool.{true≢false}
-use Rattle.std.proofs.lemmas.Option.{slice_get_within}
+use Rattle.std.proofs.Common.{◌≡◌, arith, ℕ, zero, suc, ◌+◌, ◌<◌, ◌≤◌, Bool, true, false, ◌||◌, List, [], ◌∷◌, length, map, slice_get, slice_index_or, Option, None, Some, Result, Ok, Err, refl, sym, ap, subst, ◌∙◌}
+use Rattle.std.proofs.lemmas.Bool.{false_from_ne_true, true≢false}
+use Rattle.std.specs.Option.{option_map}
+use Rattle.std.proofs.lemmas.List.{length-map}
+use Rattle.std.proofs.lemmas.Option.{same_Some, slice_get-map, slice_get_read, slice_get_within}
 use borrow.Author.Count.{below_more}
 use Rattle.mt_model.specs.declared.entries.Entry.{Entry}
 use Rattle.mt_model.specs.declared.entries.Scope.{Scope}
 use Rattle.mt_watch.specs.declared.fault.WatchFault.{WatchFault}
 use Rattle.mt_watch.specs.declared.fault.WatchersFault.{WatchersFault}
-use Rattle.mt_watch.specs.Asking.{Answering, AsksEach, AsksOne, AsksOneWhere, AsksOfScope, IsScopeAt, IsTold, IsRefusedAt}
+use Rattle.mt_watch.specs.Asking.{Answering, AsksEach, AsksOne, AsksOneWhere, AsksOfScope, IsScopeAt, IsTold, IsRefusedAt, by_number}
 use Rattle.mt_watch.specs.Notices.{notice_of}
 use Rattle.mt_watch.specs.Scopes.{has_scope, same_scope}
 use Rattle.mt_watch.proofs.ScopeLemmas.{same_scope_decides}
@@ -21,13 +23,6 @@ abbrev pub AreAsked : List Scope → Answering → Scope → List Entry → ℕ 
 AreAsked scopes may scope change n None = LacksBelow scopes scope n
 AreAsked scopes may scope change n (Some notice) = (has_scope scopes scope ≡ true) × (notice ≡ notice_of scope change) × ((i : ℕ) → i < n → IsScopeAt scopes scope i → may i change (Ok (notice_of scope change)))
 
-false_from : (b : Bool) → (b ≡ true → ⊥) → b ≡ false
-false_from true lacks = absurd (lacks refl)
-false_from false lacks = refl
-
-some_is : {A : Type 0} (o : Option A) (x y : A) → o ≡ Some x → o ≡ Some y → x ≡ y
-some_is o x y p q = cc
-
 same_ok : {A E : Type 0} (r : Result A E) (x y : A) → r ≡ Ok x → r ≡ Ok y → x ≡ y
 same_ok r x y p q = cc
 
@@ -37,7 +32,7 @@ err_not_ok r e x p q = cc
 pub has_scope_at : (scopes : List Scope) (scope : Scope) (i : ℕ) → IsScopeAt scopes scope i → has_scope scopes scope ≡ true
 has_scope_at [] scope i here = cc
 has_scope_at (x ∷ xs) scope zero here =
-    let same : same_scope x scope ≡ true = (same_scope_decides x scope).1 (some_is (Some x) x scope refl here) in
+    let same : same_scope x scope ≡ true = (same_scope_decides x scope).1 (same_Some x scope here) in
     ap (λ b. b || has_scope xs scope) same
 has_scope_at (x ∷ xs) scope (suc i) here =
     elim (same_scope x scope) as (λ b. (b || has_scope xs scope) ≡ true) [ true ↦ refl | false ↦ has_scope_at xs scope i here ]
@@ -53,7 +48,7 @@ number_of (x ∷ xs) scope has =
 pub lacks_scope : (scopes : List Scope) (scope : Scope) → ((i : ℕ) → i < length scopes → IsScopeAt scopes scope i → ⊥) → has_scope scopes scope ≡ false
 lacks_scope [] scope none = refl
 lacks_scope (x ∷ xs) scope none =
-    let differs : same_scope x scope ≡ false = false_from (same_scope x scope) (λ same. none zero (omega arith) (ap Some ((same_scope_decides x scope).0 same))) in
+    let differs : same_scope x scope ≡ false = false_from_ne_true (same_scope x scope) (λ same. none zero (omega arith) (ap Some ((same_scope_decides x scope).0 same))) in
     ap (λ b. b || has_scope xs scope) differs ∙ lacks_scope xs scope (λ i below here. none (suc i) (omega (arith, below)) here)
 
 pub lacks_scope-from : (scopes : List Scope) (scope : Scope) (n : ℕ) → length scopes ≤ n → LacksBelow scopes scope n → has_scope scopes scope ≡ false
@@ -61,7 +56,7 @@ lacks_scope-from scopes scope n end lacks = lacks_scope scopes scope (λ i below
 
 not_here : (scopes : List Scope) (scope other : Scope) (n : ℕ) → slice_get scopes n ≡ Some other → same_scope other scope ≡ false → IsScopeAt scopes scope n → ⊥
 not_here scopes scope other n at differs here =
-    true≢false (sym ((same_scope_decides other scope).1 (some_is (slice_get scopes n) other scope at here)) ∙ differs)
+    true≢false (sym ((same_scope_decides other scope).1 (same_Some other scope (sym at ∙ here))) ∙ differs)
 
 pub LacksBelow-skip : (scopes : List Scope) (scope other : Scope) (n : ℕ) → slice_get scopes n ≡ Some other → same_scope other scope ≡ false → LacksBelow scopes scope n → LacksBelow scopes scope (n + 1)
 LacksBelow-skip scopes scope other n at differs lacks =
@@ -116,3 +111,28 @@ AsksEach-refused scopes may scope own change n told fault mine is_mine at one so
       | true ↦ λ same turn. subst (λ f. AsksEach scopes may scope change (Err f)) (sym turn.0) (IsRefusedAt-from scopes may scope own change n told turn.1.0 at same (is_mine (Err turn.1.0) turn.1.1) so_far)
       | false ↦ λ differs turn. absurd (err_not_ok (Err fault) fault told refl turn)
     ] refl one
+
+-- ---- the watchers of a list that is read
+
+module _ {W : Type 0} (scope_of : W → Scope) (xs read : List W) (is : read ≡ xs) where
+  -- the watcher of a number
+  pub watcher_at : (n : ℕ) (item : W) → n < length read → item ≡ slice_index_or read n item → slice_get xs n ≡ Some item
+  watcher_at n item within at = subst (λ ys. slice_get ys n ≡ Some item) is (slice_get_read read (length read) n item refl within at)
+
+  pub scope_at : (n : ℕ) (item : W) → n < length read → item ≡ slice_index_or read n item → slice_get (map scope_of xs) n ≡ Some (scope_of item)
+  scope_at n item within at = slice_get-map scope_of xs n ∙ ap (option_map scope_of) (watcher_at n item within at)
+
+  -- behind the last
+  pub scopes_end : (n : ℕ) → length read ≤ n → length (map scope_of xs) ≤ n
+  scopes_end n end = let all = ap length is in simp length-map (omega arith)
+
+  module _ (may_answer : W → List Entry → Result (List Entry) WatchFault → Type 0) (scope : Scope) (change : List Entry) (n : ℕ) (item : W) (told : Option (List Entry))
+      (within : n < length read) (at : item ≡ slice_index_or read n item) (so_far : AreAsked (map scope_of xs) (by_number xs may_answer) scope change n told) where
+    -- the next one's turn
+    pub AreAsked-next : (after : Option (List Entry)) → AsksOne (scope_of item) (may_answer item change) n scope change told (Ok after) → AreAsked (map scope_of xs) (by_number xs may_answer) scope change (n + 1) after
+    AreAsked-next after one =
+        AreAsked-one (map scope_of xs) (by_number xs may_answer) scope (scope_of item) change n told after (may_answer item change) (λ answer m. (item, watcher_at n item within at, m)) (scope_at n item within at) one so_far
+
+    pub AsksEach-next : (fault : WatchersFault) → AsksOne (scope_of item) (may_answer item change) n scope change told (Err fault) → AsksEach (map scope_of xs) (by_number xs may_answer) scope change (Err fault)
+    AsksEach-next fault one =
+        AsksEach-refused (map scope_of xs) (by_number xs may_answer) scope (scope_of item) change n told fault (may_answer item change) (λ answer m. (item, watcher_at n item within at, m)) (scope_at n item within at) one so_far

@@ -11,7 +11,7 @@ use std::marker::Model;
 /// What a watcher answers to a change: the entries of the change that concern its scope, in their order.
 #[derive(Debug, Drop)]
 pub struct Notice {
-    entries: Vec<Entry>,
+    part: Change,
 }
 
 impl Model for Notice {
@@ -20,7 +20,7 @@ impl Model for Notice {
 
     ghost Value = { List Entry };
 
-    ghost view = { λ notice. notice.entries.items };
+    ghost view = { λ notice. notice.part };
 }
 
 impl Notice {
@@ -29,7 +29,7 @@ impl Notice {
         ensures { result ≡ [] }
     {
         Notice {
-            entries: Vec::new(alloc),
+            part: Change::new(alloc),
         }
     }
 
@@ -37,17 +37,14 @@ impl Notice {
     pub fn push(&mut self, entry: Entry) -> Result<(), WatchersFault>
         ensures { Pushes self.old entry result self.new }
     {
-        match self.entries.push(entry) {
-            Ok(()) => Ok(()),
-            Err(_) => Err(WatchersFault::Memory),
-        }
+        self.part.push(entry)
     }
 
     /// The entries in their order. It takes no memory.
     pub fn as_slice(&self) -> &[Entry]
         ensures { result.now ≡ self.now }
     {
-        &self.entries
+        self.part.as_slice()
     }
 
     /// The notice of a change for a scope: what a watcher of that scope has to answer. `H0 Memory` alone.
