@@ -58,23 +58,14 @@ so_far used (Some last) = used ++ last ∷ []
 -- ---- one word
 
 -- a word that is no option has nothing that clap takes for one
-no_long : (word : Text) → is_dashed word ≡ false → long_of word ≡ None
-no_long [] plain = refl
-no_long (x ∷ []) plain = by (eqb x 45) refl
+no_option : (word : Text) → is_dashed word ≡ false → (long_of word ≡ None) × (short_of word ≡ None)
+no_option [] plain = (refl, refl)
+no_option (x ∷ []) plain = by (eqb x 45) refl
   where
-    by : (t : Bool) → eqb x 45 ≡ t → long_of (x ∷ []) ≡ None
-    by true e = rw e refl
-    by false e = rw e refl
-no_long (x ∷ y ∷ rest) plain = rw plain refl
-
-no_short : (word : Text) → is_dashed word ≡ false → short_of word ≡ None
-no_short [] plain = refl
-no_short (x ∷ []) plain = by (eqb x 45) refl
-  where
-    by : (t : Bool) → eqb x 45 ≡ t → short_of (x ∷ []) ≡ None
-    by true e = rw e refl
-    by false e = rw e refl
-no_short (x ∷ y ∷ rest) plain = rw plain refl
+    by : (t : Bool) → eqb x 45 ≡ t → (long_of (x ∷ []) ≡ None) × (short_of (x ∷ []) ≡ None)
+    by true e = rw e (refl, refl)
+    by false e = rw e (refl, refl)
+no_option (x ∷ y ∷ rest) plain = rw plain (refl, refl)
 
 -- a word behind `--`
 trailing-step : (used : List Text) (last : Option Text) (word : Text) → walked leaf.rules [] (stands used last true) word ≡ stands (so_far used last) (Some word) true
@@ -103,15 +94,15 @@ mark-fault used (Some last) word is = rw is refl
 pub plain-step : (used : List Text) (last : Option Text) (word : Text) → bytes_eq word (codes "--") ≡ false → is_dashed word ≡ false
     → walked leaf.rules [] (stands used last false) word ≡ stands (so_far used last) (Some word) false
 unfolding clap_on_literals
-plain-step used None word other plain = rw (other, no_long word plain, no_short word plain) refl
-plain-step [] (Some last) word other plain = rw (other, no_long word plain, no_short word plain) refl
-plain-step (k ∷ ks) (Some last) word other plain = rw (other, no_long word plain, no_short word plain) refl
+plain-step used None word other plain = rw (other, (no_option word plain).0, (no_option word plain).1) refl
+plain-step [] (Some last) word other plain = rw (other, (no_option word plain).0, (no_option word plain).1) refl
+plain-step (k ∷ ks) (Some last) word other plain = rw (other, (no_option word plain).0, (no_option word plain).1) refl
 
 pub plain-fault : (used : List Text) (last : Option Text) (word : Text) → bytes_eq word (codes "--") ≡ false → is_dashed word ≡ false
     → turn_fault leaf [] (stands used last false) word ≡ []
 unfolding clap_on_literals
-plain-fault used None word other plain = rw (other, no_long word plain, no_short word plain) refl
-plain-fault used (Some last) word other plain = rw (other, no_long word plain, no_short word plain) refl
+plain-fault used None word other plain = rw (other, (no_option word plain).0, (no_option word plain).1) refl
+plain-fault used (Some last) word other plain = rw (other, (no_option word plain).0, (no_option word plain).1) refl
 
 -- ---- the words
 

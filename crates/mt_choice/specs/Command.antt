@@ -1,5 +1,5 @@
 -- The command `mt`, as clap's definitions see it.
-use Rattle.std.specs.Prelude.{Some, pos, true, [], ◌∷◌, codes}
+use Rattle.std.specs.Prelude.{ℕ, Some, pos, true, List, [], ◌∷◌, codes}
 use Rattle.clap.specs.Words.{App, Rule, new_app, new_rule, with_rule, with_subcommand}
 use Rattle.clap.specs.declared.builder.action.ArgAction.TheVariants.{Append}
 use Rattle.clap.specs.declared.builder.value_parser.ValueParser.TheVariants.{Signed}
@@ -8,23 +8,20 @@ use Rattle.clap.specs.declared.builder.value_parser.ValueParser.TheVariants.{Sig
 abbrev pub keyspace_rule : Rule
 keyspace_rule = record (new_rule (codes "KEYSPACE")) { action = Some Append }
 
--- a number of 16 bits, 2 where none is given
-abbrev pub clients_rule : Rule
-clients_rule = record (new_rule (codes "clients")) {
-  long = Some (codes "clients");
+-- an option with a number of 16 bits, and the one that it is where none is given
+abbrev pub number_rule : List ℕ → List ℕ → Rule
+number_rule name default = record (new_rule name) {
+  long = Some name;
   value_names = 1;
   parser = Some (Signed (pos 0) (pos 65535));
-  defaults = codes "2" ∷ [];
+  defaults = default ∷ [];
 }
 
--- a number of 16 bits, 10 where none is given
+abbrev pub clients_rule : Rule
+clients_rule = number_rule (codes "clients") (codes "2")
+
 abbrev pub writes_rule : Rule
-writes_rule = record (new_rule (codes "writes")) {
-  long = Some (codes "writes");
-  value_names = 1;
-  parser = Some (Signed (pos 0) (pos 65535));
-  defaults = codes "10" ∷ [];
-}
+writes_rule = number_rule (codes "writes") (codes "10")
 
 abbrev pub run_app : App
 run_app = with_rule (new_app (codes "run")) keyspace_rule

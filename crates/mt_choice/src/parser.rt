@@ -2,7 +2,7 @@
 ghost use Rattle.std.specs.Prelude.{◌≡◌, IfOk, false, [], ◌∷◌};
 ghost use Rattle.clap.specs.Words.{app_of, new_app, rule_of, with_rule};
 ghost use Rattle.clap.specs.declared.builder.command.Command.TheViews.{out-Command};
-ghost use Rattle.mt_choice.specs.Command.{clients_rule, keyspace_rule, mt, race_app, run_app, rules_app, topology_app, writes_rule};
+ghost use Rattle.mt_choice.specs.Command.{keyspace_rule, mt, number_rule, race_app, run_app, rules_app, topology_app};
 
 use clap::{Arg, ArgAction, Command, value_parser};
 use std::alloc::{AllocError, Global};
@@ -40,38 +40,34 @@ fn topology_command<'a>(alloc: Global) -> Command<'a>
     Command::new(alloc, "topology").about("Writes the canonical form of a topology dump")
 }
 
-fn clients<'a>(alloc: Global) -> Arg<'a>
-    ensures rule { rule_of result ≡ clients_rule }
+/// An option with a number of 16 bits.
+fn number<'a>(alloc: Global, name: &'a str, default: &'a str, help: &'a str) -> Arg<'a>
+    ensures rule { rule_of result ≡ number_rule name.now default.now }
     ensures local { result.global ≡ false }
 {
-    Arg::new(alloc, CLIENTS)
-        .long("clients")
+    Arg::new(alloc, name)
+        .long(name)
         .value_name("N")
         .value_parser(value_parser!(u16))
-        .default_value("2")
-        .help("How many clients write, 1 to 4")
-}
-
-fn writes<'a>(alloc: Global) -> Arg<'a>
-    ensures rule { rule_of result ≡ writes_rule }
-    ensures local { result.global ≡ false }
-{
-    Arg::new(alloc, WRITES)
-        .long("writes")
-        .value_name("N")
-        .value_parser(value_parser!(u16))
-        .default_value("10")
-        .help("How many writes each client makes, 1 to 1000")
+        .default_value(default)
+        .help(help)
 }
 
 fn race_command<'a>(alloc: Global) -> Result<Command<'a>, AllocError>
     ensures shape { IfOk result (λ c. app_of c ≡ race_app) }
     ensures local { IfOk result (λ c. (out-Command c).has_globals ≡ false) }
 {
+    let clients = number(alloc, CLIENTS, "2", "How many clients write, 1 to 4");
+    let writes = number(
+        alloc,
+        WRITES,
+        "10",
+        "How many writes each client makes, 1 to 1000",
+    );
     Command::new(alloc, "race")
         .about("Runs clients while a controller switches and reverses")
-        .arg(clients(alloc))?
-        .arg(writes(alloc))
+        .arg(clients)?
+        .arg(writes)
 }
 
 /// The command `mt`.
