@@ -1,6 +1,6 @@
 -- What becomes of a primary as tables are denied or not.
 use Rattle.std.proofs.Common.{◌≡◌, ◌≢◌, ◌⊎◌, ℕ, ◌+◌, ◌<◌, ◌&&◌, Bool, true, false, List, [], ◌∷◌, ◌++◌, length, take, slice_index_or, Option, Some, None, refl, sym, ap, subst, ◌∙◌, inl, inr, ⊎_elim}
-use Rattle.std.proofs.lemmas.Bool.{true≢false}
+use Rattle.std.proofs.lemmas.Bool.{and_parts, true≢false}
 use Rattle.std.proofs.lemmas.List.Sums.{fold_push}
 use Rattle.std.proofs.lemmas.Grind.{take_at_read}
 use Rattle.std.specs.Option.{option_map, option_or}
@@ -109,20 +109,16 @@ told-passed keyspace notice tables e passed name = by (is_named tables name) ref
     by false is = rw is refl
     by true is = rw (is, fold_push (told_by_entry keyspace name) None notice e) (at_entry e passed is)
 
-both_hold : (b d : Bool) → (b && d) ≡ true → (b ≡ true) × (d ≡ true)
-both_hold true d both = (refl, both)
-both_hold false d both = absurd cc
-
 -- an entry that it takes over
 pub told-taken : (keyspace : List ℕ) (notice : List Entry) (tables : List (List ℕ)) (at table : List ℕ) (mark : Bool) → is_taken keyspace tables (entry.Denied at table mark) ≡ true → (name : List ℕ)
     → told_by_refresh keyspace (notice ++ entry.Denied at table mark ∷ []) tables name ≡ option_or (told_by_mark name None (table, mark)) (told_by_refresh keyspace notice tables name)
 told-taken keyspace notice tables at table mark taken name = by (same_text table name) refl
   where
     is_at : same_text keyspace at ≡ true
-    is_at = (both_hold (same_text keyspace at) (is_named tables table) taken).0
+    is_at = (and_parts (same_text keyspace at) (is_named tables table) taken).0
 
     named : is_named tables table ≡ true
-    named = (both_hold (same_text keyspace at) (is_named tables table) taken).1
+    named = (and_parts (same_text keyspace at) (is_named tables table) taken).1
 
     by : (b : Bool) → same_text table name ≡ b → told_by_refresh keyspace (notice ++ entry.Denied at table mark ∷ []) tables name ≡ option_or (told_by_mark name None (table, mark)) (told_by_refresh keyspace notice tables name)
     by true same =

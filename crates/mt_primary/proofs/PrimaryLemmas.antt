@@ -2,6 +2,7 @@
 use Rattle.std.proofs.Common.{◌≡◌, ◌≢◌, ℕ, ◌≤◌, ◌<◌, ◌⊎◌, Bool, true, false, eqb, List, [], ◌∷◌, ◌++◌, length, take, slice_get, Option, Some, None, Result, Ok, Err, refl, sym, ap, subst, ◌∙◌, inl, inr, ⊎_elim, arith, length-append}
 use Rattle.std.proofs.lemmas.Bool.{eqb-true, eqb-false, true≢false}
 use Rattle.std.proofs.lemmas.List.{take-append-le, take_at}
+use Rattle.std.proofs.lemmas.Map.Steps.{set_value_same}
 use Rattle.std.proofs.lemmas.Option.{slice_get_within}
 use Rattle.std.specs.List.{IsDistinct}
 use Rattle.std.specs.Map.{keys_of, lookup, set_value}
@@ -80,15 +81,6 @@ logged-push log change name old new was made ordered rows before = record {
 
 -- ---- a row that changes
 
--- what is set as it stood
-set_value-same : (es : List (List ℕ × TableState)) (name : List ℕ) (table : TableState) → lookup (same_text name) es ≡ Some table → set_value (same_text name) es table ≡ es
-set_value-same [] name table found = refl
-set_value-same (e ∷ es) name table found = by (set_value-same es name table) (same_text name e.0) refl
-  where
-    by : (lookup (same_text name) es ≡ Some table → set_value (same_text name) es table ≡ es) → (t : Bool) → same_text name e.0 ≡ t → set_value (same_text name) (e ∷ es) table ≡ e ∷ es
-    by again true t = let is : Some e.1 ≡ Some table = rw t at found in let was : e.1 ≡ table = cc in rw t (ap (λ x. (e.0, x) ∷ es) (sym was))
-    by again false t = rw t (ap (λ l. e ∷ l) (again (rw t at found)))
-
 module _ (old : PrimaryState) (name : List ℕ) (table put : TableState) (found : table_at old name ≡ Some table) where
   -- the primary with another table in this place, and another log
   abbrev pub with_table : List RowChange → PrimaryState
@@ -113,15 +105,22 @@ module _ (old : PrimaryState) (name : List ℕ) (table put : TableState) (found 
           let apart : name ≢ other = λ is. true≢false (sym ((same_text_decides name other).1 is) ∙ same) in
           inr (apart, sym (elsewhere log other apart) ∙ at)
 
-  -- the row at this key, at another key of the table, and of another table
+  -- the rows of this table
   row_at-here : (log : List RowChange) (key : ℕ) → row_at (with_table log) name key ≡ row_in put key
   row_at-here log key = ap (λ (o : Option TableState). option_map_or (λ t. row_in t key) o None) (here log)
 
   row_at-old : (key : ℕ) → row_at old name key ≡ row_in table key
   row_at-old key = ap (λ (o : Option TableState). option_map_or (λ t. row_in t key) o None) found
 
-  row_at-elsewhere : (log : List RowChange) (other : List ℕ) (key : ℕ) → name ≢ other → row_at (with_table log) other key ≡ row_at old other key
-  row_at-elsewhere log other key apart = ap (λ (o : Option TableState). option_map_or (λ t. row_in t key) o None) (elsewhere log other apart)
+  -- what is read of a table stays wherever it stays here
+  pub read_stays : {A : Type 0} (read : Option TableState → A) (log : List RowChange) (other : List ℕ) → (name ≡ other → read (Some put) ≡ read (Some table)) → read (table_at (with_table log) other) ≡ read (table_at old other)
+  read_stays read log other stays = by (same_text name other) refl
+    where
+      by : (b : Bool) → same_text name other ≡ b → read (table_at (with_table log) other) ≡ read (table_at old other)
+      by true same =
+          let at : name ≡ other = (same_text_decides name other).0 same in
+          ap read (ap (table_at (with_table log)) (sym at) ∙ here log) ∙ stays at ∙ ap read (sym found ∙ ap (table_at old) at)
+      by false same = ap read (elsewhere log other (λ at. true≢false (sym ((same_text_decides name other).1 at) ∙ same)))
 
   module _ (key : ℕ) (is : IsPrimary old) (is_put : IsRowPut table key (row_in put key) put) where
     abbrev change : RowChange
@@ -154,38 +153,15 @@ module _ (old : PrimaryState) (name : List ℕ) (table put : TableState) (found 
                 let was = logged old other t is stood in
                 logged-push old.log change other t t was refl was.ordered (λ k. sym (row_with-other_table other k (row_in t k) change (λ h. apart (sym h)))) (λ h. absurd (apart h))
 
-    -- the positions at which tables were made stay
+    -- the positions at which tables were made stay, and so do the denials
     made_stays : (log : List RowChange) (other : List ℕ) → made_at (with_table log) other ≡ made_at old other
-    made_stays log other = by (same_text name other) refl
-      where
-        by : (b : Bool) → same_text name other ≡ b → made_at (with_table log) other ≡ made_at old other
-        by true same =
-            let at : name ≡ other = (same_text_decides name other).0 same in
-            let now : table_at (with_table log) other ≡ Some put = ap (table_at (with_table log)) (sym at) ∙ here log in
-            let was : table_at old other ≡ Some table = ap (table_at old) (sym at) ∙ found in
-            rw (now, was) (ap Some is_put.made)
-        by false same = rw (elsewhere log other (λ at. true≢false (sym ((same_text_decides name other).1 at) ∙ same))) refl
+    made_stays log other = read_stays (option_map (λ (t : TableState). t.made)) log other (λ at. ap Some is_put.made)
 
-    -- and so do the denials
     denied_stays : (log : List RowChange) (other : List ℕ) → is_denied_at (with_table log) other ≡ is_denied_at old other
-    denied_stays log other = by (same_text name other) refl
-      where
-        by : (b : Bool) → same_text name other ≡ b → is_denied_at (with_table log) other ≡ is_denied_at old other
-        by true same =
-            let at : name ≡ other = (same_text_decides name other).0 same in
-            let now : table_at (with_table log) other ≡ Some put = ap (table_at (with_table log)) (sym at) ∙ here log in
-            let was : table_at old other ≡ Some table = ap (table_at old) (sym at) ∙ found in
-            rw (now, was) is_put.denied
-        by false same = rw (elsewhere log other (λ at. true≢false (sym ((same_text_decides name other).1 at) ∙ same))) refl
+    denied_stays log other = read_stays (λ (o : Option TableState). option_map_or (λ t. t.denied) o false) log other (λ at. is_put.denied)
 
     others_stay : (log : List RowChange) (other : List ℕ) (k : ℕ) → ¬ ((other ≡ name) × (k ≡ key)) → row_at (with_table log) other k ≡ row_at old other k
-    others_stay log other k apart = by (same_text name other) refl
-      where
-        by : (b : Bool) → same_text name other ≡ b → row_at (with_table log) other k ≡ row_at old other k
-        by true same =
-            let at : name ≡ other = (same_text_decides name other).0 same in
-            rw (← at) (row_at-here log k ∙ is_put.others k (λ h. apart (sym at, h)) ∙ sym (row_at-old k))
-        by false same = row_at-elsewhere log other k (λ at. true≢false (sym ((same_text_decides name other).1 at) ∙ same))
+    others_stay log other k apart = read_stays (λ (o : Option TableState). option_map_or (λ t. row_in t k) o None) log other (λ at. is_put.others k (λ h. apart (sym at, h)))
 
   -- the tests of a write are those of the change of its table
   written-changed : (op : Op) → written_row old name op ≡ changed_row (record { table = table; log = old.log }) op
@@ -196,7 +172,7 @@ module _ (old : PrimaryState) (name : List ℕ) (table put : TableState) (found 
   unchanged log h =
       let is_table : put ≡ table = ap (λ (s : LoggedTable). s.table) h in
       let is_log : log ≡ old.log = ap (λ (s : LoggedTable). s.log) h in
-      let tables : set_value (same_text name) old.tables put ≡ old.tables = ap (set_value (same_text name) old.tables) is_table ∙ set_value-same old.tables name table found in
+      let tables : set_value (same_text name) old.tables put ≡ old.tables = ap (set_value (same_text name) old.tables) is_table ∙ set_value_same (same_text name) old.tables table found in
       rw (tables, is_log) refl
 
   -- a change of the table is a write, and what holds of every primary holds behind it

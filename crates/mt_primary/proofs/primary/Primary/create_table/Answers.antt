@@ -1,8 +1,9 @@
 -- A new table is added at the end.
-use Rattle.std.proofs.Common.{◌≡◌, false, Option, None, Some, ◌++◌, ◌∷◌, [], length, is_some, refl, ap, subst, ◌∙◌, rules}
+use Rattle.std.proofs.Common.{◌≡◌, None, ◌++◌, ◌∷◌, [], length, ap, subst, ◌∙◌, rules}
 use Rattle.indexmap.proofs.CallerLemmas.{insert_entry-new}
+use Rattle.mt_names.proofs.EntryLemmas.{none_from}
 use Rattle.mt_names.specs.Names.{same_text}
-use Rattle.mt_primary.specs.Primary.{IsInKeyOrder, PrimaryState, TableState, new_table, table_at}
+use Rattle.mt_primary.specs.Primary.{IsInKeyOrder, PrimaryState, new_table, table_at}
 use Rattle.mt_primary.proofs.PrimaryLemmas.{IsPrimary-new_table, IsTableMade-new}
 use Rattle.mt_primary.proofs.primary.Primary.create_table.Goals as goal
 
@@ -10,11 +11,7 @@ abbrev before : goal.Joined-insert-2 → PrimaryState
 before c = record { tables = c.self.inside.tables.entries; log = c.self.inside.log.items }
 
 absent : (c : goal.Joined-insert-2) → table_at (before c) c.args.table.now ≡ None
-absent c = by (table_at (before c) c.args.table.now) (rw (← c.self.view_is) at c.requires.absent)
-  where
-    by : (o : Option TableState) → is_some o ≡ false → o ≡ None
-    by None e = refl
-    by (Some table) e = absurd cc
+absent c = none_from (table_at (before c) c.args.table.now) (rw (← c.self.view_is) at c.requires.absent)
 
 made : (c : goal.Joined-insert-2) → c.new.result ≡ new_table (length (before c).log)
 made c =
