@@ -1,12 +1,12 @@
 -- Edits by hand: one of a part is one of the whole; a table more in a keyspace, a keyspace more.
 use Rattle.std.proofs.Common.{◌≡◌, ℕ, Bool, false, ◌==◌, List, [], ◌∷◌, ◌++◌, length, Option, None, Some, is_some, Result, Ok, Err, refl, sym, ap, subst, ◌∙◌}
-use Rattle.std.proofs.lemmas.Bool.{true≢false}
 use Rattle.std.proofs.lemmas.Map.Steps.{set_value_same}
 use Rattle.std.specs.Map.{set_value}
 use Rattle.std.specs.Option.{option_map_or}
 use Rattle.indexmap.proofs.CallerLemmas.{insert_entry-new}
 use Rattle.indexmap.specs.IndexMap.{IndexMap, insert_entry}
 use Rattle.mt_names.specs.Names.{same_text}
+use Rattle.mt_names.proofs.EntryLemmas.{none_from}
 use Rattle.mt_model.specs.declared.faults.TopologyFault.{TopologyFault}
 use Rattle.mt_model.specs.declared.faults.TopologyFault.TheVariants.{Memory, NoKeyspace, NoTable, Ambiguous, Exists, Full, BadDump}
 use Rattle.mt_model.specs.Limits.{most_keyspaces}
@@ -44,8 +44,4 @@ keyspace_taken keyspaces name absent room = rw (absent, room) refl
 -- and where `insert` puts it
 pub keyspace_pushed : {S : Type 0} (m : IndexMap (List ℕ) KeyspaceState S) (name copy : List ℕ) (state blank : KeyspaceState) → copy ≡ name → state ≡ blank → is_some (keyspace_at m.entries name) ≡ false → insert_entry same_text m.entries copy state ≡ m.entries ++ (name, blank) ∷ []
 keyspace_pushed m name copy state blank copied new absent =
-    ap (λ n. insert_entry same_text m.entries n state) copied ∙ ap (insert_entry same_text m.entries name) new ∙ insert_entry-new same_text m name blank (by (keyspace_at m.entries name) absent)
-  where
-    by : (r : Option KeyspaceState) → is_some r ≡ false → r ≡ None
-    by None e = refl
-    by (Some found) e = absurd (true≢false e)
+    ap (λ n. insert_entry same_text m.entries n state) copied ∙ ap (insert_entry same_text m.entries name) new ∙ insert_entry-new same_text m name blank (none_from (keyspace_at m.entries name) absent)

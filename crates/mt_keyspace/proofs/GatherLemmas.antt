@@ -2,32 +2,30 @@
 use Rattle.std.proofs.Common.{◌≡◌, ℕ, ◌||◌, if◌then◌else◌, Bool, true, false, List, [], ◌∷◌, ◌++◌, map, refl, sym, ap, ap₂, subst, ◌∙◌, is_eq, Ordering, Less, Equal, Greater}
 use Rattle.std.proofs.lemmas.Bool.{true≢false}
 use Rattle.std.proofs.lemmas.Cmp.{nat_list_cmp_total}
+use Rattle.std.proofs.lemmas.List.Folds.{list_any-append}
 use Rattle.std.proofs.lemmas.Map.Text.{is_eq-slice_cmp}
 use Rattle.std.proofs.lemmas.Slice.Eq.{bytes_eq-Decides}
 use Rattle.std.specs.Cmp.Lexicographic.{slice_cmp}
 use Rattle.std.specs.List.{AllByRecursion, fold, list_any}
 use Rattle.std.specs.List.Sorted.{IsStrictlySortedBy}
 use Rattle.std.specs.Ordering.{is_lt, nat_cmp, match_ordering, ordering_reverse}
-use Rattle.serde_json.specs.Data.{Members, no_members, item, member, put, string}
+use Rattle.serde_json.specs.Data.{Members, no_members, member, put, string}
 use Rattle.serde_json.specs.View.{items_of}
 use Rattle.mt_names.specs.Names.{same_text}
 use Rattle.mt_names.proofs.EntryLemmas.{same_itself}
 use Rattle.mt_names.proofs.SameLemmas.{same_text_decides}
-use Rattle.mt_rules.specs.Values.{values_in}
+use Rattle.mt_rules.specs.Values.{members_by, values_in}
 use Rattle.mt_model.specs.Documents.{comes_before}
-use Rattle.mt_rules.proofs.SortLemmas.{comes_before-is}
-use Rattle.mt_keyspace.specs.Values.{Gathers, HasSameTexts, IsDenialText, IsSortedList, by_themselves, members_by}
+use Rattle.mt_rules.proofs.KeysLemmas.{either_way}
+use Rattle.mt_rules.proofs.PutLemmas.{comes_before-is, values_in-members_by}
+use Rattle.mt_keyspace.specs.Values.{Gathers, HasSameTexts, IsDenialText, IsSortedList, by_themselves}
 use Rattle.mt_keyspace.specs.Written.{put_once}
+use Rattle.mt_keyspace.proofs.SortLemmas.{themselves}
 
 abbrev cmp : List ℕ → List ℕ → Ordering
 cmp a b = slice_cmp nat_cmp a b
 
 -- ---- what a test says of the order
-
-either_way : (s t : Bool) → (s ≡ true → t ≡ true) → (t ≡ true → s ≡ true) → s ≡ t
-either_way true t f g = sym (f refl)
-either_way false true f g = g refl
-either_way false false f g = refl
 
 less_from : (o : Ordering) → is_lt o ≡ true → o ≡ Less
 less_from Less e = refl
@@ -99,17 +97,25 @@ or-twice : (b r : Bool) → (b || r) ≡ (b || (b || r))
 or-twice true r = refl
 or-twice false r = refl
 
-or-turned : (b c r : Bool) → (b || (c || r)) ≡ (c || (b || r))
+pub or-turned : (b c r : Bool) → (b || (c || r)) ≡ (c || (b || r))
 or-turned true true r = refl
 or-turned true false r = refl
 or-turned false true r = refl
 or-turned false false r = refl
 
-or-grouped : (b c r : Bool) → ((b || c) || r) ≡ (c || (b || r))
+pub or-grouped : (b c r : Bool) → ((b || c) || r) ≡ (c || (b || r))
 or-grouped true true r = refl
 or-grouped true false r = refl
 or-grouped false true r = refl
 or-grouped false false r = refl
+
+pub or-false : (b : Bool) → (b || false) ≡ b
+or-false true = refl
+or-false false = refl
+
+pub or-true : (b : Bool) → (b || true) ≡ true
+or-true true = refl
+or-true false = refl
 
 any-put_once : (xs : List (List ℕ)) (x t : List ℕ) → list_any (same_text t) (put_once xs x) ≡ (same_text t x || list_any (same_text t) xs)
 any-put_once [] x t = refl
@@ -137,41 +143,24 @@ Gathers-none all = record { found = []; members = refl; ascending = tt; good = t
 
 -- ---- the same texts in another order
 
-any-append : (xs ys : List (List ℕ)) (t : List ℕ) → list_any (same_text t) (xs ++ ys) ≡ (list_any (same_text t) xs || list_any (same_text t) ys)
-any-append [] ys t = refl
-any-append (x ∷ xs) ys t = by (same_text t x) (any-append xs ys t)
-  where
-    by : (b : Bool) → list_any (same_text t) (xs ++ ys) ≡ (list_any (same_text t) xs || list_any (same_text t) ys)
-        → (b || list_any (same_text t) (xs ++ ys)) ≡ ((b || list_any (same_text t) xs) || list_any (same_text t) ys)
-    by true e = refl
-    by false e = e
-
 into-map : (f : List ℕ → List ℕ) (xs : List (List ℕ)) (n : List ℕ) → list_any (same_text n) xs ≡ true → list_any (same_text (f n)) (map f xs) ≡ true
 into-map f [] n e = absurd (true≢false (sym e))
 into-map f (x ∷ xs) n e = by (λ h. into-map f xs n h) (same_text n x) refl e
   where
-    at : (b : Bool) → (b || true) ≡ true
-    at true = refl
-    at false = refl
-
     by : (list_any (same_text n) xs ≡ true → list_any (same_text (f n)) (map f xs) ≡ true) → (b : Bool) → same_text n x ≡ b → (b || list_any (same_text n) xs) ≡ true
         → list_any (same_text (f n)) (map f (x ∷ xs)) ≡ true
     by later true b all = let here : same_text (f n) (f x) ≡ true = (same_text_decides (f n) (f x)).1 (ap f ((same_text_decides n x).0 b)) in rw here refl
-    by later false b all = ap (λ r. same_text (f n) (f x) || r) (later all) ∙ at (same_text (f n) (f x))
+    by later false b all = ap (λ r. same_text (f n) (f x) || r) (later all) ∙ or-true (same_text (f n) (f x))
 
 from-map : (f : List ℕ → List ℕ) (xs : List (List ℕ)) (t : List ℕ) → list_any (same_text t) (map f xs) ≡ true → (n : List ℕ) × (list_any (same_text n) xs ≡ true) × (t ≡ f n)
 from-map f [] t e = absurd (true≢false (sym e))
 from-map f (x ∷ xs) t e = by (λ h. from-map f xs t h) (same_text t (f x)) refl e
   where
-    at : (b : Bool) → (b || true) ≡ true
-    at true = refl
-    at false = refl
-
     by : (list_any (same_text t) (map f xs) ≡ true → (n : List ℕ) × (list_any (same_text n) xs ≡ true) × (t ≡ f n)) → (b : Bool) → same_text t (f x) ≡ b
         → (b || list_any (same_text t) (map f xs)) ≡ true → (n : List ℕ) × (list_any (same_text n) (x ∷ xs) ≡ true) × (t ≡ f n)
     by again true b all = (x, ap (λ r. r || list_any (same_text x) xs) (same_itself same_text same_text_decides x), (same_text_decides t (f x)).0 b)
     by again false b all =
-        let later = again all in (later.0, ap (λ r. same_text later.0 x || r) later.1 ∙ at (same_text later.0 x), later.2)
+        let later = again all in (later.0, ap (λ r. same_text later.0 x || r) later.1 ∙ or-true (same_text later.0 x), later.2)
 
 same-map : (f : List ℕ → List ℕ) (xs ys : List (List ℕ)) → HasSameTexts xs ys → HasSameTexts (map f xs) (map f ys)
 same-map f xs ys same = λ t. either_way (list_any (same_text t) (map f xs)) (list_any (same_text t) (map f ys)) (one xs ys same t) (one ys xs (λ n. sym (same n)) t)
@@ -187,7 +176,7 @@ Gathers-reordered f ms xs ys left all same g = record {
   members = g.members;
   ascending = g.ascending;
   good = g.good;
-  each = λ t. ap (λ b. list_any (same_text t) g.found || b) (any-append (map f xs) left t ∙ ap (λ b. b || list_any (same_text t) left) (same-map f xs ys same t) ∙ sym (any-append (map f ys) left t)) ∙ g.each t;
+  each = λ t. ap (λ b. list_any (same_text t) g.found || b) (list_any-append (same_text t) (map f xs) left ∙ ap (λ b. b || list_any (same_text t) left) (same-map f xs ys same t) ∙ sym (list_any-append (same_text t) (map f ys) left)) ∙ g.each t;
 }
 
 -- ---- what they are at last
@@ -198,10 +187,6 @@ ascending-fold found (x ∷ left) sorted = ascending-fold (put_once found x) lef
 
 any-fold : (found left : List (List ℕ)) (t : List ℕ) → list_any (same_text t) (fold put_once found left) ≡ (list_any (same_text t) found || list_any (same_text t) left)
 any-fold found [] t = sym (or-false (list_any (same_text t) found))
-  where
-    or-false : (b : Bool) → (b || false) ≡ b
-    or-false true = refl
-    or-false false = refl
 any-fold found (x ∷ left) t =
     any-fold (put_once found x) left t ∙ ap (λ b. b || list_any (same_text t) left) (any-put_once found x t) ∙ or-grouped (same_text t x) (list_any (same_text t) found) (list_any (same_text t) left)
 
@@ -239,13 +224,8 @@ same-lists (x ∷ xs) (y ∷ ys) one other same = by (λ h. same-lists xs ys one
         let turned : cmp y x ≡ Less = nat_list_cmp_total.antisymm y x ∙ ap ordering_reverse is in
         absurd (true≢false (sym (is_among y ys) ∙ sym (same y) ∙ none_below y (x ∷ xs) (turned, less_all y x xs turned one.0)))
 
-values_in-themselves : (texts : List (List ℕ)) → values_in (members_by string (by_themselves texts)) ≡ items_of (map string texts)
-values_in-themselves [] = refl
-values_in-themselves (t ∷ ts) = ap (item (string t)) (values_in-themselves ts)
-
 pub Gathers-all : (ms : Members) (all : List (List ℕ)) → Gathers ms [] all → IsSortedList string IsDenialText ms (fold put_once [] all)
 unfolding IsStrictlySortedBy
 Gathers-all ms all g =
-    let or-false : (b : Bool) → (b || false) ≡ b = λ b. elim b as (λ c. (c || false) ≡ c) [ true ↦ refl | false ↦ refl ] in
     let done : g.found ≡ fold put_once [] all = same-lists g.found (fold put_once [] all) g.ascending (ascending-fold [] all tt) (λ t. sym (or-false (list_any (same_text t) g.found)) ∙ g.each t ∙ sym (any-fold [] all t)) in
-    record { values = ap values_in g.members ∙ values_in-themselves g.found ∙ ap (λ ts. items_of (map string ts)) done; good = subst (AllByRecursion IsDenialText) done g.good }
+    record { values = ap values_in g.members ∙ values_in-members_by string (by_themselves g.found) ∙ ap (λ ts. items_of (map string ts)) (themselves g.found ∙ done); good = subst (AllByRecursion IsDenialText) done g.good }

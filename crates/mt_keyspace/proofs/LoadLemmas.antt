@@ -1,15 +1,15 @@
 -- Reading a dump: one step more, and what a step answers.
 use Rattle.std.proofs.Common.{◌≡◌, inl, inr, ℕ, ◌≤◌, ◌||◌, Bool, true, false, List, [], ◌∷◌, ◌++◌, length, Option, None, Some, is_some, option_map, option_and_then, Result, Ok, Err, append_assoc, refl, sym, ap, subst, ◌∙◌}
 use Rattle.std.proofs.lemmas.Bool.{true≢false, ltb-false}
-use Rattle.std.proofs.lemmas.List.Elements.{All-from_recursion}
+use Rattle.std.proofs.lemmas.Cmp.{nat_list_eq_equiv}
+use Rattle.std.proofs.lemmas.List.Elements.{All-from_recursion, All-weaker}
 use Rattle.std.specs.List.{AllByRecursion, IsDistinct, list_any}
 use Rattle.std.specs.Map.{keys_of, lookup, set_value}
 use Rattle.indexmap.proofs.CallerLemmas.{insert_entry-new}
 use Rattle.indexmap.specs.IndexMap.{IndexMap, insert_entry}
 use Rattle.serde_json.specs.Data.{Data, Items, item}
-use Rattle.mt_names.proofs.EntryLemmas.{none_from}
 use Rattle.mt_names.specs.Names.{same_text}
-use Rattle.mt_names.proofs.EntryLemmas.{same_itself}
+use Rattle.mt_names.proofs.EntryLemmas.{none_from, same_itself}
 use Rattle.mt_names.proofs.SameLemmas.{same_text_decides}
 use Rattle.mt_model.specs.declared.faults.TopologyFault.{TopologyFault}
 use Rattle.mt_model.specs.declared.faults.TopologyFault.TheVariants.{Memory, BadDump}
@@ -28,10 +28,6 @@ pub with_new_keyspace-new : {S : Type 0} (m : IndexMap (List ℕ) KeyspaceState 
 with_new_keyspace-new m name state new lacks is = rw lacks (ap Ok (is ∙ insert_entry-new same_text m name state (none_from (keyspace_at m.entries name) lacks)))
 
 -- ---- what a step answers of a part, it answers of the whole
-
-value_or : {A E : Type 0} → A → Result A E → A
-value_or other (Ok x) = x
-value_or other (Err fault) = other
 
 carried-fault : {A B : Type 0} (f : A → B) (fault : TopologyFault) (o : Option A) → Err fault ≡ or_bad_dump o → Err fault ≡ or_bad_dump (option_map f o)
 carried-fault f fault None e = let same : fault ≡ BadDump = cc in ap Err same
@@ -84,15 +80,6 @@ fresh {K} {V} same (x ∷ xs) ys k v turned distinct = rw (turned k x.0 ∙ amon
     among [] apart = apart.0
     among (z ∷ zs) apart = among zs apart.1
 
-pub turned_text : (a b : List ℕ) → same_text a b ≡ same_text b a
-turned_text a b = by (same_text a b) refl (same_text b a) refl
-  where
-    by : (t : Bool) → same_text a b ≡ t → (u : Bool) → same_text b a ≡ u → same_text a b ≡ same_text b a
-    by true t true u = t ∙ sym u
-    by false t false u = t ∙ sym u
-    by true t false u = absurd (true≢false (sym ((same_text_decides b a).1 (sym ((same_text_decides a b).0 t))) ∙ u))
-    by false t true u = absurd (true≢false (sym ((same_text_decides a b).1 (sym ((same_text_decides b a).0 u))) ∙ t))
-
 set_value-last : (marks : Marks) (name : List ℕ) (mark : Bool) → lookup (same_text name) marks ≡ None → set_value (same_text name) (marks ++ (name, false) ∷ []) mark ≡ marks ++ (name, mark) ∷ []
 set_value-last [] name mark none = rw (same_itself same_text same_text_decides name) refl
 set_value-last (m ∷ ms) name mark none = by (set_value-last ms name mark) (same_text name m.0) refl
@@ -105,7 +92,7 @@ set_value-last (m ∷ ms) name mark none = by (set_value-last ms name mark) (sam
 pub denial_moved : (all marks left new : Marks) (name : List ℕ) (mark : Bool) → IsDistinct same_text (keys_of all) → all ≡ marks ++ (name, mark) ∷ left
     → new ≡ set_value (same_text name) (with_mark_place marks name) mark → all ≡ new ++ left
 denial_moved all marks left new name mark distinct whole is =
-    let none : lookup (same_text name) marks ≡ None = fresh same_text marks left name mark turned_text (subst (λ es. IsDistinct same_text (keys_of es)) whole distinct) in
+    let none : lookup (same_text name) marks ≡ None = fresh same_text marks left name mark nat_list_eq_equiv.symm (subst (λ es. IsDistinct same_text (keys_of es)) whole distinct) in
     let last : new ≡ marks ++ (name, mark) ∷ [] = is ∙ rw none (set_value-last marks name mark none) in
     whole ∙ sym (append_assoc marks ((name, mark) ∷ []) left) ∙ ap (λ l. l ++ left) (sym last)
 
@@ -126,33 +113,25 @@ few_tables (x ∷ done) left k few = few_tables done left k (by (has_too_many_ta
     by true e = absurd (true≢false e)
     by false e = e
 
-pub AllByRecursion-push : {A : Type 0} (P : A → Type 0) (xs : List A) (x : A) → AllByRecursion P xs → P x → AllByRecursion P (xs ++ x ∷ [])
-AllByRecursion-push P [] x all is = (is, tt)
-AllByRecursion-push P (y ∷ ys) x all is = (all.0, AllByRecursion-push P ys x all.1 is)
+pub all-append : {A : Type 0} (P : A → Type 0) (xs ys : List A) → AllByRecursion P xs → AllByRecursion P ys → AllByRecursion P (xs ++ ys)
+all-append P [] ys one two = two
+all-append P (x ∷ xs) ys one two = (one.0, all-append P xs ys one.1 two)
 
 pub keyspace_settled : {S : Type 0} (all left : Keyspaces) (m : IndexMap (List ℕ) KeyspaceState S) (new : Keyspaces) (name : List ℕ) (draft state : KeyspaceState)
     → IsDistinct same_text (keys_of all) → all ≡ m.entries ++ (name, draft) ∷ left → state ≡ draft → HasDistinctMarks (name, draft) → AllByRecursion HasDistinctMarks m.entries
     → new ≡ insert_entry same_text m.entries name state → (all ≡ new ++ left) × AllByRecursion HasDistinctMarks new
 keyspace_settled all left m new name draft state distinct whole same marks before is =
-    let none : lookup (same_text name) m.entries ≡ None = fresh same_text m.entries left name draft turned_text (subst (λ es. IsDistinct same_text (keys_of es)) whole distinct) in
+    let none : lookup (same_text name) m.entries ≡ None = fresh same_text m.entries left name draft nat_list_eq_equiv.symm (subst (λ es. IsDistinct same_text (keys_of es)) whole distinct) in
     let last : new ≡ m.entries ++ (name, draft) ∷ [] = is ∙ insert_entry-new same_text m name state none ∙ ap (λ s. m.entries ++ (name, s) ∷ []) same in (
       whole ∙ sym (append_assoc m.entries ((name, draft) ∷ []) left) ∙ ap (λ l. l ++ left) (sym last),
-      subst (AllByRecursion HasDistinctMarks) (sym last) (AllByRecursion-push HasDistinctMarks m.entries (name, draft) before marks),
+      subst (AllByRecursion HasDistinctMarks) (sym last) (all-append HasDistinctMarks m.entries ((name, draft) ∷ []) before (marks, tt)),
     )
-
-firsts : (keyspaces : Keyspaces) → AllByRecursion HasDistinctMarks keyspaces → AllByRecursion (λ k. IsDistinct same_text (keys_of k.1.tables)) keyspaces
-firsts [] all = tt
-firsts (k ∷ ks) all = (all.0.0, firsts ks all.1)
-
-seconds : (keyspaces : Keyspaces) → AllByRecursion HasDistinctMarks keyspaces → AllByRecursion (λ k. IsDistinct same_text (keys_of k.1.denied)) keyspaces
-seconds [] all = tt
-seconds (k ∷ ks) all = (all.0.1, seconds ks all.1)
 
 pub all_settled : (keyspaces : Keyspaces) → IsDistinct same_text (keys_of keyspaces) → AllByRecursion HasDistinctMarks keyspaces → HasDistinctPlaces (record { rules = []; keyspaces = keyspaces })
 unfolding IsDistinct
 all_settled keyspaces distinct all = record {
   rules = tt;
   keyspaces = distinct;
-  tables = All-from_recursion (λ k. IsDistinct same_text (keys_of k.1.tables)) keyspaces (firsts keyspaces all);
-  denied = All-from_recursion (λ k. IsDistinct same_text (keys_of k.1.denied)) keyspaces (seconds keyspaces all);
+  tables = All-weaker HasDistinctMarks (λ k. IsDistinct same_text (keys_of k.1.tables)) (λ k marks. marks.0) keyspaces (All-from_recursion HasDistinctMarks keyspaces all);
+  denied = All-weaker HasDistinctMarks (λ k. IsDistinct same_text (keys_of k.1.denied)) (λ k marks. marks.1) keyspaces (All-from_recursion HasDistinctMarks keyspaces all);
 }

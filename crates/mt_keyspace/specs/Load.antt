@@ -1,7 +1,6 @@
 -- The keyspaces of a dump: which a value says, however many and however large, or none.
 use Rattle.std.specs.Prelude.{◌≡◌, ◌⊎◌, ℕ, nat_lt, Bool, true, is_some, if◌then◌else◌, List, [], ◌∷◌, ◌++◌, length, codes, Option, None, Some, option_map, option_and_then, Result, Ok, Err}
 use Rattle.std.specs.Map.{lookup, set_value}
-use Rattle.indexmap.specs.IndexMap.{IndexMap}
 use Rattle.serde_json.specs.Data.{Data, null, boolean, number, string, array, object, Items, no_items, item}
 use Rattle.serde_json.specs.Find.{get, as_str}
 use Rattle.mt_names.specs.declared.keys.RuleTarget.{RuleTarget}
@@ -12,6 +11,8 @@ use Rattle.mt_model.specs.declared.faults.TopologyFault.TheVariants.{Memory, Bad
 use Rattle.mt_model.specs.Limits.{most_tables_in_keyspace}
 use Rattle.mt_model.specs.Topology.{Keyspaces, KeyspaceState, Marks, is_marked, keyspace_at}
 use Rattle.mt_rules.specs.Whole.{unless_fault}
+pub use Rattle.mt_rules.specs.Read.{answer_with}
+pub use Rattle.mt_rules.specs.Whole.{listed}
 
 -- the list of a member, which may be missing
 abbrev pub list_of : Option Data → Option Items
@@ -109,13 +110,3 @@ IsUnlessMemory answer due = (answer ≡ Err Memory) ⊎ (answer ≡ due)
 abbrev pub or_bad_dump : {A : Type 0} → Option A → Result A TopologyFault
 or_bad_dump (Some x) = Ok x
 or_bad_dump None = Err BadDump
-
--- the answer of a call that changes a value, which is this one after it
-abbrev pub answer_with : {A : Type 0} → A → Result Unit TopologyFault → Result A TopologyFault
-answer_with value (Ok done) = Ok value
-answer_with value (Err fault) = Err fault
-
--- a map's entries, or a fault
-abbrev pub listed : {K V S : Type 0} → Result (IndexMap K V S) TopologyFault → Result (List (K × V)) TopologyFault
-listed (Ok map) = Ok map.entries
-listed (Err fault) = Err fault

@@ -1,5 +1,5 @@
 -- Keyspaces and denials as values of `serde_json`, and how their lists are made.
-use Rattle.std.specs.Prelude.{◌≤◌, length, ◌≡◌, ◌≢◌, ◌||◌, ℕ, List, [], ◌∷◌, codes, fold, map, Ok}
+use Rattle.std.specs.Prelude.{◌≤◌, length, ◌≡◌, ◌||◌, ℕ, List, [], ◌∷◌, codes, fold, map, Ok}
 use Rattle.std.specs.Cmp.Lexicographic.{slice_cmp}
 use Rattle.std.specs.List.{AllByRecursion, IsDistinct, list_any}
 use Rattle.std.specs.List.Sorted.{IsStrictlySortedBy}
@@ -11,9 +11,8 @@ use Rattle.mt_names.specs.Keys.{IsRuleTarget, read_target, target_text}
 use Rattle.mt_names.specs.Names.{IsKeyspaceName, IsTableName, same_text}
 use Rattle.mt_model.specs.Limits.{most_tables_in_keyspace}
 use Rattle.mt_model.specs.Topology.{KeyspaceState, Keyspaces}
-use Rattle.mt_rules.specs.Values.{values_in}
-use Rattle.mt_model.specs.Documents.{put_by_text}
-use Rattle.mt_model.specs.Documents.{tables_in_order}
+use Rattle.mt_rules.specs.Values.{IsApart, members_by, values_in}
+use Rattle.mt_model.specs.Documents.{put_by_text, tables_in_order}
 
 -- a list of texts
 abbrev pub texts_value : List (List ℕ) → Data
@@ -29,11 +28,6 @@ keyspace_value k = object (member (codes "name") (string k.0) (member (codes "ta
 abbrev pub in_order : {A : Type 0} → List (List ℕ × A) → List A
 in_order items = map (λ x. x.1) (fold put_by_text [] items)
 
--- members, each a value under its text
-abbrev pub members_by : {A : Type 0} → (A → Data) → List (List ℕ × A) → Members
-members_by value [] = no_members
-members_by value (x ∷ xs) = member x.0 (value x.1) (members_by value xs)
-
 -- texts, each under itself
 abbrev pub by_themselves : List (List ℕ) → List (List ℕ × List ℕ)
 by_themselves texts = map (λ text. (text, text)) texts
@@ -41,10 +35,6 @@ by_themselves texts = map (λ text. (text, text)) texts
 -- keyspaces, each under its name
 abbrev pub by_name : Keyspaces → List (List ℕ × (List ℕ × KeyspaceState))
 by_name keyspaces = map (λ k. (k.0, k)) keyspaces
-
--- the text is none of those of the items
-abbrev pub IsApart : {A : Type 0} → List ℕ → List (List ℕ × A) → Type 0
-IsApart text items = AllByRecursion (λ x. text ≢ x.0) items
 
 -- members made so far, and what is left: putting that too makes all items in their order, each of them good
 pub record Sorts {A : Type 0} (value : A → Data) (IsGood : A → Type 0) (ms : Members) (left all : List (List ℕ × A)) : Type 0 where

@@ -7,7 +7,6 @@ ghost use Rattle.serde_json.specs.View.{view, items_of, members_view};
 ghost use Rattle.mt_names.specs.Names.{IsTableName, same_text};
 ghost use Rattle.mt_names.specs.Keys.{target_text};
 ghost use Rattle.mt_model.specs.Topology.{HasDistinctPlaces, Marks};
-ghost use Rattle.mt_rules.specs.Values.{values_in};
 ghost use Rattle.mt_keyspace.specs.Values.{Gathers, IsDenialText, IsNamedKeyspace, IsSortedList, Sorts, by_name, by_themselves, keyspace_value, texts_value};
 ghost use Rattle.mt_model.specs.Documents.{denied_text, denied_texts, keyspaces_in_order, marked, sorted_texts, tables_in_order};
 ghost use Rattle.mt_keyspace.specs.Written.{denied_in_order};
@@ -16,6 +15,7 @@ use crate::keyspace::Keyspace;
 use crate::keyspaces::Keyspaces;
 use indexmap::IndexMap;
 use mt_names::{KeyspaceName, RuleTarget, TableName};
+use mt_rules::list_of_values;
 use serde_json::{Map, Value, json};
 use std::alloc::{AllocError, Global};
 
@@ -25,17 +25,6 @@ fn put_text(alloc: Global, values: &mut Map<String, Value>, text: &str) -> Resul
 {
     let value = Value::String(String::from_str(alloc, text)?);
     serde_json::put(values, alloc, text, value)
-}
-
-/// The values alone, as a list.
-fn list_of(alloc: Global, values: Map<String, Value>) -> Result<Value, AllocError>
-    ensures { IfOk result (λ list. view list ≡ array (values_in (members_view values.entries))) }
-{
-    let mut list = Vec::new(alloc);
-    'values: for value in values.into_values() {
-        list.push(value)?;
-    }
-    Ok(Value::Array(list))
 }
 
 /// The tables that are there, under their names.
@@ -65,7 +54,7 @@ pub fn value_of_tables(
     ensures named { OnOk result (AllByRecursion IsTableName (sorted_texts (marked places.now.entries))) }
 {
     let values = tables_by_name(alloc, places)?;
-    list_of(alloc, values)
+    list_of_values(alloc, values)
 }
 
 /// A keyspace with its tables.
@@ -163,7 +152,7 @@ pub fn value_of_denials(alloc: Global, keyspaces: &Keyspaces) -> Result<Value, A
     ensures named { OnOk result (AllByRecursion IsDenialText (denied_in_order (record { rules = []; keyspaces = keyspaces.now.entries }))) }
 {
     let values = denials_by_text(alloc, keyspaces)?;
-    list_of(alloc, values)
+    list_of_values(alloc, values)
 }
 
 /// The keyspaces with their tables, in the order of their names.
@@ -173,5 +162,5 @@ pub fn value_of_keyspaces(alloc: Global, keyspaces: &Keyspaces) -> Result<Value,
     ensures named { OnOk result (AllByRecursion IsNamedKeyspace (keyspaces_in_order (record { rules = []; keyspaces = keyspaces.now.entries }))) }
 {
     let values = keyspaces_by_name(alloc, keyspaces)?;
-    list_of(alloc, values)
+    list_of_values(alloc, values)
 }

@@ -1,10 +1,10 @@
 -- What is written is read back.
-use Rattle.std.proofs.Common.{◌≡◌, ◌≤◌, ◌+◌, ℕ, max, Bool, true, false, List, [], ◌∷◌, ◌++◌, length, map, Option, Some, Ok, Err, IsUtf8, append_assoc, append-nil, refl, sym, ap, ◌∙◌, arith}
-use Rattle.std.proofs.lemmas.Bool.{true≢false, ne_eqb}
+use Rattle.std.proofs.Common.{◌≡◌, ◌≤◌, ◌+◌, ℕ, max, false, if◌then◌else◌, List, [], ◌∷◌, ◌++◌, length, map, Option, None, Some, is_some, option_and_then, Ok, Err, IsUtf8, append_assoc, append-nil, refl, sym, ap, ◌∙◌, arith}
+use Rattle.std.proofs.lemmas.Bool.{ne_eqb}
 use Rattle.std.proofs.lemmas.List.{length-append}
 use Rattle.std.proofs.Math.Nat.{max-le}
 use Rattle.std.specs.List.{AllByRecursion, IsDistinct}
-use Rattle.std.specs.Map.{keys_of}
+use Rattle.std.specs.Map.{keys_of, lookup}
 use Rattle.std.specs.Option.{option_map_or}
 use Rattle.serde_json.specs.Data.{Data, depth, items_depth}
 use Rattle.serde_json.specs.Read.{max_depth, read}
@@ -20,27 +20,26 @@ use Rattle.mt_model.specs.Limits.{most_rules}
 use Rattle.mt_model.specs.Topology.{Rules}
 use Rattle.mt_rules.specs.declared.fault.RulesFault.TheVariants.{NotJson}
 use Rattle.mt_rules.specs.Read.{rule_of, or_bad_name, rules_of_value, with_one_more, with_rules}
-use Rattle.mt_rules.specs.Rules.{has_rule_place}
 use Rattle.mt_rules.specs.Values.{IsNamed, IsWellSorted, Says, document_value, rule_value, ruled, rules_value}
 use Rattle.mt_model.specs.Documents.{rules_text, sorted_rules}
-use Rattle.std.specs.Prelude.{if◌then◌else◌, option_and_then, None}
 use Rattle.mt_rules.specs.Whole.{rules_in, rules_of, unless_fault, with_new_rule}
+use Rattle.mt_rules.proofs.KeysLemmas.{none_yet, still_none}
 use Rattle.mt_rules.proofs.ReadLemmas.{value_of_text-some}
 use Rattle.mt_rules.proofs.RulesLemmas.{with_one_more-new}
 use Rattle.mt_rules.proofs.TextLemmas.{compact_text-document}
 
 -- ---- the value has no float and is not deep, so its text is known and is read back
 
-no_float : (rs : List (RuleKey × RuleTarget)) → items_have_float (items_of (map rule_value rs)) ≡ false
-no_float [] = refl
-no_float (r ∷ rs) = no_float rs
+pub no_float_rules : (rs : List (RuleKey × RuleTarget)) → items_have_float (items_of (map rule_value rs)) ≡ false
+no_float_rules [] = refl
+no_float_rules (r ∷ rs) = no_float_rules rs
 
 pub not_deep : (rs : List (RuleKey × RuleTarget)) → items_depth (items_of (map rule_value rs)) ≤ 2
 not_deep [] = omega arith
 not_deep (r ∷ rs) = max-le {a = depth (rule_value r)} (omega arith) (not_deep rs)
 
 no_float_document : (rules : Rules) → has_float (document_value rules) ≡ false
-no_float_document rules = rw (no_float (sorted_rules rules)) refl
+no_float_document rules = rw (no_float_rules (sorted_rules rules)) refl
 
 not_deep_document : (rules : Rules) → depth (document_value rules) ≤ max_depth
 not_deep_document rules =
@@ -55,27 +54,7 @@ document_text rules d text is sorted h = h (ap has_float is ∙ no_float_documen
 rule_of-rule : (r : RuleKey × RuleTarget) → IsNamed r → rule_of (rule_value r) ≡ Ok r
 rule_of-rule r named = ap (λ key. or_bad_name key >>= λ k. or_bad_name (read_target (target_text r.1)) >>= λ t. Ok (k, t)) named.key_back ∙ ap (λ target. or_bad_name target >>= λ t. Ok (r.0, t)) named.target_back
 
-has_place-more : (rules : Rules) (k q : RuleKey) (v : Option RuleTarget) → has_rule_place rules q ≡ false → same_key q k ≡ false → has_rule_place (rules ++ (k, v) ∷ []) q ≡ false
-has_place-more [] k q v lacks other = rw other refl
-has_place-more (e ∷ rules) k q v lacks other = by (λ h. has_place-more rules k q v h other) (same_key q e.0) refl
-  where
-    by : (has_rule_place rules q ≡ false → has_rule_place (rules ++ (k, v) ∷ []) q ≡ false) → (t : Bool) → same_key q e.0 ≡ t → has_rule_place (e ∷ (rules ++ (k, v) ∷ [])) q ≡ false
-    by later true t = absurd (let there : has_rule_place (e ∷ rules) q ≡ true = rw t refl in true≢false (sym there ∙ lacks))
-    by later false t = rw t (later (rw t at lacks))
-
-other_way : (k l : RuleKey) → same_key k l ≡ false → same_key l k ≡ false
-other_way k l e = by (same_key l k) refl
-  where
-    by : (t : Bool) → same_key l k ≡ t → same_key l k ≡ false
-    by true t = absurd (true≢false (sym ((same_key_decides k l).1 (sym ((same_key_decides l k).0 t))) ∙ e))
-    by false t = t
-
-lacks_more : (acc : Rules) (r : RuleKey × RuleTarget) (keys : List RuleKey) → AllByRecursion (λ k. has_rule_place acc k ≡ false) keys → AllByRecursion (λ k. same_key r.0 k ≡ false) keys
-    → AllByRecursion (λ k. has_rule_place (acc ++ (r.0, Some r.1) ∷ []) k ≡ false) keys
-lacks_more acc r [] lacks other = tt
-lacks_more acc r (k ∷ keys) lacks other = (has_place-more acc r.0 k (Some r.1) lacks.0 (other_way r.0 k other.0), lacks_more acc r keys lacks.1 other.1)
-
-with_rules-back : (acc : Rules) (rs : List (RuleKey × RuleTarget)) → AllByRecursion IsNamed rs → AllByRecursion (λ k. has_rule_place acc k ≡ false) (keys_of (ruled rs))
+with_rules-back : (acc : Rules) (rs : List (RuleKey × RuleTarget)) → AllByRecursion IsNamed rs → AllByRecursion (λ k. lookup (same_key k) acc ≡ None) (keys_of (ruled rs))
     → IsDistinct same_key (keys_of (ruled rs)) → length acc + length rs ≤ most_rules → with_rules acc (items_of (map rule_value rs)) ≡ Ok (acc ++ ruled rs)
 unfolding IsDistinct
 with_rules-back acc [] named lacks distinct room = ap Ok (sym (append-nil acc))
@@ -83,28 +62,24 @@ with_rules-back acc (r ∷ rs) named lacks distinct room =
     let rest = items_of (map rule_value rs) in
     let more : length (acc ++ (r.0, Some r.1) ∷ []) ≡ length acc + 1 = length-append acc ((r.0, Some r.1) ∷ []) in
     ap (λ a. (a >>= with_one_more acc) >>= λ rules. with_rules rules rest) (rule_of-rule r named.0)
-    ∙ ap (λ a. a >>= λ rules. with_rules rules rest) (sym (with_one_more-new acc r (acc ++ (r.0, Some r.1) ∷ []) lacks.0 (ne_eqb (length acc) most_rules (λ e. omega (arith, e, room))) refl))
-    ∙ with_rules-back (acc ++ (r.0, Some r.1) ∷ []) rs named.1 (lacks_more acc r (keys_of (ruled rs)) lacks.1 distinct.0) distinct.1 (omega (arith, room, more))
+    ∙ ap (λ a. a >>= λ rules. with_rules rules rest) (sym (with_one_more-new acc r (acc ++ (r.0, Some r.1) ∷ []) (ap is_some lacks.0) (ne_eqb (length acc) most_rules (λ e. omega (arith, e, room))) refl))
+    ∙ with_rules-back (acc ++ (r.0, Some r.1) ∷ []) rs named.1 (still_none same_key same_key_decides acc r.0 (Some r.1) (keys_of (ruled rs)) lacks.1 distinct.0) distinct.1 (omega (arith, room, more))
     ∙ ap Ok (append_assoc acc ((r.0, Some r.1) ∷ []) (ruled rs))
 
-nothing_lacks : (keys : List RuleKey) → AllByRecursion (λ k. has_rule_place [] k ≡ false) keys
-nothing_lacks [] = tt
-nothing_lacks (k ∷ keys) = (refl, nothing_lacks keys)
-
 -- the same of the rules as a member of a larger document
-rules_of-back : (acc : Rules) (rs : List (RuleKey × RuleTarget)) → AllByRecursion IsNamed rs → AllByRecursion (λ k. has_rule_place acc k ≡ false) (keys_of (ruled rs)) → IsDistinct same_key (keys_of (ruled rs))
+rules_of-back : (acc : Rules) (rs : List (RuleKey × RuleTarget)) → AllByRecursion IsNamed rs → AllByRecursion (λ k. lookup (same_key k) acc ≡ None) (keys_of (ruled rs)) → IsDistinct same_key (keys_of (ruled rs))
     → rules_of acc (items_of (map rule_value rs)) ≡ Some (acc ++ ruled rs)
 unfolding IsDistinct
 rules_of-back acc [] named lacks distinct = ap Some (sym (append-nil acc))
 rules_of-back acc (r ∷ rs) named lacks distinct =
     let rest = items_of (map rule_value rs) in
     ap (λ a. option_and_then (λ more. rules_of more rest) (option_and_then (with_new_rule acc) (unless_fault a))) (rule_of-rule r named.0)
-    ∙ ap (λ b. option_and_then (λ more. rules_of more rest) (if b then None else Some (acc ++ (r.0, Some r.1) ∷ []))) lacks.0
-    ∙ rules_of-back (acc ++ (r.0, Some r.1) ∷ []) rs named.1 (lacks_more acc r (keys_of (ruled rs)) lacks.1 distinct.0) distinct.1
+    ∙ ap (λ o. option_and_then (λ more. rules_of more rest) (if is_some o then None else Some (acc ++ (r.0, Some r.1) ∷ []))) lacks.0
+    ∙ rules_of-back (acc ++ (r.0, Some r.1) ∷ []) rs named.1 (still_none same_key same_key_decides acc r.0 (Some r.1) (keys_of (ruled rs)) lacks.1 distinct.0) distinct.1
     ∙ ap Some (append_assoc acc ((r.0, Some r.1) ∷ []) (ruled rs))
 
 pub rules_read_back : (rules : Rules) → IsWellSorted rules → rules_in (Some (rules_value rules)) ≡ Some (ruled (sorted_rules rules))
-rules_read_back rules sorted = rules_of-back [] (sorted_rules rules) sorted.named (nothing_lacks (keys_of (ruled (sorted_rules rules)))) sorted.distinct
+rules_read_back rules sorted = rules_of-back [] (sorted_rules rules) sorted.named (none_yet (Option RuleTarget) same_key (keys_of (ruled (sorted_rules rules)))) sorted.distinct
 
 pub document_says : (rules : Rules) (d : Data) (text : List ℕ) → d ≡ document_value rules → IsWellSorted rules → length rules ≤ most_rules → IsUtf8 text
     → (depth d ≤ max_depth → read text ≡ Some d) → Says text rules
@@ -114,6 +89,6 @@ document_says rules d text is sorted few valid back =
       ruled (sorted_rules rules),
       ap (λ v. option_map_or rules_of_value v (Err NotJson)) (value_of_text-some text d valid (back shallow))
           ∙ ap rules_of_value is
-          ∙ with_rules-back [] (sorted_rules rules) sorted.named (nothing_lacks (keys_of (ruled (sorted_rules rules)))) sorted.distinct (omega (arith, few, few_sorted)),
+          ∙ with_rules-back [] (sorted_rules rules) sorted.named (none_yet (Option RuleTarget) same_key (keys_of (ruled (sorted_rules rules)))) sorted.distinct (omega (arith, few, few_sorted)),
       sorted.says,
     )

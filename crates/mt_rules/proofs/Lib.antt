@@ -1,4 +1,6 @@
 pub mod BackLemmas
+pub mod KeysLemmas
+pub mod PutLemmas
 pub mod ReadLemmas
 pub mod RulesLemmas
 pub mod SortLemmas

@@ -1,6 +1,5 @@
 -- Lists of values, and the value of a text.
-use Rattle.std.proofs.Common.{◌≡◌, ℕ, Bool, true, false, List, [], ◌∷◌, length, Some, None, Err, IsTrue, IsUtf8, refl, sym}
-use Rattle.std.proofs.lemmas.Bool.{true≢false}
+use Rattle.std.proofs.Common.{◌≡◌, ℕ, Bool, true, false, List, [], ◌∷◌, length, Some, None, Err, IsUtf8, refl}
 use Rattle.std.proofs.lemmas.Str.{IsUtf8-from_is_utf8, is_utf8-from_IsUtf8}
 use Rattle.std.specs.Str.{is_utf8}
 use Rattle.serde_json.specs.Data.{Data}
@@ -24,7 +23,3 @@ value_of_text-none text none = by (is_utf8 text) refl
     by : (t : Bool) → is_utf8 text ≡ t → value_of_text text ≡ None
     by true e = rw e (none (IsUtf8-from_is_utf8 text e))
     by false e = rw e refl
-
-pub false_is_not_true : (b : Bool) → b ≡ false → IsTrue b → ⊥
-false_is_not_true true e t = true≢false e
-false_is_not_true false e t = true≢false (sym t)

@@ -17,17 +17,14 @@ pub with_rule_place-new : (rules : Rules) (key : RuleKey) → has_rule_place rul
 with_rule_place-new rules key lacks = rw (none_from (lookup (same_key key) rules) lacks) refl
 
 -- what `insert` makes of the map
+pub insert_entry-last : {S : Type 0} (m : IndexMap RuleKey (Option RuleTarget) S) (rules : Rules) (key : RuleKey) (rule : Option RuleTarget) → m.entries ≡ rules → has_rule_place rules key ≡ false → insert_entry same_key m.entries key rule ≡ rules ++ (key, rule) ∷ []
+insert_entry-last m rules key rule is lacks =
+    insert_entry-new same_key m key rule (ap (lookup (same_key key)) is ∙ none_from (lookup (same_key key) rules) lacks) ∙ ap (λ es. es ++ (key, rule) ∷ []) is
+
+-- where it has no rule
 pub insert_entry-place : {S : Type 0} (m : IndexMap RuleKey (Option RuleTarget) S) (rules : Rules) (key copy : RuleKey) → m.entries ≡ rules → copy ≡ key → has_rule_place rules key ≡ false → insert_entry same_key m.entries copy None ≡ with_rule_place rules key
 insert_entry-place m rules key copy is copied lacks =
-    ap (λ k. insert_entry same_key m.entries k None) copied
-    ∙ insert_entry-new same_key m key None (ap (lookup (same_key key)) is ∙ none_from (lookup (same_key key) rules) lacks)
-    ∙ ap (λ es. es ++ (key, None) ∷ []) is ∙ sym (with_rule_place-new rules key lacks)
-
--- the same where the place comes with its rule
-pub insert_entry-rule : {S : Type 0} (m : IndexMap RuleKey (Option RuleTarget) S) (rules : Rules) (key : RuleKey) (target : RuleTarget) → m.entries ≡ rules → has_rule_place rules key ≡ false → insert_entry same_key m.entries key (Some target) ≡ rules ++ (key, Some target) ∷ []
-insert_entry-rule m rules key target is lacks =
-    insert_entry-new same_key m key (Some target) (ap (lookup (same_key key)) is ∙ none_from (lookup (same_key key) rules) lacks)
-    ∙ ap (λ es. es ++ (key, Some target) ∷ []) is
+    ap (λ k. insert_entry same_key m.entries k None) copied ∙ insert_entry-last m rules key None is lacks ∙ sym (with_rule_place-new rules key lacks)
 
 pub with_one_more-new : (rules : Rules) (r : RuleKey × RuleTarget) (new : Rules) → has_rule_place rules r.0 ≡ false → (length rules == most_rules) ≡ false → new ≡ rules ++ (r.0, Some r.1) ∷ [] → Ok new ≡ with_one_more rules r
 with_one_more-new rules r new lacks room is = rw (lacks, room) (ap Ok is)

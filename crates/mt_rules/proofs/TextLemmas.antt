@@ -5,6 +5,7 @@ use Rattle.std.proofs.lemmas.Grind.{flat_map-append}
 use Rattle.std.proofs.lemmas.List.Elements.{recursion_from_All}
 use Rattle.std.specs.List.{AllByRecursion, join_with_byte}
 use Rattle.json.specs.Print.{escape, escape_byte}
+use Rattle.serde_json.specs.Data.{Data}
 use Rattle.serde_json.specs.View.{items_of}
 use Rattle.serde_json.specs.Written.{compact_text, items_text}
 use Rattle.mt_names.specs.declared.keys.RuleKey.{RuleKey}
@@ -98,7 +99,7 @@ escape-target target is =
 
 -- ---- a rule, and all of them
 
-regroup : (p a s b : List ℕ) → 123 ∷ (p ++ 58 ∷ (a ++ 44 ∷ (s ++ 58 ∷ ((91 ∷ (b ++ 93 ∷ [])) ++ 125 ∷ [])))) ≡ 123 ∷ (((p ++ 58 ∷ a) ++ 44 ∷ (s ++ 58 ∷ 91 ∷ (b ++ 93 ∷ []))) ++ 125 ∷ [])
+pub regroup : (p a s b : List ℕ) → 123 ∷ (p ++ 58 ∷ (a ++ 44 ∷ (s ++ 58 ∷ ((91 ∷ (b ++ 93 ∷ [])) ++ 125 ∷ [])))) ≡ 123 ∷ (((p ++ 58 ∷ a) ++ 44 ∷ (s ++ 58 ∷ 91 ∷ (b ++ 93 ∷ []))) ++ 125 ∷ [])
 regroup p a s b = simp append_assoc
 
 pub compact_text-rule : (r : RuleKey × RuleTarget) → IsNamed r → compact_text (rule_value r) ≡ rule_text r
@@ -108,12 +109,20 @@ compact_text-rule r named =
     (escape-key r.0 named.key) (escape-target r.1 named.target)
     ∙ regroup (quoted (codes "from_table")) (quoted (key_text r.0)) (quoted (codes "to_tables")) (quoted (target_text r.1))
 
+-- a list of values, each of which has its text
+pub items_text-each : {A : Type 0} (value : A → Data) (text : A → List ℕ) (items : List A) → AllByRecursion (λ a. compact_text (value a) ≡ text a) items
+    → items_text false (items_of (map value items)) ≡ join_with_byte comma (map text items) ++ 93 ∷ []
+items_text-each value text [] each = refl
+items_text-each value text (a ∷ []) each = ap (λ t. t ++ 93 ∷ []) each.0
+items_text-each value text (a ∷ b ∷ more) each =
+    ap₂ (λ t u. t ++ 44 ∷ u) each.0 (items_text-each value text (b ∷ more) each.1) ∙ sym (append_assoc (text a) (44 ∷ join_with_byte comma (map text (b ∷ more))) (93 ∷ []))
+
+rules_text-each : (rs : List (RuleKey × RuleTarget)) → AllByRecursion IsNamed rs → AllByRecursion (λ r. compact_text (rule_value r) ≡ rule_text r) rs
+rules_text-each [] named = tt
+rules_text-each (r ∷ rs) named = (compact_text-rule r named.0, rules_text-each rs named.1)
+
 pub items_text-rules : (rs : List (RuleKey × RuleTarget)) → AllByRecursion IsNamed rs → items_text false (items_of (map rule_value rs)) ≡ join_with_byte comma (map rule_text rs) ++ 93 ∷ []
-items_text-rules [] named = refl
-items_text-rules (r ∷ []) named = ap (λ t. t ++ 93 ∷ []) (compact_text-rule r named.0)
-items_text-rules (r ∷ s ∷ rs) named =
-    ap₂ (λ t u. t ++ 44 ∷ u) (compact_text-rule r named.0) (items_text-rules (s ∷ rs) named.1)
-    ∙ sym (append_assoc (rule_text r) (44 ∷ join_with_byte comma (map rule_text (s ∷ rs))) (93 ∷ []))
+items_text-rules rs named = items_text-each rule_value rule_text rs (rules_text-each rs named)
 
 regroup_document : (p a : List ℕ) → 123 ∷ (p ++ 58 ∷ ((91 ∷ (a ++ 93 ∷ [])) ++ 125 ∷ [])) ≡ 123 ∷ ((p ++ 58 ∷ 91 ∷ (a ++ 93 ∷ [])) ++ 125 ∷ [])
 regroup_document p a = simp append_assoc

@@ -114,10 +114,10 @@ rules_of_text text = option_map_or rules_of_value (value_of_text text) (Err NotJ
 abbrev pub IsUnlessMemory : {A : Type 0} → Result A RulesFault → Result A RulesFault → Type 0
 IsUnlessMemory answer due = (answer ≡ Err Memory) ⊎ (answer ≡ due)
 
--- the same of a call that changes the rules, which are these after it
-abbrev pub answer_with : Rules → Result Unit RulesFault → Result Rules RulesFault
-answer_with rules (Ok done) = Ok rules
-answer_with rules (Err fault) = Err fault
+-- the answer of a call that changes a value, which is this one after it
+abbrev pub answer_with : {A E : Type 0} → A → Result Unit E → Result A E
+answer_with value (Ok done) = Ok value
+answer_with value (Err fault) = Err fault
 
 -- a text behind a reference, or a fault
 abbrev pub result_copied : Result (Bor (List ℕ)) RulesFault → Result (List ℕ) RulesFault

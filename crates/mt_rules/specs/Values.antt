@@ -1,5 +1,5 @@
 -- The rules as a value of `serde_json`, whose text is their document.
-use Rattle.std.specs.Prelude.{◌≡◌, ◌≤◌, ℕ, List, [], ◌∷◌, length, map, fold, flat_map, codes, Some, Ok}
+use Rattle.std.specs.Prelude.{◌≡◌, ◌≢◌, ◌≤◌, ℕ, List, [], ◌∷◌, length, map, fold, flat_map, codes, Some, Ok}
 use Rattle.std.specs.List.{AllByRecursion, IsDistinct}
 use Rattle.std.specs.Map.{keys_of}
 use Rattle.serde_json.specs.Data.{Data, string, array, object, Items, no_items, item, Members, no_members, member}
@@ -39,10 +39,14 @@ Says text rules = (found : Rules) × (rules_of_text text ≡ Ok found) × ((key 
 abbrev pub by_text : Rules → List (List ℕ × (RuleKey × RuleTarget))
 by_text rules = fold put_by_text [] (map (λ r. (key_text r.0, r)) (flat_map entries_of rules))
 
--- members, each a rule under the text of its key
-abbrev pub members_by : List (List ℕ × (RuleKey × RuleTarget)) → Members
-members_by [] = no_members
-members_by (x ∷ xs) = member x.0 (rule_value x.1) (members_by xs)
+-- members, each a value under its text
+abbrev pub members_by : {A : Type 0} → (A → Data) → List (List ℕ × A) → Members
+members_by value [] = no_members
+members_by value (x ∷ xs) = member x.0 (value x.1) (members_by value xs)
+
+-- the text is none of those of the items
+abbrev pub IsApart : {A : Type 0} → List ℕ → List (List ℕ × A) → Type 0
+IsApart text items = AllByRecursion (λ x. text ≢ x.0) items
 
 -- the values of members, as a list
 abbrev pub values_in : Members → Items
@@ -69,5 +73,5 @@ pub record IsWellSorted (rules : Rules) : Type 0 where
 
 -- the members are the rules in their order
 pub record AreInOrder (ms : Members) (rules : Rules) : Type 0 where
-  pub members : ms ≡ members_by (by_text rules)
+  pub members : ms ≡ members_by rule_value (by_text rules)
   pub sorted : IsWellSorted rules

@@ -54,6 +54,6 @@ abbrev pub rules_within : Option Data → Result Rules RulesFault
 rules_within member = option_map_or unless_full (rules_in member) (Err Shape)
 
 -- a map's entries, or a fault
-abbrev pub listed : {K V S : Type 0} → Result (IndexMap K V S) RulesFault → Result (List (K × V)) RulesFault
-listed (Ok places) = Ok places.entries
+abbrev pub listed : {K V S E : Type 0} → Result (IndexMap K V S) E → Result (List (K × V)) E
+listed (Ok map) = Ok map.entries
 listed (Err fault) = Err fault

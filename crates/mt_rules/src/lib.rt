@@ -10,3 +10,4 @@ mod write;
 pub use fault::RulesFault;
 pub use read::value_of_text;
 pub use rules::RoutingRules;
+pub use write::list_of_values;

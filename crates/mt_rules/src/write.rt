@@ -56,8 +56,8 @@ fn values_by_text(
     Ok(values)
 }
 
-/// The values alone, as a list.
-fn list_of(alloc: Global, values: Map<String, Value>) -> Result<Value, AllocError>
+/// The values of an object alone, as a list in its order.
+pub fn list_of_values(alloc: Global, values: Map<String, Value>) -> Result<Value, AllocError>
     ensures { IfOk result (λ list. view list ≡ array (values_in (members_view values.entries))) }
 {
     let mut list = Vec::new(alloc);
@@ -77,7 +77,7 @@ pub fn value_of_rules(
     ensures sorted { OnOk result (IsWellSorted places.now.entries) }
 {
     let values = values_by_text(alloc, places)?;
-    list_of(alloc, values)
+    list_of_values(alloc, values)
 }
 
 /// The document with this list of rules.

@@ -15,6 +15,17 @@ fn insert(key: u64, bytes: &[u8]) -> Op {
     Op::Insert(key, value(bytes))
 }
 
+/// A primary that has these tables.
+fn primary_with(alloc: Global, tables: &[&TableName]) -> Result<Primary, Fail> {
+    let mut primary = Primary::new(alloc);
+    for table in tables {
+        if !primary.has_table(table) {
+            primary.create_table(table)?;
+        }
+    }
+    Ok(primary)
+}
+
 /// The notice that a keyspace denies these tables, or allows them.
 fn notice_of(
     alloc: Global,
@@ -51,11 +62,9 @@ fn a_row_is_written_and_read(rt: HostRuntime) -> Result<(), Fail> {
 
 #[test]
 fn each_refusal_leaves_the_primary(rt: HostRuntime) -> Result<(), Fail> {
-    let mut primary = Primary::new(rt.alloc());
     let customer = TableName::parse("customer")?;
     let orders = TableName::parse("orders")?;
-    assert!(rt; !primary.has_table(&customer));
-    primary.create_table(&customer)?;
+    let mut primary = primary_with(rt.alloc(), &[&customer])?;
     let full = [b'x'; 64];
     primary.write(&customer, insert(7, &full))?;
     for (op, want) in [
@@ -87,11 +96,9 @@ fn each_refusal_leaves_the_primary(rt: HostRuntime) -> Result<(), Fail> {
 
 #[test]
 fn tables_have_rows_of_their_own(rt: HostRuntime) -> Result<(), Fail> {
-    let mut primary = Primary::new(rt.alloc());
     let customer = TableName::parse("customer")?;
     let orders = TableName::parse("orders")?;
-    assert!(rt; !primary.has_table(&customer));
-    primary.create_table(&customer)?;
+    let mut primary = primary_with(rt.alloc(), &[&customer])?;
     primary.write(&customer, insert(1, b"a"))?;
     assert!(rt; !primary.has_table(&orders));
     primary.create_table(&orders)?;
@@ -114,14 +121,10 @@ fn tables_have_rows_of_their_own(rt: HostRuntime) -> Result<(), Fail> {
 
 #[test]
 fn a_refresh_concerns_the_named_tables(rt: HostRuntime) -> Result<(), Fail> {
-    let mut primary = Primary::new(rt.alloc());
     let k = KeyspaceName::parse("k")?;
     let t = TableName::parse("t")?;
     let u = TableName::parse("u")?;
-    assert!(rt; !primary.has_table(&t));
-    primary.create_table(&t)?;
-    assert!(rt; !primary.has_table(&u));
-    primary.create_table(&u)?;
+    let mut primary = primary_with(rt.alloc(), &[&t, &u])?;
     primary.write(&t, insert(1, b"a"))?;
     let notice = notice_of(rt.alloc(), &k, &[(&t, true), (&u, true)])?;
     let before = primary.take_denied(&k, &notice, &[t.copied()]);
@@ -148,15 +151,11 @@ fn a_refresh_concerns_the_named_tables(rt: HostRuntime) -> Result<(), Fail> {
 
 #[test]
 fn an_undo_gives_back_the_named_tables(rt: HostRuntime) -> Result<(), Fail> {
-    let mut primary = Primary::new(rt.alloc());
     let k = KeyspaceName::parse("k")?;
     let other = KeyspaceName::parse("other")?;
     let t = TableName::parse("t")?;
     let u = TableName::parse("u")?;
-    assert!(rt; !primary.has_table(&t));
-    primary.create_table(&t)?;
-    assert!(rt; !primary.has_table(&u));
-    primary.create_table(&u)?;
+    let mut primary = primary_with(rt.alloc(), &[&t, &u])?;
     let both = notice_of(rt.alloc(), &k, &[(&t, true), (&u, true)])?;
     let allowed = notice_of(rt.alloc(), &k, &[(&t, true), (&t, false), (&u, false)])?;
     let elsewhere = notice_of(rt.alloc(), &other, &[(&t, false)])?;
@@ -188,11 +187,9 @@ fn an_undo_gives_back_the_named_tables(rt: HostRuntime) -> Result<(), Fail> {
 
 #[test]
 fn a_denial_is_told_before_the_row(rt: HostRuntime) -> Result<(), Fail> {
-    let mut primary = Primary::new(rt.alloc());
     let k = KeyspaceName::parse("k")?;
     let t = TableName::parse("t")?;
-    assert!(rt; !primary.has_table(&t));
-    primary.create_table(&t)?;
+    let mut primary = primary_with(rt.alloc(), &[&t])?;
     let full = [b'x'; 64];
     primary.write(&t, insert(7, &full))?;
     let notice = notice_of(rt.alloc(), &k, &[(&t, true)])?;

@@ -17,10 +17,11 @@ use Rattle.mt_names.proofs.SameLemmas.{same_text_decides}
 use Rattle.mt_model.specs.Documents.{denied_text, tables_in_order}
 use Rattle.mt_model.specs.Topology.{Keyspaces, KeyspaceState, Marks, is_denied, is_marked, keyspace_at}
 use Rattle.mt_rules.specs.Whole.{unless_fault}
+use Rattle.mt_rules.proofs.KeysLemmas.{none_yet, still_none}
 use Rattle.mt_keyspace.specs.Load.{denials_of, keyspaces_of, state_of, tables_of, with_denial, with_denial_of, with_new_denial, with_new_keyspace, with_new_mark}
 use Rattle.mt_keyspace.specs.Values.{IsNamedKeyspace, keyspace_value}
+use Rattle.mt_keyspace.proofs.GatherLemmas.{or-grouped}
 use Rattle.mt_topology.proofs.OnceLemmas.{of_keyspaces, of_tables}
-use Rattle.mt_topology.proofs.OrderLemmas.{or-three}
 
 -- ---- keyspaces without denials
 
@@ -33,22 +34,6 @@ read_state state = record { tables = read_tables (tables_in_order state); denied
 abbrev pub read_keyspaces : Keyspaces → Keyspaces
 read_keyspaces ks = map (λ k. (k.0, read_state k.1)) ks
 
-still_none : {V : Type 0} (es : List (List ℕ × V)) (n : List ℕ) (v : V) (names : List (List ℕ)) → AllByRecursion (λ m. lookup (same_text m) es ≡ None) names → AllByRecursion (λ m. same_text n m ≡ false) names
-    → AllByRecursion (λ m. lookup (same_text m) (es ++ (n, v) ∷ []) ≡ None) names
-still_none es n v [] lacks other = tt
-still_none es n v (m ∷ names) lacks other = (
-  lookup-push_elsewhere same_text same_text_decides es n m v (λ e. true≢false (sym ((same_text_decides n m).1 e) ∙ other.0)) ∙ lacks.0,
-  still_none es n v names lacks.1 other.1,
-)
-
-no_marks : (names : List (List ℕ)) → AllByRecursion (λ m. lookup {X = Bool} (same_text m) [] ≡ None) names
-no_marks [] = tt
-no_marks (n ∷ names) = (refl, no_marks names)
-
-pub no_keyspaces : (names : List (List ℕ)) → AllByRecursion (λ m. keyspace_at [] m ≡ None) names
-no_keyspaces [] = tt
-no_keyspaces (n ∷ names) = (refl, no_keyspaces names)
-
 tables_back : (marks : Marks) (tables : List (List ℕ)) → AllByRecursion IsTableName tables → AllByRecursion (λ m. lookup (same_text m) marks ≡ None) tables → IsDistinct same_text tables
     → tables_of marks (items_of (map string tables)) ≡ Some (marks ++ read_tables tables)
 unfolding IsDistinct
@@ -57,11 +42,11 @@ tables_back marks (n ∷ tables) named lacks distinct =
     let rest = items_of (map string tables) in
     ap (λ r. option_and_then (λ more. tables_of more rest) (option_and_then (with_new_mark marks) (unless_fault r))) (read_name-name WithDollar n named.0)
     ∙ ap (λ o. option_and_then (λ more. tables_of more rest) (if is_some o then None else Some (marks ++ (n, true) ∷ []))) lacks.0
-    ∙ tables_back (marks ++ (n, true) ∷ []) tables named.1 (still_none marks n true tables lacks.1 distinct.0) distinct.1
+    ∙ tables_back (marks ++ (n, true) ∷ []) tables named.1 (still_none same_text same_text_decides marks n true tables lacks.1 distinct.0) distinct.1
     ∙ ap Some (append_assoc marks ((n, true) ∷ []) (read_tables tables))
 
 state_back : (k : List ℕ × KeyspaceState) → IsNamedKeyspace k → IsDistinct same_text (tables_in_order k.1) → state_of (keyspace_value k) ≡ Some (read_state k.1)
-state_back k named distinct = ap (option_map (λ tables. record { tables = tables; denied = [] })) (tables_back [] (tables_in_order k.1) named.tables (no_marks (tables_in_order k.1)) distinct)
+state_back k named distinct = ap (option_map (λ tables. record { tables = tables; denied = [] })) (tables_back [] (tables_in_order k.1) named.tables (none_yet Bool same_text (tables_in_order k.1)) distinct)
 
 pub keyspaces_back : (before ks : Keyspaces) → AllByRecursion IsNamedKeyspace ks → AllByRecursion (λ k. IsDistinct same_text (tables_in_order k.1)) ks → AllByRecursion (λ n. keyspace_at before n ≡ None) (keys_of ks) → IsDistinct same_text (keys_of ks)
     → keyspaces_of before (items_of (map keyspace_value ks)) ≡ Some (before ++ read_keyspaces ks)
@@ -73,7 +58,7 @@ keyspaces_back before (k ∷ ks) named tables lacks distinct =
     ap (λ r. option_and_then (λ m. keyspaces_of m rest) (option_and_then (λ name. option_and_then (with_new_keyspace before name) (state_of (keyspace_value k))) (unless_fault r))) (read_name-name Plain k.0 named.0.name)
     ∙ ap (λ s. option_and_then (λ m. keyspaces_of m rest) (option_and_then (with_new_keyspace before k.0) s)) (state_back k named.0 tables.0)
     ∙ ap (λ o. option_and_then (λ m. keyspaces_of m rest) (if is_some o then None else Some more)) lacks.0
-    ∙ keyspaces_back more ks named.1 tables.1 (still_none before k.0 (read_state k.1) (keys_of ks) lacks.1 distinct.0) distinct.1
+    ∙ keyspaces_back more ks named.1 tables.1 (still_none same_text same_text_decides before k.0 (read_state k.1) (keys_of ks) lacks.1 distinct.0) distinct.1
     ∙ ap Some (append_assoc before ((k.0, read_state k.1) ∷ []) (read_keyspaces ks))
 
 -- ---- one denial more
@@ -217,5 +202,5 @@ denials_back ks (text ∷ texts) ready distinct =
       reads = ap (λ o. option_and_then (λ more. denials_of more (items_of (map string texts))) o) (one_denial ks text r) ∙ rest.reads;
       tables = rest.tables ∙ tables_stay (same_text r.target.keyspace) ks (with_denied r.state r.target.table) r.state refl r.found;
       denied = λ k u named. rest.denied k u named ∙ ap (λ b. list_any (same_text (denied_text k u)) texts || b) (denied_more ks text r k u named)
-          ∙ or-three (list_any (same_text (denied_text k u)) texts) (same_text (denied_text k u) text) (is_denied ks k u);
+          ∙ sym (or-grouped (same_text (denied_text k u) text) (list_any (same_text (denied_text k u)) texts) (is_denied ks k u));
     }

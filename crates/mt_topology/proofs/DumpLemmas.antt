@@ -4,18 +4,17 @@ use Rattle.std.specs.Fmt.{digits}
 use Rattle.std.specs.List.{AllByRecursion, join_with_byte}
 use Rattle.std.specs.Prelude.{decimal}
 use Rattle.json.specs.Print.{escape, escape_byte}
-use Rattle.serde_json.specs.Data.{Data, string}
+use Rattle.serde_json.specs.Data.{string}
 use Rattle.serde_json.specs.View.{items_of}
 use Rattle.serde_json.specs.Written.{compact_text, items_text, has_float, items_have_float}
-use Rattle.mt_names.specs.declared.keys.RuleKey.{RuleKey}
-use Rattle.mt_names.specs.declared.keys.RuleTarget.{RuleTarget}
 use Rattle.mt_names.specs.declared.text.Alphabet.TheVariants.{Plain, WithDollar}
 use Rattle.mt_names.specs.Names.{IsTableName}
 use Rattle.mt_names.specs.Types.{comma}
 use Rattle.mt_model.specs.Topology.{KeyspaceState, TopologyState}
 use Rattle.mt_rules.specs.Values.{rule_value}
 use Rattle.mt_model.specs.Documents.{quoted, rule_text, sorted_rules}
-use Rattle.mt_rules.proofs.TextLemmas.{escape-name, escape-target, items_text-rules}
+use Rattle.mt_rules.proofs.BackLemmas.{no_float_rules}
+use Rattle.mt_rules.proofs.TextLemmas.{escape-name, escape-target, items_text-each, items_text-rules, regroup}
 use Rattle.mt_keyspace.specs.Values.{IsDenialText, IsNamedKeyspace, keyspace_value}
 use Rattle.mt_topology.specs.Values.{IsNamedTopology, dump_value}
 use Rattle.mt_model.specs.Documents.{document_text, keyspace_text, keyspaces_in_order, tables_in_order}
@@ -31,21 +30,10 @@ no_float_keyspaces : (ks : List (List ℕ × KeyspaceState)) → items_have_floa
 no_float_keyspaces [] = refl
 no_float_keyspaces (k ∷ ks) = rw (no_float_texts (tables_in_order k.1)) (no_float_keyspaces ks)
 
-no_float_rules : (rs : List (RuleKey × RuleTarget)) → items_have_float (items_of (map rule_value rs)) ≡ false
-no_float_rules [] = refl
-no_float_rules (r ∷ rs) = no_float_rules rs
-
 pub no_float : (t : TopologyState) → has_float (dump_value t) ≡ false
 no_float t = rw (no_float_texts (denied_in_order t), no_float_keyspaces (keyspaces_in_order t), no_float_rules (sorted_rules t.rules)) refl
 
 -- ---- lists
-
-items_text-each : {A : Type 0} (value : A → Data) (text : A → List ℕ) (items : List A) → AllByRecursion (λ a. compact_text (value a) ≡ text a) items
-    → items_text false (items_of (map value items)) ≡ join_with_byte comma (map text items) ++ 93 ∷ []
-items_text-each value text [] each = refl
-items_text-each value text (a ∷ []) each = ap (λ t. t ++ 93 ∷ []) each.0
-items_text-each value text (a ∷ b ∷ more) each =
-    ap₂ (λ t u. t ++ 44 ∷ u) each.0 (items_text-each value text (b ∷ more) each.1) ∙ sym (append_assoc (text a) (44 ∷ join_with_byte comma (map text (b ∷ more))) (93 ∷ []))
 
 compact_text-text : (text : List ℕ) → escape text ≡ text → compact_text (string text) ≡ quoted text
 compact_text-text text is = ap (λ x. 34 ∷ (x ++ 34 ∷ [])) is
@@ -59,9 +47,6 @@ denials_text [] named = tt
 denials_text (t ∷ ts) named = (compact_text-text t (ap escape named.0.2 ∙ escape-target named.0.0 named.0.1 ∙ sym named.0.2), denials_text ts named.1)
 
 -- ---- a keyspace
-
-regroup : (p a s b : List ℕ) → 123 ∷ (p ++ 58 ∷ (a ++ 44 ∷ (s ++ 58 ∷ ((91 ∷ (b ++ 93 ∷ [])) ++ 125 ∷ [])))) ≡ 123 ∷ (((p ++ 58 ∷ a) ++ 44 ∷ (s ++ 58 ∷ 91 ∷ (b ++ 93 ∷ []))) ++ 125 ∷ [])
-regroup p a s b = simp append_assoc
 
 compact_text-keyspace : (k : List ℕ × KeyspaceState) → IsNamedKeyspace k → compact_text (keyspace_value k) ≡ keyspace_text k
 unfolding escape_byte

@@ -19,6 +19,12 @@ Edits-keeps P old made new refusal grows (Err Exists) makes holds e = subst P (s
 Edits-keeps P old made new refusal grows (Err Full) makes holds e = subst P (sym e.1) holds
 Edits-keeps P old made new refusal grows (Err BadDump) makes holds e = subst P (sym e.1) holds
 
+-- keyspaces that became others, as many
+pub keyspaces_changed : (t : TopologyState) (made new : Keyspaces) → HasDistinctPlaces (record t { keyspaces = made }) → length t.keyspaces ≤ most_keyspaces → new ≡ made → length new ≡ length t.keyspaces
+    → HasDistinctPlaces (record t { keyspaces = new }) × (length new ≤ most_keyspaces)
+keyspaces_changed t made new distinct within is as_many =
+    (subst (λ keyspaces. HasDistinctPlaces (record t { keyspaces = keyspaces })) (sym is) distinct, subst (λ n. n ≤ most_keyspaces) (sym as_many) within)
+
 -- where a keyspace is not refused there is none of its name, and room for one
 room_for : (keyspaces : Keyspaces) (name : List ℕ) → add_keyspace_refusal keyspaces name ≡ None → (keyspace_at keyspaces name ≡ None) × ((length keyspaces == most_keyspaces) ≡ false)
 room_for keyspaces name free = by (keyspace_at keyspaces name) refl (length keyspaces == most_keyspaces) refl

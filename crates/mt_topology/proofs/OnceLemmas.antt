@@ -1,5 +1,6 @@
 -- No text of a denied table stands twice, so that to put each once is to sort them.
 use Rattle.std.proofs.Common.{◌≡◌, ℕ, if◌then◌else◌, Bool, true, false, List, [], ◌∷◌, ◌++◌, map, flat_map, refl, sym, ap, subst, ◌∙◌}
+use Rattle.std.proofs.lemmas.Cmp.{nat_list_eq_equiv}
 use Rattle.std.proofs.lemmas.List.{append_cancel_left}
 use Rattle.std.proofs.lemmas.List.Elements.{recursion_from_All}
 use Rattle.std.proofs.lemmas.Map.Made.{IsDistinct-keys_filter}
@@ -14,13 +15,14 @@ use Rattle.mt_names.proofs.KeyLemmas.{name_lacks}
 use Rattle.mt_names.proofs.SameLemmas.{same_text_decides}
 use Rattle.mt_model.specs.Topology.{HasDistinctPlaces, Keyspaces, Marks, TopologyState}
 use Rattle.mt_model.specs.Documents.{comes_before, put_by_text}
+use Rattle.mt_rules.proofs.PutLemmas.{none_apart}
 use Rattle.mt_keyspace.specs.Values.{IsNamedKeyspace, by_name, by_themselves}
 use Rattle.mt_topology.specs.Values.{IsNamedTopology}
 use Rattle.mt_model.specs.Documents.{denied_sorted, denied_text, denied_texts, marked, sorted_texts}
 use Rattle.mt_keyspace.specs.Written.{denied_in_order, put_once}
 use Rattle.mt_keyspace.proofs.GatherLemmas.{all-put_once}
-use Rattle.mt_keyspace.proofs.LoadLemmas.{turned_text}
-use Rattle.mt_keyspace.proofs.SortLemmas.{marked-members}
+use Rattle.mt_keyspace.proofs.LoadLemmas.{all-append}
+use Rattle.mt_keyspace.proofs.SortLemmas.{marked-members, themselves}
 
 abbrev Differs : List ℕ → List (List ℕ) → Type 0
 Differs x ys = AllByRecursion (λ y. same_text x y ≡ false) ys
@@ -37,7 +39,7 @@ put_once-apart (y ∷ ys) x other = by (put_once-apart ys x other.1) (comes_befo
 
 stays : (x : List ℕ) (found left : List (List ℕ)) → Differs x left → AllByRecursion (λ z. Differs z found) left → AllByRecursion (λ z. Differs z (put_once found x)) left
 stays x found [] other all = tt
-stays x found (z ∷ left) other all = (all-put_once (λ y. same_text z y ≡ false) found x (turned_text z x ∙ other.0) all.0, stays x found left other.1 all.1)
+stays x found (z ∷ left) other all = (all-put_once (λ y. same_text z y ≡ false) found x (nat_list_eq_equiv.symm z x ∙ other.0) all.0, stays x found left other.1 all.1)
 
 fold-once : (found left : List (List ℕ)) → AllByRecursion (λ z. Differs z found) left → IsDistinct same_text left
     → by_themselves (fold put_once found left) ≡ fold put_by_text (by_themselves found) (by_themselves left)
@@ -46,16 +48,8 @@ fold-once found [] all distinct = refl
 fold-once found (x ∷ left) all distinct =
     fold-once (put_once found x) left (stays x found left distinct.0 all.1) distinct.1 ∙ ap (λ l. fold put_by_text l (by_themselves left)) (put_once-apart found x all.0)
 
-from-none : (left : List (List ℕ)) → AllByRecursion (λ z. Differs z []) left
-from-none [] = tt
-from-none (z ∷ left) = (tt, from-none left)
-
-seconds : (xs : List (List ℕ)) → map (λ x. x.1) (by_themselves xs) ≡ xs
-seconds [] = refl
-seconds (x ∷ xs) = ap (λ l. x ∷ l) (seconds xs)
-
 once-sorted : (xs : List (List ℕ)) → IsDistinct same_text xs → fold put_once [] xs ≡ sorted_texts xs
-once-sorted xs distinct = sym (seconds (fold put_once [] xs)) ∙ ap (map (λ x. x.1)) (fold-once [] xs (from-none xs) distinct)
+once-sorted xs distinct = sym (themselves (fold put_once [] xs)) ∙ ap (map (λ x. x.1)) (fold-once [] xs (none_apart (λ z y. same_text z y ≡ false) xs) distinct)
 
 -- ---- texts of different tables differ
 
@@ -82,10 +76,6 @@ tables_differ k (t ∷ ts) distinct = (each ts distinct.0, tables_differ k ts di
     each : (us : List (List ℕ)) → Differs t us → Differs (denied_text k t) (map (denied_text k) us)
     each [] other = tt
     each (u ∷ us) other = (of_tables k t u other.0, each us other.1)
-
-all-append : {A : Type 0} (P : A → Type 0) (xs ys : List A) → AllByRecursion P xs → AllByRecursion P ys → AllByRecursion P (xs ++ ys)
-all-append P [] ys one two = two
-all-append P (x ∷ xs) ys one two = (one.0, all-append P xs ys one.1 two)
 
 cross : (k t : List ℕ) → IsKeyspaceName k → (ks : Keyspaces) → AllByRecursion (λ j. same_text k j ≡ false) (keys_of ks) → AllByRecursion (λ l. IsKeyspaceName l.0) ks → Differs (denied_text k t) (flat_map denied_texts ks)
 cross k t named [] other names = tt

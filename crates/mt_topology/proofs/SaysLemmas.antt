@@ -1,7 +1,9 @@
 -- What is dumped is loaded again.
-use Rattle.std.proofs.Common.{◌≡◌, ◌≤◌, ℕ, suc, max, ◌||◌, nat_lt, Bool, true, false, if◌then◌else◌, List, [], ◌∷◌, ◌++◌, map, flat_map, fold, length, Option, None, Some, is_some, option_map, option_and_then, Ok, Err, IsUtf8, refl, sym, ap, subst, ◌∙◌, arith}
+use Rattle.std.proofs.Common.{◌≡◌, ◌≤◌, ℕ, suc, max, ◌||◌, nat_lt, Bool, true, false, if◌then◌else◌, List, [], ◌∷◌, map, flat_map, fold, length, Option, None, Some, is_some, option_map, option_and_then, Ok, Err, IsUtf8, refl, sym, ap, subst, ◌∙◌, arith}
 use Rattle.std.proofs.lemmas.Bool.{true≢false, le-ltb}
+use Rattle.std.proofs.lemmas.List.{length-map}
 use Rattle.std.proofs.lemmas.List.Elements.{recursion_from_All}
+use Rattle.std.proofs.lemmas.List.Folds.{list_any-append}
 use Rattle.std.proofs.lemmas.Map.Made.{lookup-map_values}
 use Rattle.std.proofs.Math.Nat.{max-le}
 use Rattle.std.specs.List.{AllByRecursion, IsDistinct, list_any}
@@ -25,15 +27,17 @@ use Rattle.mt_model.specs.Topology.{HasDistinctPlaces, Keyspaces, KeyspaceState,
 use Rattle.mt_model.proofs.TopologyLemmas.{found_at, tables_distinct}
 use Rattle.mt_rules.specs.Values.{ruled, rule_value}
 use Rattle.mt_rules.proofs.BackLemmas.{not_deep, rules_read_back}
+use Rattle.mt_rules.proofs.KeysLemmas.{none_yet}
 use Rattle.mt_rules.proofs.ReadLemmas.{value_of_text-some}
 use Rattle.mt_keyspace.specs.Load.{denials_of, has_too_many_tables, keyspaces_in}
 use Rattle.mt_keyspace.specs.Values.{IsDenialText, IsNamedKeyspace, by_name, keyspace_value}
 use Rattle.mt_keyspace.specs.Written.{denied_in_order}
+use Rattle.mt_keyspace.proofs.GatherLemmas.{or-false, or-true}
 use Rattle.mt_keyspace.proofs.SortLemmas.{marked-found}
 use Rattle.mt_topology.specs.Dump.{is_too_large, whole_topology, within_limits}
 use Rattle.mt_topology.specs.Says.{HasDeniedTables, Says}
 use Rattle.mt_topology.specs.Values.{IsNamedTopology, dump_value}
-use Rattle.mt_topology.proofs.BackLemmas.{Denies, IsReady, same_denial, denials_back, keyspaces_back, no_keyspaces, read_keyspaces, read_state, read_tables, tables_alone}
+use Rattle.mt_topology.proofs.BackLemmas.{Denies, IsReady, same_denial, denials_back, keyspaces_back, read_keyspaces, read_state, read_tables, tables_alone}
 use Rattle.mt_topology.proofs.OnceLemmas.{denied_once, marked_distinct, of_keyspaces, of_pairs, names_of, texts_differ, unsorted}
 use Rattle.mt_topology.proofs.OrderLemmas.{all-ordered, any-sorted, distinct-ordered, distinct-sorted, keyspace_at-ordered, length-ordered, length-sorted}
 
@@ -65,18 +69,6 @@ not_deep_dump t =
 
 -- ---- what stands among the denied texts
 
-any-append : (test : List ℕ → Bool) (xs ys : List (List ℕ)) → list_any test (xs ++ ys) ≡ (list_any test xs || list_any test ys)
-any-append test [] ys = refl
-any-append test (x ∷ xs) ys = ap (λ b. test x || b) (any-append test xs ys) ∙ grouped (test x) (list_any test xs) (list_any test ys)
-  where
-    grouped : (a b c : Bool) → (a || (b || c)) ≡ ((a || b) || c)
-    grouped true b c = refl
-    grouped false b c = refl
-
-or-false : (b : Bool) → (b || false) ≡ b
-or-false true = refl
-or-false false = refl
-
 in_own : (k u : List ℕ) (tables : List (List ℕ)) → list_any (same_text (denied_text k u)) (map (denied_text k) tables) ≡ list_any (same_text u) tables
 in_own k u [] = refl
 in_own k u (t ∷ ts) = ap (λ b. b || list_any (same_text (denied_text k u)) (map (denied_text k) ts)) (same_denial k u t) ∙ ap (λ b. same_text u t || b) (in_own k u ts)
@@ -90,7 +82,7 @@ denied_listed : (k u : List ℕ) → IsKeyspaceName k → (ks : Keyspaces) → I
 unfolding IsDistinct
 denied_listed k u named [] distinct denied names = refl
 denied_listed k u named (l ∷ ls) distinct denied names =
-    any-append (same_text (denied_text k u)) (denied_texts l) (flat_map denied_texts ls) ∙ by (denied_listed k u named ls distinct.1 denied.1 names.1) (same_text k l.0) refl
+    list_any-append (same_text (denied_text k u)) (denied_texts l) (flat_map denied_texts ls) ∙ by (denied_listed k u named ls distinct.1 denied.1 names.1) (same_text k l.0) refl
   where
     by : list_any (same_text (denied_text k u)) (flat_map denied_texts ls) ≡ is_denied ls k u → (t : Bool) → same_text k l.0 ≡ t
         → (list_any (same_text (denied_text k u)) (denied_texts l) || list_any (same_text (denied_text k u)) (flat_map denied_texts ls)) ≡ is_denied (l ∷ ls) k u
@@ -192,10 +184,6 @@ module _ (t : TopologyState) (distinct : HasDistinctPlaces t) (names : AllByRecu
     one_ready x named.0 (among x (ap (λ b. b || list_any (same_text x) xs) (same_itself same_text same_text_decides x))),
     each_ready xs named.1 (λ text later. among text (ap (λ b. same_text text x || b) later ∙ or-true (same_text text x))),
   )
-    where
-      or-true : (b : Bool) → (b || true) ≡ true
-      or-true true = refl
-      or-true false = refl
 
   -- ---- and what they make
 
@@ -245,22 +233,6 @@ marked_short (m ∷ ms) = by (marked_short ms) m.1 refl
     by again true b = rw b (omega (arith, again))
     by again false b = rw b (omega (arith, again))
 
-length-read : (tables : List (List ℕ)) → length (read_tables tables) ≡ length tables
-length-read [] = refl
-length-read (t ∷ ts) = ap suc (length-read ts)
-
-length-ruled : (rs : List (RuleKey × RuleTarget)) → length (ruled rs) ≡ length rs
-length-ruled [] = refl
-length-ruled (r ∷ rs) = ap suc (length-ruled rs)
-
-length-keyspaces : (ks : Keyspaces) → length (read_keyspaces ks) ≡ length ks
-length-keyspaces [] = refl
-length-keyspaces (k ∷ ks) = ap suc (length-keyspaces ks)
-
-length-alone : (ks : Keyspaces) → length (tables_alone ks) ≡ length ks
-length-alone [] = refl
-length-alone (k ∷ ks) = ap suc (length-alone ks)
-
 many_alone : (ks : Keyspaces) → list_any has_too_many_tables ks ≡ list_any (λ e. nat_lt most_tables_in_keyspace (length e.1)) (tables_alone ks)
 many_alone [] = refl
 many_alone (k ∷ ks) = ap (λ b. has_too_many_tables k || b) (many_alone ks)
@@ -271,7 +243,7 @@ few_read (k ∷ ks) named =
     let few = named.0.few in
     let short = marked_short k.1.tables in
     let sorted = length-sorted (marked k.1.tables) in
-    let same = length-read (tables_in_order k.1) in
+    let same : length (read_tables (tables_in_order k.1)) ≡ length (tables_in_order k.1) = length-map (tables_in_order k.1) (λ table. (table, true)) in
     rw (le-ltb most_tables_in_keyspace (length (read_tables (tables_in_order k.1))) (omega (arith, few, short, sorted, same))) (few_read ks named.1)
 
 small : (t : TopologyState) → IsNamedTopology t → length t.keyspaces ≤ most_keyspaces → (new : Keyspaces) → tables_alone new ≡ tables_alone (read_keyspaces (keyspaces_in_order t))
@@ -279,11 +251,11 @@ small : (t : TopologyState) → IsNamedTopology t → length t.keyspaces ≤ mos
 small t named within new same =
     let rules_few = named.few in
     let rules_short = named.rules.few in
-    let rules_same = length-ruled (sorted_rules t.rules) in
+    let rules_same : length (ruled (sorted_rules t.rules)) ≡ length (sorted_rules t.rules) = length-map (sorted_rules t.rules) (λ r. (r.0, Some r.1)) in
     let ordered = length-ordered t in
-    let read_same = length-keyspaces (keyspaces_in_order t) in
-    let alone_read = length-alone (read_keyspaces (keyspaces_in_order t)) in
-    let alone_new = length-alone new in
+    let read_same : length (read_keyspaces (keyspaces_in_order t)) ≡ length (keyspaces_in_order t) = length-map (keyspaces_in_order t) (λ k. (k.0, read_state k.1)) in
+    let alone_read : length (tables_alone (read_keyspaces (keyspaces_in_order t))) ≡ length (read_keyspaces (keyspaces_in_order t)) = length-map (read_keyspaces (keyspaces_in_order t)) (λ k. (k.0, k.1.tables)) in
+    let alone_new : length (tables_alone new) ≡ length new = length-map new (λ k. (k.0, k.1.tables)) in
     let alone = ap length same in
     let no_rules : nat_lt most_rules (length (ruled (sorted_rules t.rules))) ≡ false = le-ltb most_rules (length (ruled (sorted_rules t.rules))) (omega (arith, rules_few, rules_short, rules_same)) in
     let no_keyspace : nat_lt most_keyspaces (length new) ≡ false = le-ltb most_keyspaces (length new) (omega (arith, within, ordered, read_same, alone_read, alone_new, alone)) in
@@ -313,7 +285,7 @@ keyspaces_read t distinct named made =
     ap (λ o. option_and_then (λ ks. denials_of ks (items_of (map string (denied_in_order t)))) o)
     (keyspaces_back [] (keyspaces_in_order t) named.keyspaces
     (all-ordered (λ k. IsDistinct same_text (tables_in_order k.1)) t (tables_of_each t.keyspaces (recursion_from_All (λ k. IsDistinct same_text (keys_of k.1.tables)) t.keyspaces distinct.tables)))
-    (no_keyspaces (keys_of (keyspaces_in_order t))) (distinct-ordered t distinct.keyspaces))
+    (none_yet KeyspaceState same_text (keys_of (keyspaces_in_order t))) (distinct-ordered t distinct.keyspaces))
     ∙ ap (λ texts. denials_of (read_keyspaces (keyspaces_in_order t)) (items_of (map string texts))) (denied_once t distinct named)
     ∙ made.reads
 

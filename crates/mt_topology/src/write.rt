@@ -8,7 +8,7 @@ ghost use Rattle.mt_names.specs.Names.{IsTableName, same_text};
 ghost use Rattle.mt_names.specs.Keys.{target_text};
 ghost use Rattle.mt_model.specs.Limits.{most_keyspaces, most_rules};
 ghost use Rattle.mt_model.specs.Topology.{HasDistinctPlaces, Marks};
-ghost use Rattle.mt_rules.specs.Values.{IsWellSorted, rules_value, values_in};
+ghost use Rattle.mt_rules.specs.Values.{IsWellSorted, rules_value};
 ghost use Rattle.mt_keyspace.specs.Values.{Gathers, IsDenialText, IsNamedKeyspace, IsSortedList, Sorts, by_name, by_themselves, keyspace_value, texts_value};
 ghost use Rattle.mt_topology.specs.Says.{HasDeniedTables, Says};
 ghost use Rattle.mt_topology.specs.Values.{IsNamedTopology, dump_value, parts_value};

@@ -1,10 +1,10 @@
 -- A place more is another.
-use Rattle.std.proofs.Common.{◌≤◌, subst, sym}
+use Rattle.std.proofs.Common.{refl}
 use Rattle.mt_model.specs.declared.entries.EntryKey.TheVariants as about
-use Rattle.mt_model.specs.Limits.{most_keyspaces}
 use Rattle.mt_model.specs.Part.{with_place}
 use Rattle.mt_model.specs.Topology.{TopologyState, HasDistinctPlaces}
 use Rattle.mt_model.proofs.PlaceLemmas.{distinct-with_place}
+use Rattle.mt_topology.proofs.InvariantLemmas.{keyspaces_changed}
 use Rattle.mt_topology.proofs.ReserveLemmas.{kept_if}
 use Rattle.mt_topology.proofs.topology.Topology.make_place.Goals as goal
 
@@ -19,15 +19,15 @@ invariant_of-self c =
 pub invariant_of-self-in-Denied : goal.invariant_of-self-in-Denied
 invariant_of-self-in-Denied c =
     let t : TopologyState = record { rules = c.self.inside.rules; keyspaces = c.self.inside.keyspaces.entries } in
-    let key = about.Denied c.in-Denied.keyspace c.in-Denied.table in (
-      kept_if (λ keyspaces. HasDistinctPlaces (record t { keyspaces = keyspaces })) c.reserve_denial.result (with_place t key).keyspaces t.keyspaces c.reserve_denial.new.keyspaces.entries (distinct-with_place t key c.self.invariant.0) c.self.invariant.0 c.reserve_denial.ensures.places,
-      subst (λ n. n ≤ most_keyspaces) (sym c.reserve_denial.ensures.len) c.self.invariant.1,
-    )
+    let key = about.Denied c.in-Denied.keyspace c.in-Denied.table in
+    keyspaces_changed t c.reserve_denial.new.keyspaces.entries c.reserve_denial.new.keyspaces.entries
+    (kept_if (λ keyspaces. HasDistinctPlaces (record t { keyspaces = keyspaces })) c.reserve_denial.result (with_place t key).keyspaces t.keyspaces c.reserve_denial.new.keyspaces.entries (distinct-with_place t key c.self.invariant.0) c.self.invariant.0 c.reserve_denial.ensures.places)
+    c.self.invariant.1 refl c.reserve_denial.ensures.len
 
 pub invariant_of-self-in-Present : goal.invariant_of-self-in-Present
 invariant_of-self-in-Present c =
     let t : TopologyState = record { rules = c.self.inside.rules; keyspaces = c.self.inside.keyspaces.entries } in
-    let key = about.Present c.in-Present.keyspace c.in-Present.table in (
-      kept_if (λ keyspaces. HasDistinctPlaces (record t { keyspaces = keyspaces })) c.reserve_table.result (with_place t key).keyspaces t.keyspaces c.reserve_table.new.keyspaces.entries (distinct-with_place t key c.self.invariant.0) c.self.invariant.0 c.reserve_table.ensures.places,
-      subst (λ n. n ≤ most_keyspaces) (sym c.reserve_table.ensures.len) c.self.invariant.1,
-    )
+    let key = about.Present c.in-Present.keyspace c.in-Present.table in
+    keyspaces_changed t c.reserve_table.new.keyspaces.entries c.reserve_table.new.keyspaces.entries
+    (kept_if (λ keyspaces. HasDistinctPlaces (record t { keyspaces = keyspaces })) c.reserve_table.result (with_place t key).keyspaces t.keyspaces c.reserve_table.new.keyspaces.entries (distinct-with_place t key c.self.invariant.0) c.self.invariant.0 c.reserve_table.ensures.places)
+    c.self.invariant.1 refl c.reserve_table.ensures.len
