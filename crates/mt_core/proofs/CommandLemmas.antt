@@ -1,5 +1,6 @@
 -- Each command as an event, and what holds of the core after it.
 use Rattle.std.proofs.Common.{◌≡◌, ◌≢◌, ℕ, Bool, true, false, List, [], ◌∷◌, ◌++◌, length, Option, None, Some, Result, refl, sym, ap, ◌∙◌, subst, arith, ⊎_elim, is_some, length-append}
+use Rattle.mt_names.proofs.SameLemmas.{same_text_decides}
 use Rattle.std.proofs.lemmas.Map.{length-set_value}
 use Rattle.std.specs.Map.{set_value}
 use Rattle.std.specs.Option.{option_map_or}
@@ -13,6 +14,8 @@ use Rattle.mt_model.specs.declared.entries.Entry.TheVariants as entry
 use Rattle.mt_model.specs.declared.entries.EntryKey.{EntryKey}
 use Rattle.mt_model.specs.declared.entries.EntryKey.TheVariants as about
 use Rattle.mt_model.specs.Topology.{KeyspaceState, Keyspaces, TopologyState, is_marked, is_present, keyspace_at, with_keyspace, with_keyspace_state, with_new_table, with_table}
+use Rattle.mt_model.proofs.PartLemmas.{table_of}
+use Rattle.mt_model.proofs.PlaceLemmas.{keyspace_at-stays}
 use Rattle.mt_model.proofs.TopologyLemmas.{value_of-with_keyspace, value_of-with_table_elsewhere, value_of-with_table_here}
 use Rattle.mt_topology.specs.Edits.{add_keyspace_refusal, add_table_refusal, edit_rule_grows, edit_rule_refusal}
 use Rattle.mt_primary.specs.Primary.{PrimaryState, empty_primary, has_table}
@@ -20,8 +23,8 @@ use Rattle.mt_plain.specs.Events.{add_keyspace, add_table, edit_rule}
 use Rattle.mt_laws.specs.Numbers.{calm}
 use Rattle.mt_core.specs.Commands.{AddsKeyspace, AddsTable, EditsRule, MakesKeyspace, MakesRule, MakesTable, Steps}
 use Rattle.mt_core.specs.Core.{CoreState, IsCore, IsWithinLimits, primary_at, primary_of}
-use Rattle.mt_names.proofs.EntryLemmas.{is_some-set_value, none_from}
-use Rattle.mt_core.proofs.CoreLemmas.{is_some-push_both, primary_of-found, primary_of-push, primary_of-set_elsewhere, primary_of-set_here, same_name}
+use Rattle.mt_names.proofs.EntryLemmas.{is_some-set_value, none_from, same_or_other}
+use Rattle.mt_core.proofs.CoreLemmas.{changed_elsewhere, changed_now, changed_was, is_some-push_both, primary_of-push}
 use Rattle.mt_core.proofs.RefusalLemmas.{none_told}
 use Rattle.mt_core.proofs.LimitLemmas.{within-keyspace, within-rule, within-table}
 use Rattle.mt_core.proofs.StepLemmas.{does_keeps, does_step, free_name, keyspace_making, keyspace_refusing, no_primary, rule_growing, rule_making, rule_refusing, steps_from_calm, table_making, table_refusing}
@@ -31,14 +34,10 @@ abbrev pub mark_of : Entry → Bool
 mark_of (entry.Present keyspace table mark) = mark
 mark_of other = false
 
--- the names of a table's entry
+-- the keyspace of a table's entry
 abbrev pub keyspace_of : EntryKey → List ℕ
 keyspace_of (about.Present keyspace table) = keyspace
 keyspace_of other = []
-
-abbrev pub table_of : EntryKey → List ℕ
-table_of (about.Present keyspace table) = table
-table_of other = []
 
 -- ---- a keyspace more
 
@@ -95,13 +94,6 @@ table_steps old new keyspace table result is did = steps_from_calm old new (add_
     does_step (calm p) old (add_table keyspace table) (add_table_refusal old.topology.keyspaces keyspace table) true (MakesTable old keyspace table) refl (λ e. refl) refusing stands
     (λ s none. table_making p old keyspace table is stands s none (table_absent old keyspace table is (none_told (add_table_refusal old.topology.keyspaces keyspace table) (sym refusing ∙ none))).2) result new did)
 
-is_some-changed : (change : KeyspaceState → KeyspaceState) (keyspaces : Keyspaces) (name other : List ℕ) → is_some (keyspace_at (with_keyspace_state change keyspaces name) other) ≡ is_some (keyspace_at keyspaces other)
-is_some-changed change keyspaces name other = by (keyspace_at keyspaces name)
-  where
-    by : (o : Option KeyspaceState) → is_some (keyspace_at (option_map_or (λ state. set_value (same_text name) keyspaces (change state)) o keyspaces) other) ≡ is_some (keyspace_at keyspaces other)
-    by None = refl
-    by (Some state) = is_some-set_value same_text keyspaces name other (change state)
-
 length-changed : (change : KeyspaceState → KeyspaceState) (keyspaces : Keyspaces) (name : List ℕ) → length (with_keyspace_state change keyspaces name) ≡ length keyspaces
 length-changed change keyspaces name = by (keyspace_at keyspaces name)
   where
@@ -111,7 +103,7 @@ length-changed change keyspaces name = by (keyspace_at keyspaces name)
 
 table_made : (old new : CoreState) (keyspace table : List ℕ) → IsCore old → add_table_refusal old.topology.keyspaces keyspace table ≡ None → MakesTable old keyspace table new → IsCore new
 table_made old new keyspace table is free made = record {
-  keyspaces = λ k. ap (λ ps. is_some (primary_at ps k)) becomes ∙ is_some-set_value same_text old.primaries keyspace k after ∙ is.keyspaces k ∙ sym (ap (λ (t : TopologyState). is_some (keyspace_at t.keyspaces k)) made.0 ∙ is_some-changed (with_new_table table) old.topology.keyspaces keyspace k);
+  keyspaces = λ k. ap (λ ps. is_some (primary_at ps k)) becomes ∙ is_some-set_value same_text old.primaries keyspace k after ∙ is.keyspaces k ∙ sym (ap (λ (t : TopologyState). is_some (keyspace_at t.keyspaces k)) made.0 ∙ keyspace_at-stays (with_new_table table) old.topology.keyspaces keyspace k);
   count = ap length becomes ∙ length-set_value (same_text keyspace) old.primaries after ∙ is.count ∙ sym (ap (λ (t : TopologyState). length t.keyspaces) made.0 ∙ length-changed (with_new_table table) old.topology.keyspaces keyspace);
   tables = λ k t. has k t ∙ sym (ap (λ (x : TopologyState). is_present x.keyspaces k t) made.0);
   within = subst IsWithinLimits (sym made.0) (within-table old.topology keyspace table is.within free);
@@ -126,23 +118,17 @@ table_made old new keyspace table is free made = record {
     becomes : new.primaries ≡ set_value (same_text keyspace) old.primaries after
     becomes = made.1.2.1
 
-    was : primary_of old.primaries keyspace ≡ before
-    was = primary_of-found old.primaries keyspace before made.1.2.0
-
     now : primary_of new.primaries keyspace ≡ after
-    now = ap (λ ps. primary_of ps keyspace) becomes ∙ primary_of-set_here old.primaries keyspace before after made.1.2.0
-
-    elsewhere : (k : List ℕ) → keyspace ≢ k → primary_of new.primaries k ≡ primary_of old.primaries k
-    elsewhere k apart = ap (λ ps. primary_of ps k) becomes ∙ primary_of-set_elsewhere old.primaries keyspace k after apart
+    now = changed_now old.primaries new.primaries keyspace before after made.1.2.0 becomes
 
     has : (k t : List ℕ) → has_table (primary_of new.primaries k) t ≡ is_present (with_table old.topology keyspace table).keyspaces k t
-    has k t = ⊎_elim in_it (λ apart. ap (λ s. has_table s t) (elsewhere k apart) ∙ is.tables k t ∙ sym (other k t (λ e. apart (ap keyspace_of e)))) (same_name keyspace k)
+    has k t = ⊎_elim in_it (λ apart. ap (λ s. has_table s t) (changed_elsewhere old.primaries new.primaries keyspace before after made.1.2.0 becomes k apart) ∙ is.tables k t ∙ sym (other k t (λ e. apart (ap keyspace_of e)))) (same_or_other same_text same_text_decides keyspace k)
       where
         other : (k t : List ℕ) → about.Present keyspace table ≢ about.Present k t → is_present (with_table old.topology keyspace table).keyspaces k t ≡ is_present old.topology.keyspaces k t
         other k t apart = ap mark_of (value_of-with_table_elsewhere old.topology keyspace table (about.Present k t) apart)
 
         in_it : keyspace ≡ k → has_table (primary_of new.primaries k) t ≡ is_present (with_table old.topology keyspace table).keyspaces k t
-        in_it at = subst (λ x. has_table (primary_of new.primaries x) t ≡ is_present (with_table old.topology keyspace table).keyspaces x t) at (⊎_elim it another (same_name table t))
+        in_it at = subst (λ x. has_table (primary_of new.primaries x) t ≡ is_present (with_table old.topology keyspace table).keyspaces x t) at (⊎_elim it another (same_or_other same_text same_text_decides table t))
           where
             it : table ≡ t → has_table (primary_of new.primaries keyspace) t ≡ is_present (with_table old.topology keyspace table).keyspaces keyspace t
             it same = subst (λ x. has_table (primary_of new.primaries keyspace) x ≡ is_present (with_table old.topology keyspace table).keyspaces keyspace x) same
@@ -150,7 +136,7 @@ table_made old new keyspace table is free made = record {
 
             another : table ≢ t → has_table (primary_of new.primaries keyspace) t ≡ is_present (with_table old.topology keyspace table).keyspaces keyspace t
             another apart =
-                ap (λ s. has_table s t) now ∙ ap is_some (made.1.3.others t (λ e. apart (sym e))) ∙ sym (ap (λ s. has_table s t) was) ∙ is.tables keyspace t
+                ap (λ s. has_table s t) now ∙ ap is_some (made.1.3.others t (λ e. apart (sym e))) ∙ sym (ap (λ s. has_table s t) (changed_was old.primaries new.primaries keyspace before after made.1.2.0 becomes)) ∙ is.tables keyspace t
                 ∙ sym (other keyspace t (λ e. apart (ap table_of e)))
 
 pub table_keeps : (old new : CoreState) (keyspace table : List ℕ) (result : Result Reply code.Refusal) → IsCore old → AddsTable old keyspace table result new → IsCore new

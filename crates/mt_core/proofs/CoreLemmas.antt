@@ -1,8 +1,8 @@
 -- What a look-up of a primary finds after each change, and what holds of the core then.
-use Rattle.std.proofs.Common.{◌≡◌, ◌≢◌, ℕ, ◌⊎◌, Bool, true, false, cond, List, [], ◌∷◌, ◌++◌, None, Some, refl, sym, ap, ◌∙◌, subst, inl, inr, is_some, unwrap_or}
+use Rattle.std.proofs.Common.{◌≡◌, ◌≢◌, ℕ, ◌⊎◌, Bool, true, false, cond, List, [], ◌∷◌, ◌++◌, None, Some, refl, sym, ap, ◌∙◌, subst, is_some, unwrap_or, ⊎_elim}
 use Rattle.std.proofs.lemmas.Bool.{true≢false}
 use Rattle.std.specs.Map.{lookup, set_value}
-use Rattle.mt_names.proofs.EntryLemmas.{lookup-push_elsewhere, lookup-push_here, lookup-set_value_elsewhere, lookup-set_value_here}
+use Rattle.mt_names.proofs.EntryLemmas.{lookup-push_elsewhere, lookup-push_here, lookup-set_value_elsewhere, lookup-set_value_here, same_or_other}
 use Rattle.mt_names.proofs.SameLemmas.{same_text_decides}
 use Rattle.mt_names.specs.Names.{same_text}
 use Rattle.mt_primary.specs.Primary.{PrimaryState, empty_primary}
@@ -51,10 +51,20 @@ primary_of-set_here primaries keyspace before after found = ap (λ o. unwrap_or 
 pub primary_of-set_elsewhere : (primaries : Primaries) (keyspace other : List ℕ) (after : PrimaryState) → keyspace ≢ other → primary_of (set_value (same_text keyspace) primaries after) other ≡ primary_of primaries other
 primary_of-set_elsewhere primaries keyspace other after apart = ap (λ o. unwrap_or o empty_primary) (lookup-set_value_elsewhere same_text same_text_decides primaries keyspace other after apart)
 
--- one name or another
-pub same_name : (a b : List ℕ) → (a ≡ b) ⊎ (a ≢ b)
-same_name a b = by (same_text a b) refl
-  where
-    by : (t : Bool) → same_text a b ≡ t → (a ≡ b) ⊎ (a ≢ b)
-    by true t = inl ((same_text_decides a b).0 t)
-    by false t = inr (λ e. true≢false (sym ((same_text_decides a b).1 e) ∙ t))
+-- one primary that becomes another: what it is before and after, and what each other one is
+module _ (old new : Primaries) (keyspace : List ℕ) (before after : PrimaryState) (found : primary_at old keyspace ≡ Some before) (becomes : new ≡ set_value (same_text keyspace) old after) where
+  pub changed_was : primary_of old keyspace ≡ before
+  changed_was = primary_of-found old keyspace before found
+
+  pub changed_now : primary_of new keyspace ≡ after
+  changed_now = ap (λ ps. primary_of ps keyspace) becomes ∙ primary_of-set_here old keyspace before after found
+
+  pub changed_elsewhere : (k : List ℕ) → keyspace ≢ k → primary_of new k ≡ primary_of old k
+  changed_elsewhere k apart = ap (λ ps. primary_of ps k) becomes ∙ primary_of-set_elsewhere old keyspace k after apart
+
+  -- what is the same of it is the same of each
+  pub changed_keeps : {A : Type 0} (read : PrimaryState → A) → read after ≡ read before → (k : List ℕ) → read (primary_of new k) ≡ read (primary_of old k)
+  changed_keeps read same k = ⊎_elim here (λ apart. ap read (changed_elsewhere k apart)) (same_or_other same_text same_text_decides keyspace k)
+    where
+      here : keyspace ≡ k → read (primary_of new k) ≡ read (primary_of old k)
+      here at = subst (λ x. read (primary_of new x) ≡ read (primary_of old x)) at (ap read changed_now ∙ same ∙ sym (ap read changed_was))

@@ -10,7 +10,7 @@ use Rattle.mt_names.specs.declared.keys.RuleKey.{RuleKey}
 use Rattle.mt_names.specs.declared.keys.RuleTarget.{RuleTarget}
 use Rattle.mt_names.specs.Names.{same_text}
 use Rattle.mt_names.specs.Same.{same_key}
-use Rattle.mt_names.proofs.EntryLemmas.{lookup-push_elsewhere, lookup-push_here, same_itself}
+use Rattle.mt_names.proofs.EntryLemmas.{lookup-push_elsewhere, lookup-push_here, same_itself, same_or_other}
 use Rattle.mt_names.proofs.SameLemmas.{same_text_decides}
 use Rattle.mt_model.specs.declared.faults.TopologyFault.TheVariants as topology
 use Rattle.mt_model.specs.Limits.{most_keyspaces, most_rules, most_tables_in_keyspace}
@@ -18,7 +18,6 @@ use Rattle.mt_model.specs.Topology.{KeyspaceState, Marks, Rules, TopologyState, 
 use Rattle.mt_model.proofs.TopologyLemmas.{keyspace_at-changed_elsewhere, keyspace_at-changed_here}
 use Rattle.mt_topology.specs.Edits.{add_keyspace_refusal, add_table_refusal, edit_rule_refusal, new_table_refusal}
 use Rattle.mt_core.specs.Core.{HasTables, IsWithinLimits}
-use Rattle.mt_core.proofs.CoreLemmas.{same_name}
 use Rattle.mt_core.proofs.RefusalLemmas.{marked-found}
 
 -- one more is within a limit that was not reached
@@ -41,7 +40,7 @@ within-keyspace t name is none free = record {
       let more = one_more (length t.keyspaces) most_keyspaces is.keyspaces (keyspaces_room t name free) in
       omega (arith, more, length-append t.keyspaces ((name, new) ∷ []));
   rules = is.rules;
-  tables = λ keyspace state found. ⊎_elim (λ at. here keyspace state at found) (λ apart. is.tables keyspace state (sym (lookup-push_elsewhere same_text same_text_decides t.keyspaces name keyspace new apart) ∙ found)) (same_name name keyspace);
+  tables = λ keyspace state found. ⊎_elim (λ at. here keyspace state at found) (λ apart. is.tables keyspace state (sym (lookup-push_elsewhere same_text same_text_decides t.keyspaces name keyspace new apart) ∙ found)) (same_or_other same_text same_text_decides name keyspace);
 }
   where
     new : KeyspaceState
@@ -130,7 +129,7 @@ within-table t keyspace table is free = by (keyspace_at t.keyspaces keyspace) re
     by (Some state) at = record {
       keyspaces = rw at (let l = length-set_value (same_text keyspace) t.keyspaces (with_new_table table state) in omega (arith, l, is.keyspaces));
       rules = is.rules;
-      tables = λ k s found. ⊎_elim (λ same. here k s same found) (λ apart. is.tables k s (sym (keyspace_at-changed_elsewhere (with_new_table table) t.keyspaces keyspace k apart) ∙ found)) (same_name keyspace k);
+      tables = λ k s found. ⊎_elim (λ same. here k s same found) (λ apart. is.tables k s (sym (keyspace_at-changed_elsewhere (with_new_table table) t.keyspaces keyspace k apart) ∙ found)) (same_or_other same_text same_text_decides keyspace k);
     }
       where
         here : (k : List ℕ) (s : KeyspaceState) → keyspace ≡ k → keyspace_at (with_table t keyspace table).keyspaces k ≡ Some s → HasTables s

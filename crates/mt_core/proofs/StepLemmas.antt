@@ -1,5 +1,8 @@
 -- A command leads from a plain state that the core stands for to the next one.
 use Rattle.std.proofs.Common.{◌≤◌, ◌≡◌, ◌≢◌, ℕ, Bool, true, false, List, length, Option, None, Some, Result, Ok, Err, refl, sym, ap, ◌∙◌, subst, ⊎_elim, is_some}
+use Rattle.mt_names.proofs.SameLemmas.{same_text_decides}
+use Rattle.mt_names.specs.Names.{same_text}
+use Rattle.mt_names.proofs.EntryLemmas.{same_or_other}
 use Rattle.std.proofs.lemmas.Bool.{true≢false}
 use Rattle.std.specs.Option.{option_map, option_map_or}
 use Rattle.std.specs.Result.{OnErr}
@@ -25,7 +28,7 @@ use Rattle.mt_laws.specs.Numbers.{calm}
 use Rattle.mt_laws.proofs.TableLemmas.{done_at, done_has_numbers, opening_has_numbers}
 use Rattle.mt_core.specs.Commands.{Becomes, Does, MakesKeyspace, MakesRule, MakesTable, Steps, refusal_by_topology}
 use Rattle.mt_core.specs.Core.{CoreState, IsCore, Stands, empty_core, primary_at, primary_of}
-use Rattle.mt_core.proofs.CoreLemmas.{primary_of-found, primary_of-push, primary_of-set_elsewhere, primary_of-set_here, same_name}
+use Rattle.mt_core.proofs.CoreLemmas.{changed_keeps, changed_was, primary_of-push}
 use Rattle.mt_core.proofs.RefusalLemmas.{keyspace_told, none_told, rule_told, table_told, told}
 
 -- ---- any command
@@ -161,7 +164,7 @@ table_refusing p core keyspace table is stands = rw (← stands.topology) (table
 -- a table that is made has no rows, and the other tables keep theirs
 module _ (before after : PrimaryState) (table : List ℕ) (absent : has_table before table ≡ false) (made : IsTableMade before table after) where
   rows_stay : (other : List ℕ) (key : ℕ) → row_at after other key ≡ row_at before other key
-  rows_stay other key = ⊎_elim here there (same_name table other)
+  rows_stay other key = ⊎_elim here there (same_or_other same_text same_text_decides table other)
     where
       here : table ≡ other → row_at after other key ≡ row_at before other key
       here at =
@@ -178,7 +181,7 @@ module _ (before after : PrimaryState) (table : List ℕ) (absent : has_table be
 
   -- nor is it denied
   denials_stay : (other : List ℕ) → is_denied_at after other ≡ is_denied_at before other
-  denials_stay other = ⊎_elim here there (same_name table other)
+  denials_stay other = ⊎_elim here there (same_or_other same_text same_text_decides table other)
     where
       denied_in : Option TableState → Bool
       denied_in o = option_map_or (λ t. t.denied) o false
@@ -198,9 +201,9 @@ pub table_making : (p : Plain) (core : CoreState) (keyspace table : List ℕ) �
 table_making p core keyspace table is stands s none absent made = record {
   lives = refl;
   topology = made.0 ∙ ap (λ t. with_table t keyspace table) stands.topology;
-  rows = λ k t key. row_kept k t key ∙ stands.rows k t key ∙ sym (done_at (calm p) (add_table keyspace table) tt stands.numbers none k t key);
-  log = λ k. log_kept k ∙ stands.log k;
-  denials = λ k t. denied_kept k t ∙ stands.denials k t;
+  rows = λ k t key. kept (λ x. row_at x t key) (rows_stay before after table absent_before made.1.3 t key) k ∙ stands.rows k t key ∙ sym (done_at (calm p) (add_table keyspace table) tt stands.numbers none k t key);
+  log = λ k. kept (λ (x : PrimaryState). length x.log) (ap length made.1.3.log) k ∙ stands.log k;
+  denials = λ k t. kept (λ x. is_denied_at x t) (denials_stay before after table absent_before made.1.3 t) k ∙ stands.denials k t;
   numbers = done_has_numbers (calm p) (add_table keyspace table) tt stands.numbers none;
 }
   where
@@ -213,45 +216,11 @@ table_making p core keyspace table is stands s none absent made = record {
     becomes : Becomes core.primaries keyspace before after s.primaries
     becomes = made.1.2
 
-    was : primary_of core.primaries keyspace ≡ before
-    was = primary_of-found core.primaries keyspace before becomes.0
+    absent_before : has_table before table ≡ false
+    absent_before = subst (λ x. has_table x table ≡ false) (changed_was core.primaries s.primaries keyspace before after becomes.0 becomes.1) absent
 
-    now : primary_of s.primaries keyspace ≡ after
-    now = ap (λ ps. primary_of ps keyspace) becomes.1 ∙ primary_of-set_here core.primaries keyspace before after becomes.0
-
-    elsewhere : (k : List ℕ) → keyspace ≢ k → primary_of s.primaries k ≡ primary_of core.primaries k
-    elsewhere k apart = ap (λ ps. primary_of ps k) becomes.1 ∙ primary_of-set_elsewhere core.primaries keyspace k after apart
-
-    row_kept : (k t : List ℕ) (key : ℕ) → row_at (primary_of s.primaries k) t key ≡ row_at (primary_of core.primaries k) t key
-    row_kept k t key = ⊎_elim here there (same_name keyspace k)
-      where
-        here : keyspace ≡ k → row_at (primary_of s.primaries k) t key ≡ row_at (primary_of core.primaries k) t key
-        here at =
-            let stay = rows_stay before after table (subst (λ x. has_table x table ≡ false) was absent) made.1.3 t key in
-            subst (λ x. row_at (primary_of s.primaries x) t key ≡ row_at (primary_of core.primaries x) t key) at
-            (ap (λ x. row_at x t key) now ∙ stay ∙ sym (ap (λ x. row_at x t key) was))
-
-        there : keyspace ≢ k → row_at (primary_of s.primaries k) t key ≡ row_at (primary_of core.primaries k) t key
-        there apart = ap (λ x. row_at x t key) (elsewhere k apart)
-
-    denied_kept : (k t : List ℕ) → is_denied_at (primary_of s.primaries k) t ≡ is_denied_at (primary_of core.primaries k) t
-    denied_kept k t = ⊎_elim here (λ apart. ap (λ x. is_denied_at x t) (elsewhere k apart)) (same_name keyspace k)
-      where
-        here : keyspace ≡ k → is_denied_at (primary_of s.primaries k) t ≡ is_denied_at (primary_of core.primaries k) t
-        here at =
-            let stay = denials_stay before after table (subst (λ x. has_table x table ≡ false) was absent) made.1.3 t in
-            subst (λ x. is_denied_at (primary_of s.primaries x) t ≡ is_denied_at (primary_of core.primaries x) t) at
-            (ap (λ x. is_denied_at x t) now ∙ stay ∙ sym (ap (λ x. is_denied_at x t) was))
-
-    log_kept : (k : List ℕ) → length (primary_of s.primaries k).log ≡ length (primary_of core.primaries k).log
-    log_kept k = ⊎_elim here there (same_name keyspace k)
-      where
-        here : keyspace ≡ k → length (primary_of s.primaries k).log ≡ length (primary_of core.primaries k).log
-        here at = subst (λ x. length (primary_of s.primaries x).log ≡ length (primary_of core.primaries x).log) at
-            (ap (λ (x : PrimaryState). length x.log) now ∙ ap length made.1.3.log ∙ sym (ap (λ (x : PrimaryState). length x.log) was))
-
-        there : keyspace ≢ k → length (primary_of s.primaries k).log ≡ length (primary_of core.primaries k).log
-        there apart = ap (λ (x : PrimaryState). length x.log) (elsewhere k apart)
+    kept : {A : Type 0} (view : PrimaryState → A) → view after ≡ view before → (k : List ℕ) → view (primary_of s.primaries k) ≡ view (primary_of core.primaries k)
+    kept view same k = changed_keeps core.primaries s.primaries keyspace before after becomes.0 becomes.1 view same k
 
 -- ---- a state without live workflows
 

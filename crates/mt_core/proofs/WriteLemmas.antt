@@ -11,7 +11,7 @@ use Rattle.std.specs.Result.{OnErr}
 use Rattle.mt_names.specs.declared.types.TabletType.{TabletType}
 use Rattle.mt_names.specs.Names.{same_text}
 use Rattle.mt_names.specs.Results.{◌>>=◌}
-use Rattle.mt_names.proofs.EntryLemmas.{is_some-set_value, same_itself}
+use Rattle.mt_names.proofs.EntryLemmas.{is_some-set_value, same_itself, same_or_other, apart as differs}
 use Rattle.mt_names.proofs.SameLemmas.{same_text_decides}
 use Rattle.mt_model.specs.declared.answers.Refusal as code
 use Rattle.mt_model.specs.declared.answers.Refusal.TheVariants as refusal
@@ -41,7 +41,7 @@ use Rattle.mt_laws.specs.Numbers.{acknowledged_at, calm}
 use Rattle.mt_laws.proofs.TableLemmas.{done_at, done_has_numbers}
 use Rattle.mt_core.specs.Commands.{Steps, WritesAt, WritesRow, read_at, refusal_by_primary, reply_by_read}
 use Rattle.mt_core.specs.Core.{CoreState, IsCore, IsWithinLimits, Primaries, Stands, primary_at, primary_of}
-use Rattle.mt_core.proofs.CoreLemmas.{primary_of-found, primary_of-set_elsewhere, primary_of-set_here, same_name}
+use Rattle.mt_core.proofs.CoreLemmas.{changed_elsewhere, changed_keeps, changed_now, changed_was, primary_of-found}
 use Rattle.mt_core.proofs.StepLemmas.{refuses, steps_from_calm}
 
 -- ---- the refusals of a write
@@ -172,13 +172,16 @@ module _ (old new : CoreState) (keyspace table : List ℕ) (op : Op) (is : IsCor
     (before after : PrimaryState) (found : primary_at old.primaries keyspace ≡ Some before)
     (topology : new.topology ≡ old.topology) (becomes : new.primaries ≡ set_value (same_text keyspace) old.primaries after) where
   was : primary_of old.primaries keyspace ≡ before
-  was = primary_of-found old.primaries keyspace before found
+  was = changed_was old.primaries new.primaries keyspace before after found becomes
 
   now : primary_of new.primaries keyspace ≡ after
-  now = ap (λ ps. primary_of ps keyspace) becomes ∙ primary_of-set_here old.primaries keyspace before after found
+  now = changed_now old.primaries new.primaries keyspace before after found becomes
 
   elsewhere : (k : List ℕ) → keyspace ≢ k → primary_of new.primaries k ≡ primary_of old.primaries k
-  elsewhere k apart = ap (λ ps. primary_of ps k) becomes ∙ primary_of-set_elsewhere old.primaries keyspace k after apart
+  elsewhere = changed_elsewhere old.primaries new.primaries keyspace before after found becomes
+
+  kept : {A : Type 0} (view : PrimaryState → A) → view after ≡ view before → (k : List ℕ) → view (primary_of new.primaries k) ≡ view (primary_of old.primaries k)
+  kept view same k = changed_keeps old.primaries new.primaries keyspace before after found becomes view same k
 
   write_stands : (p : Plain) → Stands (calm p) old → (position : ℕ) → refusal_of (calm p) (write keyspace table op) ≡ None → IsWritten before table op position after → Stands (next_taken (calm p) (write keyspace table op)) new
   write_stands p stands position none written = record {
@@ -189,22 +192,15 @@ module _ (old new : CoreState) (keyspace table : List ℕ) (op : Op) (is : IsCor
         let more : log_length (next_taken (calm p) (write keyspace table op)) k ≡ log_length p k + (0 + cond (same_text keyspace k) 1 0) = sum_by-append (λ (e : LogEntry). cond (same_text e.keyspace k) 1 0) p.log (entry ∷ []) in
         let now = log_now k in
         omega (arith, more, now);
-    denials = λ k t. denied_now k t ∙ stands.denials k t;
+    denials = λ k t. kept (λ s. is_denied_at s t) (written.denied t) k ∙ stands.denials k t;
     numbers = done_has_numbers (calm p) (write keyspace table op) tt stands.numbers none;
   }
     where
-      denied_now : (k t : List ℕ) → is_denied_at (primary_of new.primaries k) t ≡ is_denied_at (primary_of old.primaries k) t
-      denied_now k t = ⊎_elim here (λ apart. ap (λ s. is_denied_at s t) (elsewhere k apart)) (same_name keyspace k)
-        where
-          here : keyspace ≡ k → is_denied_at (primary_of new.primaries k) t ≡ is_denied_at (primary_of old.primaries k) t
-          here at = subst (λ x. is_denied_at (primary_of new.primaries x) t ≡ is_denied_at (primary_of old.primaries x) t) at
-              (ap (λ s. is_denied_at s t) now ∙ written.denied t ∙ sym (ap (λ s. is_denied_at s t) was))
-
       entry : LogEntry
       entry = record { keyspace = keyspace; table = table; key = op_key op }
 
       row_now : (k t : List ℕ) (key : ℕ) → row_at (primary_of new.primaries k) t key ≡ fold row_with_op (row_at (primary_of old.primaries k) t key) (acknowledged_at k t key (write keyspace table op) done)
-      row_now k t key = ⊎_elim here there (same_name keyspace k)
+      row_now k t key = ⊎_elim here there (same_or_other same_text same_text_decides keyspace k)
         where
           here : keyspace ≡ k → row_at (primary_of new.primaries k) t key ≡ fold row_with_op (row_at (primary_of old.primaries k) t key) (acknowledged_at k t key (write keyspace table op) done)
           here at = subst (λ x. row_at (primary_of new.primaries x) t key ≡ fold row_with_op (row_at (primary_of old.primaries x) t key) (acknowledged_at x t key (write keyspace table op) done)) at
@@ -212,11 +208,7 @@ module _ (old new : CoreState) (keyspace table : List ℕ) (op : Op) (is : IsCor
               ∙ sym (ap (λ s. fold row_with_op (row_at s t key) (acknowledged_at keyspace t key (write keyspace table op) done)) was))
 
           there : keyspace ≢ k → row_at (primary_of new.primaries k) t key ≡ fold row_with_op (row_at (primary_of old.primaries k) t key) (acknowledged_at k t key (write keyspace table op) done)
-          there apart = rw (other (same_text keyspace k) refl) (ap (λ s. row_at s t key) (elsewhere k apart))
-            where
-              other : (b : Bool) → same_text keyspace k ≡ b → same_text keyspace k ≡ false
-              other false e = e
-              other true e = absurd (apart ((same_text_decides keyspace k).0 e))
+          there apart = rw (differs same_text same_text_decides keyspace k apart) (ap (λ s. row_at s t key) (elsewhere k apart))
 
       log_now : (k : List ℕ) → length (primary_of new.primaries k).log ≡ log_length p k + cond (same_text keyspace k) 1 0
       log_now k = by (same_text keyspace k) refl
@@ -238,16 +230,9 @@ module _ (old new : CoreState) (keyspace table : List ℕ) (op : Op) (is : IsCor
   write_core position written = record {
     keyspaces = λ k. ap (λ ps. is_some (primary_at ps k)) becomes ∙ is_some-set_value same_text old.primaries keyspace k after ∙ is.keyspaces k ∙ sym (ap (λ (t : TopologyState). is_some (keyspace_at t.keyspaces k)) topology);
     count = ap length becomes ∙ length-set_value (same_text keyspace) old.primaries after ∙ is.count ∙ sym (ap (λ (t : TopologyState). length t.keyspaces) topology);
-    tables = λ k t. has k t ∙ is.tables k t ∙ sym (ap (λ (x : TopologyState). is_present x.keyspaces k t) topology);
+    tables = λ k t. kept (λ s. has_table s t) (tables_stay before after table op position written t) k ∙ is.tables k t ∙ sym (ap (λ (x : TopologyState). is_present x.keyspaces k t) topology);
     within = subst IsWithinLimits (sym topology) is.within;
   }
-    where
-      has : (k t : List ℕ) → has_table (primary_of new.primaries k) t ≡ has_table (primary_of old.primaries k) t
-      has k t = ⊎_elim here (λ apart. ap (λ s. has_table s t) (elsewhere k apart)) (same_name keyspace k)
-        where
-          here : keyspace ≡ k → has_table (primary_of new.primaries k) t ≡ has_table (primary_of old.primaries k) t
-          here at = subst (λ x. has_table (primary_of new.primaries x) t ≡ has_table (primary_of old.primaries x) t) at
-              (ap (λ s. has_table s t) now ∙ tables_stay before after table op position written t ∙ sym (ap (λ s. has_table s t) was))
 
 -- a core is its topology and its primaries
 same_core : (old new : CoreState) → new.topology ≡ old.topology → new.primaries ≡ old.primaries → new ≡ old
