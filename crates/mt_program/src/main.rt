@@ -4,8 +4,6 @@
 ghost use Rattle.std.specs.Prelude.{◌≡◌, IfOk};
 ghost use Rattle.mt_watch.specs.Notices.{notice_of};
 
-mod canon;
-mod script;
 #[cfg(test)]
 mod tests;
 #[cfg(test)]
@@ -18,14 +16,11 @@ mod tests_limits;
 mod tests_operations;
 #[cfg(test)]
 mod tests_refusals;
-mod watching;
 
-use crate::canon::{canon_dump, canon_rules};
-use crate::script::run_script;
-use crate::watching::scopes_of;
 use mt_choice::{Choice, Wrong, choose};
 use mt_io::ScriptFault;
 use mt_names::KeyspaceName;
+use mt_run::{canon_dump, canon_rules, run_script, scopes_of};
 use mt_watch::{Callback, Change, Notice, WatchFault, Watcher, Watchers};
 use std::io;
 use std::io::ErrorKind;

@@ -1,7 +1,7 @@
 //! Scripts and what they print.
 
-use crate::script::run_script;
 use mt_io::ScriptFault;
+use mt_run::run_script;
 use mt_watch::Watchers;
 use std::alloc::Global;
 use std::test::Fail;
@@ -72,6 +72,13 @@ impl Case {
     }
 }
 
+/// Whether lines are answered so, each of which has an answer.
+pub fn answers(alloc: Global, lines: &[(&str, &str)]) -> Result<bool, Fail> {
+    let mut case = Case::new(alloc);
+    case.lines(lines)?;
+    Ok(case.holds(alloc))
+}
+
 /// Whether a script ends well, having printed a text.
 pub fn prints(alloc: Global, script: &[u8], want: &[u8]) -> bool {
     ends(alloc, script, Ok(()), want)
@@ -94,55 +101,64 @@ table customer corder\ninsert commerce.corder 1 a\nget corder 1\nget commerce.co
 const GET_BACK_THROUGH_A_RULE: &[u8] = b"keyspace commerce\ntable commerce corder\n\
 rule c commerce.corder\ninsert c 1 a\nget c 1\n";
 
+/// Scripts, each with what it must print.
+const WORKED: [(&[u8], &[u8]); 4] = [
+    (b"", b""),
+    (GET_WITHOUT_A_RULE, b"ok\nok\nok\nok\nrow a\n"),
+    (
+        AMBIGUOUS_NAME,
+        b"ok\nok\nok\nok\nok\nrefused T3 Ambiguous\nrow a\n",
+    ),
+    (GET_BACK_THROUGH_A_RULE, b"ok\nok\nok\nok\nrow a\n"),
+];
+
 #[test]
 fn worked_rows(rt: HostRuntime) {
-    assert!(rt; prints(rt.alloc(), b"", b""));
-    assert!(rt; prints(rt.alloc(), GET_WITHOUT_A_RULE, b"ok\nok\nok\nok\nrow a\n"));
-    let ambiguous = b"ok\nok\nok\nok\nok\nrefused T3 Ambiguous\nrow a\n";
-    assert!(rt; prints(rt.alloc(), AMBIGUOUS_NAME, ambiguous));
-    assert!(rt;
-        prints(
-            rt.alloc(),
-            GET_BACK_THROUGH_A_RULE,
-            b"ok\nok\nok\nok\nrow a\n"
-        )
-    );
+    for (at, (script, want)) in WORKED.iter().enumerate() {
+        assert!(rt; prints(rt.alloc(), script, want), "at {at}");
+    }
 }
+
+/// Ends of lines.
+const ENDS: [(&[u8], &[u8]); 9] = [
+    (b"keyspace a", b"ok\n"),
+    (b"keyspace a\n", b"ok\n"),
+    (b"keyspace a\r\nkeyspace b\r\n", b"ok\nok\n"),
+    (b"keyspace a\r\r\n", b"refused X1 BadLine\n"),
+    (b"keyspace a\r", b"refused X1 BadLine\n"),
+    (b"key\rspace a\n", b"refused X1 BadLine\n"),
+    (b"\r\n\r\n", b""),
+    (b"\r\r\n", b"refused X1 BadLine\n"),
+    (b"\n\n\n", b""),
+];
 
 #[test]
 fn ends_of_lines(rt: HostRuntime) {
-    let alloc = rt.alloc();
-    assert!(rt; prints(alloc, b"keyspace a", b"ok\n"));
-    assert!(rt; prints(alloc, b"keyspace a\n", b"ok\n"));
-    assert!(rt; prints(alloc, b"keyspace a\r\nkeyspace b\r\n", b"ok\nok\n"));
-    assert!(rt; prints(alloc, b"keyspace a\r\r\n", b"refused X1 BadLine\n"));
-    assert!(rt; prints(alloc, b"keyspace a\r", b"refused X1 BadLine\n"));
-    assert!(rt; prints(alloc, b"key\rspace a\n", b"refused X1 BadLine\n"));
-    assert!(rt; prints(alloc, b"\r\n\r\n", b""));
-    assert!(rt; prints(alloc, b"\r\r\n", b"refused X1 BadLine\n"));
-    assert!(rt; prints(alloc, b"\n\n\n", b""));
+    for (at, (script, want)) in ENDS.iter().enumerate() {
+        assert!(rt; prints(rt.alloc(), script, want), "at {at}");
+    }
 }
+
+/// Blanks, comments, and bytes that no line may have.
+const BLANKS: [(&[u8], &[u8]); 5] = [
+    (b"\tkeyspace\t \ta\t\n  table  a\tt  \n", b"ok\nok\n"),
+    (b" \t \n\t\n", b""),
+    (b"#\n# keyspace a\n#\xff\x00\n", b""),
+    (
+        b" # keyspace a\nkeyspace a #\n",
+        b"refused X1 BadLine\nrefused X1 BadLine\n",
+    ),
+    (
+        b"keyspace \xc3\xa9\nkeyspace \x7f\n\x00\n",
+        b"refused X1 BadLine\nrefused X1 BadLine\nrefused X1 BadLine\n",
+    ),
+];
 
 #[test]
 fn blanks_and_comments(rt: HostRuntime) {
-    let alloc = rt.alloc();
-    assert!(rt; prints(alloc, b"\tkeyspace\t \ta\t\n  table  a\tt  \n", b"ok\nok\n"));
-    assert!(rt; prints(alloc, b" \t \n\t\n", b""));
-    assert!(rt; prints(alloc, b"#\n# keyspace a\n#\xff\x00\n", b""));
-    assert!(rt;
-        prints(
-            alloc,
-            b" # keyspace a\nkeyspace a #\n",
-            b"refused X1 BadLine\nrefused X1 BadLine\n"
-        )
-    );
-    assert!(rt;
-        prints(
-            alloc,
-            b"keyspace \xc3\xa9\nkeyspace \x7f\n\x00\n",
-            b"refused X1 BadLine\nrefused X1 BadLine\nrefused X1 BadLine\n"
-        )
-    );
+    for (at, (script, want)) in BLANKS.iter().enumerate() {
+        assert!(rt; prints(rt.alloc(), script, want), "at {at}");
+    }
 }
 
 /// Lines of 4,096 and 4,097 bytes, which end in blanks: with a line feed, with a carriage return before it, and without.

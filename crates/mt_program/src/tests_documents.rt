@@ -1,54 +1,57 @@
 //! Documents behind a line, and documents that are read and written again.
 
-use crate::canon::{canon_dump, canon_rules};
-use crate::tests::{Case, prints};
+use crate::tests::{Case, answers, prints};
 use crate::tests_faults::{NoRoom, reader_of, writer_with};
 use mt_io::ScriptFault;
+use mt_run::{canon_dump, canon_rules};
 use std::alloc::Global;
+use std::io::Read;
 use std::test::Fail;
 
 /// The dump of two keyspaces, of which `b` has the table `t`.
 const TWO: &str =
     "{\"denied\":[],\"keyspaces\":[{\"name\":\"a\",\"tables\":[]},{\"name\":\"b\",\"tables\":[\"t\"]}],\"rules\":[],\"version\":1}";
 
+/// Two keyspaces, and their dump.
+const DUMPED: [(&str, &str); 4] = [
+    ("keyspace b", "ok"),
+    ("keyspace a", "ok"),
+    ("table b t", "ok"),
+    ("dump", TWO),
+];
+
 #[test]
 fn dump_of_two_keyspaces(rt: HostRuntime) -> Result<(), Fail> {
-    let mut case = Case::new(rt.alloc());
-    case.lines(&[
-        ("keyspace b", "ok"),
-        ("keyspace a", "ok"),
-        ("table b t", "ok"),
-        ("dump", TWO),
-    ])?;
-    assert!(rt; case.holds(rt.alloc()));
+    assert!(rt; answers(rt.alloc(), &DUMPED)?);
     Ok(())
 }
 
+/// Rules that are set and taken away, and their documents.
+const LISTED: [(&str, &str); 10] = [
+    ("rules", "{\"rules\":[]}"),
+    (
+        "dump",
+        "{\"denied\":[],\"keyspaces\":[],\"rules\":[],\"version\":1}",
+    ),
+    ("rule b k.b", "ok"),
+    ("rule a@replica k.a", "ok"),
+    (
+        "rules",
+        "{\"rules\":[{\"from_table\":\"a@replica\",\"to_tables\":[\"k.a\"]},{\"from_table\":\"b\",\"to_tables\":[\"k.b\"]}]}",
+    ),
+    ("rule a@replica -", "ok"),
+    (
+        " rules\t",
+        "{\"rules\":[{\"from_table\":\"b\",\"to_tables\":[\"k.b\"]}]}",
+    ),
+    ("rules b", "refused X1 BadLine"),
+    ("dump -", "refused X1 BadLine"),
+    ("Rules", "refused X1 BadLine"),
+];
+
 #[test]
 fn rules_in_a_script(rt: HostRuntime) -> Result<(), Fail> {
-    let mut case = Case::new(rt.alloc());
-    case.lines(&[
-        ("rules", "{\"rules\":[]}"),
-        (
-            "dump",
-            "{\"denied\":[],\"keyspaces\":[],\"rules\":[],\"version\":1}",
-        ),
-        ("rule b k.b", "ok"),
-        ("rule a@replica k.a", "ok"),
-        (
-            "rules",
-            "{\"rules\":[{\"from_table\":\"a@replica\",\"to_tables\":[\"k.a\"]},{\"from_table\":\"b\",\"to_tables\":[\"k.b\"]}]}",
-        ),
-        ("rule a@replica -", "ok"),
-        (
-            " rules\t",
-            "{\"rules\":[{\"from_table\":\"b\",\"to_tables\":[\"k.b\"]}]}",
-        ),
-        ("rules b", "refused X1 BadLine"),
-        ("dump -", "refused X1 BadLine"),
-        ("Rules", "refused X1 BadLine"),
-    ])?;
-    assert!(rt; case.holds(rt.alloc()));
+    assert!(rt; answers(rt.alloc(), &LISTED)?);
     assert!(rt; prints(rt.alloc(), b"rules", b"{\"rules\":[]}\n"));
     Ok(())
 }
@@ -61,83 +64,87 @@ enum Kind {
 }
 
 /// Whether a document that is read and written so ends so, and what was written is this.
-fn written_again(
+fn written_again<R: Read>(
     alloc: Global,
     kind: Kind,
-    text: &str,
+    reader: &mut R,
     end: Result<bool, ScriptFault>,
-    want: &str,
+    want: &[u8],
 ) -> bool {
-    let mut reader = text.as_bytes();
     let mut written = Vec::new(alloc);
     let result = match kind {
-        Kind::Rules => canon_rules(alloc, &mut reader, &mut written),
-        Kind::Dump => canon_dump(alloc, &mut reader, &mut written),
+        Kind::Rules => canon_rules(alloc, reader, &mut written),
+        Kind::Dump => canon_dump(alloc, reader, &mut written),
     };
-    result == end && written.as_slice() == want.as_bytes()
+    result == end && written.as_slice() == want
 }
 
-#[test]
-fn rules_read_again(rt: HostRuntime) {
-    assert!(rt;
-        written_again(
-            rt.alloc(),
-            Kind::Rules,
-            "{\"rules\":[{\"fromTable\":\"b\",\"toTables\":[\"k.b\"],\"x\":1},{\"from_table\":\"a@replica\",\"to_tables\":[\"k.a\"]}]}",
-            Ok(true),
-            "{\"rules\":[{\"from_table\":\"a@replica\",\"to_tables\":[\"k.a\"]},{\"from_table\":\"b\",\"to_tables\":[\"k.b\"]}]}\n"
-        )
-    );
-    let cut = written_again(
-        rt.alloc(),
+/// Documents, each with whether it is taken, and the line that is written.
+const AGAIN: [(Kind, &str, bool, &str); 4] = [
+    (
         Kind::Rules,
-        "{\"rules\":[",
-        Ok(false),
-        "refused R2 NotJson\n",
-    );
-    assert!(rt; cut);
-    assert!(rt;
-        written_again(
-            rt.alloc(),
-            Kind::Rules,
-            "[]",
-            Ok(false),
-            "refused R3 Shape\n"
-        )
-    );
+        "{\"rules\":[{\"fromTable\":\"b\",\"toTables\":[\"k.b\"],\"x\":1},{\"from_table\":\"a@replica\",\"to_tables\":[\"k.a\"]}]}",
+        true,
+        "{\"rules\":[{\"from_table\":\"a@replica\",\"to_tables\":[\"k.a\"]},{\"from_table\":\"b\",\"to_tables\":[\"k.b\"]}]}\n",
+    ),
+    (Kind::Rules, "{\"rules\":[", false, "refused R2 NotJson\n"),
+    (Kind::Rules, "[]", false, "refused R3 Shape\n"),
+    (Kind::Dump, "{}", false, "refused T6 BadDump\n"),
+];
+
+#[test]
+fn documents_read_again(rt: HostRuntime) {
+    for (at, (kind, text, is_taken, want)) in AGAIN.iter().enumerate() {
+        let mut reader = text.as_bytes();
+        assert!(rt;
+            written_again(
+                rt.alloc(),
+                *kind,
+                &mut reader,
+                Ok(*is_taken),
+                want.as_bytes()
+            ),
+            "at {at}"
+        );
+    }
 }
 
 #[test]
 fn dump_read_back(rt: HostRuntime) -> Result<(), Fail> {
     let line = format!(in rt.alloc(); "{TWO}\n")?;
-    assert!(rt; written_again(rt.alloc(), Kind::Dump, TWO, Ok(true), line.as_str()));
+    let mut reader = TWO.as_bytes();
     assert!(rt;
         written_again(
             rt.alloc(),
             Kind::Dump,
-            "{}",
-            Ok(false),
-            "refused T6 BadDump\n"
+            &mut reader,
+            Ok(true),
+            line.as_bytes()
         )
     );
     Ok(())
 }
 
+/// The longest document.
+fn longest_document(case: &mut Case) -> Result<(), Fail> {
+    case.add(b"{}", b"{\"rules\":[]}\n")?;
+    case.repeat(b' ', 1_048_574)
+}
+
+/// Whether a document is refused as too long, with nothing written.
+fn is_too_long(alloc: Global, kind: Kind, mut text: &[u8]) -> bool {
+    written_again(alloc, kind, &mut text, Err(ScriptFault::TooLong), b"")
+}
+
 #[test]
 fn documents_at_the_limit(rt: HostRuntime) -> Result<(), Fail> {
     let mut case = Case::new(rt.alloc());
-    case.add(b"{}", b"{\"rules\":[]}\n")?;
-    case.repeat(b' ', 1_048_574)?;
-    let mut written = Vec::new(rt.alloc());
-    assert!(rt; canon_rules(rt.alloc(), &mut case.script(), &mut written) == Ok(true));
-    assert!(rt; written.as_slice() == case.want());
+    longest_document(&mut case)?;
+    let mut reader = case.script();
+    assert!(rt; written_again(rt.alloc(), Kind::Rules, &mut reader, Ok(true), case.want()));
     case.repeat(b' ', 1)?;
-    let mut none = Vec::new(rt.alloc());
-    assert!(rt;
-        canon_rules(rt.alloc(), &mut case.script(), &mut none) == Err(ScriptFault::TooLong)
-    );
-    assert!(rt; canon_dump(rt.alloc(), &mut case.script(), &mut none) == Err(ScriptFault::TooLong));
-    assert!(rt; none.is_empty());
+    assert!(rt; is_too_long(rt.alloc(), Kind::Rules, case.script()));
+    assert!(rt; is_too_long(rt.alloc(), Kind::Dump, case.script()));
     Ok(())
 }
 
@@ -150,14 +157,20 @@ fn is_cut(alloc: Global, room: usize) -> bool {
 }
 
 #[test]
-fn documents_whose_reader_or_writer_fails(rt: HostRuntime) {
+fn documents_whose_writer_fails(rt: HostRuntime) {
     for room in 0..13usize {
         assert!(rt; is_cut(rt.alloc(), room), "at {room}");
     }
-    let mut written = Vec::new(rt.alloc());
-    let mut fails = reader_of(b"{}", false, Some(1));
-    assert!(rt; canon_rules(rt.alloc(), &mut fails, &mut written) == Err(ScriptFault::Read));
-    let mut late = reader_of(b"{}", true, Some(2));
-    assert!(rt; canon_dump(rt.alloc(), &mut late, &mut written) == Err(ScriptFault::Read));
-    assert!(rt; written.is_empty());
+}
+
+/// Whether a reader of `{}` that fails in place of one call ends the run, with nothing written.
+fn is_unread(alloc: Global, kind: Kind, interrupts: bool, before_fault: usize) -> bool {
+    let mut reader = reader_of(b"{}", interrupts, Some(before_fault));
+    written_again(alloc, kind, &mut reader, Err(ScriptFault::Read), b"")
+}
+
+#[test]
+fn documents_whose_reader_fails(rt: HostRuntime) {
+    assert!(rt; is_unread(rt.alloc(), Kind::Rules, false, 1));
+    assert!(rt; is_unread(rt.alloc(), Kind::Dump, true, 2));
 }

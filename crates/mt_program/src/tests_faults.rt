@@ -1,8 +1,8 @@
 //! Readers and writers that give or take little, are interrupted, or fail.
 
-use crate::script::run_script;
 use crate::tests::Case;
 use mt_io::ScriptFault;
+use mt_run::run_script;
 use mt_watch::Watchers;
 use std::alloc::Global;
 use std::io;
@@ -106,6 +106,12 @@ pub fn writer_with(alloc: Global, step: usize, room: usize, no_room: NoRoom) -> 
     }
 }
 
+/// A writer that is interrupted before each of its calls.
+fn interrupting(mut writer: Taker) -> Taker {
+    writer.interrupts = true;
+    writer
+}
+
 const SCRIPT: &[u8] = b"keyspace a\ntable a t\ninsert t 1 v\nget t 1\nrules\nget t 2\n";
 
 const OUTPUT: &[u8] = b"ok\nok\nok\nrow v\n{\"rules\":[]}\nnone\n";
@@ -187,46 +193,33 @@ fn a_fault_behind_a_long_script(rt: HostRuntime) -> Result<(), Fail> {
 fn writes(
     alloc: Global,
     script: &[u8],
-    writer: &mut Taker,
+    mut writer: Taker,
     end: Result<(), ScriptFault>,
     want: &[u8],
 ) -> bool {
     let mut reader = script;
-    let result = run_script(alloc, &mut reader, writer, &Watchers::new(alloc));
-    result == end && writer.held.as_slice() == want
+    let result = run_script(alloc, &mut reader, &mut writer, &Watchers::new(alloc));
+    result == end && writer.held() == want
 }
 
 /// Whether writers that take so many bytes a call, and have room for the beginning of an output, hold just that, and end
 /// the run with a fault.
 fn is_cut(alloc: Global, script: &[u8], beginning: &[u8], step: usize) -> bool {
-    let room = beginning.len();
-    let mut failing = writer_with(alloc, step, room, NoRoom::Fails);
-    let mut taking_none = writer_with(alloc, step, room, NoRoom::TakesNoByte);
-    writes(
-        alloc,
-        script,
-        &mut failing,
-        Err(ScriptFault::Write),
-        beginning,
-    ) && writes(
-        alloc,
-        script,
-        &mut taking_none,
-        Err(ScriptFault::Write),
-        beginning,
-    )
+    let fault = Err(ScriptFault::Write);
+    let failing = writer_with(alloc, step, beginning.len(), NoRoom::Fails);
+    let taking_none = writer_with(alloc, step, beginning.len(), NoRoom::TakesNoByte);
+    writes(alloc, script, failing, fault, beginning)
+        && writes(alloc, script, taking_none, fault, beginning)
 }
 
 #[test]
 fn writers_that_take_little(rt: HostRuntime) {
-    let alloc = rt.alloc();
-    let mut one = writer_with(alloc, 1, OUTPUT.len(), NoRoom::Fails);
-    assert!(rt; writes(alloc, SCRIPT, &mut one, Ok(()), OUTPUT));
-    let mut interrupted = writer_with(alloc, 3, OUTPUT.len(), NoRoom::TakesNoByte);
-    interrupted.interrupts = true;
-    assert!(rt; writes(alloc, SCRIPT, &mut interrupted, Ok(()), OUTPUT));
-    let mut unused = writer_with(alloc, 1, 0, NoRoom::Fails);
-    assert!(rt; writes(alloc, b"# nothing\n", &mut unused, Ok(()), b""));
+    let one = writer_with(rt.alloc(), 1, OUTPUT.len(), NoRoom::Fails);
+    assert!(rt; writes(rt.alloc(), SCRIPT, one, Ok(()), OUTPUT));
+    let interrupted = interrupting(writer_with(rt.alloc(), 3, OUTPUT.len(), NoRoom::TakesNoByte));
+    assert!(rt; writes(rt.alloc(), SCRIPT, interrupted, Ok(()), OUTPUT));
+    let unused = writer_with(rt.alloc(), 1, 0, NoRoom::Fails);
+    assert!(rt; writes(rt.alloc(), b"# nothing\n", unused, Ok(()), b""));
 }
 
 #[test]
@@ -251,17 +244,38 @@ fn beginning(output: &[u8], length: usize) -> &[u8] {
 /// The line of the longest value.
 const LONGEST: &str = "row aaaaaaaaaaaaaaaaaaaaaaaaaaaaaaaaaaaaaaaaaaaaaaaaaaaaaaaaaaaaaaaa";
 
-/// A script whose output is longer than what waits at once.
-fn long_output(case: &mut Case) -> Result<(), Fail> {
-    case.lines(&[("keyspace a", "ok"), ("table a t", "ok")])?;
-    case.line(
+/// A row of the longest value.
+const LONGEST_ROW: [(&str, &str); 3] = [
+    ("keyspace a", "ok"),
+    ("table a t", "ok"),
+    (
         "insert t 1 aaaaaaaaaaaaaaaaaaaaaaaaaaaaaaaaaaaaaaaaaaaaaaaaaaaaaaaaaaaaaaaa",
         "ok",
-    )?;
+    ),
+];
+
+/// A script whose output is longer than what waits at once.
+fn long_output(case: &mut Case) -> Result<(), Fail> {
+    case.lines(&LONGEST_ROW)?;
     for _ in 0..300u32 {
         case.line("get t 1", LONGEST)?;
     }
     Ok(())
+}
+
+/// Whether a writer whose room ends at any of these places holds the beginning of the output up to there.
+fn is_cut_anywhere(alloc: Global, case: &Case) -> bool {
+    for place in (0..20_709usize).step_by(97) {
+        if !is_cut(alloc, case.script(), beginning(case.want(), place), 1000) {
+            return false;
+        }
+    }
+    true
+}
+
+/// A writer that takes seven bytes a call, each after an interruption, and has room for an output.
+fn slow_writer(alloc: Global, output: &[u8]) -> Taker {
+    interrupting(writer_with(alloc, 7, output.len(), NoRoom::Fails))
 }
 
 #[test]
@@ -269,19 +283,8 @@ fn output_in_pieces(rt: HostRuntime) -> Result<(), Fail> {
     let mut case = Case::new(rt.alloc());
     long_output(&mut case)?;
     assert!(rt; case.holds(rt.alloc()));
-    for place in (0..20_709usize).step_by(97) {
-        assert!(rt;
-            is_cut(
-                rt.alloc(),
-                case.script(),
-                beginning(case.want(), place),
-                1000
-            ),
-            "at {place}"
-        );
-    }
-    let mut slow = writer_with(rt.alloc(), 7, case.want().len(), NoRoom::Fails);
-    slow.interrupts = true;
-    assert!(rt; writes(rt.alloc(), case.script(), &mut slow, Ok(()), case.want()));
+    assert!(rt; is_cut_anywhere(rt.alloc(), &case));
+    let slow = slow_writer(rt.alloc(), case.want());
+    assert!(rt; writes(rt.alloc(), case.script(), slow, Ok(()), case.want()));
     Ok(())
 }

@@ -1,0 +1,201 @@
+-- Whatever completes the output of the lines that are left completes that of the script.
+use Rattle.std.proofs.Common.{◌≡◌, ℕ, true, List, [], ◌∷◌, ◌++◌, Option, Some, None, Result, Ok, Err, refl, sym, ap, ◌∙◌, subst, append-nil, append_assoc, inl, inr}
+use Rattle.std.proofs.KnownBytes.{Appends-nil, Appends-trans}
+use Rattle.std.specs.Io.KnownBytes.{Appends}
+use Rattle.std.specs.Prelude.{string_bytes}
+use Rattle.std.specs.Str.Lines.{lines}
+use Rattle.mt_model.specs.declared.answers.Refusal as code
+use Rattle.mt_model.specs.declared.answers.Reply.{Reply}
+use Rattle.mt_model.specs.declared.entries.Scope.{Scope}
+use Rattle.mt_model.specs.Documents.{dump_text, rules_text}
+use Rattle.mt_plain.specs.Events.{Event, answer_from}
+use Rattle.mt_plain.specs.Answers.{Answers}
+use Rattle.mt_plain.specs.Next.{next}
+use Rattle.mt_plain.specs.Output.{Adds, Output, Told, asks, drives, line_feed, nothing, output_from, says, told, told_request}
+use Rattle.mt_plain.specs.Output as plain
+use Rattle.mt_plain.specs.Plain.{Plain, opening}
+use Rattle.mt_plain.specs.Script.{Request}
+use Rattle.mt_plain.specs.Script as script
+use Rattle.mt_plain.specs.Serve.{served}
+use Rattle.mt_laws.proofs.OutputLemmas.{output_from-is_written, output_from_memory}
+use Rattle.mt_script.specs.Requests.{reading_so_far}
+use Rattle.mt_io.specs.declared.fault.ScriptFault.{ScriptFault}
+use Rattle.mt_io.specs.declared.fault.ScriptFault.TheVariants as fault
+use Rattle.mt_io.specs.Bytes.{GoesOut, Known, Reads, Writes}
+use Rattle.mt_io.proofs.GoesLemmas.{goes_on, goes_short, nothing_out}
+use Rattle.mt_core.specs.Core.{CoreState, Stands}
+use Rattle.mt_run.specs.declared.script.Reply as answer
+use Rattle.mt_run.specs.declared.script.Reply.TheVariants as reply
+use Rattle.mt_run.specs.Runs.{AsksDocument, Replies, Runs, RunsLine, RunsLines, Tells, bytes_of, is_document}
+
+-- ---- a line
+
+-- the lines that are left have an output, whatever they are
+has_output : (p : Plain) (lines : List (List ℕ)) → Output Answers reading_so_far p lines (output_from reading_so_far p lines)
+has_output p lines = output_from_memory reading_so_far lines p (output_from reading_so_far p lines) (output_from-is_written reading_so_far lines p)
+
+-- what a line tells adds its text to whatever the rest adds from the next state
+tells_adds : (q : Plain) (t : Told) (text : Option (List ℕ)) (core : CoreState) → Tells q t text core
+    → (r : Plain) × Stands r core × ((Rest : Plain → List ℕ → Type 0) (out : List ℕ) → Rest r out → Adds Answers q t Rest (bytes_of text ++ out))
+tells_adds q nothing text core (none, stands) = (q, stands, λ Rest out rest. rw none rest)
+tells_adds q (says words) text core (some, stands) = (q, stands, λ Rest out rest. (out, ap (λ o. bytes_of o ++ out) some, rest))
+tells_adds q (drives driving) text core impossible = absurd impossible
+tells_adds q (asks event) text core (answer, answers, some, stands) =
+    (next q event answer, stands, λ Rest out rest. (answer, out, answers, ap (λ o. bytes_of o ++ out) some, rest))
+
+-- the core's answer to an event, told
+pub asks_told : (p : Plain) (event : Event) (answer : Result Reply code.Refusal) (text : List ℕ) (core : CoreState) → text ≡ plain.answer_text (answer_from answer) ++ line_feed
+    → Answers p event (answer_from answer) × Stands (next p event (answer_from answer)) core → Tells p (asks event) (Some text) core
+asks_told p event answer text core is steps = (answer_from answer, steps.0, ap Some is, steps.1)
+
+-- ---- a document
+
+-- a request for a document tells a text
+document_says : (p : Plain) (r : Request) → is_document r ≡ true → (words : List ℕ) × (told_request p (Ok r) ≡ says words)
+document_says p script.rules_document is = (rules_text (served p).rules, refl)
+document_says p script.dump_document is = (dump_text (served p), refl)
+document_says p (script.event e) is = absurd cc
+document_says p (script.write_through key op) is = absurd cc
+document_says p (script.read_through key number tablet_type) is = absurd cc
+document_says p (script.drive workflow types backward) is = absurd cc
+
+-- what a line tells that asks for a document
+document_tells : (p : Plain) (line : List ℕ) (core : CoreState) → Stands p core → AsksDocument line → (text : List ℕ) × Tells p (told reading_so_far p line) (Some text) core
+document_tells p line core stands (request, is, same) =
+    let words = document_says p request is in
+    (words.0 ++ line_feed, subst (λ t. Tells p t (Some (words.0 ++ line_feed)) core) (sym words.1 ∙ same p) (refl, stands))
+
+-- the reply to the request of a line
+pub line_replies : (p : Plain) (line : List ℕ) (request : Request) (r : answer.Reply) (core : CoreState) → ((q : Plain) → told_request q (Ok request) ≡ told reading_so_far q line)
+    → Replies p (told_request p (Ok request)) (is_document request ≡ true) r core → Replies p (told reading_so_far p line) (AsksDocument line) r core
+line_replies p line request reply.Silent core same is = subst (λ t. Tells p t None core) (same p) is
+line_replies p line request (reply.Line text) core same is = subst (λ t. Tells p t (Some text.items) core) (same p) is
+line_replies p line request (reply.Document text) core same is = subst (λ t. Tells p t (Some (string_bytes text ++ line_feed)) core) (same p) is
+line_replies p line request reply.NoMemory core same (is, stands) = ((request, is, same), stands)
+
+module _ (p : Plain) (line : List ℕ) (core : CoreState) (held held' : Known) (waiting waiting' : List ℕ) where
+  -- a text goes behind what waits
+  pub line_written : (text : Option (List ℕ)) (result : Result Unit ScriptFault) → Tells p (told reading_so_far p line) text core → Writes held held' (waiting ++ bytes_of text) waiting' result
+      → RunsLine p line core held held' waiting waiting' result
+  line_written text (Ok done) tells writes = (text, tells, writes)
+  line_written text (Err f) tells (is_write, out) = subst (λ g. RunsLine p line core held held' waiting waiting' (Err g)) (sym is_write) (text, tells, out)
+
+  -- a document finds no memory: what waits goes out, or doesn't
+  pub document_wanting : AsksDocument line → GoesOut held held' waiting waiting' → waiting' ≡ [] → RunsLine p line core held held' waiting waiting' (Err fault.Memory)
+  document_wanting wants (written, went, all) none = (wants, subst (Appends held held') (sym (all ∙ ap (λ (t : List ℕ). written ++ t) none ∙ append-nil written)) went)
+
+  pub document_unwritten : (f : ScriptFault) → AsksDocument line × Stands p core → (f ≡ fault.Write) × ((rest : List ℕ) × GoesOut held held' waiting rest) → RunsLine p line core held held' waiting waiting' (Err f)
+  document_unwritten f (wants, stands) (is_write, (rest, out)) =
+      let text = document_tells p line core stands wants in
+      subst (λ g. RunsLine p line core held held' waiting waiting' (Err g)) (sym is_write) (Some text.0, text.1, (rest ++ text.0, goes_short held held' waiting rest text.0 out))
+
+-- ---- a run so far
+
+-- a state that the core stands for; the lines that are done; what was to be written, of which some waits; and whatever
+-- completes more lines completes the lines that are done and these
+abbrev pub SoFar : Plain → (script rest : List ℕ) → CoreState → Known → Known → (waiting : List ℕ) → Type 0
+SoFar p script rest core held held' waiting =
+    (q : Plain) × Stands q core × ((before : List (List ℕ)) × (all : List ℕ) × (lines script ≡ before ++ lines rest) × GoesOut held held' all waiting
+    × ((more : List (List ℕ)) (out : List ℕ) → Output Answers reading_so_far q more out → Output Answers reading_so_far p (before ++ more) (all ++ out)))
+
+pub begins : (p : Plain) (script : List ℕ) (core : CoreState) (held : Known) → Stands p core → SoFar p script script core held held []
+begins p script core held stands = (p, stands, ([], [], refl, nothing_out held [], λ more out is. is))
+
+module _ (p : Plain) (script rest line after : List ℕ) (core core' : CoreState) (held held' held'' : Known) (waiting waiting' : List ℕ) (first : lines rest ≡ line ∷ lines after) where
+  pub line_done : SoFar p script rest core held held' waiting → ((q : Plain) → Stands q core → RunsLine q line core' held' held'' waiting waiting' (Ok tt)) → SoFar p script after core' held held'' waiting'
+  line_done (q, stands, (before, all, done, went, completes)) runs = by (runs q stands)
+    where
+      by : RunsLine q line core' held' held'' waiting waiting' (Ok tt) → SoFar p script after core' held held'' waiting'
+      by (text, tells, writes) = from (tells_adds q (told reading_so_far q line) text core' tells)
+        where
+          from : (r : Plain) × Stands r core' × ((Rest : Plain → List ℕ → Type 0) (out : List ℕ) → Rest r out → Adds Answers q (told reading_so_far q line) Rest (bytes_of text ++ out)) → SoFar p script after core' held held'' waiting'
+          from (r, stands', adds) = (
+            r,
+            stands',
+            (
+              before ++ line ∷ [],
+              all ++ bytes_of text,
+              done ∙ ap (λ (ls : List (List ℕ)). before ++ ls) first ∙ sym (append_assoc before (line ∷ []) (lines after)),
+              goes_on held held' held'' all waiting (bytes_of text) waiting' went writes,
+              λ more out is.
+                  let added : Output Answers reading_so_far q (line ∷ more) (bytes_of text ++ out) = adds (λ s rest. Output Answers reading_so_far s more rest) out is in
+                  subst (λ ls. Output Answers reading_so_far p ls ((all ++ bytes_of text) ++ out)) (sym (append_assoc before (line ∷ []) more))
+                  (subst (λ o. Output Answers reading_so_far p (before ++ line ∷ more) o) (sym (append_assoc all (bytes_of text) out)) (completes (line ∷ more) (bytes_of text ++ out) added)),
+            ),
+          )
+
+  pub line_failed : (f : ScriptFault) → SoFar p script rest core held held' waiting → ((q : Plain) → Stands q core → RunsLine q line core' held' held'' waiting waiting' (Err f)) → RunsLines p script held held'' (Err f)
+  line_failed fault.Write (q, stands, (before, all, done, went, completes)) runs = by (runs q stands)
+    where
+      by : RunsLine q line core' held' held'' waiting waiting' (Err fault.Write) → RunsLines p script held held'' (Err fault.Write)
+      by (text, tells, (left, writes)) = from (tells_adds q (told reading_so_far q line) text core' tells)
+        where
+          from : (r : Plain) × Stands r core' × ((Rest : Plain → List ℕ → Type 0) (out : List ℕ) → Rest r out → Adds Answers q (told reading_so_far q line) Rest (bytes_of text ++ out)) → RunsLines p script held held'' (Err fault.Write)
+          from (r, stands', adds) =
+              let o : List ℕ = output_from reading_so_far r (lines after) in
+              let added : Output Answers reading_so_far q (line ∷ lines after) (bytes_of text ++ o) = adds (λ s rest. Output Answers reading_so_far s (lines after) rest) o (has_output r (lines after)) in
+              let here : Output Answers reading_so_far p (before ++ line ∷ lines after) ((all ++ bytes_of text) ++ o) =
+              subst (λ x. Output Answers reading_so_far p (before ++ line ∷ lines after) x) (sym (append_assoc all (bytes_of text) o)) (completes (line ∷ lines after) (bytes_of text ++ o) added) in (
+                (all ++ bytes_of text) ++ o,
+                left ++ o,
+                subst (λ ls. Output Answers reading_so_far p ls ((all ++ bytes_of text) ++ o)) (sym (done ∙ ap (λ (ls : List (List ℕ)). before ++ ls) first)) here,
+                goes_short held held'' (all ++ bytes_of text) left o (goes_on held held' held'' all waiting (bytes_of text) left went writes),
+              )
+  line_failed fault.Memory (q, stands, (before, all, done, (written, went, is_all), completes)) runs = by (runs q stands)
+    where
+      by : RunsLine q line core' held' held'' waiting waiting' (Err fault.Memory) → RunsLines p script held held'' (Err fault.Memory)
+      by (wants, went_then) =
+          let nil : Output Answers reading_so_far q [] [] = refl in
+          let out : Output Answers reading_so_far p before (written ++ waiting) =
+          subst (λ ls. Output Answers reading_so_far p ls (written ++ waiting)) (append-nil before) (subst (λ o. Output Answers reading_so_far p (before ++ []) o) (append-nil all ∙ is_all) (completes [] [] nil)) in
+          let o : List ℕ = output_from reading_so_far q (line ∷ lines after) in
+          let whole : Output Answers reading_so_far p (lines script) ((written ++ waiting) ++ o) =
+          subst (λ ls. Output Answers reading_so_far p ls ((written ++ waiting) ++ o)) (sym here)
+          (subst (λ a. Output Answers reading_so_far p (before ++ line ∷ lines after) (a ++ o)) is_all (completes (line ∷ lines after) o (has_output q (line ∷ lines after)))) in
+          (written ++ waiting, o, Appends-trans held held' held'' written waiting went went_then, (before, line, lines after, here, wants, out), whole)
+        where
+          here : lines script ≡ before ++ line ∷ lines after
+          here = done ∙ ap (λ (ls : List (List ℕ)). before ++ ls) first
+  line_failed fault.Read (q, stands, so_far) runs = absurd (runs q stands)
+  line_failed fault.TooLong (q, stands, so_far) runs = absurd (runs q stands)
+
+-- ---- the end
+
+pub ends : (p : Plain) (script rest : List ℕ) (core : CoreState) (held held' held'' : Known) (waiting waiting' : List ℕ) (result : Result Unit ScriptFault)
+    → SoFar p script rest core held held' waiting → lines rest ≡ [] → Writes held' held'' waiting waiting' result → (result ≡ Ok tt → waiting' ≡ []) → RunsLines p script held held'' result
+ends p script rest core held held' held'' waiting waiting' result (q, stands, (before, all, done, went, completes)) none writes empty = by result writes empty
+  where
+    nil : Output Answers reading_so_far q [] []
+    nil = refl
+
+    out : Output Answers reading_so_far p (lines script) all
+    out = subst (λ ls. Output Answers reading_so_far p ls all) (sym (done ∙ ap (λ (ls : List (List ℕ)). before ++ ls) none))
+        (subst (λ o. Output Answers reading_so_far p (before ++ []) o) (append-nil all) (completes [] [] nil))
+
+    flushed : (left : List ℕ) → GoesOut held' held'' waiting left → GoesOut held held'' all left
+    flushed left more = subst (λ x. GoesOut held held'' x left) (append-nil all) (goes_on held held' held'' all waiting [] left went (subst (λ x. GoesOut held' held'' x left) (sym (append-nil waiting)) more))
+
+    by : (result : Result Unit ScriptFault) → Writes held' held'' waiting waiting' result → (result ≡ Ok tt → waiting' ≡ []) → RunsLines p script held held'' result
+    by (Ok tt) writes empty =
+        let gone = flushed waiting' writes in
+        (gone.0, gone.1, subst (λ o. Output Answers reading_so_far p (lines script) o) (gone.2 ∙ ap (λ (t : List ℕ). gone.0 ++ t) (empty refl) ∙ append-nil gone.0) out)
+    by (Err f) (is_write, (left, writes)) empty = subst (λ g. RunsLines p script held held'' (Err g)) (sym is_write) (all, left, out, flushed left writes)
+
+-- ---- the whole run
+
+pub runs_read : (scopes : List Scope) (left left' held : Known) (script : List ℕ) (f : ScriptFault) → Reads left left' script (Err f) → Runs scopes left left' held held (Err f)
+runs_read scopes left left' held script fault.Memory (input, consumed, most) =
+    (input, [], consumed, inl (most, refl), Appends-nil held, (plain.output_by reading_so_far scopes input, plain.output_by reading_so_far scopes input, has_output (opening scopes) (lines input), refl))
+runs_read scopes left left' held script fault.Read (input, consumed, most) = (input, [], consumed, most, Appends-nil held, refl)
+runs_read scopes left left' held script fault.Write (input, consumed, impossible) = absurd impossible
+runs_read scopes left left' held script fault.TooLong (input, consumed, long) = (input, [], consumed, long, Appends-nil held, (long.0, refl))
+
+pub runs_lines : (scopes : List Scope) (left left' held held' : Known) (script : List ℕ) (result : Result Unit ScriptFault) → Reads left left' script (Ok tt)
+    → RunsLines (opening scopes) script held held' result → Runs scopes left left' held held' result
+runs_lines scopes left left' held held' script (Ok done) read (written, went, is) = (script, written, read.0, (read.1, read.2), went, is)
+runs_lines scopes left left' held held' script (Err fault.Write) read (out, rest, is, (written, went, all)) =
+    (script, written, read.0, (read.1, read.2), went, (out, rest, is, sym all))
+runs_lines scopes left left' held held' script (Err fault.Memory) read (written, rest, went, ran, is) =
+    (script, written, read.0, inr ((read.1, read.2), ran), went, (written ++ rest, rest, is, refl))
+runs_lines scopes left left' held held' script (Err fault.Read) read impossible = absurd impossible
+runs_lines scopes left left' held held' script (Err fault.TooLong) read impossible = absurd impossible
