@@ -39,41 +39,59 @@ fn helps(rt: &HostRuntime, words: &[&str], text: &str) -> bool {
     }
 }
 
+/// Command lines that don't parse.
+const MISUSED: [&[&str]; 22] = [
+    &["mt"],
+    &["mt", ""],
+    &["mt", "frobnicate"],
+    &["mt", "frobnicate", "run"],
+    &["mt", "runs"],
+    &["mt", "ru"],
+    &["mt", "RUN"],
+    &["mt", "-"],
+    &["mt", "--"],
+    &["mt", "--", "run"],
+    &["mt", "-V"],
+    &["mt", "--version"],
+    &["mt", "--clients", "2", "race"],
+    &["mt", "run", "-a"],
+    &["mt", "run", "--all"],
+    &["mt", "run", "commerce", "-a", "!"],
+    &["mt", "run", "!", "-a"],
+    &["mt", "rules", "commerce"],
+    &["mt", "rules", ""],
+    &["mt", "topology", "commerce"],
+    &["mt", "topology", "--clients", "2"],
+    &["mt", "help", "frobnicate"],
+];
+
 #[test]
 fn words_that_do_not_parse(rt: HostRuntime) {
-    assert!(rt; is_usage(&rt, &["mt"]));
-    assert!(rt; is_usage(&rt, &["mt", ""]));
-    assert!(rt; is_usage(&rt, &["mt", "frobnicate"]));
-    assert!(rt; is_usage(&rt, &["mt", "frobnicate", "run"]));
-    assert!(rt; is_usage(&rt, &["mt", "runs"]));
-    assert!(rt; is_usage(&rt, &["mt", "ru"]));
-    assert!(rt; is_usage(&rt, &["mt", "RUN"]));
-    assert!(rt; is_usage(&rt, &["mt", "-"]));
-    assert!(rt; is_usage(&rt, &["mt", "--"]));
-    assert!(rt; is_usage(&rt, &["mt", "--", "run"]));
-    assert!(rt; is_usage(&rt, &["mt", "-V"]));
-    assert!(rt; is_usage(&rt, &["mt", "--version"]));
-    assert!(rt; is_usage(&rt, &["mt", "--clients", "2", "race"]));
-    assert!(rt; is_usage(&rt, &["mt", "run", "-a"]));
-    assert!(rt; is_usage(&rt, &["mt", "run", "--all"]));
-    assert!(rt; is_usage(&rt, &["mt", "run", "commerce", "-a", "!"]));
-    assert!(rt; is_usage(&rt, &["mt", "run", "!", "-a"]));
-    assert!(rt; is_usage(&rt, &["mt", "rules", "commerce"]));
-    assert!(rt; is_usage(&rt, &["mt", "rules", ""]));
-    assert!(rt; is_usage(&rt, &["mt", "topology", "commerce"]));
-    assert!(rt; is_usage(&rt, &["mt", "topology", "--clients", "2"]));
-    assert!(rt; is_usage(&rt, &["mt", "help", "frobnicate"]));
+    for (at, words) in MISUSED.iter().enumerate() {
+        assert!(rt; is_usage(&rt, words), "at {at}");
+    }
+}
+
+/// Runs, each with how many keyspaces it has.
+const RUNS: [(&[&str], usize); 7] = [
+    (&["mt", "run"], 0),
+    (&["/usr/bin/mt", "run", "commerce", "customer"], 2),
+    (&["mt", "run", "commerce", "commerce"], 2),
+    (&["mt", "run", "run", "help"], 2),
+    (&["mt", "run", "--", "commerce"], 1),
+    (&["mt", "run", "commerce", "--", "customer"], 2),
+    (&["mt", "run", "--"], 0),
+];
+
+#[test]
+fn keyspaces_of_a_run(rt: HostRuntime) {
+    for (at, (words, count)) in RUNS.iter().enumerate() {
+        assert!(rt; watched(&rt, words) == Some(*count), "at {at}");
+    }
 }
 
 #[test]
-fn keyspaces_of_a_run(rt: HostRuntime) -> Result<(), Fail> {
-    assert!(rt; watched(&rt, &["mt", "run"]) == Some(0));
-    assert!(rt; watched(&rt, &["/usr/bin/mt", "run", "commerce", "customer"]) == Some(2));
-    assert!(rt; watched(&rt, &["mt", "run", "commerce", "commerce"]) == Some(2));
-    assert!(rt; watched(&rt, &["mt", "run", "run", "help"]) == Some(2));
-    assert!(rt; watched(&rt, &["mt", "run", "--", "commerce"]) == Some(1));
-    assert!(rt; watched(&rt, &["mt", "run", "commerce", "--", "customer"]) == Some(2));
-    assert!(rt; watched(&rt, &["mt", "run", "--"]) == Some(0));
+fn keyspaces_in_their_order(rt: HostRuntime) -> Result<(), Fail> {
     let choice = choose(rt.alloc(), &["mt", "run", "b", "a", "b"]).expect(&rt, "a choice");
     let Choice::Run(names) = &choice else {
         return Err(Fail::from("no run"));
@@ -84,19 +102,28 @@ fn keyspaces_of_a_run(rt: HostRuntime) -> Result<(), Fail> {
     Ok(())
 }
 
+/// 65 letters.
+const LONG: &str = "aaaaaaaaaaaaaaaaaaaaaaaaaaaaaaaaaaaaaaaaaaaaaaaaaaaaaaaaaaaaaaaaa";
+
+/// Runs with a word that is no keyspace's name, each with the refusal.
+const BAD_NAMES: [(&[&str], NameFault); 10] = [
+    (&["mt", "run", ""], NameFault::Empty),
+    (&["mt", "run", "commerce", ""], NameFault::Empty),
+    (&["mt", "run", "-"], NameFault::BadByte(0)),
+    (&["mt", "run", "--", "-a"], NameFault::BadByte(0)),
+    (&["mt", "run", "--", "--"], NameFault::BadByte(0)),
+    (&["mt", "run", "--", "--help"], NameFault::BadByte(0)),
+    (&["mt", "run", "a.b"], NameFault::BadByte(1)),
+    (&["mt", "run", "a,b", ""], NameFault::BadByte(1)),
+    (&["mt", "run", "", "a,b"], NameFault::Empty),
+    (&["mt", "run", LONG], NameFault::TooLong),
+];
+
 #[test]
 fn words_that_are_no_keyspaces(rt: HostRuntime) {
-    assert!(rt; bad_words(&rt, &["mt", "run", ""]) == Some(NameFault::Empty));
-    assert!(rt; bad_words(&rt, &["mt", "run", "commerce", ""]) == Some(NameFault::Empty));
-    assert!(rt; bad_words(&rt, &["mt", "run", "-"]) == Some(NameFault::BadByte(0)));
-    assert!(rt; bad_words(&rt, &["mt", "run", "--", "-a"]) == Some(NameFault::BadByte(0)));
-    assert!(rt; bad_words(&rt, &["mt", "run", "--", "--"]) == Some(NameFault::BadByte(0)));
-    assert!(rt; bad_words(&rt, &["mt", "run", "--", "--help"]) == Some(NameFault::BadByte(0)));
-    assert!(rt; bad_words(&rt, &["mt", "run", "a.b"]) == Some(NameFault::BadByte(1)));
-    assert!(rt; bad_words(&rt, &["mt", "run", "a,b", ""]) == Some(NameFault::BadByte(1)));
-    assert!(rt; bad_words(&rt, &["mt", "run", "", "a,b"]) == Some(NameFault::Empty));
-    let long = "aaaaaaaaaaaaaaaaaaaaaaaaaaaaaaaaaaaaaaaaaaaaaaaaaaaaaaaaaaaaaaaaa";
-    assert!(rt; bad_words(&rt, &["mt", "run", long]) == Some(NameFault::TooLong));
+    for (at, (words, fault)) in BAD_NAMES.iter().enumerate() {
+        assert!(rt; bad_words(&rt, words) == Some(*fault), "at {at}");
+    }
 }
 
 /// A word list of `mt run` with 31 keyspaces, and the last words given.
@@ -137,42 +164,57 @@ fn documents(rt: HostRuntime) {
     );
 }
 
+/// Races, each with its clients and writes.
+const RACES: [(&[&str], (u16, u16)); 4] = [
+    (&["mt", "race"], (2, 10)),
+    (&["mt", "race", "--clients", "1", "--writes", "1"], (1, 1)),
+    (&["mt", "race", "--writes=1000", "--clients=4"], (4, 1000)),
+    (&["mt", "race", "--clients", "3"], (3, 10)),
+];
+
+/// Races that don't parse.
+const MISUSED_RACES: [&[&str]; 12] = [
+    &["mt", "race", "--clients", "0"],
+    &["mt", "race", "--clients", "5"],
+    &["mt", "race", "--writes", "0"],
+    &["mt", "race", "--writes", "1001"],
+    &["mt", "race", "--writes", "65536"],
+    &["mt", "race", "--clients", "-1"],
+    &["mt", "race", "--clients", "two"],
+    &["mt", "race", "--clients", ""],
+    &["mt", "race", "--clients"],
+    &["mt", "race", "--clients", "1", "--clients", "1"],
+    &["mt", "race", "2"],
+    &["mt", "race", "-c", "2"],
+];
+
 #[test]
 fn numbers_of_a_race(rt: HostRuntime) {
-    assert!(rt; race(&rt, &["mt", "race"]) == Some((2, 10)));
-    assert!(rt; race(&rt, &["mt", "race", "--clients", "1", "--writes", "1"]) == Some((1, 1)));
-    assert!(rt; race(&rt, &["mt", "race", "--writes=1000", "--clients=4"]) == Some((4, 1000)));
-    assert!(rt; race(&rt, &["mt", "race", "--clients", "3"]) == Some((3, 10)));
-    assert!(rt; is_usage(&rt, &["mt", "race", "--clients", "0"]));
-    assert!(rt; is_usage(&rt, &["mt", "race", "--clients", "5"]));
-    assert!(rt; is_usage(&rt, &["mt", "race", "--writes", "0"]));
-    assert!(rt; is_usage(&rt, &["mt", "race", "--writes", "1001"]));
-    assert!(rt; is_usage(&rt, &["mt", "race", "--writes", "65536"]));
-    assert!(rt; is_usage(&rt, &["mt", "race", "--clients", "-1"]));
-    assert!(rt; is_usage(&rt, &["mt", "race", "--clients", "two"]));
-    assert!(rt; is_usage(&rt, &["mt", "race", "--clients", ""]));
-    assert!(rt; is_usage(&rt, &["mt", "race", "--clients"]));
-    assert!(rt; is_usage(&rt, &["mt", "race", "--clients", "1", "--clients", "1"]));
-    assert!(rt; is_usage(&rt, &["mt", "race", "2"]));
-    assert!(rt; is_usage(&rt, &["mt", "race", "-c", "2"]));
+    for (at, (words, numbers)) in RACES.iter().enumerate() {
+        assert!(rt; race(&rt, words) == Some(*numbers), "at {at}");
+    }
+    for (at, words) in MISUSED_RACES.iter().enumerate() {
+        assert!(rt; is_usage(&rt, words), "at {at}");
+    }
 }
+
+/// Command lines that ask for help, each with a text that is in it.
+const HELPS: [(&[&str], &str); 8] = [
+    (&["mt", "--help"], "Usage: mt <COMMAND>"),
+    (&["mt", "-h"], "topology"),
+    (&["mt", "help"], "Usage: mt <COMMAND>"),
+    (&["mt", "help", "run"], "Usage: mt run [KEYSPACE]..."),
+    (&["mt", "run", "--help"], "Usage: mt run [KEYSPACE]..."),
+    (&["mt", "run", "a!", "-h"], "Usage: mt run [KEYSPACE]..."),
+    (&["mt", "help", "race"], "--clients <N>"),
+    (&["mt", "race", "-h"], "[default: 10]"),
+];
 
 #[test]
 fn help(rt: HostRuntime) {
-    assert!(rt; helps(&rt, &["mt", "--help"], "Usage: mt <COMMAND>"));
-    assert!(rt; helps(&rt, &["mt", "-h"], "topology"));
-    assert!(rt; helps(&rt, &["mt", "help"], "Usage: mt <COMMAND>"));
-    assert!(rt; helps(&rt, &["mt", "help", "run"], "Usage: mt run [KEYSPACE]..."));
-    assert!(rt; helps(&rt, &["mt", "run", "--help"], "Usage: mt run [KEYSPACE]..."));
-    assert!(rt;
-        helps(
-            &rt,
-            &["mt", "run", "a!", "-h"],
-            "Usage: mt run [KEYSPACE]..."
-        )
-    );
-    assert!(rt; helps(&rt, &["mt", "help", "race"], "--clients <N>"));
-    assert!(rt; helps(&rt, &["mt", "race", "-h"], "[default: 10]"));
+    for (at, (words, text)) in HELPS.iter().enumerate() {
+        assert!(rt; helps(&rt, words, text), "at {at}");
+    }
 }
 
 #[test]

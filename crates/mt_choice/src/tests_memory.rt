@@ -45,26 +45,40 @@ fn same_help(rt: &HostRuntime, words: &[&str]) -> bool {
     }
 }
 
+/// Command lines, each with the kind of its answer.
+const ANSWERS: [(&[&str], Answer); 10] = [
+    (
+        &["mt", "run", "commerce", "--", "customer"],
+        Answer::Keyspaces(2),
+    ),
+    (&["mt", "run", "commerce", "a!"], Answer::Words),
+    (&["mt", "run", "-a"], Answer::Usage),
+    (&["mt", "rules"], Answer::Rules),
+    (&["mt", "topology"], Answer::Topology),
+    (&["mt", "race", "--writes=20"], Answer::Race(2, 20)),
+    (&["mt", "race", "--clients", "5"], Answer::Usage),
+    (&["mt", "race", "--clients", "five"], Answer::Usage),
+    (&["mt"], Answer::Usage),
+    (&["mt", "frobnicate"], Answer::Usage),
+];
+
+/// Command lines that ask for help.
+const HELPS: [&[&str]; 4] = [
+    &["mt", "help"],
+    &["mt", "--help"],
+    &["mt", "race", "-h"],
+    &["mt", "help", "run"],
+];
+
 #[test]
 fn want_of_memory_is_no_other_answer(rt: HostRuntime) {
-    assert!(rt;
-        is(
-            &rt,
-            &["mt", "run", "commerce", "--", "customer"],
-            Answer::Keyspaces(2)
-        )
-    );
-    assert!(rt; is(&rt, &["mt", "run", "commerce", "a!"], Answer::Words));
-    assert!(rt; is(&rt, &["mt", "run", "-a"], Answer::Usage));
-    assert!(rt; is(&rt, &["mt", "rules"], Answer::Rules));
-    assert!(rt; is(&rt, &["mt", "topology"], Answer::Topology));
-    assert!(rt; is(&rt, &["mt", "race", "--writes=20"], Answer::Race(2, 20)));
-    assert!(rt; is(&rt, &["mt", "race", "--clients", "5"], Answer::Usage));
-    assert!(rt; is(&rt, &["mt", "race", "--clients", "five"], Answer::Usage));
-    assert!(rt; is(&rt, &["mt"], Answer::Usage));
-    assert!(rt; is(&rt, &["mt", "frobnicate"], Answer::Usage));
-    assert!(rt; is(&rt, &["mt", "help"], Answer::Help));
-    assert!(rt; same_help(&rt, &["mt", "--help"]));
-    assert!(rt; same_help(&rt, &["mt", "race", "-h"]));
-    assert!(rt; same_help(&rt, &["mt", "help", "run"]));
+    for (at, (words, wanted)) in ANSWERS.iter().enumerate() {
+        assert!(rt; is(&rt, words, *wanted), "at {at}");
+    }
+    for (at, words) in HELPS.iter().enumerate() {
+        assert!(rt;
+            is(&rt, words, Answer::Help) && same_help(&rt, words),
+            "at {at}"
+        );
+    }
 }
