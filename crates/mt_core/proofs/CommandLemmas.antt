@@ -1,13 +1,15 @@
 -- Each command as an event, and what holds of the core after it.
-use Rattle.std.proofs.Common.{◌≡◌, ◌≢◌, ℕ, Bool, true, false, List, [], ◌∷◌, ◌++◌, length, Option, None, Some, Result, refl, sym, ap, ◌∙◌, subst, arith, ⊎_elim, is_some, length-append}
+use Rattle.std.proofs.Common.{◌≡◌, ◌≢◌, ℕ, Bool, true, false, List, [], ◌∷◌, ◌++◌, length, Option, None, Some, Result, Ok, Err, refl, sym, ap, ◌∙◌, subst, arith, ⊎_elim, is_some, length-append}
 use Rattle.mt_names.proofs.SameLemmas.{same_text_decides}
 use Rattle.std.proofs.lemmas.Map.{length-set_value}
 use Rattle.std.specs.Map.{set_value}
 use Rattle.std.specs.Option.{option_map_or}
+use Rattle.std.specs.Result.{OnErr}
 use Rattle.mt_names.specs.declared.keys.RuleKey.{RuleKey}
 use Rattle.mt_names.specs.declared.keys.RuleTarget.{RuleTarget}
 use Rattle.mt_names.specs.Names.{same_text}
 use Rattle.mt_model.specs.declared.answers.Refusal as code
+use Rattle.mt_model.specs.declared.answers.Refusal.TheVariants as refusal
 use Rattle.mt_model.specs.declared.answers.Reply.{Reply}
 use Rattle.mt_model.specs.declared.entries.Entry.{Entry}
 use Rattle.mt_model.specs.declared.entries.Entry.TheVariants as entry
@@ -25,7 +27,7 @@ use Rattle.mt_core.specs.Commands.{AddsKeyspace, AddsTable, EditsRule, MakesKeys
 use Rattle.mt_core.specs.Core.{CoreState, IsCore, IsWithinLimits, primary_at, primary_of}
 use Rattle.mt_names.proofs.EntryLemmas.{is_some-set_value, none_from, same_or_other}
 use Rattle.mt_core.proofs.CoreLemmas.{changed_elsewhere, changed_now, changed_was, is_some-push_both, primary_of-push}
-use Rattle.mt_core.proofs.RefusalLemmas.{none_told}
+use Rattle.mt_core.proofs.RefusalLemmas.{none_told, refused_grows}
 use Rattle.mt_core.proofs.LimitLemmas.{within-keyspace, within-rule, within-table}
 use Rattle.mt_core.proofs.StepLemmas.{does_keeps, does_step, free_name, keyspace_making, keyspace_refusing, no_primary, rule_growing, rule_making, rule_refusing, steps_from_calm, table_making, table_refusing}
 
@@ -70,6 +72,19 @@ pub rule_keeps : (old new : CoreState) (key : RuleKey) (target : Option RuleTarg
 rule_keeps old new key target result is did =
     does_keeps IsCore old new (edit_rule_refusal old.topology.rules key target) (edit_rule_grows old.topology.rules key target) (MakesRule old key target) result is
     (λ free made. subst IsCore (sym made) (record { keyspaces = is.keyspaces; count = is.count; tables = is.tables; within = within-rule old.topology key target is.within free })) did
+
+-- an edit is refused only where its key needs a place
+pub rule_needs_place : (old new : CoreState) (key : RuleKey) (target : Option RuleTarget) (result : Result Reply code.Refusal) → EditsRule old key target result new → OnErr result (edit_rule_grows old.topology.rules key target ≡ true)
+rule_needs_place old new key target (Ok reply) did = tt
+rule_needs_place old new key target (Err refusal.Memory) did = did.1
+rule_needs_place old new key target (Err refusal.NoKeyspace) did = refused_grows old.topology.rules key target refusal.NoKeyspace did.0
+rule_needs_place old new key target (Err refusal.NoTable) did = refused_grows old.topology.rules key target refusal.NoTable did.0
+rule_needs_place old new key target (Err refusal.Denied) did = refused_grows old.topology.rules key target refusal.Denied did.0
+rule_needs_place old new key target (Err refusal.RowExists) did = refused_grows old.topology.rules key target refusal.RowExists did.0
+rule_needs_place old new key target (Err refusal.NoRow) did = refused_grows old.topology.rules key target refusal.NoRow did.0
+rule_needs_place old new key target (Err refusal.Full) did = refused_grows old.topology.rules key target refusal.Full did.0
+rule_needs_place old new key target (Err refusal.TooLong) did = refused_grows old.topology.rules key target refusal.TooLong did.0
+rule_needs_place old new key target (Err refusal.Exists) did = refused_grows old.topology.rules key target refusal.Exists did.0
 
 -- ---- a table more
 

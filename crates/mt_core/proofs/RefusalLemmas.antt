@@ -10,11 +10,12 @@ use Rattle.mt_names.specs.declared.keys.RuleKey.{RuleKey}
 use Rattle.mt_names.specs.declared.keys.RuleTarget.{RuleTarget}
 use Rattle.mt_names.specs.Names.{same_text}
 use Rattle.mt_names.specs.Same.{same_key}
+use Rattle.mt_model.specs.declared.answers.Refusal as code
 use Rattle.mt_model.specs.declared.faults.TopologyFault.{TopologyFault}
 use Rattle.mt_model.specs.declared.faults.TopologyFault.TheVariants as topology
 use Rattle.mt_model.specs.Limits.{most_keyspaces, most_rules, most_tables_in_keyspace}
-use Rattle.mt_model.specs.Topology.{Keyspaces, KeyspaceState, Marks, TopologyState, is_marked, keyspace_at}
-use Rattle.mt_topology.specs.Edits.{add_keyspace_refusal, add_table_refusal, edit_rule_refusal, new_table_refusal}
+use Rattle.mt_model.specs.Topology.{Keyspaces, KeyspaceState, Marks, Rules, TopologyState, is_marked, keyspace_at}
+use Rattle.mt_topology.specs.Edits.{add_keyspace_refusal, add_table_refusal, edit_rule_grows, edit_rule_refusal, new_table_refusal}
 use Rattle.mt_plain.specs.Events.{Refusal, exists, full, no_keyspace, refusal_from}
 use Rattle.mt_plain.specs.Plain.{Plain}
 use Rattle.mt_plain.specs.Refuse.{or_else, refuse_if, rule_refusal}
@@ -103,3 +104,11 @@ rule_told p key (Some target) within = rw (at_limit (length p.topology.rules) mo
     by true at = refl
     by false true = refl
     by false false = refl
+
+-- an edit of a rule that is refused would make a place
+pub refused_grows : (rules : Rules) (key : RuleKey) (target : Option RuleTarget) (r : code.Refusal) → option_map refusal_by_topology (edit_rule_refusal rules key target) ≡ Some r → edit_rule_grows rules key target ≡ true
+refused_grows rules key target r e = by (edit_rule_grows rules key target) (eqb (length rules) most_rules) e
+  where
+    by : (grows at : Bool) → option_map refusal_by_topology (cond (grows && at) (Some topology.Full) None) ≡ Some r → grows ≡ true
+    by true at e = refl
+    by false at e = absurd cc

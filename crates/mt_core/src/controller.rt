@@ -1,9 +1,10 @@
 //! The core: the topology, and a primary for each of its keyspaces.
-ghost use Rattle.std.specs.Prelude.{◌≡◌, List, IfErr, IfOk, OnErr, OnOk, Some, Ok, string_bytes};
+ghost use Rattle.std.specs.Prelude.{◌≡◌, true, List, IfErr, IfOk, OnErr, OnOk, Some, Ok, string_bytes};
 ghost use Rattle.mt_names.specs.declared.types.TabletType.{TabletType};
 ghost use Rattle.mt_model.specs.declared.entries.Scope.{Scope};
 ghost use Rattle.mt_model.specs.Documents.{dump_text, rules_text};
 ghost use Rattle.mt_model.specs.Topology.{resolution};
+ghost use Rattle.mt_topology.specs.Edits.{edit_rule_grows};
 ghost use Rattle.mt_plain.specs.Events.{add_keyspace, add_table, edit_rule, read, write};
 ghost use Rattle.mt_plain.specs.Plain.{Plain, opening};
 ghost use Rattle.mt_plain.specs.Serve.{served};
@@ -80,10 +81,12 @@ impl Core {
         add_table(&mut self.topology, &mut self.primaries, keyspace, table)
     }
 
-    /// Sets the rule of a key, or takes it away: `F27 Full`, `F0 Memory`.
+    /// Sets the rule of a key, or takes it away: `F27 Full`, `F0 Memory`. To change a rule or to take one away is never
+    /// refused.
     pub fn edit_rule(&mut self, key: &RuleKey, target: Option<RuleTarget>) -> Result<Reply, Refusal>
         ensures steps { Steps self.old (edit_rule key.now target) result self.new }
         ensures unchanged { OnErr result (self.new ≡ self.old) }
+        ensures place { OnErr result (edit_rule_grows self.old.topology.rules key.now target ≡ true) }
     {
         edit_rule(&mut self.topology, key, target)
     }
