@@ -1,4 +1,5 @@
 pub mod Command
 pub mod Keyspaces
 pub mod Meaning
+pub mod Texts
 pub mod Words

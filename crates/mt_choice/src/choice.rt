@@ -3,6 +3,7 @@
 use crate::MAX_KEYSPACES;
 use arrayvec::ArrayVec;
 use mt_names::{KeyspaceName, NameFault};
+use std::fmt;
 use thiserror::Error;
 
 /// The line that a command line is answered with where it doesn't parse.
@@ -34,12 +35,36 @@ pub enum Choice {
 #[derive(Clone, Copy, Debug, Eq, Error, PartialEq)]
 pub enum Wrong {
     /// The words don't parse.
-    #[error("{USAGE}")]
     Usage,
     /// A word is no keyspace's name, or there are too many of them.
-    #[error("{0}")]
     Words(NameFault),
     /// No memory was left.
-    #[error("fault Memory")]
     Memory,
+}
+
+impl Wrong {
+    ghost use Rattle.std.specs.Prelude.{◌≡◌};
+    ghost use Rattle.mt_choice.specs.Texts.{wrong_text};
+
+    /// The line for standard error, without its line feed.
+    fn as_str(self) -> &'static str
+        ensures { result.now ≡ wrong_text self }
+    {
+        match self {
+            Wrong::Usage => USAGE,
+            Wrong::Words(fault) => fault.as_str(),
+            Wrong::Memory => "fault Memory",
+        }
+    }
+}
+
+impl fmt::Display for Wrong {
+    ghost use Rattle.std.specs.Prelude.{Some};
+    ghost use Rattle.mt_choice.specs.Texts.{wrong_text};
+
+    ghost output = { λ wrong. Some (wrong_text wrong) };
+
+    fn fmt<W: fmt::Write>(&self, f: &mut fmt::Formatter<W>) -> fmt::Result {
+        f.pad(self.as_str())
+    }
 }

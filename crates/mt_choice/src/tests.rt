@@ -218,6 +218,27 @@ fn help(rt: HostRuntime) {
 }
 
 #[test]
+fn what_help_tells(rt: HostRuntime) {
+    let texts = [
+        ("run", "Runs the script of standard input"),
+        ("run", "Keyspaces whose primaries have watchers, at most 31"),
+        ("rules", "Writes the canonical form of a rule document"),
+        ("topology", "Writes the canonical form of a topology dump"),
+        (
+            "race",
+            "Runs clients while a controller switches and reverses",
+        ),
+        ("race", "How many clients write, 1 to 4"),
+        ("race", "How many writes each client makes, 1 to 1000"),
+    ];
+    for (command, text) in texts {
+        assert!(rt; helps(&rt, &["mt", "help", command], text), "{text}");
+    }
+    let about = "Moves tables from one keyspace to another while they are read and written";
+    assert!(rt; helps(&rt, &["mt", "help"], about));
+}
+
+#[test]
 fn printed_text(rt: HostRuntime) -> Result<(), Fail> {
     assert!(rt;
         USAGE
