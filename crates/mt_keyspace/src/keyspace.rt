@@ -1,5 +1,5 @@
 //! One keyspace of a topology.
-ghost use Rattle.std.specs.Prelude.{◌≡◌, ◌&&◌, ◌==◌, ◌≤◌, [], true, length, is_some, if◌then◌else◌, IfOk, OnOk};
+ghost use Rattle.std.specs.Prelude.{◌≡◌, ◌&&◌, ◌==◌, ◌≤◌, [], true, false, length, is_some, if◌then◌else◌, IfOk, OnOk};
 ghost use Rattle.std.specs.List.{AllByRecursion, IsDistinct};
 ghost use Rattle.std.specs.Map.{keys_of, lookup};
 ghost use Rattle.serde_json.specs.View.{view};
@@ -129,7 +129,8 @@ impl Keyspace {
 
     /// Makes a place for a table, and answers whether it has one now.
     pub(crate) fn reserve_table(&mut self, table: &TableName) -> bool
-        ensures { self.new ≡ (if result then with_table_place table.now self.old else self.old) }
+        ensures places { self.new ≡ (if result then with_table_place table.now self.old else self.old) }
+        ensures lacks { result ≡ false → is_some (lookup (same_text table.now) self.old.tables) ≡ false }
     {
         if self.has_place(table) {
             return true;
@@ -145,7 +146,8 @@ impl Keyspace {
 
     /// Makes a place for the denial of a table, and answers whether it has one now.
     pub(crate) fn reserve_denial(&mut self, table: &TableName) -> bool
-        ensures { self.new ≡ (if result then with_denied_place table.now self.old else self.old) }
+        ensures places { self.new ≡ (if result then with_denied_place table.now self.old else self.old) }
+        ensures lacks { result ≡ false → is_some (lookup (same_text table.now) self.old.denied) ≡ false }
     {
         self.denied.reserve(table).is_ok()
     }

@@ -153,6 +153,7 @@ pub fn add_table(
 /// Makes a place for a table in a keyspace, and answers whether it has one now, or the keyspace isn't there.
 pub fn reserve_table(keyspaces: &mut Keyspaces, keyspace: &KeyspaceName, table: &TableName) -> bool
     ensures places { keyspaces.new.entries ≡ (if result then with_keyspace_state (with_table_place table.now) keyspaces.old.entries keyspace.now else keyspaces.old.entries) }
+    ensures lacks { result ≡ false → option_map_or (λ state. is_some (lookup (same_text table.now) state.tables)) (keyspace_at keyspaces.old.entries keyspace.now) true ≡ false }
     ensures len { length keyspaces.new.entries ≡ length keyspaces.old.entries }
 {
     match keyspaces.get_mut(keyspace) {
@@ -165,6 +166,7 @@ pub fn reserve_table(keyspaces: &mut Keyspaces, keyspace: &KeyspaceName, table: 
 /// there.
 pub fn reserve_denial(keyspaces: &mut Keyspaces, keyspace: &KeyspaceName, table: &TableName) -> bool
     ensures places { keyspaces.new.entries ≡ (if result then with_keyspace_state (with_denied_place table.now) keyspaces.old.entries keyspace.now else keyspaces.old.entries) }
+    ensures lacks { result ≡ false → option_map_or (λ state. is_some (lookup (same_text table.now) state.denied)) (keyspace_at keyspaces.old.entries keyspace.now) true ≡ false }
     ensures len { length keyspaces.new.entries ≡ length keyspaces.old.entries }
 {
     match keyspaces.get_mut(keyspace) {

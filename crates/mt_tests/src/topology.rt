@@ -181,11 +181,12 @@ fn writes_denial(topology: &mut Topology, is_denied: bool, before: bool) -> Resu
     Ok(topology.write(entry) == denial(before)?)
 }
 
-/// A part is reserved; a denial is written and taken back.
+/// A part is reserved, of which one rule is there before; a denial is written and taken back.
 fn part_is_reserved(topology: &mut Topology) -> Result<bool, Fail> {
     let key = denial(false)?.key();
     let lacks = !topology.has_place(&key) && reserve(topology, "b", "c", "t")? == "T1 NoKeyspace";
-    let reserved = reserve(topology, "b", "a", "t")? == "ok" && topology.has_place(&key);
+    let ruled = set_rule(topology, "t@replica", "b.t")? == "ok";
+    let reserved = ruled && reserve(topology, "b", "a", "t")? == "ok" && topology.has_place(&key);
     let written = writes_denial(topology, true, false)?
         && topology.value(&key) == denial(true)?
         && writes_denial(topology, false, true)?;

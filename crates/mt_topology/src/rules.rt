@@ -1,5 +1,7 @@
 //! What is looked up and edited at the rules.
-ghost use Rattle.std.specs.Prelude.{◌≡◌, Some, None, if◌then◌else◌};
+ghost use Rattle.std.specs.Prelude.{◌≡◌, Some, None, false, is_some, if◌then◌else◌};
+ghost use Rattle.std.specs.Map.{lookup};
+ghost use Rattle.mt_names.specs.Same.{same_key};
 ghost use Rattle.mt_model.specs.Topology.{rule_for, with_rule, with_rule_place};
 ghost use Rattle.mt_keyspace.specs.Edits.{Edits};
 ghost use Rattle.mt_topology.specs.Edits.{edit_rule_grows, edit_rule_refusal};
@@ -51,7 +53,8 @@ pub fn take_rule(rules: &mut RoutingRules, key: &RuleKey)
 }
 /// Makes a place for a rule key, and answers whether it has one now.
 pub fn reserve_rule(rules: &mut RoutingRules, key: &RuleKey) -> bool
-    ensures { rules.new ≡ (if result then with_rule_place rules.old key.now else rules.old) }
+    ensures places { rules.new ≡ (if result then with_rule_place rules.old key.now else rules.old) }
+    ensures lacks { result ≡ false → is_some (lookup (same_key key.now) rules.old) ≡ false }
 {
     rules.reserve_key(key).is_ok()
 }

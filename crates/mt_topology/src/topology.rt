@@ -1,5 +1,5 @@
 //! The topology as one value.
-ghost use Rattle.std.specs.Prelude.{◌≡◌, true, IsTrue, IfOk, IfErr, reverse, string_bytes, if◌then◌else◌};
+ghost use Rattle.std.specs.Prelude.{◌≡◌, true, false, IsTrue, IfOk, IfErr, reverse, string_bytes, if◌then◌else◌};
 ghost use Rattle.mt_model.specs.Topology.{HasDistinctPlaces, empty_topology, has_place, key_of, resolution, value_of, with_entry, with_keyspace, with_keyspace_state, with_rule, with_table, without_table_place};
 ghost use Rattle.mt_model.specs.Part.{part_keys, table_part_keys, with_place, with_places, without_place, without_places};
 ghost use Rattle.mt_topology.specs.Part.{lacks_a_place, reserve_refusal};
@@ -346,7 +346,8 @@ impl Topology {
 
     /// Makes the place of a key, and answers whether it has one now.
     fn make_place(&mut self, key: &EntryKey) -> bool
-        ensures { self.new ≡ (if result then with_place self.old key.now else self.old) }
+        ensures places { self.new ≡ (if result then with_place self.old key.now else self.old) }
+        ensures lacks { result ≡ false → has_place self.old key.now ≡ false }
     {
         match key {
             EntryKey::Rule(key) => reserve_rule(&mut self.rules, key),

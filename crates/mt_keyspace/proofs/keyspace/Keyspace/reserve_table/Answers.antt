@@ -10,8 +10,8 @@ use Rattle.mt_keyspace.proofs.keyspace.Keyspace.reserve_table.Goals.{in-Ok, in-E
 abbrev keyspace_of : Marks → Marks → KeyspaceState
 keyspace_of denied tables = record { tables = tables; denied = denied }
 
-pub returns : goal.returns
-returns c =
+pub returns-clause-places : goal.returns-clause-places
+returns-clause-places c =
     let old = c.args.self.now in
     let table = c.args.table.now in
     let denied = c.self.inside.denied in

@@ -12,7 +12,7 @@ pub invariant_of-self : goal.invariant_of-self
 invariant_of-self c =
     let t : TopologyState = record { rules = c.self.inside.rules; keyspaces = c.self.inside.keyspaces.entries } in
     let key = about.Rule c.in-Rule.key in (
-      kept_if (λ rules. HasDistinctPlaces (record t { rules = rules })) c.reserve_rule.result (with_place t key).rules t.rules c.reserve_rule.new.rules (distinct-with_place t key c.self.invariant.0) c.self.invariant.0 c.reserve_rule.ensures,
+      kept_if (λ rules. HasDistinctPlaces (record t { rules = rules })) c.reserve_rule.result (with_place t key).rules t.rules c.reserve_rule.new.rules (distinct-with_place t key c.self.invariant.0) c.self.invariant.0 c.reserve_rule.ensures.places,
       c.self.invariant.1,
     )
 
