@@ -1,5 +1,5 @@
 -- What a look-up of a primary finds after each change, and what holds of the core then.
-use Rattle.std.proofs.Common.{◌≡◌, ◌≢◌, ℕ, ◌⊎◌, Bool, true, false, cond, List, [], ◌∷◌, ◌++◌, None, Some, refl, sym, ap, ◌∙◌, subst, is_some, unwrap_or, ⊎_elim}
+use Rattle.std.proofs.Common.{◌≡◌, ◌≢◌, ℕ, Bool, true, false, cond, List, [], ◌∷◌, ◌++◌, None, Some, refl, sym, ap, ◌∙◌, subst, is_some, unwrap_or, ⊎_elim}
 use Rattle.std.proofs.lemmas.Bool.{true≢false}
 use Rattle.std.specs.Map.{lookup, set_value}
 use Rattle.mt_names.proofs.EntryLemmas.{lookup-push_elsewhere, lookup-push_here, lookup-set_value_elsewhere, lookup-set_value_here, same_or_other}

@@ -1,5 +1,5 @@
 -- Keyspaces and denials as values of `serde_json`, and how their lists are made.
-use Rattle.std.specs.Prelude.{◌≤◌, length, ◌≡◌, ◌||◌, ℕ, List, [], ◌∷◌, codes, fold, map, Ok}
+use Rattle.std.specs.Prelude.{◌≤◌, length, ◌≡◌, ◌||◌, ℕ, List, [], codes, fold, map, Ok}
 use Rattle.std.specs.Cmp.Lexicographic.{slice_cmp}
 use Rattle.std.specs.List.{AllByRecursion, IsDistinct, list_any}
 use Rattle.std.specs.List.Sorted.{IsStrictlySortedBy}

@@ -1,5 +1,5 @@
 -- States of which no text has a line feed: each event whose texts have none leaves such a state.
-use Rattle.std.proofs.Common.{ℕ, ◌+◌, ◌-◌, take, unwrap_or, subst, Bool, true, false, not, cond, eqb, List, [], ◌∷◌, ◌++◌, Option, None, Some, Ok, Err, refl, length}
+use Rattle.std.proofs.Common.{ℕ, ◌+◌, take, unwrap_or, subst, Bool, true, false, not, cond, eqb, List, [], ◌∷◌, ◌++◌, Option, None, Some, Ok, Err, refl, length}
 use Rattle.std.specs.List.{AllByRecursion, fold}
 use Rattle.std.specs.Map.{lookup, remove_entry, set_value}
 use Rattle.std.specs.Option.{option_map_or}

@@ -1,5 +1,5 @@
 -- The copy at the side that isn't the owner, and the tests that nothing is left to be fed.
-use Rattle.std.proofs.Common.{◌≡◌, ◌≢◌, ◌↔◌, ℕ, ◌-◌, ◌<◌, ◌≤◌, Bool, true, false, not, cond, eqb, ltb, leb, List, [], ◌∷◌, take, length, filter, map, Option, None, Some, is_some, refl, sym, ap, ◌∙◌, subst, arith, eqb-true, ltb-true, lt-ltb}
+use Rattle.std.proofs.Common.{◌≡◌, ◌≢◌, ◌↔◌, ℕ, ◌<◌, ◌≤◌, Bool, true, false, not, cond, eqb, ltb, leb, List, [], ◌∷◌, take, length, filter, map, Option, None, Some, is_some, refl, sym, ap, ◌∙◌, subst, arith, eqb-true, ltb-true, lt-ltb}
 use Rattle.std.proofs.Math.Bool.{and-false}
 use Rattle.std.proofs.lemmas.Bool.{true≢false, eq-eqb, and_parts, not-false, or_right}
 use Rattle.std.proofs.lemmas.List.{take_all}

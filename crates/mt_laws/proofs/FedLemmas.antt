@@ -1,5 +1,5 @@
 -- How many writes were fed: those of all acknowledged ones that don't stand past the position of the stream that feeds.
-use Rattle.std.proofs.Common.{◌≡◌, ℕ, ◌+◌, ◌-◌, ◌≤◌, Bool, true, false, not, cond, eqb, List, drop, length, filter, None, Some, refl, sym, ap, ◌∙◌, subst, arith}
+use Rattle.std.proofs.Common.{◌≡◌, ℕ, ◌+◌, ◌≤◌, Bool, true, false, not, cond, eqb, List, drop, length, filter, None, Some, refl, sym, ap, ◌∙◌, subst, arith}
 use Rattle.std.proofs.lemmas.Bool.{true≢false, and_from}
 use Rattle.std.specs.List.{count_by, list_any}
 use Rattle.std.specs.Prelude.{◌&&◌}

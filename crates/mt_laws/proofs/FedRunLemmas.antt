@@ -18,7 +18,7 @@ use Rattle.mt_laws.specs.Changes.{ChangesLogs, ChangesNumbers, ChangesWrites, Ha
 use Rattle.mt_laws.specs.Numbers.{Numbers}
 use Rattle.mt_laws.specs.WayBack.{IsReached, ends_workflow}
 use Rattle.mt_laws.proofs.AllWritesLemmas.{reached_next}
-use Rattle.mt_laws.proofs.ChangeLemmas.{live_next, made, made_live, sides-advanced, sides-next}
+use Rattle.mt_laws.proofs.ChangeLemmas.{live_next, made_live, sides-advanced, sides-next}
 use Rattle.mt_laws.proofs.CopyLemmas.{advance_runs, level_if_taken}
 use Rattle.mt_laws.proofs.FedLemmas.{IsFed, Level, at_by, fed_other, owner_before, owner_behind, past_same, side_same, writes_same}
 use Rattle.mt_laws.proofs.FedStepLemmas.{begun_fed, stepped_fed, undone_fed}

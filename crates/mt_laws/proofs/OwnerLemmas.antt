@@ -4,8 +4,7 @@ use Rattle.std.proofs.lemmas.Bool.{true≢false, not-false, or_cases}
 use Rattle.mt_names.specs.declared.types.TypeSet.{TypeSet}
 use Rattle.mt_names.specs.Names.{same_text}
 use Rattle.mt_names.proofs.SameLemmas.{same_text_decides}
-use Rattle.mt_plain.specs.Answers.{after}
-use Rattle.mt_plain.specs.Events.{Event, done, Way}
+use Rattle.mt_plain.specs.Events.{Event, Way}
 use Rattle.mt_plain.specs.Next.{live_stepped, live_undone, types_and, types_without, way_stepped, with_way_to}
 use Rattle.mt_plain.specs.Plain.{Live, Plain, changes_primary, create_back, differ, is_side, mover, moves, next_step, owner, refresh_source, refresh_target, stands_done, write_journal}
 use Rattle.mt_plain.specs.Refuse.{new_owner}

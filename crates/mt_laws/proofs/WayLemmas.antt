@@ -5,7 +5,7 @@ use Rattle.std.specs.Option.{option_map_or}
 use Rattle.mt_names.specs.declared.types.TypeSet.{TypeSet}
 use Rattle.mt_names.specs.Names.{same_text}
 use Rattle.mt_plain.specs.Answers.{Answers}
-use Rattle.mt_plain.specs.Events.{Event, Answer, done, Refusal, nothing_under_way, past_journal, stale, Way}
+use Rattle.mt_plain.specs.Events.{Event, Answer, Refusal, nothing_under_way, past_journal, stale, Way}
 use Rattle.mt_plain.specs.Next.{live_stepped, live_undone, types_and, types_without, way_stepped, with_way_to}
 use Rattle.mt_plain.specs.Plain.{Live, Plain, create_back, live_at, next_step, stands_done, write_journal}
 use Rattle.mt_plain.specs.Refuse.{new_owner, or_else, refuse_if, undo_refusal}

@@ -7,7 +7,6 @@ use Rattle.std.specs.Bool.{Decides}
 use Rattle.std.specs.Cmp.{both_ways}
 use Rattle.std.specs.List.{AllByRecursion, IsDistinct}
 use Rattle.std.specs.Map.{keys_of, lookup, remove_entry, set_value}
-use Rattle.std.specs.Prelude.{⊤}
 
 -- what isn't some is none
 pub none_from : {A : Type 0} (o : Option A) → is_some o ≡ false → o ≡ None

@@ -1,18 +1,15 @@
 -- Keys and targets are read back from their texts, and each has one.
-use Rattle.std.proofs.Common.{◌≡◌, ◌≢◌, ℕ, ◌+◌, ◌<◌, Bool, true, false, cond, eqb, List, [], ◌∷◌, ◌++◌, length, get_or, Option, None, Some, Result, Ok, IsOk, IfSome, ◌↔◌, option_map, refl, sym, ap, subst, ◌∙◌, append_assoc, append-nil, is_ok, ◌-◌, zero, suc, ⊎_elim, length-append, arith}
+use Rattle.std.proofs.Common.{◌≡◌, ◌≢◌, ℕ, ◌+◌, Bool, true, false, eqb, List, [], ◌∷◌, ◌++◌, length, Option, None, Some, Result, Ok, IsOk, IfSome, ◌↔◌, option_map, refl, sym, ap, subst, ◌∙◌, append_assoc, append-nil, is_ok, ◌-◌, zero, suc, ⊎_elim, length-append, arith}
 use Rattle.std.proofs.lemmas.Bool.{true≢false, cases_lt, ne_eqb}
 use Rattle.std.proofs.lemmas.List.{get_or_append_left, get_or-append_right}
-use Rattle.std.specs.Cmp.Lexicographic.{pointwise, same_text}
 use Rattle.mt_names.specs.declared.fault.NameFault.{NameFault}
 use Rattle.mt_names.specs.declared.keys.RuleKey.{RuleKey}
 use Rattle.mt_names.specs.declared.keys.RuleTarget.{RuleTarget}
 use Rattle.mt_names.specs.declared.text.Alphabet.{Alphabet}
 use Rattle.mt_names.specs.declared.text.Alphabet.TheVariants.{Plain, WithDollar}
 use Rattle.mt_names.specs.declared.types.TabletType.{TabletType}
-use Rattle.mt_names.specs.declared.types.TabletType.TheVariants.{Primary, Replica, Rdonly}
-use Rattle.mt_names.specs.Keys.{IsRuleKey, IsRuleTarget, IsKeyText, IsTargetText, at_sign, dot, before, after, fault_behind, key_text, qualifier_text, suffix_text, target_text, read_key, read_key_type, read_plain_key, read_target, read_target_parts, read_dotted}
-use Rattle.mt_names.specs.Names.{IsName, IsKeyspaceName, IsTableName, allows, read_keyspace, read_name, read_table}
-use Rattle.mt_names.specs.Results.{◌>>=◌}
+use Rattle.mt_names.specs.Keys.{IsRuleKey, IsRuleTarget, IsKeyText, IsTargetText, at_sign, dot, before, after, fault_behind, key_text, qualifier_text, suffix_text, target_text, read_key, read_key_type, read_plain_key, read_target, read_target_parts}
+use Rattle.mt_names.specs.Names.{IsName, IsKeyspaceName, IsTableName, allows, read_keyspace, read_table}
 use Rattle.mt_names.specs.Types.{type_text, read_type}
 use Rattle.mt_names.proofs.CutLemmas.{Lacks, before-lacks, after-lacks, before-append, after-append, joined, joined-before}
 use Rattle.mt_names.proofs.NameLemmas.{read_name-name, name_from_read}

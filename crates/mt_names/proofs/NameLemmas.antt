@@ -1,12 +1,12 @@
 -- A text is read as a name exactly where it is one.
-use Rattle.std.proofs.Common.{◌≡◌, ◌≢◌, ℕ, ◌+◌, ◌<◌, ◌≤◌, ◌⊎◌, Bool, true, false, cond, not, eqb, ltb, List, [], ◌∷◌, length, get_or, slice_get, position, Option, Some, None, Result, Ok, Err, IsOk, IfOk, ◌↔◌, unwrap_or, refl, sym, ap, ◌∙◌, subst, is_ok, arith, ⊎_elim}
-use Rattle.std.proofs.lemmas.Bool.{true≢false, not-true, not-false, ltb-true, ltb-false, le-ltb, lt-ltb, eqb-true, eqb-false, eq-eqb, ne_eqb, both_ways, cases_lt}
-use Rattle.std.proofs.lemmas.List.Sums.{position_or_len_is, passes_at_first, fails_before_first}
+use Rattle.std.proofs.Common.{◌≡◌, ◌≢◌, ℕ, Bool, true, false, not, eqb, ltb, List, [], ◌∷◌, length, get_or, slice_get, position, Option, Some, None, Result, Ok, Err, IsOk, IfOk, ◌↔◌, unwrap_or, refl, sym, ap, ◌∙◌, subst, is_ok, arith, ⊎_elim}
+use Rattle.std.proofs.lemmas.Bool.{true≢false, not-false, ltb-false, le-ltb, eqb-true, eqb-false, eq-eqb, ne_eqb, cases_lt}
+use Rattle.std.proofs.lemmas.List.Sums.{position_or_len_is, fails_before_first}
 use Rattle.std.proofs.lemmas.Grind.{common_steps}
 use Rattle.std.specs.List.{AllPass, starts_with, position_or_len}
 use Rattle.mt_names.specs.declared.fault.NameFault.{NameFault}
 use Rattle.mt_names.specs.declared.text.Alphabet.{Alphabet}
-use Rattle.mt_names.specs.Names.{IsName, allows, bad_place, dash, longest_name, read_name, unless_bad}
+use Rattle.mt_names.specs.Names.{IsName, allows, bad_place, dash, longest_name, read_name}
 use Rattle.mt_names.proofs.ResultLemmas.{accepts}
 
 -- where every element passes, none is refused

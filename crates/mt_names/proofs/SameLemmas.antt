@@ -1,6 +1,5 @@
 -- `==` decides equality, for proofs that cite it.
-use Rattle.std.proofs.Common.{◌≡◌, rules, sym, arith}
-use Rattle.std.proofs.lemmas.Grind.{common_steps}
+use Rattle.std.proofs.Common.{rules}
 use Rattle.std.specs.Cmp.Lexicographic.{bytes_decides}
 use Rattle.mt_names.specs.Names.{same_text}
 use Rattle.mt_names.specs.Same.{DecidesEquality, same_key, same_target, same_type, same_types}

@@ -1,24 +1,21 @@
 -- A text is read as a list of tables exactly where it is the text of one.
-use Rattle.std.proofs.Common.{◌≡◌, ◌≢◌, ℕ, suc, ◌+◌, ◌-◌, ◌<◌, ◌≤◌, Bool, true, false, cond, eqb, List, [], ◌∷◌, ◌++◌, length, get_or, slice_get, All, AllPairs, Option, None, Some, Result, Ok, Err, IsOk, IfOk, ◌↔◌, is_ok, refl, sym, ap, subst, ◌∙◌, append_assoc, append-nil, length-append, arith}
+use Rattle.std.proofs.Common.{◌≡◌, ◌≢◌, ℕ, suc, ◌+◌, ◌<◌, Bool, true, false, eqb, List, [], ◌∷◌, ◌++◌, length, get_or, slice_get, All, Result, Ok, Err, IsOk, IfOk, ◌↔◌, refl, sym, ap, subst, ◌∙◌, append_assoc, append-nil, length-append, arith}
 use Rattle.std.proofs.lemmas.Bool.{true≢false, eqb-false, ne_eqb, eq-eqb, false_from_ne_true}
-use Rattle.std.proofs.lemmas.List.{get_or_append_left, get_or-append_right}
+use Rattle.std.proofs.lemmas.List.{get_or_append_left}
 use Rattle.std.proofs.Math.Seq.{get_or-append_seam}
 use Rattle.std.proofs.lemmas.List.Elements.{All-push}
 use Rattle.std.proofs.lemmas.List.Folds.{list_any_none, list_any_at}
 use Rattle.std.proofs.lemmas.List.Quantifiers.{all_pairs_push}
 use Rattle.std.proofs.lemmas.List.Splits.{slice_split_none, slice_split_at, join_with_byte-slice_split}
-use Rattle.std.specs.Cmp.Lexicographic.{pointwise, same_text as from_same, bytes_decides}
-use Rattle.std.specs.List.{join_with_byte, list_any, slice_split}
+use Rattle.std.specs.Cmp.Lexicographic.{same_text as from_same, bytes_decides}
+use Rattle.std.specs.List.{join_with_byte, list_any}
 use Rattle.arrayvec.specs.ArrayVec.{ArrayVec}
 use Rattle.mt_names.specs.declared.fault.NameFault.{NameFault}
 use Rattle.mt_names.specs.declared.text.Alphabet.TheVariants.{WithDollar}
 use Rattle.mt_names.specs.Keys.{fault_behind}
 use Rattle.mt_names.specs.Names.{IsTableName, allows, dash, read_table, same_text}
-use Rattle.mt_names.specs.Results.{◌>>=◌}
 use Rattle.mt_names.specs.Types.{comma}
 use Rattle.mt_names.specs.Tables.{IsTableList, IsTableListText, most_tables, names_of, read_table_list, read_tables_after, table_list_text, with_table, with_word}
-use Rattle.mt_names.proofs.CutLemmas.{Lacks}
-use Rattle.mt_names.proofs.KeyLemmas.{name_lacks}
 use Rattle.mt_names.proofs.NameLemmas.{read_name-name, name_from_read}
 use Rattle.mt_names.proofs.ResultLemmas.{after_step, Ok-fault_behind}
 use Rattle.mt_names.proofs.TableLemmas.{words_of, words_of-cut}

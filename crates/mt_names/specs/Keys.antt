@@ -1,7 +1,7 @@
 -- Rule keys and targets as texts: how one is written, what text is one, and the functions that read them.
 use Rattle.std.specs.Prelude.{◌≡◌, ℕ, ◌+◌, List, [], ◌∷◌, ◌++◌, length, if◌then◌else◌, ◌==◌, Option, Some, None, IfSome, Result, Ok, Err}
 use Rattle.mt_names.specs.declared.fault.NameFault.{NameFault}
-use Rattle.mt_names.specs.declared.fault.NameFault.TheVariants.{Empty, TooLong, BadByte, Repeated, ReservedSuffix, BadType, TooMany, NoKeyspace}
+use Rattle.mt_names.specs.declared.fault.NameFault.TheVariants.{Empty, BadByte, NoKeyspace}
 use Rattle.mt_names.specs.declared.keys.RuleKey.{RuleKey}
 use Rattle.mt_names.specs.declared.keys.RuleTarget.{RuleTarget}
 use Rattle.mt_names.specs.declared.types.TabletType.{TabletType}

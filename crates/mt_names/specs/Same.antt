@@ -1,5 +1,5 @@
 -- The tests that `==` computes. Maps compare their keys by them.
-use Rattle.std.specs.Prelude.{◌≡◌, Bool, List, ℕ}
+use Rattle.std.specs.Prelude.{◌≡◌, Bool}
 use Rattle.std.specs.Bool.{Decides}
 use Rattle.mt_names.specs.declared.keys.RuleKey.{RuleKey}
 use Rattle.mt_names.specs.declared.keys.RuleTarget.{RuleTarget}

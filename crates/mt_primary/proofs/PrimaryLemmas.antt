@@ -5,7 +5,7 @@ use Rattle.std.proofs.lemmas.List.{take-append-le, take_at}
 use Rattle.std.proofs.lemmas.Map.Steps.{set_value_same}
 use Rattle.std.proofs.lemmas.Option.{slice_get_within}
 use Rattle.std.specs.List.{IsDistinct}
-use Rattle.std.specs.Map.{keys_of, lookup, set_value}
+use Rattle.std.specs.Map.{keys_of, set_value}
 use Rattle.std.specs.Option.{option_map, option_map_or}
 use Rattle.mt_names.proofs.EntryLemmas.{IsDistinct-push, IsDistinct-set_value, lookup-push_elsewhere, lookup-push_here, lookup-set_value_elsewhere, lookup-set_value_here}
 use Rattle.mt_names.proofs.SameLemmas.{same_text_decides}

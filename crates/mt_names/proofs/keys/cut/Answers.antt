@@ -1,5 +1,5 @@
 -- `split_once` cuts at the first mark.
-use Rattle.std.proofs.Common.{◌≡◌, ◌≢◌, ℕ, ◌<◌, ◌∷◌, ◌++◌, None, Some, sym, ◌∙◌, ap}
+use Rattle.std.proofs.Common.{None, Some, sym, ◌∙◌, ap}
 use Rattle.std.proofs.lemmas.Str.Pattern.{split_parts}
 use Rattle.mt_names.specs.Keys.{before, after}
 use Rattle.mt_names.proofs.CutLemmas.{before-lacks, after-lacks, before-append, after-append}

@@ -1,5 +1,5 @@
 -- Reading what is left completes the whole.
-use Rattle.std.proofs.Common.{◌≡◌, ℕ, ◌-◌, ◌≤◌, [], length}
+use Rattle.std.proofs.Common.{◌≡◌, ◌-◌, ◌≤◌, [], length}
 use Rattle.std.specs.Option.{option_copied}
 use Rattle.mt_names.specs.Tables.{read_tables_after}
 use Rattle.mt_names.proofs.TableLemmas.{length_left, measure_left, words_left, words_of}
