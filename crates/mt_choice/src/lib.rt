@@ -5,10 +5,6 @@ mod choice;
 mod laws;
 mod parser;
 mod reading;
-#[cfg(test)]
-mod tests;
-#[cfg(test)]
-mod tests_memory;
 mod words;
 
 pub use choice::{Choice, USAGE, Wrong};

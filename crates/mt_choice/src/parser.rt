@@ -74,15 +74,11 @@ fn race_command<'a>(alloc: Global) -> Result<Command<'a>, AllocError>
 pub(crate) fn command<'a>(alloc: Global) -> Result<Command<'a>, AllocError>
     ensures { IfOk result (λ c. app_of c ≡ mt) }
 {
-    let run = run_command(alloc)?;
-    let rules = rules_command(alloc);
-    let topology = topology_command(alloc);
-    let race = race_command(alloc)?;
     Command::new(alloc, "mt")
         .about("Moves tables from one keyspace to another while they are read and written")
         .subcommand_required(true)
-        .subcommand(run)?
-        .subcommand(rules)?
-        .subcommand(topology)?
-        .subcommand(race)
+        .subcommand(run_command(alloc)?)?
+        .subcommand(rules_command(alloc))?
+        .subcommand(topology_command(alloc))?
+        .subcommand(race_command(alloc)?)
 }

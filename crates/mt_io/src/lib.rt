@@ -4,8 +4,6 @@
 mod fault;
 mod output;
 mod reading;
-#[cfg(test)]
-mod tests;
 
 pub use fault::ScriptFault;
 pub use output::{ROOM, Waiting, flush, put_document, put_line, write_line};

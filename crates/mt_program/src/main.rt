@@ -4,19 +4,6 @@
 ghost use Rattle.std.specs.Prelude.{◌≡◌, IfOk};
 ghost use Rattle.mt_watch.specs.Notices.{notice_of};
 
-#[cfg(test)]
-mod tests;
-#[cfg(test)]
-mod tests_documents;
-#[cfg(test)]
-mod tests_faults;
-#[cfg(test)]
-mod tests_limits;
-#[cfg(test)]
-mod tests_operations;
-#[cfg(test)]
-mod tests_refusals;
-
 use mt_choice::{Choice, Wrong, choose};
 use mt_io::ScriptFault;
 use mt_names::KeyspaceName;

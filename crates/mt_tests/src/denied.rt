@@ -1,71 +1,144 @@
 //! Denied lists.
 
 use mt_denied::{DeniedFault, DeniedTables};
-use mt_names::TableName;
+use mt_names::{NameFault, TableName};
+use std::alloc::Global;
 use std::test::Fail;
+
+/// A call that concerns a table.
+#[derive(Clone, Copy)]
+enum Call {
+    Reserve,
+    Release,
+    /// It is denied or allowed, where it has a place. Answered is what was so before.
+    Deny(bool),
+    IsDenied,
+}
+
+fn said(is_denied: bool) -> &'static str {
+    if is_denied { "denied" } else { "allowed" }
+}
+
+/// How a call is answered.
+fn answer(denied: &mut DeniedTables, table: &TableName, call: Call) -> &'static str {
+    match call {
+        Call::Reserve => match denied.reserve(table) {
+            Ok(()) => "ok",
+            Err(fault) => fault.as_str(),
+        },
+        Call::Release => {
+            denied.release(table);
+            "ok"
+        }
+        Call::Deny(is_denied) if denied.has_place(table) => said(denied.set(table, is_denied)),
+        Call::Deny(_) => "no place",
+        Call::IsDenied => said(denied.contains(table)),
+    }
+}
+
+/// Whether calls that concern one table are answered so.
+fn answers(
+    denied: &mut DeniedTables,
+    name: &str,
+    calls: &[(Call, &str)],
+) -> Result<bool, NameFault> {
+    let table = TableName::parse(name)?;
+    Ok(
+        calls
+            .iter()
+            .all(|(call, want)| answer(denied, &table, *call) == *want),
+    )
+}
+
+/// A place is kept while its table is denied.
+const ONE_TABLE: [(Call, &str); 11] = [
+    (Call::Deny(true), "no place"),
+    (Call::Reserve, "ok"),
+    (Call::Deny(true), "allowed"),
+    (Call::Deny(true), "denied"),
+    (Call::Release, "ok"),
+    (Call::IsDenied, "denied"),
+    (Call::Deny(false), "denied"),
+    (Call::Reserve, "ok"),
+    (Call::IsDenied, "allowed"),
+    (Call::Release, "ok"),
+    (Call::Deny(true), "no place"),
+];
 
 #[test]
 fn a_table_is_denied_and_allowed(rt: HostRuntime) -> Result<(), Fail> {
     let mut denied = DeniedTables::new(rt.alloc());
-    let t = TableName::parse("t")?;
-    assert_eq!(rt; denied.reserve(&t), Ok(()));
-    assert!(rt; !denied.set(&t, true));
-    assert!(rt; denied.set(&t, true));
-    assert_eq!(rt; denied.sorted(rt.alloc())?.len(), 1);
-    denied.release(&t);
-    assert!(rt; denied.contains(&t));
-    assert!(rt; denied.set(&t, false));
-    assert_eq!(rt; denied.reserve(&t), Ok(()));
-    assert_eq!(rt; denied.len(), 1);
-    denied.release(&t);
+    assert!(rt; answers(&mut denied, "t", &ONE_TABLE)?);
     assert_eq!(rt; denied.len(), 0);
     Ok(())
 }
 
-#[test]
-fn members_are_listed_in_the_order_of_their_bytes(rt: HostRuntime) -> Result<(), Fail> {
-    let mut denied = DeniedTables::new(rt.alloc());
-    for name in ["b", "a", "ab", "B", "c"] {
-        let table = TableName::parse(name)?;
-        denied.reserve(&table)?;
-        if name != "c" && denied.has_place(&table) {
-            denied.set(&table, true);
+/// The names of the denied tables, each behind a blank.
+fn listed(alloc: Global, denied: &DeniedTables) -> Result<String, Fail> {
+    let mut text = String::new(alloc);
+    for name in denied.sorted(alloc)?.iter() {
+        text.push_str(" ")?;
+        text.push_str(name.as_str())?;
+    }
+    Ok(text)
+}
+
+/// Places are made for these tables, of which some are denied.
+fn with_places(alloc: Global, places: &[(&str, bool)]) -> Result<DeniedTables, Fail> {
+    let mut denied = DeniedTables::new(alloc);
+    for (name, is_denied) in places {
+        let calls = [(Call::Reserve, "ok"), (Call::Deny(*is_denied), "allowed")];
+        if !answers(&mut denied, name, &calls)? {
+            return Err(Fail::from("another answer"));
         }
     }
-    let mut listed = String::new(rt.alloc());
-    for name in denied.sorted(rt.alloc())?.iter() {
-        listed.push_str(name.as_str())?;
-        listed.push_str(" ")?;
-    }
-    assert_eq!(rt; listed.as_str(), "B a ab b ");
+    Ok(denied)
+}
+
+/// Tables in no order, of which one is allowed.
+const PLACES: [(&str, bool); 5] = [
+    ("b", true),
+    ("a", true),
+    ("ab", true),
+    ("B", true),
+    ("c", false),
+];
+
+#[test]
+fn members_are_listed_in_the_order_of_their_bytes(rt: HostRuntime) -> Result<(), Fail> {
+    let denied = with_places(rt.alloc(), &PLACES)?;
+    assert_eq!(rt; listed(rt.alloc(), &denied)?.as_str(), " B a ab b");
     Ok(())
+}
+
+/// So many places.
+fn filled(alloc: Global, count: u32) -> Result<DeniedTables, Fail> {
+    let mut denied = DeniedTables::new(alloc);
+    for number in 0..count {
+        let name = format!(in alloc; "t{number}")?;
+        if !answers(&mut denied, name.as_str(), &[(Call::Reserve, "ok")])? {
+            return Err(Fail::from("another answer"));
+        }
+    }
+    Ok(denied)
 }
 
 #[test]
 fn places_are_limited(rt: HostRuntime) -> Result<(), Fail> {
-    let mut denied = DeniedTables::new(rt.alloc());
-    for number in 0..256u32 {
-        let name = format!(in rt.alloc(); "t{number}")?;
-        assert_eq!(rt; denied.reserve(&TableName::parse(name.as_str())?), Ok(()));
-    }
-    assert_eq!(rt;
-        denied.reserve(&TableName::parse("t256")?),
-        Err(DeniedFault::Full)
-    );
-    assert_eq!(rt; denied.reserve(&TableName::parse("t7")?), Ok(()));
+    let mut denied = filled(rt.alloc(), 256)?;
+    assert!(rt; answers(&mut denied, "t256", &[(Call::Reserve, "L1 Full")])?);
+    assert!(rt; answers(&mut denied, "t7", &[(Call::Reserve, "ok")])?);
     assert_eq!(rt; denied.len(), 256);
     Ok(())
 }
 
 #[test]
 fn refusals_are_printed(rt: HostRuntime) -> Result<(), Fail> {
-    assert_eq!(rt;
-        format!(in rt.alloc(); "{}", DeniedFault::Memory)?.as_str(),
-        "L0 Memory"
-    );
-    assert_eq!(rt;
-        format!(in rt.alloc(); "{}", DeniedFault::Full)?.as_str(),
-        "L1 Full"
-    );
+    for (fault, text) in [
+        (DeniedFault::Memory, "L0 Memory"),
+        (DeniedFault::Full, "L1 Full"),
+    ] {
+        assert_eq!(rt; format!(in rt.alloc(); "{fault}")?.as_str(), text);
+    }
     Ok(())
 }

@@ -1,21 +1,18 @@
-//! Tests of the layers by direct call, in a crate of their own: the gate proves a crate with its tests from nothing once more, and
-//! these need public calls alone. The tests of whole scripts are in `mt_program`.
+//! Tests of the layers by direct call, in crates of their own: the gate proves a crate that has tests a second time with them, and
+//! these need public calls alone. Those of the topology and the primaries are in `mt_state_tests`, those of whole scripts in
+//! `mt_run_tests`.
 #![tactic(auto)]
 
 #[cfg(test)]
+mod command_lines;
+#[cfg(test)]
 mod denied;
 #[cfg(test)]
-mod dumps;
-#[cfg(test)]
 mod names;
-#[cfg(test)]
-mod primary;
 #[cfg(test)]
 mod rules;
 #[cfg(test)]
 mod rules_documents;
-#[cfg(test)]
-mod topology;
 #[cfg(test)]
 mod types;
 #[cfg(test)]

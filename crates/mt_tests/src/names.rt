@@ -68,7 +68,6 @@ fn reads_keys(rt: HostRuntime) -> Result<(), Fail> {
         assert_eq!(rt; key.text().as_str(), text);
         let printed = format!(in rt.alloc(); "{key}")?;
         assert_eq!(rt; printed.as_str(), text);
-        assert_eq!(rt; key.copied(), key);
     }
     Ok(())
 }
@@ -96,7 +95,6 @@ fn reads_a_target(rt: HostRuntime) -> Result<(), Fail> {
     assert_eq!(rt; target.text().as_str(), "a.b");
     let printed = format!(in rt.alloc(); "{target}")?;
     assert_eq!(rt; printed.as_str(), "a.b");
-    assert_eq!(rt; target.copied(), target);
     Ok(())
 }
 
@@ -139,13 +137,10 @@ fn refuses_lists_of_tables(rt: HostRuntime) {
 }
 
 #[test]
-fn copies_and_prints_names(rt: HostRuntime) -> Result<(), Fail> {
+fn prints_names(rt: HostRuntime) -> Result<(), Fail> {
     let keyspace = KeyspaceName::parse("commerce")?;
     let table = TableName::parse("corder$1")?;
     let workflow = WorkflowName::parse("move_orders")?;
-    assert_eq!(rt; keyspace.copied(), keyspace);
-    assert_eq!(rt; table.copied(), table);
-    assert_eq!(rt; workflow.copied(), workflow);
     let printed = format!(in rt.alloc(); "{keyspace} {table} {workflow}")?;
     assert_eq!(rt; printed.as_str(), "commerce corder$1 move_orders");
     Ok(())

@@ -1,52 +1,122 @@
 //! Routing rules.
 
-use mt_names::{RuleKey, RuleTarget};
+use mt_names::{NameFault, RuleKey, RuleTarget};
 use mt_rules::{RoutingRules, RulesFault};
+use std::alloc::Global;
 use std::test::Fail;
+
+/// A call that concerns a key.
+#[derive(Clone, Copy)]
+pub enum Call {
+    Reserve,
+    Release,
+    /// The rule to `k.a` is set, where there is a place. Answered is what stood there.
+    Set,
+    /// The rule is taken away, where there is a place. Answered is what stood there.
+    Take,
+    Get,
+}
+
+/// How a rule is printed.
+fn printed(target: Option<&RuleTarget>) -> &'static str {
+    match target {
+        Some(target) if target.text().as_str() == "k.a" => "k.a",
+        Some(_) => "another rule",
+        None => "no rule",
+    }
+}
+
+/// Sets the rule of a key, or takes it away: what stood there.
+fn set(rules: &mut RoutingRules, key: &RuleKey, target: Option<RuleTarget>) -> &'static str {
+    if rules.has_place(key) {
+        return printed(rules.set(key, target).as_ref());
+    }
+    "no place"
+}
+
+/// How a call is answered.
+fn answer(rules: &mut RoutingRules, key: &RuleKey, call: Call) -> Result<&'static str, NameFault> {
+    Ok(match call {
+        Call::Reserve => match rules.reserve_key(key) {
+            Ok(()) => "ok",
+            Err(fault) => fault.as_str(),
+        },
+        Call::Release => {
+            rules.release_key(key);
+            "ok"
+        }
+        Call::Set => set(rules, key, Some(RuleTarget::parse("k.a")?)),
+        Call::Take => set(rules, key, None),
+        Call::Get => printed(rules.get(key)),
+    })
+}
+
+/// Whether calls that concern one key are answered so.
+pub fn answers(
+    rules: &mut RoutingRules,
+    key: &str,
+    calls: &[(Call, &str)],
+) -> Result<bool, NameFault> {
+    let key = RuleKey::parse(key)?;
+    for (call, want) in calls {
+        if answer(rules, &key, *call)? != *want {
+            return Ok(false);
+        }
+    }
+    Ok(true)
+}
+
+/// A place is kept while it has a rule.
+const ONE_KEY: [(Call, &str); 11] = [
+    (Call::Set, "no place"),
+    (Call::Reserve, "ok"),
+    (Call::Reserve, "ok"),
+    (Call::Set, "no rule"),
+    (Call::Get, "k.a"),
+    (Call::Release, "ok"),
+    (Call::Take, "k.a"),
+    (Call::Get, "no rule"),
+    (Call::Take, "no rule"),
+    (Call::Release, "ok"),
+    (Call::Set, "no place"),
+];
 
 #[test]
 fn a_rule_is_set_and_taken_away(rt: HostRuntime) -> Result<(), Fail> {
     let mut rules = RoutingRules::new(rt.alloc());
-    let a = RuleKey::parse("a")?;
-    let target = RuleTarget::parse("k.a")?;
-    assert_eq!(rt; rules.reserve_key(&a), Ok(()));
-    assert_eq!(rt; rules.reserve_key(&a), Ok(()));
-    assert_eq!(rt; rules.len(), 1);
-    assert_eq!(rt; rules.set(&a, Some(target.copied())), None);
-    assert_eq!(rt; rules.get(&a), Some(&target));
-    assert_eq!(rt; rules.set(&a, None), Some(target));
-    assert_eq!(rt; rules.get(&a), None);
-    assert!(rt; rules.has_place(&a));
-    rules.release_key(&a);
+    assert!(rt; answers(&mut rules, "a", &ONE_KEY)?);
     assert!(rt; rules.is_empty());
     Ok(())
 }
 
+/// So many places.
+fn filled(alloc: Global, count: u32) -> Result<RoutingRules, Fail> {
+    let mut rules = RoutingRules::new(alloc);
+    for number in 0..count {
+        let name = format!(in alloc; "t{number}")?;
+        if !answers(&mut rules, name.as_str(), &[(Call::Reserve, "ok")])? {
+            return Err(Fail::from("another answer"));
+        }
+    }
+    Ok(rules)
+}
+
 #[test]
 fn places_are_limited(rt: HostRuntime) -> Result<(), Fail> {
-    let mut rules = RoutingRules::new(rt.alloc());
-    for number in 0..4096u32 {
-        let name = format!(in rt.alloc(); "t{number}")?;
-        assert_eq!(rt; rules.reserve_key(&RuleKey::parse(name.as_str())?), Ok(()));
-    }
-    assert_eq!(rt;
-        rules.reserve_key(&RuleKey::parse("t4096")?),
-        Err(RulesFault::Full)
-    );
-    assert_eq!(rt; rules.reserve_key(&RuleKey::parse("t7")?), Ok(()));
+    let mut rules = filled(rt.alloc(), 4096)?;
+    assert!(rt; answers(&mut rules, "t4096", &[(Call::Reserve, "R1 Full")])?);
+    assert!(rt; answers(&mut rules, "t7", &[(Call::Reserve, "ok")])?);
     assert_eq!(rt; rules.len(), 4096);
     Ok(())
 }
 
 #[test]
 fn refusals_are_printed(rt: HostRuntime) -> Result<(), Fail> {
-    assert_eq!(rt;
-        format!(in rt.alloc(); "{}", RulesFault::Memory)?.as_str(),
-        "R0 Memory"
-    );
-    assert_eq!(rt;
-        format!(in rt.alloc(); "{}", RulesFault::Full)?.as_str(),
-        "R1 Full"
-    );
+    for (fault, text) in [
+        (RulesFault::Memory, "R0 Memory"),
+        (RulesFault::Full, "R1 Full"),
+    ] {
+        assert_eq!(rt; format!(in rt.alloc(); "{fault}")?.as_str(), text);
+    }
     Ok(())
 }

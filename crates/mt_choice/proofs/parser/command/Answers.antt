@@ -14,7 +14,7 @@ with_required a = record a { top = record a.top { subcommand_required = true } }
 pub returns : goal.returns
 returns c =
     let bare_is : app_of c.subcommand_required.result ≡ bare = ap app_of_fields c.subcommand_required.ensures ∙ ap with_required (ap app_of_fields c.about.ensures ∙ c.new.ensures.app) in
-    let run_is = c.in_ok-subcommand.ensures.shape c.in_ok-run.ensures.local ∙ ap₂ with_subcommand bare_is (ap top_of c.in_ok-run.ensures.shape) in
-    let rules_is = c.in_ok-subcommand-2.ensures.shape c.rules_command-rules.ensures.local ∙ ap₂ with_subcommand run_is (ap top_of c.rules_command-rules.ensures.shape) in
-    let topology_is = c.in_ok-subcommand-3.ensures.shape c.topology_command-topology.ensures.local ∙ ap₂ with_subcommand rules_is (ap top_of c.topology_command-topology.ensures.shape) in
-    IfOk-weaker c.subcommand-4.result _ _ (λ r h. h.shape c.in_ok-race.ensures.local ∙ ap₂ with_subcommand topology_is (ap top_of c.in_ok-race.ensures.shape)) c.subcommand-4.ensures
+    let run_is = c.in_ok-subcommand.ensures.shape c.in_ok-run_command.ensures.local ∙ ap₂ with_subcommand bare_is (ap top_of c.in_ok-run_command.ensures.shape) in
+    let rules_is = c.in_ok-subcommand-2.ensures.shape c.rules_command.ensures.local ∙ ap₂ with_subcommand run_is (ap top_of c.rules_command.ensures.shape) in
+    let topology_is = c.in_ok-subcommand-3.ensures.shape c.topology_command.ensures.local ∙ ap₂ with_subcommand rules_is (ap top_of c.topology_command.ensures.shape) in
+    IfOk-weaker c.subcommand-4.result _ _ (λ r h. h.shape c.in_ok-race_command.ensures.local ∙ ap₂ with_subcommand topology_is (ap top_of c.in_ok-race_command.ensures.shape)) c.subcommand-4.ensures

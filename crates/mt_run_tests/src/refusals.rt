@@ -1,6 +1,6 @@
 //! Lines of which two refusals can stand together: the earlier in the order is told.
 
-use crate::tests::{Case, answers};
+use crate::scripts::{Case, answers};
 use std::test::Fail;
 
 /// A word of 65 letters.

@@ -1,5 +1,5 @@
 //! Where an allocation fails, the answer is `Memory` or the one that the words have.
-use crate::{Choice, Wrong, choose};
+use mt_choice::{Choice, Wrong, choose};
 
 #[derive(Clone, Copy, Eq, PartialEq)]
 enum Answer {

@@ -1,6 +1,6 @@
 //! The names of faults.
 
-use crate::ScriptFault;
+use mt_io::ScriptFault;
 use std::alloc::Global;
 use std::io::Write;
 use std::test::Fail;

@@ -1,6 +1,6 @@
 //! Readers and writers that give or take little, are interrupted, or fail.
 
-use crate::tests::Case;
+use crate::scripts::Case;
 use mt_io::ScriptFault;
 use mt_run::run_script;
 use mt_watch::Watchers;

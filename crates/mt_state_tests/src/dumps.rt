@@ -1,7 +1,8 @@
 //! Dumps, written and read.
 
-use mt_names::{KeyspaceName, RuleKey, RuleTarget, TableName};
-use mt_topology::{Entry, EntryKey, Topology, TopologyFault};
+use crate::topology::{Call, TWO_KEYSPACES, made_by};
+use mt_names::{KeyspaceName, RuleKey, TableName};
+use mt_topology::{EntryKey, Topology, TopologyFault};
 use std::alloc::Global;
 use std::test::Fail;
 
@@ -13,6 +14,16 @@ const TWO: &str =
 const DENIED: &str =
     "{\"denied\":[\"b.t\"],\"keyspaces\":[{\"name\":\"a\",\"tables\":[]},{\"name\":\"b\",\"tables\":[\"t\"]}],\"rules\":[{\"from_table\":\"x\",\"to_tables\":[\"b.t\"]}],\"version\":1}";
 
+/// The keyspaces `a` and `b`, the table in `b`, and a rule. The part of the table's move to `a` is reserved, and it is denied.
+const WITH_DENIAL: [(Call<'static>, &str); 6] = [
+    (Call::Keyspace("b"), "ok"),
+    (Call::Keyspace("a"), "ok"),
+    (Call::Table("b", "t"), "ok"),
+    (Call::Set("x", "b.t"), "ok"),
+    (Call::Reserve("b", "a"), "ok"),
+    (Call::Deny(true), "no"),
+];
+
 /// How the reading of a text is answered.
 fn loaded(alloc: Global, text: &str) -> &'static str {
     match Topology::load(alloc, text.as_bytes()) {
@@ -21,20 +32,14 @@ fn loaded(alloc: Global, text: &str) -> &'static str {
     }
 }
 
-/// Whether a topology's dump is a text, and is read back as one that has the same dump.
-fn is_dumped(alloc: Global, topology: &Topology, want: &str) -> Result<bool, Fail> {
-    let text = topology.dump(alloc)?;
-    let back = Topology::load(alloc, text.as_bytes())?;
-    Ok(text.as_str() == want && back.dump(alloc)?.as_str() == want)
+/// Whether a topology's dump is this.
+fn dumps(alloc: Global, topology: &Topology, want: &str) -> Result<bool, Fail> {
+    Ok(topology.dump(alloc)?.as_str() == want)
 }
 
-/// The keyspaces `b` and `a`, of which `b` has the table `t`.
-fn two_keyspaces(alloc: Global) -> Result<Topology, Fail> {
-    let mut topology = Topology::new(alloc);
-    topology.add_keyspace(&KeyspaceName::parse("b")?)?;
-    topology.add_keyspace(&KeyspaceName::parse("a")?)?;
-    topology.add_table(&KeyspaceName::parse("b")?, &TableName::parse("t")?)?;
-    Ok(topology)
+/// Whether a dump is read as a topology that has the same dump.
+fn is_read_back(alloc: Global, text: &str) -> Result<bool, Fail> {
+    dumps(alloc, &Topology::load(alloc, text.as_bytes())?, text)
 }
 
 /// A list of so many items, each a text with its number between two others.
@@ -51,13 +56,10 @@ fn list_of(alloc: Global, front: &str, back: &str, count: u32) -> Result<String,
 
 #[test]
 fn a_dump_is_sorted_and_read_back(rt: HostRuntime) -> Result<(), Fail> {
-    let (a, b) = (KeyspaceName::parse("a")?, KeyspaceName::parse("b")?);
-    let t = TableName::parse("t")?;
-    assert!(rt; is_dumped(rt.alloc(), &two_keyspaces(rt.alloc())?, TWO)?);
-    let mut topology = prepared(rt.alloc(), &a, &b, &t)?;
-    let denial = Entry::Denied(b, t, true);
-    assert!(rt; written(&mut topology, denial).is_some());
-    assert!(rt; is_dumped(rt.alloc(), &topology, DENIED)?);
+    assert!(rt; dumps(rt.alloc(), &made_by(rt.alloc(), &TWO_KEYSPACES)?, TWO)?);
+    assert!(rt; is_read_back(rt.alloc(), TWO)?);
+    assert!(rt; dumps(rt.alloc(), &made_by(rt.alloc(), &WITH_DENIAL)?, DENIED)?);
+    assert!(rt; is_read_back(rt.alloc(), DENIED)?);
     Ok(())
 }
 
@@ -107,7 +109,7 @@ fn what_is_refused(rt: HostRuntime) -> Result<(), Fail> {
 }
 
 #[test]
-fn limits_of_a_dump(rt: HostRuntime) -> Result<(), Fail> {
+fn too_many_keyspaces_in_a_dump(rt: HostRuntime) -> Result<(), Fail> {
     let alloc = rt.alloc();
     for (count, bad, want) in [
         (32, "", "ok"),
@@ -118,6 +120,12 @@ fn limits_of_a_dump(rt: HostRuntime) -> Result<(), Fail> {
         let text = format!(in alloc; "{{\"version\":1,\"keyspaces\":[{list}{bad}]}}")?;
         assert_eq!(rt; loaded(alloc, text.as_str()), want);
     }
+    Ok(())
+}
+
+#[test]
+fn too_many_tables_in_a_dump(rt: HostRuntime) -> Result<(), Fail> {
+    let alloc = rt.alloc();
     for (count, denied, want) in [
         (256, "k.t255", "ok"),
         (257, "k.t256", "T5 Full"),
@@ -167,59 +175,40 @@ fn every_prefix_and_every_byte_that_is_none(rt: HostRuntime) -> Result<(), Fail>
     Ok(())
 }
 
-/// Writes an entry that has a place.
-fn written(topology: &mut Topology, entry: Entry) -> Option<Entry> {
-    if topology.has_place(&entry.key()) {
-        return Some(topology.write(entry));
-    }
-    None
-}
-
-/// Whether two topologies say the same of a rule, of a denial and of a table.
-fn say_the_same(one: &Topology, other: &Topology) -> Result<bool, Fail> {
+/// The keys of a rule, of the table and of its denial.
+fn keys() -> Result<[EntryKey; 3], Fail> {
     let (b, t) = (KeyspaceName::parse("b")?, TableName::parse("t")?);
     let rule = EntryKey::Rule(RuleKey::parse("x")?);
-    let denied = EntryKey::Denied(b.copied(), t.copied());
-    let present = EntryKey::Present(b, t);
-    Ok(
-        one.value(&rule) == other.value(&rule)
-            && one.value(&denied) == other.value(&denied)
-            && one.value(&present) == other.value(&present),
-    )
+    Ok([
+        rule,
+        EntryKey::Denied(b.copied(), t.copied()),
+        EntryKey::Present(b, t),
+    ])
 }
 
-/// A topology of the keyspaces `a` and `b`, the table in `b`, and a rule, with the part of its move to `a` reserved.
-fn prepared(
-    alloc: Global,
-    a: &KeyspaceName,
-    b: &KeyspaceName,
-    t: &TableName,
-) -> Result<Topology, Fail> {
-    let mut topology = Topology::new(alloc);
-    topology.add_keyspace(a)?;
-    topology.add_keyspace(b)?;
-    topology.add_table(b, t)?;
-    topology.edit_rule(&RuleKey::parse("x")?, Some(RuleTarget::parse("b.t")?))?;
-    topology.reserve_part(b, a, &[t.copied()])?;
-    Ok(topology)
+/// How many of these entries say the same in two topologies.
+fn same(one: &Topology, other: &Topology, keys: &[EntryKey]) -> usize {
+    keys.iter()
+        .filter(|key| one.value(key) == other.value(key))
+        .count()
 }
 
-/// Whether what the topology dumps is loaded as the same topology, which dumps the same.
-fn is_loaded_back(alloc: Global, topology: &Topology) -> Result<bool, Fail> {
-    let text = topology.dump(alloc)?;
-    let loaded = Topology::load(alloc, text.as_bytes())?;
-    Ok(say_the_same(&loaded, topology)? && is_dumped(alloc, &loaded, text.as_str())?)
+/// How many of the entries a topology has in common with the one that a dump is read as.
+fn shared(alloc: Global, topology: &Topology, dump: &str) -> Result<usize, Fail> {
+    let keys = keys()?;
+    Ok(same(topology, &Topology::load(alloc, dump.as_bytes())?, &keys))
 }
 
 #[test]
-fn a_topology_by_direct_calls(rt: HostRuntime) -> Result<(), Fail> {
-    let (a, b) = (KeyspaceName::parse("a")?, KeyspaceName::parse("b")?);
-    let t = TableName::parse("t")?;
-    let mut topology = prepared(rt.alloc(), &a, &b, &t)?;
-    let denied = Entry::Denied(b.copied(), t.copied(), true);
-    let allowed = Entry::Denied(b, t, false);
-    assert!(rt; written(&mut topology, denied.copied()) == Some(allowed.copied()));
-    assert!(rt; written(&mut topology, allowed) == Some(denied));
-    assert!(rt; is_loaded_back(rt.alloc(), &topology)?);
+fn a_loaded_topology_is_the_dumped_one(rt: HostRuntime) -> Result<(), Fail> {
+    let topology = made_by(rt.alloc(), &WITH_DENIAL)?;
+    assert_eq!(rt; shared(rt.alloc(), &topology, DENIED)?, 3);
+    Ok(())
+}
+
+#[test]
+fn another_dump_is_another_topology(rt: HostRuntime) -> Result<(), Fail> {
+    let topology = made_by(rt.alloc(), &TWO_KEYSPACES)?;
+    assert_eq!(rt; shared(rt.alloc(), &topology, DENIED)?, 1);
     Ok(())
 }

@@ -1,4 +1,4 @@
-use crate::{Choice, USAGE, Wrong, choose, keyspaces};
+use mt_choice::{Choice, USAGE, Wrong, choose, keyspaces};
 use mt_names::NameFault;
 use std::test::Fail;
 

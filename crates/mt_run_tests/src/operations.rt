@@ -1,6 +1,6 @@
 //! Operations on rows, through a look-up and at a table.
 
-use crate::tests::{Case, answers};
+use crate::scripts::{Case, answers};
 use std::test::Fail;
 
 /// A value of 64 bytes, the longest.

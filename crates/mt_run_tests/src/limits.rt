@@ -1,6 +1,6 @@
 //! Scripts that fill a topology.
 
-use crate::tests::{Case, answers};
+use crate::scripts::{Case, answers};
 use std::alloc::Global;
 use std::test::Fail;
 

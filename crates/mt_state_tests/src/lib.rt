@@ -1,0 +1,11 @@
+//! Tests of the topology and the primaries by direct call.
+#![tactic(auto)]
+
+#[cfg(test)]
+mod dumps;
+#[cfg(test)]
+mod primary;
+#[cfg(test)]
+mod refreshes;
+#[cfg(test)]
+mod topology;
