@@ -1,7 +1,7 @@
 //! Where an allocation fails, the answer is `Memory` or the one that there is without, and a refusal changes nothing.
 
 use mt_model::table_part_keys;
-use mt_names::{KeyspaceName, RuleKey, RuleTarget, TableName};
+use mt_names::{KeyspaceName, NameFault, RuleKey, RuleTarget, TableName};
 use mt_topology::{Topology, TopologyFault};
 use std::alloc::Global;
 use std::test::Fail;
@@ -19,52 +19,102 @@ fn dumps(alloc: Global, topology: &Topology, want: &str) -> bool {
     text.is_ok_and(|text| text.as_str() == want)
 }
 
-/// The topology of the dump, whose calls are tried again where they want memory.
-fn made(alloc: Global, a: &KeyspaceName, b: &KeyspaceName) -> Result<Topology, Fail> {
-    let mut topology = Topology::new(alloc);
-    for keyspace in [a, b] {
-        if topology.add_keyspace(keyspace) == Err(TopologyFault::Memory) {
-            topology.add_keyspace(keyspace)?;
-        }
-    }
-    let table = TableName::parse("t")?;
-    if topology.add_table(b, &table) == Err(TopologyFault::Memory) {
-        topology.add_table(b, &table)?;
-    }
-    let (key, target) = (RuleKey::parse("x")?, RuleTarget::parse("b.t")?);
-    if topology.edit_rule(&key, Some(target.copied())) == Err(TopologyFault::Memory) {
-        topology.edit_rule(&key, Some(target))?;
-    }
-    Ok(topology)
+/// Whether a keyspace is added, at once or at a second try.
+fn add_keyspace(topology: &mut Topology, name: &str) -> Result<bool, NameFault> {
+    let name = KeyspaceName::parse(name)?;
+    Ok(match topology.add_keyspace(&name) {
+        Err(TopologyFault::Memory) => topology.add_keyspace(&name).is_ok(),
+        answer => answer.is_ok(),
+    })
 }
 
-/// How many entries of the part that moves a table have a place.
-fn places(topology: &Topology, a: &KeyspaceName, b: &KeyspaceName, table: &TableName) -> usize {
-    table_part_keys(b, a, table)
+/// The same of a table.
+fn add_table(topology: &mut Topology, keyspace: &str, table: &str) -> Result<bool, NameFault> {
+    let (keyspace, table) = (KeyspaceName::parse(keyspace)?, TableName::parse(table)?);
+    Ok(match topology.add_table(&keyspace, &table) {
+        Err(TopologyFault::Memory) => topology.add_table(&keyspace, &table).is_ok(),
+        answer => answer.is_ok(),
+    })
+}
+
+/// The same of a rule.
+fn set_rule(topology: &mut Topology, key: &str, target: &str) -> Result<bool, NameFault> {
+    let (key, target) = (RuleKey::parse(key)?, RuleTarget::parse(target)?);
+    Ok(match topology.edit_rule(&key, Some(target.copied())) {
+        Err(TopologyFault::Memory) => topology.edit_rule(&key, Some(target)).is_ok(),
+        answer => answer.is_ok(),
+    })
+}
+
+/// Whether the topology of the dump is made of none.
+fn is_made(topology: &mut Topology) -> Result<bool, NameFault> {
+    Ok(
+        add_keyspace(topology, "a")?
+            && add_keyspace(topology, "b")?
+            && add_table(topology, "b", "t")?
+            && set_rule(topology, "x", "b.t")?,
+    )
+}
+
+/// How many entries of the part that moves `t` from `b` to `a` have a place.
+fn places(topology: &Topology, part: &Part) -> usize {
+    table_part_keys(&part.source, &part.target, &part.tables[0])
         .iter()
         .filter(|key| topology.has_place(key))
         .count()
 }
 
+/// The part of a workflow that moves one table.
+#[derive(Drop)]
+struct Part {
+    source: KeyspaceName,
+    target: KeyspaceName,
+    tables: [TableName; 1],
+}
+
+/// The part that moves `t` from `b` to `a`.
+fn moved_table() -> Result<Part, NameFault> {
+    Ok(Part {
+        source: KeyspaceName::parse("b")?,
+        target: KeyspaceName::parse("a")?,
+        tables: [TableName::parse("t")?],
+    })
+}
+
+/// Whether the part is reserved, at once or at a second try after a refusal that changed nothing.
+fn is_reserved(topology: &mut Topology, part: &Part) -> bool {
+    match topology.reserve_part(&part.source, &part.target, &part.tables) {
+        Err(TopologyFault::Memory) => {
+            places(topology, part) == 0
+                && topology.rules().len() == 1
+                && topology
+                    .reserve_part(&part.source, &part.target, &part.tables)
+                    .is_ok()
+        }
+        answer => answer.is_ok(),
+    }
+}
+
+/// Whether a dump is read, at once or at a second try, as a topology that has it.
+fn is_loaded(alloc: Global, text: &str) -> bool {
+    let loaded = match Topology::load(alloc, text.as_bytes()) {
+        Err(TopologyFault::Memory) => Topology::load(alloc, text.as_bytes()),
+        answer => answer,
+    };
+    loaded.is_ok_and(|topology| dumps(alloc, &topology, text))
+}
+
 #[test]
 fn want_of_memory_is_no_other_answer(rt: HostRuntime) -> Result<(), Fail> {
-    let (a, b) = (KeyspaceName::parse("a")?, KeyspaceName::parse("b")?);
-    let t = TableName::parse("t")?;
-    let mut topology = made(rt.alloc(), &a, &b)?;
+    let part = moved_table()?;
+    let mut topology = Topology::new(rt.alloc());
+    assert!(rt; is_made(&mut topology) == Ok(true));
     assert!(rt; dumps(rt.alloc(), &topology, DUMP));
-    if let Err(fault) = topology.reserve_part(&b, &a, &[t.copied()]) {
-        assert_eq!(rt; fault, TopologyFault::Memory);
-        assert_eq!(rt; places(&topology, &a, &b, &t), 0);
-        assert_eq!(rt; topology.rules().len(), 1);
-        topology.reserve_part(&b, &a, &[t.copied()])?;
-    }
-    assert_eq!(rt; places(&topology, &a, &b, &t), 15);
+    assert!(rt; is_reserved(&mut topology, &part));
+    assert!(rt; places(&topology, &part) == 15);
     assert!(rt; dumps(rt.alloc(), &topology, DUMP));
-    topology.release_part(&b, &a, &[t]);
-    let loaded = match Topology::load(rt.alloc(), DUMP.as_bytes()) {
-        Err(TopologyFault::Memory) => Topology::load(rt.alloc(), DUMP.as_bytes())?,
-        answer => answer?,
-    };
-    assert!(rt; dumps(rt.alloc(), &loaded, DUMP));
+    topology.release_part(&part.source, &part.target, &part.tables);
+    assert!(rt; dumps(rt.alloc(), &topology, DUMP));
+    assert!(rt; is_loaded(rt.alloc(), DUMP));
     Ok(())
 }

@@ -2,7 +2,9 @@
 #![tactic(auto)]
 
 ghost use Rattle.std.specs.Prelude.{◌≡◌, IfOk};
+ghost use Rattle.std.specs.Process.{exit_status};
 ghost use Rattle.mt_watch.specs.Notices.{notice_of};
+ghost use Rattle.mt_program.specs.Statuses.{status_of_end, status_of_refusal};
 
 use mt_choice::{Choice, Wrong, choose};
 use mt_io::ScriptFault;
@@ -51,7 +53,9 @@ fn run(rt: &HostRuntime, keyspaces: &[KeyspaceName]) -> Result<(), ScriptFault> 
 }
 
 /// How the program ends: a document that was refused is on standard output, a fault is told on standard error.
-fn ended(rt: &HostRuntime, end: Result<bool, ScriptFault>) -> io::Result<ExitCode> {
+fn ended(rt: &HostRuntime, end: Result<bool, ScriptFault>) -> io::Result<ExitCode>
+    ensures { IfOk result (λ code. exit_status code ≡ status_of_end end) }
+{
     match end {
         Ok(true) => Ok(ExitCode::SUCCESS),
         Ok(false) => Ok(ExitCode::FAILURE),
@@ -63,7 +67,9 @@ fn ended(rt: &HostRuntime, end: Result<bool, ScriptFault>) -> io::Result<ExitCod
 }
 
 /// Tells on standard error why a command line asks for nothing.
-fn refused(rt: &HostRuntime, wrong: Wrong) -> io::Result<ExitCode> {
+fn refused(rt: &HostRuntime, wrong: Wrong) -> io::Result<ExitCode>
+    ensures { IfOk result (λ code. exit_status code ≡ status_of_refusal wrong) }
+{
     eprintln!(rt; "{wrong}")?;
     match wrong {
         Wrong::Memory => Ok(ExitCode::FAILURE),
