@@ -1,7 +1,7 @@
 //! Documents behind a line, and documents that are read and written again.
 
-use crate::scripts::{Case, answers, prints};
 use crate::faults::{NoRoom, reader_of, writer_with};
+use crate::scripts::{Case, answers, prints};
 use mt_io::ScriptFault;
 use mt_run::{canon_dump, canon_rules};
 use std::alloc::Global;
