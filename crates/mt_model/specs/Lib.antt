@@ -1,6 +1,7 @@
 pub mod Documents
 pub mod Faults
 pub mod Limits
+pub mod Notices
 pub mod Part
 pub mod Rows
 pub mod Topology

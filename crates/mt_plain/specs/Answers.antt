@@ -1,15 +1,14 @@
 -- The answers that an event may get, runs of events, histories and publications. All of this page is this profile's own, unless
 -- a comment names a page of Vitess's documentation.
-use Rattle.std.specs.Prelude.{◌≡◌, ◌⊎◌, ℕ, ◌≤◌, cond, flat_map, not, true, false, List, [], ◌∷◌, ◌++◌, length, map, take, is_some, Option, None, Some, unwrap_or, ⊤}
+use Rattle.std.specs.Prelude.{◌≡◌, ◌≢◌, ◌⊎◌, ◌↔◌, ℕ, ◌≤◌, not, true, false, List, [], ◌∷◌, length, map, slice_get, take, All, AllPairs, Contains, Option, None, Some, option_map, unwrap_or, ⊤}
 use Rattle.std.specs.Option.{option_map_or}
 use Rattle.mt_model.specs.declared.entries.Entry.{Entry}
-use Rattle.mt_model.specs.declared.entries.Entry.TheVariants as entry
-use Rattle.mt_model.specs.Topology.{TopologyState}
+use Rattle.mt_model.specs.Topology.{is_routed, key_of}
 use Rattle.mt_plain.specs.Events.{Event, read, advance, show, StreamName, forward, back, Refusal, memory, watcher_refused, frozen, Shown, Answer, done, row, advanced, shown, refused}
 use Rattle.mt_plain.specs.Next.{next}
 use Rattle.mt_plain.specs.Plain.{Live, Plain, live_at}
 use Rattle.mt_plain.specs.Refuse.{is_still_copying, may_grow, may_refuse, refusal_of}
-use Rattle.mt_plain.specs.Serve.{served}
+use Rattle.mt_plain.specs.Serve.{served_entry}
 use Rattle.mt_plain.specs.Slots.{may_be_cut, most_events, most_rows, slot_of}
 use Rattle.mt_plain.specs.Writes.{row_of}
 
@@ -84,6 +83,10 @@ IsFree p event (refused (watcher_refused index)) = ⊤
 IsFree p event (advanced events rows) = IsCut p event events rows
 IsFree p event answer = ⊥
 
+-- a rule by which the core answers
+abbrev pub AnswerRule : Type 1
+AnswerRule = Plain → Event → Answer → Type 0
+
 -- ---- runs: a list of events with an answer to each
 
 -- each answer follows from the state that the events before it leave
@@ -119,11 +122,11 @@ after_lines p history n = let first = take n history in after p (map (λ line. l
 
 -- ---- publications of routes
 
--- the view of a topology: its rules, and the tables that are there (Routing Rules)
-abbrev pub view_of : TopologyState → List Entry
-view_of t =
-    flat_map (λ r. cond (is_some r.1) (entry.Rule r.0 r.1 ∷ []) []) t.rules
-    ++ flat_map (λ k. flat_map (λ mark. cond mark.1 (entry.Present k.0 mark.0 true ∷ []) []) k.1.tables) t.keyspaces
+-- a list of entries is the view of a state: each rule that stands and each table that is there, as they are served, once, in
+-- whatever order (Routing Rules)
+pub record IsView (p : Plain) (view : List Entry) : Type 0 where
+  pub once : AllPairs (λ a b. key_of a ≢ key_of b) view
+  pub entries : (e : Entry) → Contains view e ↔ ((is_routed e ≡ true) × (served_entry p (key_of e) ≡ e))
 
 -- a publication: a front, which is a number of lines of a history, and the view of the topology after them
 pub record Publication : Type 0 where
@@ -133,4 +136,10 @@ pub record Publication : Type 0 where
 -- a publication tells the view of its own front
 abbrev pub IsPublication : (opening : Plain) → History → Publication → Type 0
 IsPublication p history publication =
-    (publication.front ≤ length history) × (publication.view ≡ view_of (served (after_lines p history publication.front)))
+    (publication.front ≤ length history) × IsView (after_lines p history publication.front) publication.view
+
+-- the publications of a desk, in their order: the first is of no line, and so tells the opening's view; and fronts never fall
+pub record ArePublications (opening : Plain) (history : History) (publications : List Publication) : Type 0 where
+  pub begins : option_map (λ publication. publication.front) (slice_get publications 0) ≡ Some 0
+  pub each : All (IsPublication opening history) publications
+  pub fronts : AllPairs (λ earlier later. earlier.front ≤ later.front) publications

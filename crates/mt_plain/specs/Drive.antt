@@ -1,10 +1,11 @@
 -- A whole switch or reversal of traffic, as one line of a script asks for it: which event it asks for next, and when it ends
 -- (MoveTables: SwitchTraffic, ReverseTraffic; the number of tries is this profile's own).
-use Rattle.std.specs.Prelude.{ℕ, suc, Bool, true, false, if◌then◌else◌, List, ◌++◌, codes, option_and_then, Option, None, Some}
+use Rattle.std.specs.Prelude.{ℕ, zero, suc, Bool, true, false, if◌then◌else◌, List, option_and_then, Option, None, Some, Result, Ok, Err}
 use Rattle.std.specs.Option.{option_map_or}
 use Rattle.mt_names.specs.declared.types.TypeSet.{TypeSet}
-use Rattle.mt_plain.specs.Numbers.{number_text}
-use Rattle.mt_plain.specs.Events.{Event, begin_switch, begin_reverse, advance, step, undo, StreamName, forward, back, Refusal, not_level, refusal_text, Answer, refused, Way}
+use Rattle.mt_plain.specs.Answers.{AnswerRule}
+use Rattle.mt_plain.specs.Events.{Event, begin_switch, begin_reverse, advance, step, undo, StreamName, forward, back, Refusal, not_level, Answer, refused, Way}
+use Rattle.mt_plain.specs.Next.{next}
 use Rattle.mt_plain.specs.Plain.{Plain, live_at, stands_done, write_journal}
 use Rattle.mt_plain.specs.Slots.{slot_of}
 
@@ -51,22 +52,28 @@ event_of p (gives_up workflow refusal) = undo workflow (steps_done p workflow)
 
 -- ---- what follows from the answer
 
--- a drive goes on, or ends and tells a text
+-- how a drive ends once it has begun: all its steps are done; a refusal came before the journal, and all is undone; or one came behind it, with so
+-- many steps done, and the way stays open (How traffic is switched: the journal is the point of no return)
+pub data Driven : Type 0 where
+  done : Driven
+  abandoned : Refusal → Driven
+  stopped : Refusal → (steps : ℕ) → Driven
+
+-- a drive goes on, or ends: so, or with the refusal of its begin
 pub data Heard : Type 0 where
   goes_on : Driving → Heard
-  ends : List ℕ → Heard
+  ends : Result Driven Refusal → Heard
 
--- a drive that can't go on undoes what stands done before the journal; past it, it stops, and the way stays open
--- (How traffic is switched: the journal is the point of no return)
+-- a drive that can't go on undoes what stands done before the journal; behind it, it stops
 abbrev pub fails : Plain → (workflow : List ℕ) → Refusal → Heard
 fails p workflow refusal =
     if option_map_or (λ way. stands_done way write_journal) (way_of p workflow) false
-    then ends (codes "stopped " ++ refusal_text refusal ++ codes " " ++ number_text (steps_done p workflow)) else goes_on (gives_up workflow refusal)
+    then ends (Ok (stopped refusal (steps_done p workflow))) else goes_on (gives_up workflow refusal)
 
 -- it ends once the way has closed
-abbrev pub unless_closed : Option Way → List ℕ → Driving → Heard
-unless_closed None text driving = ends text
-unless_closed (Some way) text driving = goes_on driving
+abbrev pub unless_closed : Option Way → Driven → Driving → Heard
+unless_closed None driven driving = ends (Ok driven)
+unless_closed (Some way) driven driving = goes_on driving
 
 -- a step that finds the stream not level is tried again behind an advance, as long as tries are left; another refusal ends it
 abbrev pub refused_step : Plain → (workflow : List ℕ) → (tries : ℕ) → Refusal → Heard
@@ -75,15 +82,32 @@ refused_step p workflow tries refusal = fails p workflow refusal
 
 -- in the state after the answer; no other answer comes
 abbrev pub heard : Plain → Driving → Answer → Heard
-heard p (begins workflow types backward) (refused refusal) = ends (codes "refused " ++ refusal_text refusal)
+heard p (begins workflow types backward) (refused refusal) = ends (Err refusal)
 heard p (begins workflow types backward) other = goes_on (steps workflow most_tries)
 heard p (steps workflow tries) (refused refusal) = refused_step p workflow tries refusal
-heard p (steps workflow tries) other = unless_closed (way_of p workflow) (codes "ok") (steps workflow most_tries)
+heard p (steps workflow tries) other = unless_closed (way_of p workflow) done (steps workflow most_tries)
 heard p (feeds workflow tries) (refused refusal) = fails p workflow refusal
 heard p (feeds workflow tries) other = goes_on (steps workflow tries)
-heard p (gives_up workflow refusal) answer =
-    unless_closed (way_of p workflow) (codes "abandoned " ++ refusal_text refusal) (gives_up workflow refusal)
+heard p (gives_up workflow refusal) answer = unless_closed (way_of p workflow) (abandoned refusal) (gives_up workflow refusal)
 
 -- more events than any drive asks for: two steps are tried with 63 advances between, and twelve are done or undone
 abbrev pub most_turns : ℕ
 most_turns = 400
+
+-- ---- a whole drive
+
+-- what is to hold where a drive ends: of how it ended, and of the state that it leaves
+abbrev pub EndRule : Type 1
+EndRule = Result Driven Refusal → Plain → Type 0
+
+-- a drive goes on, or that holds
+abbrev pub GoesOn : (Driving → Plain → Type 0) → EndRule → Plain → Heard → Type 0
+GoesOn Again Ends p (goes_on driving) = Again driving p
+GoesOn Again Ends p (ends ended) = Ends ended p
+
+-- the events of a drive, each answered in the state that the one before it leaves, until it ends; none asks for as many as its turns
+abbrev pub Drives : AnswerRule → (turns : ℕ) → EndRule → Driving → Plain → Type 0
+Drives rule zero Ends driving p = ⊥
+Drives rule (suc turns) Ends driving p =
+    (answer : Answer) × rule p (event_of p driving) answer
+    × (let q = next p (event_of p driving) answer in GoesOn (Drives rule turns Ends) Ends q (heard q driving answer))

@@ -1,4 +1,5 @@
 pub mod Answers
+pub mod Asks
 pub mod Drive
 pub mod Events
 pub mod Next

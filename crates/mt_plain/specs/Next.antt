@@ -12,7 +12,7 @@ use Rattle.mt_model.specs.declared.faults.PrimaryFault.{PrimaryFault}
 use Rattle.mt_model.specs.Rows.{Row, op_key, op_row}
 use Rattle.mt_model.specs.Topology.{KeyspaceState, TopologyState, with_keyspace, with_keyspace_state, with_new_table, with_rule, with_table}
 use Rattle.mt_plain.specs.Events.{Event, write, add_keyspace, add_table, edit_rule, create, advance, begin_switch, begin_reverse, step, undo, cancel, complete, StreamName, Answer, done, row, advanced, shown, refused, Way}
-use Rattle.mt_plain.specs.Plain.{Live, Plain, not_begun, behind_last, changes_primary, create_back, in_keyspace, live_at, moves, next_step, rule_keys, write_journal}
+use Rattle.mt_plain.specs.Plain.{Live, Plain, not_begun, behind_last, changes_primary, create_back, each_once, in_keyspace, live_at, moves, next_step, rule_keys, write_journal}
 use Rattle.mt_plain.specs.Refuse.{new_owner}
 use Rattle.mt_plain.specs.Slots.{live_advanced, log_advanced, log_length}
 use Rattle.mt_plain.specs.Writes.{client_number, client_row, writes_to}
@@ -188,7 +188,7 @@ next_taken p (add_keyspace keyspace) = record p { topology = with_keyspace p.top
 next_taken p (add_table keyspace table) =
     record p { topology = with_table p.topology keyspace table; numbers = p.numbers ++ (in_keyspace keyspace table, p.made) ∷ []; made = suc p.made }
 next_taken p (edit_rule key target) = record p { topology = record p.topology { rules = with_rule p.topology.rules key target } }
-next_taken p (create workflow source target tables) = with_created p workflow source target tables
+next_taken p (create workflow source target tables) = with_created p workflow source target (each_once tables)
 next_taken p (begin_switch workflow types) = with_way p workflow false (λ switched. types_and switched types)
 next_taken p (begin_reverse workflow types) = with_way p workflow true (λ switched. types_without switched types)
 next_taken p (step workflow at) = with_step p workflow

@@ -15,9 +15,10 @@ use Rattle.mt_model.specs.Documents.{dump_text, rules_text}
 use Rattle.mt_model.specs.Faults.{topology_fault_text}
 use Rattle.mt_model.specs.Rows.{Row}
 use Rattle.mt_model.specs.Topology.{resolution}
-use Rattle.mt_plain.specs.Answers.{Answers, answer_of}
-use Rattle.mt_plain.specs.Drive.{Driving, begins, Heard, goes_on, ends, event_of, heard, most_turns}
-use Rattle.mt_plain.specs.Events.{Event, write, read, Way, StreamState, running, stopped, frozen, Slot, Shown, Answer, done, row, advanced, shown, refused, refusal_text}
+use Rattle.mt_plain.specs.Answers.{AnswerRule, Answers, answer_of}
+use Rattle.mt_plain.specs.Drive.{Driven, Drives, Driving, begins, Heard, goes_on, ends, event_of, heard, most_turns}
+use Rattle.mt_plain.specs.Drive as driven
+use Rattle.mt_plain.specs.Events.{Event, write, read, Way, Refusal, StreamState, running, stopped, frozen, Slot, Shown, Answer, done, row, advanced, shown, refused, refusal_text}
 use Rattle.mt_plain.specs.Next.{next}
 use Rattle.mt_plain.specs.Numbers.{number_text}
 use Rattle.mt_plain.specs.Plain.{Plain, changed_types, opening}
@@ -86,6 +87,17 @@ answer_text (advanced events rows) = spaced (codes "events") (spaced (number_tex
 answer_text (shown s) = shown_text s
 answer_text (refused refusal) = refused_text (refusal_text refusal)
 
+-- how a drive ended (SwitchTraffic, ReverseTraffic)
+abbrev pub driven_text : Driven → List ℕ
+driven_text driven.done = codes "ok"
+driven_text (driven.abandoned refusal) = codes "abandoned " ++ refusal_text refusal
+driven_text (driven.stopped refusal steps) = codes "stopped " ++ refusal_text refusal ++ codes " " ++ number_text steps
+
+-- the same, or that its begin was refused
+abbrev pub ended_text : Result Driven Refusal → List ℕ
+ended_text (Ok driven) = driven_text driven
+ended_text (Err refusal) = refused_text (refusal_text refusal)
+
 -- ---- what a line asks for
 
 -- a line tells nothing, tells a text that the state decides, asks the core for an event, whose answer it tells, or drives a switch
@@ -133,10 +145,6 @@ watchers_of keyspaces = scope.Routes ∷ map scope.Primary keyspaces
 
 -- ---- the output, as a relation: want of memory, a watcher's refusal and a cut advance are free
 
--- a rule by which the core answers
-abbrev pub AnswerRule : Type 1
-AnswerRule = Plain → Event → Answer → Type 0
-
 -- what the rest of a script may be, from the state in which it begins
 abbrev pub Rest : Type 1
 Rest = Plain → List ℕ → Type 0
@@ -145,25 +153,13 @@ Rest = Plain → List ℕ → Type 0
 abbrev pub Says : Plain → List ℕ → Rest → List ℕ → Type 0
 Says p text Then out = (rest : List ℕ) × (out ≡ text ++ line_feed ++ rest) × Then p rest
 
--- a drive goes on, or its end is told
-abbrev pub GoesOn : (Driving → Rest) → Plain → Heard → Rest → List ℕ → Type 0
-GoesOn Again p (goes_on driving) Then out = Again driving p out
-GoesOn Again p (ends text) Then out = Says p text Then out
-
--- the events of a drive, each answered in the state that the one before it leaves; none asks for as many as the turns
-abbrev pub Drives : AnswerRule → (turns : ℕ) → Rest → Driving → Rest
-Drives rule zero Then driving p out = Then p out
-Drives rule (suc turns) Then driving p out =
-    (answer : Answer) × rule p (event_of p driving) answer
-    × (let q = next p (event_of p driving) answer in GoesOn (Drives rule turns Then) q (heard q driving answer) Then out)
-
 -- what a line adds to the output, and then the rest from the state that it leaves
 abbrev pub Adds : AnswerRule → Plain → Told → Rest → List ℕ → Type 0
 Adds rule p nothing Then out = Then p out
 Adds rule p (says text) Then out = Says p text Then out
 Adds rule p (asks e) Then out =
     (answer : Answer) × (rest : List ℕ) × rule p e answer × (out ≡ answer_text answer ++ line_feed ++ rest) × Then (next p e answer) rest
-Adds rule p (drives driving) Then out = Drives rule most_turns Then driving p out
+Adds rule p (drives driving) Then out = Drives rule most_turns (λ ended q. Says q (ended_text ended) Then out) driving p
 
 -- the outputs of some lines from a state on
 abbrev pub Output : AnswerRule → Reading → Plain → List (List ℕ) → List ℕ → Type 0
@@ -185,10 +181,10 @@ BeginsOutput reading scopes input written =
 
 -- ---- the output, as a function: nothing is free
 
--- the text of a drive that goes on or ends, and the rest
+-- what a drive that goes on or ends tells, and the rest
 abbrev pub goes_then : (Driving → Plain → List ℕ) → Plain → Heard → (Plain → List ℕ) → List ℕ
 goes_then again p (goes_on driving) rest = again driving p
-goes_then again p (ends text) rest = text ++ line_feed ++ rest p
+goes_then again p (ends ended) rest = ended_text ended ++ line_feed ++ rest p
 
 -- the text that a drive ends with, and the rest
 abbrev pub drive_then : (turns : ℕ) → (Plain → List ℕ) → Driving → Plain → List ℕ

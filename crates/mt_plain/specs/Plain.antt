@@ -1,6 +1,6 @@
 -- The plain state: the topology as if no workflow were live, the client tables as one list of acknowledged writes, the live
 -- workflows, and what the logs list (this profile's own; topology, workflows and streams are Vitess's).
-use Rattle.std.specs.Prelude.{ℕ, ◌+◌, Bool, true, not, ◌&&◌, ◌||◌, nat_le, nat_lt, if◌then◌else◌, List, [], find, flat_map, Option, unwrap_or, is_some}
+use Rattle.std.specs.Prelude.{ℕ, ◌+◌, Bool, true, not, ◌&&◌, ◌||◌, nat_le, nat_lt, if◌then◌else◌, List, [], ◌∷◌, filter, find, flat_map, Option, unwrap_or, is_some}
 use Rattle.std.specs.List.{list_any}
 use Rattle.std.specs.Map.{lookup}
 use Rattle.std.specs.Option.{option_map_or}
@@ -87,9 +87,18 @@ number_of p keyspace table = unwrap_or (lookup (same_target (in_keyspace keyspac
 abbrev pub live_at : Plain → List ℕ → Option Live
 live_at p name = find (λ w. same_text w.name name) p.lives
 
+-- whether a name stands among some (this profile's own)
+abbrev pub among : List (List ℕ) → List ℕ → Bool
+among names name = list_any (λ n. same_text n name) names
+
+-- names as a set, in the order first named: each of them once (this profile's own)
+abbrev pub each_once : List (List ℕ) → List (List ℕ)
+each_once [] = []
+each_once (name ∷ names) = name ∷ filter (λ n. not (same_text n name)) (each_once names)
+
 -- whether a workflow moves a table of that name (MoveTables: the tables)
 abbrev pub moves : Live → List ℕ → Bool
-moves w table = list_any (λ t. same_text t table) w.tables
+moves w table = among w.tables table
 
 -- the live workflow that moves a table of that name; there is one at most (this profile's own)
 abbrev pub mover : Plain → List ℕ → Option Live

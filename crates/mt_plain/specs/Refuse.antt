@@ -1,6 +1,6 @@
 -- Which refusal an event meets: the first in the order of the tests, or none. All of this page is this profile's own: Vitess refuses
 -- in the same cases with other words.
-use Rattle.std.specs.Prelude.{ℕ, ◌+◌, Bool, true, false, not, ◌&&◌, ◌||◌, ◌==◌, List, length, count_by, fold, find, if◌then◌else◌, nat_le, nat_lt, Option, None, Some, is_some, Result, Ok, Err, map, option_and_then, option_map, slice_get, [], ◌∷◌}
+use Rattle.std.specs.Prelude.{ℕ, ◌+◌, Bool, true, false, not, ◌&&◌, ◌||◌, ◌==◌, List, length, count_by, fold, find, if◌then◌else◌, nat_le, nat_lt, Option, None, Some, is_some, max, sum_by, Result, Ok, Err, map, option_and_then, option_map, slice_get, [], ◌∷◌}
 use Rattle.std.specs.List.{list_any}
 use Rattle.std.specs.Option.{option_map_or}
 use Rattle.std.specs.Map.{lookup}
@@ -21,7 +21,7 @@ use Rattle.mt_model.specs.declared.rows.Op.{Op}
 use Rattle.mt_model.specs.Rows.{Row, op_key, op_row}
 use Rattle.mt_model.specs.Topology.{Rules, keyspace_at, rule_at}
 use Rattle.mt_plain.specs.Events.{Event, write, read, add_keyspace, add_table, edit_rule, create, advance, begin_switch, begin_reverse, step, undo, cancel, complete, show, StreamName, Way, Refusal, no_keyspace, no_table, denied, row_exists, no_row, workflow_exists, no_workflow, table_in_workflow, rule_conflict, target_has_table, same_keyspace, no_tables, under_way, nothing_under_way, nothing_to_switch, nothing_to_reverse, copying, not_level, past_journal, traffic_switched, not_all_switched, rule_owned, no_watcher, stale, stream_stopped, full, undoing, too_long, exists}
-use Rattle.mt_plain.specs.Plain.{Copied, ended, Live, Plain, before_way, catch_up, has_keyspace, in_keyspace, live_at, mover, next_step, owner_by, part_owner, refresh_source, refresh_target, rule_keys, stands_done, switch_reads, twelve_keys, write_journal}
+use Rattle.mt_plain.specs.Plain.{Copied, ended, Live, Plain, before_way, catch_up, has_keyspace, each_once, in_keyspace, live_at, mover, next_step, owner_by, part_owner, refresh_source, refresh_target, rule_keys, stands_done, switch_reads, twelve_keys, write_journal}
 use Rattle.mt_plain.specs.Serve.{has_table, refuses}
 use Rattle.mt_plain.specs.Slots.{log_length, room_in_log, running_at, slot_of, writes_any, written_side}
 use Rattle.mt_plain.specs.Writes.{client_row, writes_to}
@@ -151,7 +151,7 @@ create_is_full p source target tables =
     || nat_lt most_tables_in_keyspace (table_count p target + length tables)
     || nat_lt most_rules (fold (λ n table. n + keys_without_rule p.topology.rules (twelve_keys source target table)) (rule_count p) tables)
 
--- Create: the name, the tables, the sides, each table, the watcher, the limits
+-- Create of a set of tables: the name, the tables, the sides, each table, the watcher, the limits
 abbrev pub create_refusal : Plain → (workflow source target : List ℕ) → List (List ℕ) → Option Refusal
 create_refusal p workflow source target tables =
     or_else (refuse_if (is_some (live_at p workflow)) workflow_exists)
@@ -267,7 +267,7 @@ refusal_of p (read keyspace table key tablet_type) = read_refusal p keyspace tab
 refusal_of p (add_keyspace keyspace) = keyspace_refusal p keyspace
 refusal_of p (add_table keyspace table) = table_refusal p keyspace table
 refusal_of p (edit_rule key target) = edit_refusal p key target
-refusal_of p (create workflow source target tables) = create_refusal p workflow source target tables
+refusal_of p (create workflow source target tables) = create_refusal p workflow source target (each_once tables)
 refusal_of p (advance workflow name at at_most) = in_workflow (live_at p workflow) (advance_refusal p name at at_most)
 refusal_of p (begin_switch workflow types) = in_workflow (live_at p workflow) (begin_switch_refusal p types)
 refusal_of p (begin_reverse workflow types) = in_workflow (live_at p workflow) (begin_reverse_refusal p types)
@@ -299,13 +299,26 @@ abbrev pub may_refuse : Plain → Event → (index : ℕ) → Bool
 may_refuse p event index =
     option_map_or (λ keyspace. option_map_or (is_of_primary keyspace) (slice_get p.scopes index) false) (asked_keyspace p event) false
 
--- the events that may grow something, and so may want memory
+-- the events that may grow something, and so may want memory: of a rule by hand a new one alone, of an advance one that writes something
 abbrev pub may_grow : Plain → Event → Bool
 may_grow p (read keyspace table key tablet_type) = false
 may_grow p (edit_rule key None) = false
+may_grow p (edit_rule key (Some target)) = not (is_some (lookup (same_key key) p.topology.rules))
+may_grow p (advance workflow name at at_most) = option_map_or (λ w. writes_any p w name at at_most) (live_at p workflow) false
 may_grow p (step workflow at) = option_map_or (λ w. list_any (is_next_step w) (refresh_source ∷ write_journal ∷ refresh_target ∷ [])) (live_at p workflow) false
 may_grow p (undo workflow at) = false
 may_grow p (cancel workflow) = false
 may_grow p (complete workflow) = false
 may_grow p (show workflow) = false
 may_grow p other = true
+
+-- ---- what must always find room
+
+-- the events that are owed to a live workflow so that it can be given up whatever else is asked: its Cancel, and where a way is open before its
+-- journal an undo of each step that stands done, or of the begin
+abbrev pub owed_by : Live → ℕ
+owed_by w = 1 + option_map_or (λ way. if stands_done way write_journal then 0 else max 1 way.done) w.way 0
+
+-- those owed to all
+abbrev pub owed : Plain → ℕ
+owed p = sum_by owed_by p.lives

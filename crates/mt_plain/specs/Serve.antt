@@ -1,6 +1,6 @@
 -- What the topology serves, and what the primaries refuse: the part of each live workflow lies over the topology as if none
 -- were live, and follows one table of twelve keys read with a set of types.
-use Rattle.std.specs.Prelude.{◌≡◌, ℕ, Bool, true, false, not, ◌&&◌, if◌then◌else◌, List, [], ◌++◌, filter, fold, map, Option, None, Some}
+use Rattle.std.specs.Prelude.{◌≡◌, ℕ, Bool, true, false, not, ◌&&◌, if◌then◌else◌, List, [], ◌++◌, fold, map, Option, None, Some, is_some}
 use Rattle.std.specs.List.{list_any}
 use Rattle.std.specs.Map.{remove_entry}
 use Rattle.std.specs.Option.{option_map_or}
@@ -16,10 +16,8 @@ use Rattle.mt_model.specs.declared.entries.Entry.{Entry}
 use Rattle.mt_model.specs.declared.entries.Entry.TheVariants as entry
 use Rattle.mt_model.specs.declared.entries.EntryKey.{EntryKey}
 use Rattle.mt_model.specs.declared.entries.EntryKey.TheVariants as about
-use Rattle.mt_model.specs.declared.entries.Scope.{Scope}
-use Rattle.mt_model.specs.declared.entries.Scope.TheVariants as scope
-use Rattle.mt_model.specs.Topology.{KeyspaceState, Keyspaces, Marks, TopologyState, is_present, rule_at, value_of, with_keyspace_state}
-use Rattle.mt_plain.specs.Plain.{Live, Plain, allow_target, before_way, deny_source, in_keyspace, is_side, mover, moves, owner_by, part_owner, refresh_source, refresh_target, rule_keys, stands_done, switch_reads, switch_write_rules}
+use Rattle.mt_model.specs.Topology.{HasDistinctPlaces, KeyspaceState, Keyspaces, Marks, TopologyState, is_present, keyspace_at, rule_at, value_of, with_keyspace_state}
+use Rattle.mt_plain.specs.Plain.{Live, Plain, allow_target, before_way, deny_source, has_keyspace, in_keyspace, is_side, mover, moves, owner_by, part_owner, refresh_source, refresh_target, rule_keys, stands_done, switch_reads, switch_write_rules}
 
 -- ---- the table: what a part serves once some types are switched
 
@@ -80,9 +78,16 @@ served_by u w key = serve u w (types_by w (step_of_entry w key)) key
 abbrev pub served_entry : Plain → EntryKey → Entry
 served_entry p key = option_map_or (λ w. served_by p.topology w key) (part_owner p key) (value_of p.topology key)
 
--- a topology is the one that a state serves (this profile's own)
+-- a topology says at each entry what a state serves there (this profile's own)
 abbrev pub Serves : Plain → TopologyState → Type 0
 Serves p t = (key : EntryKey) → value_of t key ≡ served_entry p key
+
+-- a topology is one that a state serves: it has the keyspaces of the state, says at each entry what is served there, and gives
+-- nothing two places; in which order its places stand, and which of them hold nothing, is left open (this profile's own)
+pub record IsServed (p : Plain) (t : TopologyState) : Type 0 where
+  pub keyspaces : (name : List ℕ) → is_some (keyspace_at t.keyspaces name) ≡ has_keyspace p name
+  pub entries : Serves p t
+  pub places : HasDistinctPlaces t
 
 -- whether a primary's own list refuses a table. It follows the topology's denials with a refresh, a step later; at rest it is the
 -- denial, and no list has a table that no live workflow moves (How traffic is switched: the primary reloads its denied tables)
@@ -139,18 +144,3 @@ with_workflow u w = record { rules = rules_over u w; keyspaces = keyspaces_over 
 -- the topology that is served (MoveTables, Routing Rules)
 abbrev pub served : Plain → TopologyState
 served p = fold with_workflow p.topology p.lives
-
--- ---- whom a change concerns
-
--- whether a change of an entry concerns a watcher: the routers follow rules and tables, a primary the denials of its keyspace
--- (How traffic is switched: routers and primaries are refreshed)
-abbrev pub concerns : Scope → Entry → Bool
-concerns scope.Routes (entry.Rule key target) = true
-concerns scope.Routes (entry.Denied keyspace table mark) = false
-concerns scope.Routes (entry.Present keyspace table mark) = true
-concerns (scope.Primary k) (entry.Denied keyspace table mark) = same_text k keyspace
-concerns (scope.Primary k) other = false
-
--- the notice of a change for a scope: the entries that concern it, in their order (this profile's own)
-abbrev pub notice_of : Scope → List Entry → List Entry
-notice_of s change = filter (concerns s) change

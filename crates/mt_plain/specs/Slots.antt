@@ -6,7 +6,7 @@ use Rattle.mt_names.specs.Names.{same_text}
 use Rattle.mt_model.specs.Limits.{longest_log}
 use Rattle.mt_plain.specs.Events.{StreamName, forward, back, StreamState, running, stopped, frozen, Slot, Way}
 use Rattle.mt_plain.specs.Plain.{Copied, up_to, ended, Live, LogEntry, Plain, before_way, changes_primary, create_back, moves, number_of, stands_done, start_back, stop_feeding}
-use Rattle.mt_plain.specs.Writes.{client_row, is_copied}
+use Rattle.mt_plain.specs.Writes.{client_row, is_applied, is_copied}
 
 -- ---- logs
 
@@ -100,10 +100,9 @@ running_at (Some slot) = running_by slot.state slot.position
 abbrev pub past : Plain → Live → StreamName → (position : ℕ) → List LogEntry
 past p w name position = drop position (log_of p (read_side w name))
 
--- whether the stream writes an entry: it is of a moved table, and its row lies in the copied range
--- (MoveTables: the catchup between copying is for the rows already copied)
-abbrev pub is_applied : Live → LogEntry → Bool
-is_applied w e = moves w e.table && is_copied w e.table e.key
+-- whether a workflow's stream writes an entry at the other side (MoveTables: the catchup)
+abbrev pub applies : Live → LogEntry → Bool
+applies w e = is_applied w.tables w.copied e.table e.key
 
 -- a number put in its place among ascending ones, once
 abbrev pub put_in_order : List ℕ → ℕ → List ℕ
@@ -126,16 +125,16 @@ abbrev pub to_copy : Plain → Live → List LogEntry → List (List ℕ × ℕ)
 to_copy p w [] = uncopied p w
 to_copy p w (e ∷ es) = []
 
--- how many entries can be read with so much room for those that are written
-abbrev pub readable : Live → (room : ℕ) → List LogEntry → ℕ
-readable w room [] = 0
-readable w room (e ∷ es) =
-    if is_applied w e && (room == 0) then 0 else suc (readable w (if is_applied w e then room - 1 else room) es)
+-- how many entries can be read with so much room for those that are written (this profile's own)
+abbrev pub readable : {E : Type 0} → (is_written : E → Bool) → (room : ℕ) → List E → ℕ
+readable is_written room [] = 0
+readable is_written room (e ∷ es) =
+    if is_written e && (room == 0) then 0 else suc (readable is_written (if is_written e then room - 1 else room) es)
 
 -- how many entries an advance reads, and how many rows it copies: up to the limit, as far as the log of the other side has room
 -- (this profile's own)
 abbrev pub most_events : Plain → Live → StreamName → (position at_most : ℕ) → ℕ
-most_events p w name position at_most = readable w (room_in_log p (written_side w name)) (take at_most (past p w name position))
+most_events p w name position at_most = readable (applies w) (room_in_log p (written_side w name)) (take at_most (past p w name position))
 
 -- how many rows it copies
 abbrev pub most_rows : Plain → Live → StreamName → (position at_most : ℕ) → ℕ
@@ -146,7 +145,7 @@ most_rows p w name position at_most =
 abbrev pub writes_any : Plain → Live → StreamName → (position at_most : ℕ) → Bool
 writes_any p w name position at_most =
     let entries = past p w name position in
-    list_any (is_applied w) (take at_most entries) || nat_lt 0 (min at_most (length (to_copy p w entries)))
+    list_any (applies w) (take at_most entries) || nat_lt 0 (min at_most (length (to_copy p w entries)))
 
 -- whether an advance may have been cut to these counts, because a growth was refused: not at its first change, and where the next
 -- thing to do is a change (this profile's own)
@@ -154,17 +153,17 @@ abbrev pub may_be_cut : Plain → Live → StreamName → (position at_most even
 may_be_cut p w name position at_most events rows =
     let entries = past p w name position in
     (rows == 0) && nat_lt events (most_events p w name position at_most)
-    && list_any (is_applied w) (take events entries) && option_map_or (is_applied w) (slice_get entries events) false
+    && list_any (applies w) (take events entries) && option_map_or (applies w) (slice_get entries events) false
     || (events == 0) && nat_lt 0 rows && nat_lt rows (most_rows p w name position at_most)
 
 -- ---- the state after an advance with its counts
 
--- the copied range after an advance: up to the last of the rows copied; ended where fewer were copied than allowed, and none is left;
--- reading events does not change it (MoveTables: the copy phase ends after the last table)
-abbrev pub copied_after : Live → List LogEntry → List (List ℕ × ℕ) → (rows at_most : ℕ) → Copied
-copied_after w (e ∷ es) left rows at_most = w.copied
-copied_after w [] left rows at_most =
-    if nat_lt rows at_most && (rows == length left) then ended else fold (λ range row. up_to row.0 row.1) w.copied (take rows left)
+-- the copied range after an advance: reading entries does not change it; else it goes up to the last of the rows copied, and has
+-- ended where fewer were copied than allowed, and none is left (MoveTables: the copy phase ends after the last table)
+abbrev pub copied_after : {E : Type 0} → Copied → (entries : List E) → (left : List (List ℕ × ℕ)) → (rows at_most : ℕ) → Copied
+copied_after copied (e ∷ es) left rows at_most = copied
+copied_after copied [] left rows at_most =
+    if nat_lt rows at_most && (rows == length left) then ended else fold (λ range row. up_to row.0 row.1) copied (take rows left)
 
 -- what an advance writes at the other side: the entries that it applied, or the rows that it copied (MoveTables)
 abbrev pub entry_of_row : (keyspace : List ℕ) → List ℕ × ℕ → LogEntry
@@ -173,7 +172,7 @@ entry_of_row keyspace row = record { keyspace = keyspace; table = row.0; key = r
 -- what an advance writes there (MoveTables)
 abbrev pub logged : Live → StreamName → List LogEntry → List (List ℕ × ℕ) → List LogEntry
 logged w name entries rows =
-    map (λ e. entry_of_row (written_side w name) (e.table, e.key)) (filter (is_applied w) entries) ++ map (entry_of_row (written_side w name)) rows
+    map (λ e. entry_of_row (written_side w name) (e.table, e.key)) (filter (applies w) entries) ++ map (entry_of_row (written_side w name)) rows
 
 -- the workflow after an advance: its position by the entries read, fed by those of moved tables (MoveTables)
 abbrev pub live_advanced : Plain → Live → StreamName → (position at_most events rows : ℕ) → Live
@@ -182,7 +181,7 @@ live_advanced p w name position at_most events rows =
     let further = with_position w name (is_fresh w.way name) (position + events) in
     record further {
       fed = w.fed + count_by (λ e. moves w e.table) (take events entries);
-      copied = copied_after w entries (to_copy p w entries) rows at_most;
+      copied = copied_after w.copied entries (to_copy p w entries) rows at_most;
     }
 
 -- all logs after an advance (this profile's own)

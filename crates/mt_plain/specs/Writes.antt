@@ -1,10 +1,10 @@
 -- The client tables: what the acknowledged writes make of a row, at the owner and at the other side of a move.
-use Rattle.std.specs.Prelude.{ℕ, Bool, true, false, not, ◌&&◌, ◌||◌, ◌==◌, nat_le, nat_lt, if◌then◌else◌, List, filter, fold, position, take, Option, None, Some, unwrap_or, length}
-use Rattle.std.specs.List.{list_any}
+use Rattle.std.specs.Prelude.{ℕ, Bool, true, false, not, ◌&&◌, ◌||◌, ◌==◌, nat_le, nat_lt, if◌then◌else◌, List, filter, fold, take, Option, None, Some}
+use Rattle.std.specs.List.{list_any, position_or_len}
 use Rattle.std.specs.Option.{option_map_or}
 use Rattle.mt_names.specs.Names.{same_text}
 use Rattle.mt_model.specs.Rows.{Row}
-use Rattle.mt_plain.specs.Plain.{Copied, not_begun, up_to, ended, Live, Plain, Write, is_side, mover, number_of, owner}
+use Rattle.mt_plain.specs.Plain.{Copied, not_begun, up_to, ended, Live, Plain, Write, among, is_side, mover, number_of, owner}
 
 -- the row after one write more (this profile's own)
 abbrev pub row_after_write : (table key : ℕ) → Row → Write → Row
@@ -34,21 +34,26 @@ writes_to p w = filter (is_write_to p w) p.writes
 
 -- ---- the other copy
 
--- whether a row lies in the copied range: not behind the last row copied, by the order of the tables named and then of keys;
--- always once the copy has ended (MoveTables: the copy phase)
-abbrev pub place_of : Live → List ℕ → ℕ
-place_of w table = unwrap_or (position (λ t. same_text t table) w.tables) (length w.tables)
+-- the place of a table among those named; behind them all where it isn't named (this profile's own)
+abbrev pub place_of : (tables : List (List ℕ)) → (table : List ℕ) → ℕ
+place_of tables table = position_or_len (λ t. same_text t table) tables
 
--- whether a row lies in a range
-abbrev pub in_range : Live → Copied → (table : List ℕ) → ℕ → Bool
-in_range w not_begun table key = false
-in_range w (up_to last last_key) table key =
-    nat_lt (place_of w table) (place_of w last) || (same_text table last && nat_le key last_key)
-in_range w ended table key = true
+-- whether a row lies in a copied range: not behind the last row copied, by the order of the tables named and then of keys; always once
+-- the copy has ended (MoveTables: the copy phase)
+abbrev pub in_range : (tables : List (List ℕ)) → Copied → (table : List ℕ) → ℕ → Bool
+in_range tables not_begun table key = false
+in_range tables (up_to last last_key) table key =
+    nat_lt (place_of tables table) (place_of tables last) || (same_text table last && nat_le key last_key)
+in_range tables ended table key = true
 
--- whether a row lies in the copied range (MoveTables: the copy phase)
+-- whether a stream of these tables, with that range copied, writes an entry of its source's log about a row: the row is of one of them,
+-- and lies in the range (MoveTables: the catchup between copying is for the rows already copied)
+abbrev pub is_applied : (tables : List (List ℕ)) → Copied → (table : List ℕ) → ℕ → Bool
+is_applied tables range table key = among tables table && in_range tables range table key
+
+-- whether a row lies in the copied range of a workflow (MoveTables: the copy phase)
 abbrev pub is_copied : Live → (table : List ℕ) → ℕ → Bool
-is_copied w table key = in_range w w.copied table key
+is_copied w table key = in_range w.tables w.copied table key
 
 -- the row at the side that is not the owner: in the copied range what the writes fed up to now leave, elsewhere none
 -- (MoveTables: the stream applies what was committed, in its order)

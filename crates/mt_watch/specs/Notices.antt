@@ -1,25 +1,10 @@
--- What of a change concerns a scope.
-use Rattle.std.specs.Prelude.{◌≡◌, Bool, true, false, List, filter, Result, Ok, Err}
-use Rattle.mt_names.specs.Names.{same_text}
+-- Notices of a change.
+use Rattle.std.specs.Prelude.{◌≡◌, List, Result, Ok, Err}
 use Rattle.mt_model.specs.declared.entries.Entry.{Entry}
-use Rattle.mt_model.specs.declared.entries.Entry.TheVariants as entry
 use Rattle.mt_model.specs.declared.entries.Scope.{Scope}
-use Rattle.mt_model.specs.declared.entries.Scope.TheVariants as scope
 use Rattle.mt_watch.specs.declared.fault.WatchersFault.{WatchersFault}
 use Rattle.mt_watch.specs.declared.fault.WatchersFault.TheVariants.{Memory}
-
--- rules and tables concern the routers; the denials at a keyspace concern its primary
-abbrev pub concerns : Scope → Entry → Bool
-concerns scope.Routes (entry.Rule key target) = true
-concerns scope.Routes (entry.Denied keyspace table is_denied) = false
-concerns scope.Routes (entry.Present keyspace table is_present) = true
-concerns (scope.Primary own) (entry.Rule key target) = false
-concerns (scope.Primary own) (entry.Denied keyspace table is_denied) = same_text own keyspace
-concerns (scope.Primary own) (entry.Present keyspace table is_present) = false
-
--- the notice of a change for a scope: the entries that concern it, in their order
-abbrev pub notice_of : Scope → List Entry → List Entry
-notice_of scope change = filter (concerns scope) change
+pub use Rattle.mt_model.specs.Notices.{concerns, notice_of}
 
 -- what making a notice answers
 abbrev pub Notes : Scope → List Entry → Result (List Entry) WatchersFault → Type 0
