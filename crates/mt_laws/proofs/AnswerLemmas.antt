@@ -14,7 +14,7 @@ use Rattle.mt_model.specs.declared.faults.PrimaryFault.TheVariants as primary
 use Rattle.mt_model.specs.Rows.{Row}
 use Rattle.mt_plain.specs.Events.{Event, write, read, add_keyspace, add_table, edit_rule, create, advance, begin_switch, begin_reverse, step, undo, cancel, complete, show, StreamName, Refusal, memory, no_keyspace, no_table, denied, workflow_exists, table_in_workflow, rule_conflict, target_has_table, same_keyspace, no_tables, under_way, nothing_under_way, nothing_to_switch, nothing_to_reverse, copying, not_level, past_journal, traffic_switched, not_all_switched, rule_owned, watcher_refused, no_watcher, stale, full, undoing, exists, Way, Answer, done, row, advanced, shown, refused}
 use Rattle.mt_plain.specs.Answers.{Answers, IsFree, Refuses, advanced_of, answer_of, answer_or, reply_of, show_of}
-use Rattle.mt_plain.specs.Plain.{Live, Plain, catch_up, live_at, next_step, refresh_source, refresh_target, switch_reads, write_journal}
+use Rattle.mt_plain.specs.Plain.{Live, Plain, catch_up, each_once, live_at, next_step, refresh_source, refresh_target, switch_reads, write_journal}
 use Rattle.mt_plain.specs.Refuse.{advance_at, advance_refusal, at_rest, begin_reverse_refusal, begin_switch_refusal, cancel_refusal, complete_refusal, create_refusal, in_workflow, is_behind, is_of_primary, most_journal_entries, moved_table_refusal, new_owner, old_owner, or_else, own_refusal, refusal_of, refuse_if, row_refusal, rule_refusal, denied_read, step_refusal, undo_refusal, unknown_table, will_read_other_side}
 
 -- ---- one answer at most
@@ -155,7 +155,7 @@ refusal_of-own p (add_keyspace keyspace) = or_else-own _ _ (refuse_if-own _ exis
 refusal_of-own p (add_table keyspace table) =
     or_else-own _ _ (refuse_if-own _ no_keyspace tt) (or_else-own _ _ (refuse_if-own _ exists tt) (refuse_if-own _ full tt))
 refusal_of-own p (edit_rule key target) = or_else-own _ _ (refuse_if-own _ rule_owned tt) (rule_refusal-own p key target)
-refusal_of-own p (create workflow source target tables) = create-own p workflow source target tables
+refusal_of-own p (create workflow source target tables) = create-own p workflow source target (each_once tables)
 refusal_of-own p (advance workflow name at at_most) = in_workflow-own (live_at p workflow) (advance_refusal p name at at_most) (λ w. advance_at-own p w name at at_most (running_at (slot_of w name)))
 refusal_of-own p (begin_switch workflow types) = in_workflow-own (live_at p workflow) (begin_switch_refusal p types) (begin_switch-own p types)
 refusal_of-own p (begin_reverse workflow types) = in_workflow-own (live_at p workflow) (begin_reverse_refusal p types) (begin_reverse-own p types)

@@ -6,7 +6,7 @@ use Rattle.mt_names.specs.Names.{same_text}
 use Rattle.mt_names.proofs.SameLemmas.{same_text_decides}
 use Rattle.mt_plain.specs.Events.{Event, create, advance, begin_switch, begin_reverse, step, undo, cancel, complete, StreamName, forward, back, Answer, done, row, advanced, shown, refused, Way}
 use Rattle.mt_plain.specs.Next.{created, live_stepped, live_undone, next, next_taken, on_way_of, types_and, types_without, way_stepped, with_advance, with_completed, with_fresh_stream, with_live, with_way_to, without_live}
-use Rattle.mt_plain.specs.Plain.{Live, Plain, behind_last, changes_primary, create_back, live_at, next_step, write_journal}
+use Rattle.mt_plain.specs.Plain.{Live, Plain, behind_last, changes_primary, create_back, each_once, live_at, next_step, write_journal}
 use Rattle.mt_plain.specs.Slots.{is_fresh, live_advanced, log_length, with_position}
 use Rattle.mt_plain.specs.Writes.{writes_to}
 use Rattle.mt_laws.specs.Changes.{HasSides}
@@ -95,7 +95,7 @@ made_live p name source target tables =
 pub data LivesAfter (p q : Plain) (event : Event) (answer : Answer) : Type 0 where
   mapped : q.lives ≡ map (live_next p event answer) p.lives → LivesAfter p q event answer
   made : (name source target : List ℕ) (tables : List (List ℕ)) → event ≡ create name source target tables
-      → q.lives ≡ p.lives ++ made_live p name source target tables ∷ []
+      → q.lives ≡ p.lives ++ made_live p name source target (each_once tables) ∷ []
       → ((w : Live) → live_next p event answer w ≡ w) → LivesAfter p q event answer
   ended : (name : List ℕ) → (event ≡ cancel name) ⊎ (event ≡ complete name) → q.lives ≡ without_live name p.lives
       → ((w : Live) → live_next p event answer w ≡ w) → LivesAfter p q event answer

@@ -23,7 +23,7 @@ use Rattle.mt_model.specs.Rows.{Row, RowValue, op_key, op_row}
 use Rattle.mt_model.specs.Topology.{KeyspaceState, Keyspaces, Marks, Rules, TopologyState, keyspace_at, rule_at, with_keyspace_state, with_mark_place, with_new_table, with_rule, with_rule_place}
 use Rattle.mt_plain.specs.Events.{Event, write, read, add_keyspace, add_table, edit_rule, create, advance, begin_switch, begin_reverse, step, undo, cancel, complete, show, StreamName, Answer, done, row, advanced, shown, refused}
 use Rattle.mt_plain.specs.Next.{after_advance, completed, created, live_stepped, live_undone, next, next_taken, on_way_of, row_left, with_advance, with_completed, with_live, with_tables, with_way_to, without_live, without_tables, types_and, types_without}
-use Rattle.mt_plain.specs.Plain.{Live, Plain, Write, is_side, mover, number_of, owner, in_keyspace, live_at, opening, rule_keys, twelve_keys}
+use Rattle.mt_plain.specs.Plain.{Live, Plain, Write, each_once, in_keyspace, is_side, live_at, mover, number_of, opening, owner, rule_keys, twelve_keys}
 use Rattle.mt_plain.specs.Serve.{denials_over, mark_in, rule_in, rule_step, rules_over, serve_plain, serve_rule, types_by, served, served_by, with_part_at, with_workflow}
 use Rattle.mt_plain.specs.Slots.{live_advanced, log_length}
 use Rattle.mt_plain.specs.Writes.{client_number, client_row, is_copied, is_write_to, other_row, row_by_mover, writes_to, row_after_write, row_after_writes, row_of}
@@ -298,6 +298,10 @@ after_advance-clean p other events rows clean = clean
 with_lives-clean : (p : Plain) (lives : List Live) → IsClean p → AllByRecursion CleanLive lives → IsClean (record p { lives = lives })
 with_lives-clean p lives clean all = record { topology = clean.topology; lives = all; writes = clean.writes }
 
+each_once-clean : (tables : List (List ℕ)) → AllByRecursion NoFeed tables → AllByRecursion NoFeed (each_once tables)
+each_once-clean [] all = tt
+each_once-clean (table ∷ tables) all = (all.0, filter-all NoFeed (λ t. not (same_text t table)) (each_once tables) (each_once-clean tables all.1))
+
 next_taken-clean : (p : Plain) (event : Event) → IsClean p → CleanEvent event → IsClean (next_taken p event)
 next_taken-clean p (write keyspace table op) clean is = record {
   topology = clean.topology;
@@ -330,8 +334,8 @@ next_taken-clean p (edit_rule key target) clean is = record {
   writes = clean.writes;
 }
 next_taken-clean p (create workflow source target tables) clean is =
-    let w = created workflow source target tables (log_length p source) in
-    let live : CleanLive (record w { fed = length (writes_to p w) }) = record { name = is.0; source = is.1; target = is.2; tables = is.3 } in
+    let w = created workflow source target (each_once tables) (log_length p source) in
+    let live : CleanLive (record w { fed = length (writes_to p w) }) = record { name = is.0; source = is.1; target = is.2; tables = each_once-clean tables is.3 } in
     with_lives-clean p (p.lives ++ (record w { fed = length (writes_to p w) }) ∷ []) clean (append-all CleanLive p.lives ((record w { fed = length (writes_to p w) }) ∷ []) clean.lives (live, tt))
 next_taken-clean p (advance workflow name at at_most) clean is = clean
 next_taken-clean p (begin_switch workflow types) clean is = record {

@@ -221,7 +221,7 @@ take-none n xs e = take_all n xs (by (ap length e)) ∙ e
     by : length xs ≡ 0 → length xs ≤ n
     by is = omega arith
 
-stays_ended : (w : Live) (entries : List LogEntry) (left : List (List ℕ × ℕ)) (rows at_most : ℕ) → w.copied ≡ ended → left ≡ [] → copied_after w entries left rows at_most ≡ ended
+stays_ended : (w : Live) (entries : List LogEntry) (left : List (List ℕ × ℕ)) (rows at_most : ℕ) → w.copied ≡ ended → left ≡ [] → copied_after w.copied entries left rows at_most ≡ ended
 stays_ended w (e ∷ es) left rows at_most is none = is
 stays_ended w [] left rows at_most is none = by (ltb rows at_most && eqb rows (length left))
   where

@@ -1,16 +1,17 @@
--- Each drive ends within its turns, and tells one text.
-use Rattle.std.proofs.Common.{◌≡◌, ◌≢◌, ◌⊎◌, inl, inr, ℕ, zero, suc, ◌+◌, ◌-◌, ◌*◌, ◌<◌, ◌≤◌, Bool, true, false, not, cond, eqb, leb, List, ◌++◌, codes, Option, None, Some, refl, sym, ap, ◌∙◌, subst, arith}
+-- Each drive ends within its turns, however its events are answered.
+use Rattle.std.proofs.Common.{◌≡◌, ◌≢◌, ◌⊎◌, inl, inr, ℕ, zero, suc, ◌+◌, ◌-◌, ◌*◌, ◌<◌, ◌≤◌, Bool, true, false, not, cond, eqb, leb, List, ◌++◌, codes, Option, None, Some, Result, Ok, Err, refl, sym, ap, ◌∙◌, subst, arith}
 use Rattle.std.proofs.lemmas.Bool.{true≢false, eqb-true, eq-eqb}
 use Rattle.std.specs.List.{list_any}
 use Rattle.std.specs.Option.{option_map_or}
-use Rattle.std.specs.Prelude.{◌&&◌, option_and_then}
+use Rattle.std.specs.Prelude.{⊤, ◌&&◌, option_and_then}
 use Rattle.mt_names.specs.declared.types.TypeSet.{TypeSet}
-use Rattle.mt_plain.specs.Answers.{Answers, Refuses}
+use Rattle.mt_plain.specs.Answers.{AnswerRule, Answers, Refuses}
 use Rattle.mt_plain.specs.Numbers.{number_text}
-use Rattle.mt_plain.specs.Drive.{Driving, begins, steps, feeds, gives_up, Heard, goes_on, ends, event_of, fails, feeding_stream, heard, most_at_once, most_tries, position_of, refused_step, steps_done, unless_closed, way_of}
-use Rattle.mt_plain.specs.Events.{begin_switch, begin_reverse, step, undo, Refusal, memory, nothing_under_way, not_level, past_journal, watcher_refused, no_watcher, stale, full, undoing, refusal_text, Way, Answer, done, row, advanced, shown, refused}
+use Rattle.mt_plain.specs.Drive.{Driven, abandoned, stopped, Drives, Driving, EndRule, GoesOn, begins, steps, feeds, gives_up, Heard, goes_on, ends, event_of, fails, feeding_stream, heard, most_at_once, most_tries, position_of, refused_step, steps_done, unless_closed, way_of}
+use Rattle.mt_plain.specs.Drive as drive
+use Rattle.mt_plain.specs.Events.{Event, begin_switch, begin_reverse, step, undo, Refusal, memory, nothing_under_way, not_level, past_journal, watcher_refused, no_watcher, stale, full, undoing, refusal_text, Way, Answer, done, row, advanced, shown, refused}
 use Rattle.mt_plain.specs.Next.{next, with_step, with_undo, with_way_to, types_and, types_without}
-use Rattle.mt_plain.specs.Output.{Drives, GoesOn, Rest, line_feed}
+use Rattle.mt_plain.specs.Output.{ended_text}
 use Rattle.mt_plain.specs.Plain.{Live, Plain, behind_last, catch_up, first_step, live_at, next_step, refresh_source, refresh_target, stands_done, switch_reads, write_journal}
 use Rattle.mt_plain.specs.Refuse.{begin_reverse_refusal, begin_switch_refusal, in_workflow, is_behind, is_of_primary, most_journal_entries, new_owner, old_owner, or_else, own_refusal, refusal_of, refuse_if, step_refusal, undo_refusal, will_read_other_side}
 use Rattle.mt_laws.proofs.DocumentLemmas.{refusal-no_feed}
@@ -100,10 +101,10 @@ Fits turns p (steps workflow tries) = Goes turns tries p workflow
 Fits turns p (feeds workflow tries) = (t : ℕ) × (turns ≡ suc t) × Goes t tries p workflow
 Fits turns p (gives_up workflow refusal) = Undoes turns p workflow
 
--- what was heard: a drive that fits in the turns left, or a text
+-- what was heard: a drive that fits in the turns left, or an end
 abbrev pub FitsHeard : ℕ → Plain → Heard → Type 0
 FitsHeard turns p (goes_on driving) = Fits turns p driving
-FitsHeard turns p (ends text) = NoFeed text
+FitsHeard turns p (ends ended) = ⊤
 
 few_steps : (way : Way) → behind_last way ≤ 12
 few_steps way = cond-either (λ n. n ≤ 12) _ 12 1 (omega arith) (omega arith)
@@ -118,10 +119,7 @@ fails-fits turns tries p workflow refusal goes = subst (λ o. FitsHeard turns p 
 
     by : FitsHeard turns p (gives_up_or_stops done workflow refusal (Some goes.way))
     by =
-        let text = codes "stopped " ++ refusal_text refusal ++ codes " " ++ number_text done in
-        cond-holds (FitsHeard turns p) (stands_done goes.way write_journal) (ends text) (goes_on (gives_up workflow refusal))
-        (λ past. no_feed-append (codes "stopped " ++ refusal_text refusal ++ codes " ") (number_text done)
-        (no_feed-append (codes "stopped " ++ refusal_text refusal) (codes " ") (no_feed-append (codes "stopped ") (refusal_text refusal) (record { all = refl }) (refusal-no_feed refusal)) (record { all = refl })) (no_feed-number done))
+        cond-holds (FitsHeard turns p) (stands_done goes.way write_journal) (ends (Ok (stopped refusal done))) (goes_on (gives_up workflow refusal)) (λ past. tt)
         (λ before.
         let few : next_step goes.way ≤ 6 = few_done goes.way before in
         let many : 6 ≤ turns = enough-undo turns tries (next_step goes.way) few goes.enough in
@@ -177,7 +175,7 @@ refused_step-fits turns (suc (suc left)) p workflow not_level goes a =
     (t, is, record { way = goes.way; is = goes.is; left = goes.left; tried = omega arith; enough = enough })
 refused_step-fits turns tries p workflow other goes a = fails-fits turns tries p workflow other goes
 
-stepped-fits : (turns tries : ℕ) (p : Plain) (workflow : List ℕ) → Goes (suc turns) tries p workflow → FitsHeard turns (with_step p workflow) (unless_closed (way_of (with_step p workflow) workflow) (codes "ok") (steps workflow most_tries))
+stepped-fits : (turns tries : ℕ) (p : Plain) (workflow : List ℕ) → Goes (suc turns) tries p workflow → FitsHeard turns (with_step p workflow) (unless_closed (way_of (with_step p workflow) workflow) drive.done (steps workflow most_tries))
 stepped-fits turns tries p workflow goes = by (eqb (suc (next_step way)) (behind_last way)) refl
   where
     way : Way
@@ -189,8 +187,8 @@ stepped-fits turns tries p workflow goes = by (eqb (suc (next_step way)) (behind
     is : way_of q workflow ≡ cond (eqb (suc (next_step way)) (behind_last way)) None (Some (record way { done = suc way.done }))
     is = way_of-step p workflow way (has_way p workflow way goes.is)
 
-    by : (t : Bool) → eqb (suc (next_step way)) (behind_last way) ≡ t → FitsHeard turns q (unless_closed (way_of q workflow) (codes "ok") (steps workflow most_tries))
-    by true t = subst (λ o. FitsHeard turns q (unless_closed o (codes "ok") (steps workflow most_tries))) (sym (is ∙ ap (λ b. cond b None (Some (record way { done = suc way.done }))) t)) (record { all = refl })
+    by : (t : Bool) → eqb (suc (next_step way)) (behind_last way) ≡ t → FitsHeard turns q (unless_closed (way_of q workflow) drive.done (steps workflow most_tries))
+    by true t = subst (λ o. FitsHeard turns q (unless_closed o drive.done (steps workflow most_tries))) (sym (is ∙ ap (λ b. cond b None (Some (record way { done = suc way.done }))) t)) tt
     by false t =
         let next : way_of q workflow ≡ Some (record way { done = suc way.done }) = is ∙ ap (λ b. cond b None (Some (record way { done = suc way.done }))) t in
         let more : suc (next_step way) ≢ behind_last way = λ e. true≢false (sym (eq-eqb (suc (next_step way)) (behind_last way) e) ∙ t) in
@@ -201,7 +199,7 @@ stepped-fits turns tries p workflow goes = by (eqb (suc (next_step way)) (behind
           tried = omega arith;
           enough = enough-step turns tries (next_step way) (next_step (record way { done = suc way.done })) goes.tried (omega arith) goes.enough;
         } in
-        subst (λ o. FitsHeard turns q (unless_closed o (codes "ok") (steps workflow most_tries))) (sym next) goes_next
+        subst (λ o. FitsHeard turns q (unless_closed o drive.done (steps workflow most_tries))) (sym next) goes_next
 
 -- ---- an undo
 
@@ -221,7 +219,7 @@ undo-not_refused p workflow at memory none a = true≢false (sym a.1)
 undo-not_refused p workflow at (watcher_refused index) none a = true≢false (sym a.1)
 undo-not_refused p workflow at other none a = absurd (let h = sym none ∙ a in cc)
 
-undone-fits : (turns : ℕ) (p : Plain) (workflow : List ℕ) (refusal : Refusal) → Undoes (suc turns) p workflow → FitsHeard turns (with_undo p workflow) (unless_closed (way_of (with_undo p workflow) workflow) (codes "abandoned " ++ refusal_text refusal) (gives_up workflow refusal))
+undone-fits : (turns : ℕ) (p : Plain) (workflow : List ℕ) (refusal : Refusal) → Undoes (suc turns) p workflow → FitsHeard turns (with_undo p workflow) (unless_closed (way_of (with_undo p workflow) workflow) (abandoned refusal) (gives_up workflow refusal))
 undone-fits turns p workflow refusal undoes = by (eqb (way.done - 1) 0) refl
   where
     way : Way
@@ -230,16 +228,13 @@ undone-fits turns p workflow refusal undoes = by (eqb (way.done - 1) 0) refl
     q : Plain
     q = with_undo p workflow
 
-    text : List ℕ
-    text = codes "abandoned " ++ refusal_text refusal
-
     is : way_of q workflow ≡ cond (eqb (way.done - 1) 0) None (Some (record way { done = way.done - 1; undoing = true }))
     is = way_of-undo p workflow way (has_way p workflow way undoes.is)
 
-    by : (t : Bool) → eqb (way.done - 1) 0 ≡ t → FitsHeard turns q (unless_closed (way_of q workflow) text (gives_up workflow refusal))
+    by : (t : Bool) → eqb (way.done - 1) 0 ≡ t → FitsHeard turns q (unless_closed (way_of q workflow) (abandoned refusal) (gives_up workflow refusal))
     by true t =
-        subst (λ o. FitsHeard turns q (unless_closed o text (gives_up workflow refusal))) (sym (is ∙ ap (λ b. cond b None (Some (record way { done = way.done - 1; undoing = true }))) t))
-        (no_feed-append (codes "abandoned ") (refusal_text refusal) (record { all = refl }) (refusal-no_feed refusal))
+        subst (λ o. FitsHeard turns q (unless_closed o (abandoned refusal) (gives_up workflow refusal))) (sym (is ∙ ap (λ b. cond b None (Some (record way { done = way.done - 1; undoing = true }))) t))
+        tt
     by false t =
         let next : way_of q workflow ≡ Some (record way { done = way.done - 1; undoing = true }) = is ∙ ap (λ b. cond b None (Some (record way { done = way.done - 1; undoing = true }))) t in
         let more : way.done - 1 ≢ 0 = λ e. true≢false (sym (eq-eqb (way.done - 1) 0 e) ∙ t) in
@@ -251,7 +246,7 @@ undone-fits turns p workflow refusal undoes = by (eqb (way.done - 1) 0) refl
           enough = omega (arith, undoes.enough, more);
           some = omega (arith, undoes.enough, more);
         } in
-        subst (λ o. FitsHeard turns q (unless_closed o text (gives_up workflow refusal))) (sym next) undoes_next
+        subst (λ o. FitsHeard turns q (unless_closed o (abandoned refusal) (gives_up workflow refusal))) (sym next) undoes_next
 
 -- ---- the beginning
 
@@ -281,7 +276,7 @@ begun_reverse-fits turns p workflow types many none =
 -- ---- each event of a drive
 
 begins-fits : (turns : ℕ) (p : Plain) (workflow : List ℕ) (types : TypeSet) (backward : Bool) (answer : Answer) → 300 ≤ turns → Answers p (event_of p (begins workflow types backward)) answer → FitsHeard turns (next p (event_of p (begins workflow types backward)) answer) (heard (next p (event_of p (begins workflow types backward)) answer) (begins workflow types backward) answer)
-begins-fits turns p workflow types backward (refused refusal) many a = no_feed-append (codes "refused ") (refusal_text refusal) (record { all = refl }) (refusal-no_feed refusal)
+begins-fits turns p workflow types backward (refused refusal) many a = tt
 begins-fits turns p workflow types true done many a = begun_reverse-fits turns p workflow types many a.0
 begins-fits turns p workflow types false done many a = begun_switch-fits turns p workflow types many a.0
 begins-fits turns p workflow types true (row r) many a = absurd (let h = a.1 in cc)
@@ -321,14 +316,14 @@ gives_up-fits turns p workflow refusal (advanced events rows) undoes (none, inl 
 gives_up-fits turns p workflow refusal (advanced events rows) undoes (none, inr cut) = absurd cut
 gives_up-fits turns p workflow refusal (shown s) undoes a = absurd (let h = a.1 in cc)
 
-heard-fits : (turns : ℕ) (p : Plain) (d : Driving) (answer : Answer) → Fits (suc turns) p d → Answers p (event_of p d) answer → FitsHeard turns (next p (event_of p d) answer) (heard (next p (event_of p d) answer) d answer)
+pub heard-fits : (turns : ℕ) (p : Plain) (d : Driving) (answer : Answer) → Fits (suc turns) p d → Answers p (event_of p d) answer → FitsHeard turns (next p (event_of p d) answer) (heard (next p (event_of p d) answer) d answer)
 heard-fits turns p (begins workflow types backward) answer fits a = begins-fits turns p workflow types backward answer (omega (arith, fits)) a
 heard-fits turns p (steps workflow tries) answer fits a = steps-fits turns p workflow tries answer fits a
 heard-fits turns p (feeds workflow tries) answer (t, is, goes) a = feeds-fits turns p workflow tries answer (subst (λ n. Goes n tries p workflow) (omega (arith, is)) goes) a
 heard-fits turns p (gives_up workflow refusal) answer fits a = gives_up-fits turns p workflow refusal answer fits a
 
 -- turns are left, as long as a drive goes on
-fits-turns : (p : Plain) (d : Driving) → ¬ (Fits 0 p d)
+pub fits-turns : (p : Plain) (d : Driving) → ¬ (Fits 0 p d)
 fits-turns p (begins workflow types backward) fits = absurd (omega arith)
 fits-turns p (steps workflow tries) fits =
     let some = enough-some 0 tries (next_step fits.way) (omega (arith, fits.left, few_steps fits.way)) fits.enough in absurd (omega (arith, some))
@@ -337,25 +332,57 @@ fits-turns p (gives_up workflow refusal) fits = absurd (omega (arith, fits.some)
 
 -- ---- the end
 
--- one text in a line of its own, and then the rest, from a state that keeps what each event keeps
-pub record Ends (Keeps : Plain → Type 0) (Then : Rest) (out : List ℕ) : Type 0 where
-  pub left : Plain
-  pub text : List ℕ
-  pub rest : List ℕ
-  pub keeps : Keeps left
-  pub one_line : NoFeed text
-  pub is : out ≡ text ++ line_feed ++ rest
-  pub goes_on : Then left rest
+-- by whatever rule its events are answered, among the answers that they may get
+module _ (rule : AnswerRule) (may : (p : Plain) (event : Event) (answer : Answer) → rule p event answer → Answers p event answer)
+    (some : (p : Plain) (event : Event) → (answer : Answer) × rule p event answer) where
+  pub drive_ends : (turns : ℕ) (p : Plain) (d : Driving) → Fits turns p d → Drives rule turns (λ ended q. ⊤) d p
+  drive_ends zero p d fits = absurd (fits-turns p d fits)
+  drive_ends (suc turns) p d fits =
+      let given = some p (event_of p d) in
+      let q = next p (event_of p d) given.0 in
+      (given.0, given.1, by (drive_ends turns) q (heard q d given.0) (heard-fits turns p d given.0 fits (may p (event_of p d) given.0 given.1)))
+    where
+      by : ((r : Plain) (e : Driving) → Fits turns r e → Drives rule turns (λ ended s. ⊤) e r) → (q : Plain) (h : Heard) → FitsHeard turns q h → GoesOn (Drives rule turns (λ ended s. ⊤)) (λ ended s. ⊤) q h
+      by again q (goes_on e) fits' = again q e fits'
+      by again q (ends ended) fits' = tt
 
-module _ (Keeps : Plain → Type 0) (kept : (p : Plain) (d : Driving) (answer : Answer) → Keeps p → Keeps (next p (event_of p d) answer)) (Then : Rest) where
-  pub drive_ends : (turns : ℕ) (p : Plain) (d : Driving) (out : List ℕ) → Fits turns p d → Keeps p → Drives Answers turns Then d p out → Ends Keeps Then out
-  drive_ends zero p d out fits keeps drove = absurd (fits-turns p d fits)
-  drive_ends (suc turns) p d out fits keeps drove =
-      by (drive_ends turns) (heard q d drove.0) (heard-fits turns p d drove.0 fits drove.1) drove.2
+-- a drive that has ended within some turns has ended within those that it fits in
+module _ (Ends : EndRule) where
+  pub drive_fits : (many turns : ℕ) (p : Plain) (d : Driving) → Fits turns p d → Drives Answers many Ends d p → Drives Answers turns Ends d p
+  drive_fits zero turns p d fits drove = absurd drove
+  drive_fits (suc many) zero p d fits drove = absurd (fits-turns p d fits)
+  drive_fits (suc many) (suc turns) p d fits drove =
+      let q = next p (event_of p d) drove.0 in
+      (drove.0, drove.1, by (drive_fits many turns) q (heard q d drove.0) (heard-fits turns p d drove.0 fits drove.1) drove.2)
+    where
+      by : ((r : Plain) (e : Driving) → Fits turns r e → Drives Answers many Ends e r → Drives Answers turns Ends e r) → (q : Plain) (h : Heard) → FitsHeard turns q h → GoesOn (Drives Answers many Ends) Ends q h → GoesOn (Drives Answers turns Ends) Ends q h
+      by again q (goes_on e) fits' goes = again q e fits' goes
+      by again q (ends ended) fits' goes = goes
+
+-- how a drive ended, in a state that keeps what each event keeps
+pub record Ended (Keeps : Plain → Type 0) (Ends : EndRule) : Type 0 where
+  pub ended : Result Driven Refusal
+  pub left : Plain
+  pub keeps : Keeps left
+  pub holds : Ends ended left
+
+module _ (Keeps : Plain → Type 0) (kept : (p : Plain) (d : Driving) (answer : Answer) → Keeps p → Keeps (next p (event_of p d) answer)) (Ends : EndRule) where
+  pub drive_ended : (turns : ℕ) (p : Plain) (d : Driving) → Keeps p → Drives Answers turns Ends d p → Ended Keeps Ends
+  drive_ended zero p d keeps drove = absurd drove
+  drive_ended (suc turns) p d keeps drove = by (drive_ended turns) q (heard q d drove.0) (kept p d drove.0 keeps) drove.2
     where
       q : Plain
       q = next p (event_of p d) drove.0
 
-      by : ((r : Plain) (e : Driving) (o : List ℕ) → Fits turns r e → Keeps r → Drives Answers turns Then e r o → Ends Keeps Then o) → (h : Heard) → FitsHeard turns q h → GoesOn (Drives Answers turns Then) q h Then out → Ends Keeps Then out
-      by again (goes_on e) fits' goes = again q e out fits' (kept p d drove.0 keeps) goes
-      by again (ends text) none said = record { left = q; text = text; rest = said.0; keeps = kept p d drove.0 keeps; one_line = none; is = said.1; goes_on = said.2 }
+      by : ((r : Plain) (e : Driving) → Keeps r → Drives Answers turns Ends e r → Ended Keeps Ends) → (r : Plain) (h : Heard) → Keeps r → GoesOn (Drives Answers turns Ends) Ends r h → Ended Keeps Ends
+      by again r (goes_on e) keeps' goes = again r e keeps' goes
+      by again r (ends ended) keeps' holds = record { ended = ended; left = r; keeps = keeps'; holds = holds }
+
+-- the text of an end has no line feed
+pub ended_text-no_feed : (ended : Result Driven Refusal) → NoFeed (ended_text ended)
+ended_text-no_feed (Ok drive.done) = record { all = refl }
+ended_text-no_feed (Ok (abandoned refusal)) = no_feed-append (codes "abandoned ") (refusal_text refusal) (record { all = refl }) (refusal-no_feed refusal)
+ended_text-no_feed (Ok (stopped refusal n)) =
+    no_feed-append (codes "stopped " ++ refusal_text refusal ++ codes " ") (number_text n)
+    (no_feed-append (codes "stopped " ++ refusal_text refusal) (codes " ") (no_feed-append (codes "stopped ") (refusal_text refusal) (record { all = refl }) (refusal-no_feed refusal)) (record { all = refl })) (no_feed-number n)
+ended_text-no_feed (Err refusal) = no_feed-append (codes "refused ") (refusal_text refusal) (record { all = refl }) (refusal-no_feed refusal)

@@ -10,7 +10,7 @@ use Rattle.mt_names.specs.Same.{same_target}
 use Rattle.mt_plain.specs.Answers.{Answers}
 use Rattle.mt_plain.specs.Events.{Event, create, advance, begin_switch, begin_reverse, step, undo, StreamName, forward, back, Slot, Answer, done, row, advanced, shown, refused, Way}
 use Rattle.mt_plain.specs.Next.{live_stepped, live_undone, next, on_way_of, types_and, types_without, with_advance, with_way_to}
-use Rattle.mt_plain.specs.Plain.{Live, Plain, Write, changes_primary, create_back, in_keyspace, live_at, moves, next_step, owner, stands_done, start_back, stop_feeding, write_journal}
+use Rattle.mt_plain.specs.Plain.{Live, Plain, Write, changes_primary, create_back, each_once, in_keyspace, live_at, moves, next_step, owner, stands_done, start_back, stop_feeding, write_journal}
 use Rattle.mt_plain.specs.Refuse.{advance_refusal, begin_reverse_refusal, begin_switch_refusal, undo_refusal, will_read_other_side}
 use Rattle.mt_plain.specs.Slots.{feeding_slot, is_feeding, is_fresh, live_advanced, log_length, other_slot, read_side, running_at, slot_before_way, slot_by_way, slot_of, with_position, written_side}
 use Rattle.mt_plain.specs.Writes.{writes_to}
@@ -289,8 +289,8 @@ same_writes_to p q w numbers made_too writes =
     all_by : Numbers → ℕ → List Write → List Write
     all_by ns n ws = filter (λ x. list_any (λ table. eqb (unwrap_or (lookup (same_target (in_keyspace w.source table)) ns) n) x.table) w.tables) ws
 
-new_fed : (p : Plain) (event : Event) (answer : Answer) (name source target : List ℕ) (tables : List (List ℕ)) → event ≡ create name source target tables → IsFed (next p event answer) (made_live p name source target tables)
-new_fed p event answer name source target tables e = record {
+new_fed : (p : Plain) (event : Event) (answer : Answer) (name source target : List ℕ) (named tables : List (List ℕ)) → event ≡ create name source target named → IsFed (next p event answer) (made_live p name source target tables)
+new_fed p event answer name source target named tables e = record {
   rests = λ r.
       let a = past_end q w source in
       let b : log_length q source ≡ log_length p source = ap (count_by (λ x. same_text x.keyspace source)) (same_logs p event answer (λ h. subst ChangesLogs e h)) in
@@ -317,7 +317,7 @@ all_next : (p : Plain) (event : Event) (answer : Answer) → IsReached p → Ans
 all_next p event answer reached given all w in_it =
     each_next Stays p event answer
     (λ x i lives. next_fed p reached x i (all x i) event answer given (subst (λ n. ends_workflow n event answer ≡ false) (sym (sides-next p event answer x).name) lives))
-    (λ name source target tables e lives. new_fed p event answer name source target tables e) w in_it (not_ended p event answer w in_it)
+    (λ name source target tables e lives. new_fed p event answer name source target tables (each_once tables) e) w in_it (not_ended p event answer w in_it)
   where
     Stays : Live → Type 0
     Stays x = ends_workflow x.name event answer ≡ false → IsFed (next p event answer) x

@@ -2,15 +2,15 @@
 use Rattle.std.proofs.Common.{◌≡◌, ℕ, ◌+◌, Bool, true, false, not, cond, List, [], ◌∷◌, Option, refl, sym, ap, ◌∙◌, subst, arith}
 use Rattle.std.proofs.lemmas.List.Sums.{sum_by-cons}
 use Rattle.mt_plain.specs.Answers.{Answers}
-use Rattle.mt_plain.specs.Drive.{Driving, begins, steps, feeds, gives_up, event_of, most_turns}
+use Rattle.mt_plain.specs.Drive.{Driving, EndRule, begins, steps, feeds, gives_up, event_of, most_turns}
 use Rattle.mt_plain.specs.Next.{next}
-use Rattle.mt_plain.specs.Output.{Adds, Output, Rest, Told, nothing, says, asks, drives, answer_text, told}
+use Rattle.mt_plain.specs.Output.{Adds, Output, Rest, Says, Told, nothing, says, asks, drives, answer_text, ended_text, told}
 use Rattle.mt_plain.specs.Plain.{Plain}
 use Rattle.mt_plain.specs.Script.{Command, is_silent, read_line_by}
 use Rattle.mt_laws.specs.Lines.{KnowsSome, line_feeds, writing_lines}
 use Rattle.mt_laws.proofs.CleanLemmas.{CleanEvent, IsClean, next-clean}
 use Rattle.mt_laws.proofs.DocumentLemmas.{answers-no_feed}
-use Rattle.mt_laws.proofs.DriveLemmas.{Ends, Fits, drive_ends}
+use Rattle.mt_laws.proofs.DriveLemmas.{Ended, drive_ended, ended_text-no_feed}
 use Rattle.mt_laws.proofs.LineLemmas.{Begins, Tells, told_line-tells}
 use Rattle.mt_laws.proofs.TextLemmas.{line_feeds-line}
 use Rattle.mt_laws.proofs.WordLemmas.{read_line-speaks}
@@ -22,16 +22,14 @@ event_of-clean p (steps workflow tries) = tt
 event_of-clean p (feeds workflow tries) = tt
 event_of-clean p (gives_up workflow refusal) = tt
 
-begins-fits_turns : (p : Plain) (d : Driving) → Begins d → Fits most_turns p d
-begins-fits_turns p (begins workflow types backward) is = omega arith
-begins-fits_turns p (steps workflow tries) is = absurd is
-begins-fits_turns p (feeds workflow tries) is = absurd is
-begins-fits_turns p (gives_up workflow refusal) is = absurd is
-
 module _ (Then : Rest) (n : ℕ) (again : (q : Plain) (rest : List ℕ) → IsClean q → Then q rest → line_feeds rest ≡ n) where
-  line_feeds-ends : (out : List ℕ) → Ends IsClean Then out → line_feeds out ≡ 1 + n
+  abbrev TellsEnd : List ℕ → EndRule
+  TellsEnd out ended q = Says q (ended_text ended) Then out
+
+  line_feeds-ends : (out : List ℕ) → Ended IsClean (TellsEnd out) → line_feeds out ≡ 1 + n
   line_feeds-ends out end =
-      ap line_feeds end.is ∙ line_feeds-line end.text end.rest end.one_line ∙ ap (λ k. 1 + k) (again end.left end.rest end.keeps end.goes_on)
+      ap line_feeds end.holds.1 ∙ line_feeds-line (ended_text end.ended) end.holds.0 (ended_text-no_feed end.ended)
+      ∙ ap (λ k. 1 + k) (again end.left end.holds.0 end.keeps end.holds.2)
 
   -- what is told is one line, and then the rest
   line_feeds-adds : (p : Plain) (t : Told) (out : List ℕ) → IsClean p → Tells t → Adds Answers p t Then out → line_feeds out ≡ 1 + n
@@ -43,7 +41,7 @@ module _ (Then : Rest) (n : ℕ) (again : (q : Plain) (rest : List ℕ) → IsCl
       ap line_feeds adds.3 ∙ line_feeds-line (answer_text answer) adds.1 (answers-no_feed p e answer clean adds.2)
       ∙ ap (λ k. 1 + k) (again (next p e answer) adds.1 (next-clean p e answer clean tells) adds.4)
   line_feeds-adds p (drives d) out clean tells adds =
-      line_feeds-ends out (drive_ends IsClean (λ q e answer clean. next-clean q (event_of q e) answer clean (event_of-clean q e)) Then most_turns p d out (begins-fits_turns p d tells) clean adds)
+      line_feeds-ends out (drive_ended IsClean (λ q e answer clean. next-clean q (event_of q e) answer clean (event_of-clean q e)) (TellsEnd out) most_turns p d clean adds)
 
 module _ (read : List (List ℕ) → Option Command) (knows : KnowsSome read) where
   pub output-line_feeds : (lines : List (List ℕ)) (p : Plain) (out : List ℕ) → IsClean p → Output Answers (read_line_by read) p lines out → line_feeds out ≡ writing_lines lines

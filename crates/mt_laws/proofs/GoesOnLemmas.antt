@@ -8,7 +8,7 @@ use Rattle.mt_names.proofs.SameLemmas.{same_text_decides}
 use Rattle.mt_plain.specs.Answers.{Answers}
 use Rattle.mt_plain.specs.Events.{Event, create, cancel, complete, Answer, done}
 use Rattle.mt_plain.specs.Next.{next, with_completed, without_live}
-use Rattle.mt_plain.specs.Plain.{Live, Plain, is_side, live_at, mover, moves, number_of}
+use Rattle.mt_plain.specs.Plain.{Live, Plain, each_once, is_side, live_at, mover, moves, number_of}
 use Rattle.mt_plain.specs.Writes.{client_number, client_row, row_after_writes}
 use Rattle.mt_laws.specs.Changes.{HasSides}
 use Rattle.mt_laws.specs.WayBack.{IsReached, ends_workflow}
@@ -31,9 +31,9 @@ module _ (p : Plain) (reached : IsReached p) (name source target : List ℕ) (ta
   made_next = next p (create name source target tables) done
 
   abbrev made : Live
-  made = made_live p name source target tables
+  made = made_live p name source target (each_once tables)
 
-  new : IsNew p name source target tables
+  new : IsNew p name source target (each_once tables)
   new = create-none p name source target tables given.0
 
   -- the workflow of the name is the one that Create made
@@ -45,7 +45,7 @@ module _ (p : Plain) (reached : IsReached p) (name source target : List ℕ) (ta
 
   side_of_made : (table : List ℕ) → moves made table ≡ true → (keyspace : List ℕ) → is_side made keyspace ≡ true → client_number made_next keyspace table ≡ client_number p source table
   side_of_made table listed keyspace side =
-      let unmoved = (new.each table (named tables table listed)).1 in
+      let unmoved = (new.each table (named (each_once tables) table listed)).1 in
       let moved_by : mover made_next table ≡ Some made = find-push_none (λ v. moves v table) p.lives made unmoved ∙ ap (λ t. cond t (Some made) None) listed in
       client_number-side made_next made table listed 0 moved_by keyspace side ∙ sym (ap (λ o. number_of p (home o source) table) unmoved)
 

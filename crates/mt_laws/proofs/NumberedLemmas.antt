@@ -16,7 +16,7 @@ use Rattle.mt_model.proofs.TopologyLemmas.{value_of-with_table_here, value_of-wi
 use Rattle.mt_plain.specs.Answers.{Answers}
 use Rattle.mt_plain.specs.Events.{Event, add_keyspace, add_table, edit_rule, create, advance, complete, Answer, done, row, advanced, shown, refused, exists, full, no_keyspace}
 use Rattle.mt_plain.specs.Next.{completed, next, next_taken, number_moved, with_completed}
-use Rattle.mt_plain.specs.Plain.{Live, Plain, has_keyspace, in_keyspace, live_at, moves, opening}
+use Rattle.mt_plain.specs.Plain.{Live, Plain, each_once, has_keyspace, in_keyspace, live_at, moves, opening}
 use Rattle.mt_plain.specs.Refuse.{or_else, refusal_of, refuse_if, table_count}
 use Rattle.mt_plain.specs.Serve.{has_table}
 use Rattle.mt_laws.specs.Changes.{ChangesTopology, HasSides}
@@ -196,7 +196,7 @@ absent_from_list p keyspace table e = by (list_any (λ w. moves w table && same_
     by false f = f
 
 -- Create finds none there
-new_vacant : (p : Plain) (name source target : List ℕ) (tables : List (List ℕ)) → refusal_of p (create name source target tables) ≡ None → (table : List ℕ) → IsIn table tables → is_present p.topology.keyspaces target table ≡ false
+new_vacant : (p : Plain) (name source target : List ℕ) (tables : List (List ℕ)) → refusal_of p (create name source target tables) ≡ None → (table : List ℕ) → IsIn table (each_once tables) → is_present p.topology.keyspaces target table ≡ false
 new_vacant p name source target tables none table is = absent_from_list p target table ((create-none p name source target tables none).each table is).2
 
 module _ (p : Plain) (event : Event) (answer : Answer) (has : HasParts p) (given : Answers p event answer) (is : IsNumbered p) where
@@ -217,7 +217,7 @@ module _ (p : Plain) (event : Event) (answer : Answer) (has : HasParts p) (given
       ap (λ k. is_present q.topology.keyspaces k table) is_target
       ∙ ap (λ u. is_present u.keyspaces target table) (same_topology p event answer (λ h. subst ChangesTopology e h))
       ∙ new_vacant p name source target tables (subst (λ x. refusal_of p x ≡ None) e none) table
-      (named tables table (sym (ap (list_any (λ t. same_text t table)) is_tables) ∙ moved))
+      (named (each_once tables) table (sym (ap (list_any (λ t. same_text t table)) is_tables) ∙ moved))
   vacant-next (inr same) w in_it (new name source target tables e is_name is_source is_target is_tables rests) table moved =
       ap (λ s. is_present s.topology.keyspaces w.target table) same ∙ is.vacant w (subst (λ s. IsIn w s.lives) same in_it) table moved
 

@@ -12,7 +12,7 @@ use Rattle.mt_plain.specs.Answers.{Answers}
 use Rattle.mt_plain.specs.Events.{Event, write, advance, StreamName, Answer, done, row, advanced, shown, refused}
 use Rattle.mt_plain.specs.Next.{next, with_advance}
 use Rattle.mt_plain.specs.Plain.{Live, LogEntry, Plain, live_at, moves}
-use Rattle.mt_plain.specs.Slots.{entry_of_row, is_applied, keys_of_rows, log_length, log_of, logged, past, to_copy, uncopied, written_side}
+use Rattle.mt_plain.specs.Slots.{applies, entry_of_row, keys_of_rows, log_length, log_of, logged, past, to_copy, uncopied, written_side}
 use Rattle.mt_plain.specs.Writes.{is_copied}
 use Rattle.mt_laws.proofs.EntryValueLemmas.{in_moved}
 use Rattle.mt_laws.proofs.ListLemmas.{append-all, each-mapped, flat_map-all, map-all, filter-all, take-all}
@@ -59,9 +59,9 @@ drop_twice (suc n) m (x ∷ xs) = drop_twice n m xs ∙ (let e : suc (n + m) ≡
 -- it is of the tables of its workflow
 all_of_moved : (u : Live) (name : StreamName) (entries : List LogEntry) (rows : List (List ℕ × ℕ)) → AllByRecursion (λ r. moves u r.0 ≡ true) rows → AllByRecursion (λ e. moves u e.table ≡ true) (logged u name entries rows)
 all_of_moved u name entries rows all =
-    append-all (λ e. moves u e.table ≡ true) (map (λ e. entry_of_row (written_side u name) (e.table, e.key)) (filter (is_applied u) entries)) (map (entry_of_row (written_side u name)) rows)
-    (map-all (λ e. moves u e.table ≡ true) (λ e. moves u e.table ≡ true) (λ e. entry_of_row (written_side u name) (e.table, e.key)) (filter (is_applied u) entries) (λ e is. is)
-    (all_filter (λ e. moves u e.table ≡ true) (is_applied u) entries (λ e is. (and_parts (moves u e.table) (is_copied u e.table e.key) is).0)))
+    append-all (λ e. moves u e.table ≡ true) (map (λ e. entry_of_row (written_side u name) (e.table, e.key)) (filter (applies u) entries)) (map (entry_of_row (written_side u name)) rows)
+    (map-all (λ e. moves u e.table ≡ true) (λ e. moves u e.table ≡ true) (λ e. entry_of_row (written_side u name) (e.table, e.key)) (filter (applies u) entries) (λ e is. is)
+    (all_filter (λ e. moves u e.table ≡ true) (applies u) entries (λ e is. (and_parts (moves u e.table) (is_copied u e.table e.key) is).0)))
     (map-all (λ r. moves u r.0 ≡ true) (λ e. moves u e.table ≡ true) (entry_of_row (written_side u name)) rows (λ r is. is) all)
 
 all_uncopied : (p : Plain) (u : Live) → AllByRecursion (λ r. moves u r.0 ≡ true) (uncopied p u)
@@ -78,8 +78,8 @@ all_to_copy p u (e ∷ es) = tt
 -- and at the side that its stream writes
 all_at_side : (u : Live) (name : StreamName) (entries : List LogEntry) (rows : List (List ℕ × ℕ)) → AllByRecursion (λ e. e.keyspace ≡ written_side u name) (logged u name entries rows)
 all_at_side u name entries rows =
-    append-all (λ e. e.keyspace ≡ written_side u name) (map (λ e. entry_of_row (written_side u name) (e.table, e.key)) (filter (is_applied u) entries)) (map (entry_of_row (written_side u name)) rows)
-    (each-mapped (λ e. e.keyspace ≡ written_side u name) (λ e. entry_of_row (written_side u name) (e.table, e.key)) (filter (is_applied u) entries) (λ e. refl))
+    append-all (λ e. e.keyspace ≡ written_side u name) (map (λ e. entry_of_row (written_side u name) (e.table, e.key)) (filter (applies u) entries)) (map (entry_of_row (written_side u name)) rows)
+    (each-mapped (λ e. e.keyspace ≡ written_side u name) (λ e. entry_of_row (written_side u name) (e.table, e.key)) (filter (applies u) entries) (λ e. refl))
     (each-mapped (λ e. e.keyspace ≡ written_side u name) (entry_of_row (written_side u name)) rows (λ r. refl))
 
 all_map : {X : Type 0} (P Q : X → Type 0) (xs : List X) → ((x : X) → P x → Q x) → AllByRecursion P xs → AllByRecursion Q xs

@@ -1,10 +1,9 @@
 -- Parts of the definitions, with names of their own.
-use Rattle.std.specs.Prelude.{ℕ, Bool, false, ◌&&◌, ◌||◌, ◌++◌, if◌then◌else◌, List, codes, Option}
+use Rattle.std.specs.Prelude.{ℕ, Bool, false, ◌&&◌, ◌||◌, if◌then◌else◌, List, Option, Ok}
 use Rattle.std.specs.Option.{option_map_or}
 use Rattle.mt_names.specs.declared.types.TypeSet.{TypeSet}
-use Rattle.mt_plain.specs.Numbers.{number_text}
-use Rattle.mt_plain.specs.Drive.{gives_up, Heard, goes_on, ends}
-use Rattle.mt_plain.specs.Events.{Refusal, refusal_text, Way}
+use Rattle.mt_plain.specs.Drive.{gives_up, stopped, Heard, goes_on, ends}
+use Rattle.mt_plain.specs.Events.{Refusal, Way}
 use Rattle.mt_plain.specs.Plain.{Live, changed_types, is_side, refresh_source, refresh_target, stands_done, write_journal}
 use Rattle.mt_plain.specs.Serve.{is_denied_at, owned_before, types_by}
 
@@ -29,4 +28,4 @@ refuses_moved o keyspace =
 abbrev pub gives_up_or_stops : (done : ℕ) → (workflow : List ℕ) → Refusal → Option Way → Heard
 gives_up_or_stops done workflow refusal o =
     if option_map_or (λ (way : Way). stands_done way write_journal) o false
-    then ends (codes "stopped " ++ refusal_text refusal ++ codes " " ++ number_text done) else goes_on (gives_up workflow refusal)
+    then ends (Ok (stopped refusal done)) else goes_on (gives_up workflow refusal)

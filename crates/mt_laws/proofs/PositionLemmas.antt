@@ -14,7 +14,7 @@ use Rattle.mt_plain.specs.Events.{Event, advance, StreamName, forward, back, Slo
 use Rattle.mt_plain.specs.Next.{live_stepped, live_undone, next, types_and, types_without, way_stepped, with_fresh_stream, with_way_to}
 use Rattle.mt_plain.specs.Plain.{Live, LogEntry, Plain, behind_last, changes_primary, create_back, live_at, next_step, stands_done, write_journal}
 use Rattle.mt_plain.specs.Refuse.{advance_refusal, new_owner}
-use Rattle.mt_plain.specs.Slots.{running_by, is_applied, is_feeding, is_fresh, live_advanced, log_length, log_of, may_be_cut, most_events, most_rows, past, read_side, readable, room_in_log, running_at, slot_at_rest, slot_by_way, slot_of, with_position, written_side}
+use Rattle.mt_plain.specs.Slots.{applies, running_by, is_feeding, is_fresh, live_advanced, log_length, log_of, may_be_cut, most_events, most_rows, past, read_side, readable, room_in_log, running_at, slot_at_rest, slot_by_way, slot_of, with_position, written_side}
 use Rattle.mt_laws.specs.Changes.{HasSides}
 use Rattle.mt_laws.specs.Copies.{Undoes}
 use Rattle.mt_laws.specs.WayBack.{IsReached}
@@ -296,11 +296,11 @@ advance_reads p w stream at at_most events rows name = by stream (is_fresh w.way
     by back false t back = inl (refl, moved_to (ap (λ b. cond b w.fresh_at to) t) (inr refl))
     by back false t forward = inr (refl, refl)
 
-readable-le : (w : Live) (room : ℕ) (entries : List LogEntry) → readable w room entries ≤ length entries
+readable-le : (w : Live) (room : ℕ) (entries : List LogEntry) → readable (applies w) room entries ≤ length entries
 readable-le w room [] = omega arith
-readable-le w room (e ∷ es) = by (is_applied w e && eqb room 0) (readable-le w (cond (is_applied w e) (room - 1) room) es)
+readable-le w room (e ∷ es) = by (applies w e && eqb room 0) (readable-le w (cond (applies w e) (room - 1) room) es)
   where
-    by : (t : Bool) → readable w (cond (is_applied w e) (room - 1) room) es ≤ length es → cond t 0 (suc (readable w (cond (is_applied w e) (room - 1) room) es)) ≤ length (e ∷ es)
+    by : (t : Bool) → readable (applies w) (cond (applies w e) (room - 1) room) es ≤ length es → cond t 0 (suc (readable (applies w) (cond (applies w e) (room - 1) room) es)) ≤ length (e ∷ es)
     by true again = omega arith
     by false again = omega arith
 
@@ -332,7 +332,7 @@ advanced-le p workflow w stream at at_most events rows live given = by given.1
         omega arith
     by (inr cut) =
         let entries = past p w stream at in
-        cut-le events (most_events p w stream at at_most) (eqb rows 0) (list_any (is_applied w) (take events entries)) (option_map_or (is_applied w) (slice_get entries events) false)
+        cut-le events (most_events p w stream at at_most) (eqb rows 0) (list_any (applies w) (take events entries)) (option_map_or (applies w) (slice_get entries events) false)
         (ltb 0 rows) (ltb rows (most_rows p w stream at at_most))
         (sym (ap (λ o. option_map_or (λ v. may_be_cut p v stream at at_most events rows) o false) live) ∙ cut)
 

@@ -14,7 +14,7 @@ use Rattle.mt_model.specs.declared.entries.Scope.{Scope}
 use Rattle.mt_plain.specs.Answers.{Answers, Run, after}
 use Rattle.mt_plain.specs.Events.{Event, add_keyspace, add_table, edit_rule, create, advance, cancel, complete, Answer, done, row, advanced, shown, refused, full, no_keyspace, no_table, no_tables, same_keyspace, table_in_workflow, target_has_table, workflow_exists}
 use Rattle.mt_plain.specs.Next.{next, next_taken, with_completed, with_tables, without_tables}
-use Rattle.mt_plain.specs.Plain.{Live, Plain, has_keyspace, live_at, mover, moves, opening, stands_done, write_journal}
+use Rattle.mt_plain.specs.Plain.{Live, Plain, each_once, has_keyspace, live_at, mover, moves, opening, stands_done, write_journal}
 use Rattle.mt_plain.specs.Refuse.{conflict_refusal, create_is_full, moved_table_refusal, moved_tables_refusal, or_else, refusal_of, refuse_if, watcher_refusal}
 use Rattle.mt_plain.specs.Serve.{has_table}
 use Rattle.mt_laws.specs.Changes.{ChangesTopology, HasSides}
@@ -49,27 +49,28 @@ each_new p source target table none =
       refuse_if-none (has_table p target table) (target_has_table table) (or_else-none at_target (conflict_refusal p source target table) s.1).0,
     )
 
-pub create-none : (p : Plain) (name source target : List ℕ) (tables : List (List ℕ)) → refusal_of p (create name source target tables) ≡ None → IsNew p name source target tables
+pub create-none : (p : Plain) (name source target : List ℕ) (tables : List (List ℕ)) → refusal_of p (create name source target tables) ≡ None → IsNew p name source target (each_once tables)
 create-none p name source target tables none =
-    let h7 = refuse_if (create_is_full p source target tables) full in
+    let once = each_once tables in
+    let h7 = refuse_if (create_is_full p source target once) full in
     let h6 = or_else (watcher_refusal p target) h7 in
-    let h5 = or_else (moved_tables_refusal p source target tables) h6 in
+    let h5 = or_else (moved_tables_refusal p source target once) h6 in
     let h4 = or_else (refuse_if (not (has_keyspace p target)) no_keyspace) h5 in
     let h3 = or_else (refuse_if (not (has_keyspace p source)) no_keyspace) h4 in
     let h2 = or_else (refuse_if (same_text source target) same_keyspace) h3 in
-    let h1 = or_else (refuse_if (eqb (length tables) 0) no_tables) h2 in
+    let h1 = or_else (refuse_if (eqb (length once) 0) no_tables) h2 in
     let r0 = or_else-none (refuse_if (is_some (live_at p name)) workflow_exists) h1 none in
-    let r1 = or_else-none (refuse_if (eqb (length tables) 0) no_tables) h2 r0.1 in
+    let r1 = or_else-none (refuse_if (eqb (length once) 0) no_tables) h2 r0.1 in
     let r2 = or_else-none (refuse_if (same_text source target) same_keyspace) h3 r1.1 in
     let r3 = or_else-none (refuse_if (not (has_keyspace p source)) no_keyspace) h4 r2.1 in
     let r4 = or_else-none (refuse_if (not (has_keyspace p target)) no_keyspace) h5 r3.1 in
-    let r5 = or_else-none (moved_tables_refusal p source target tables) h6 r4.1 in
+    let r5 = or_else-none (moved_tables_refusal p source target once) h6 r4.1 in
     record {
       unnamed = none_from (live_at p name) (refuse_if-none (is_some (live_at p name)) workflow_exists r0.0);
       sides = refuse_if-none (same_text source target) same_keyspace r2.0;
       source_there = not-false (has_keyspace p source) (refuse_if-none (not (has_keyspace p source)) no_keyspace r3.0);
       target_there = not-false (has_keyspace p target) (refuse_if-none (not (has_keyspace p target)) no_keyspace r4.0);
-      each = λ table is. each_new p source target table ((fold_or_else-none (moved_table_refusal p source target) tables None r5.0).1 table is);
+      each = λ table is. each_new p source target table ((fold_or_else-none (moved_table_refusal p source target) once None r5.0).1 table is);
     }
 
 -- a table that a list names
@@ -130,12 +131,12 @@ not_ended p event answer w is = refl
 pub data ComesFrom (p : Plain) (event : Event) (answer : Answer) (w : Live) : Type 0 where
   old : (v : Live) → IsIn v p.lives → live_next p event answer v ≡ w → ComesFrom p event answer w
   new : (name source target : List ℕ) (tables : List (List ℕ)) → event ≡ create name source target tables
-      → w.name ≡ name → w.source ≡ source → w.target ≡ target → w.tables ≡ tables → w.way ≡ None → ComesFrom p event answer w
+      → w.name ≡ name → w.source ≡ source → w.target ≡ target → w.tables ≡ each_once tables → w.way ≡ None → ComesFrom p event answer w
 
 -- each live workflow after an event is one from before it, as the event leaves it, or the one that Create made
 module _ (P : Live → Type 0) (p : Plain) (event : Event) (answer : Answer)
     (each : (w : Live) → IsIn w p.lives → P (live_next p event answer w))
-    (new_one : (name source target : List ℕ) (tables : List (List ℕ)) → event ≡ create name source target tables → P (made_live p name source target tables)) where
+    (new_one : (name source target : List ℕ) (tables : List (List ℕ)) → event ≡ create name source target tables → P (made_live p name source target (each_once tables))) where
   pub each_next : (w : Live) → IsIn w (next p event answer).lives → P w
   each_next w is = by (lives_after p event answer)
     where
@@ -143,9 +144,9 @@ module _ (P : Live → Type 0) (p : Plain) (event : Event) (answer : Answer)
       by (mapped lives) =
           let r = in-map (live_next p event answer) p.lives w (subst (IsIn w) lives is) in
           subst P r.2 (each r.0 r.1)
-      by (made name source target tables e lives same) = pushed (in-push p.lives (made_live p name source target tables) w (subst (IsIn w) lives is))
+      by (made name source target tables e lives same) = pushed (in-push p.lives (made_live p name source target (each_once tables)) w (subst (IsIn w) lives is))
         where
-          pushed : IsIn w p.lives ⊎ (made_live p name source target tables ≡ w) → P w
+          pushed : IsIn w p.lives ⊎ (made_live p name source target (each_once tables) ≡ w) → P w
           pushed (inl i) = subst P (same w) (each w i)
           pushed (inr f) = subst P f (new_one name source target tables e)
       by (ended name e lives same) = subst P (same w) (each w (in-filter (λ x. not (same_text x.name name)) p.lives w (subst (IsIn w) lives is)).0)
@@ -238,8 +239,8 @@ module _ (p : Plain) (event : Event) (answer : Answer) (has : HasParts p) (given
   apart-next none (mapped lives) = subst Apart (sym lives) (apart-map (live_next p event answer) p.lives (sides-next p event answer) has.apart)
   apart-next none (made name source target tables e lives same) =
       let new = create-none p name source target tables (subst (λ x. refusal_of p x ≡ None) e none) in
-      subst Apart (sym lives)
-      (apart-push p.lives (made_live p name source target tables) (apart-new p name source target tables new (made_live p name source target tables) refl refl refl refl) has.apart)
+      let live = made_live p name source target (each_once tables) in
+      subst Apart (sym lives) (apart-push p.lives live (apart-new p name source target (each_once tables) new live refl refl refl refl) has.apart)
   apart-next none (ended name e lives same) = subst Apart (sym lives) (apart-filter (λ w. not (same_text w.name name)) p.lives has.apart)
 
   placed-next : refusal_of p event ≡ None → (w : Live) → IsIn w q.lives → ComesFrom p event answer w → IsPlaced q.topology w
@@ -260,7 +261,7 @@ module _ (p : Plain) (event : Event) (answer : Answer) (has : HasParts p) (given
       }
   placed-next none w is (new name source target tables e is_name is_source is_target is_tables rests) =
       subst (λ u. IsPlaced u w) (sym (topology-create name source target tables e))
-      (placed-new p name source target tables (create-none p name source target tables (subst (λ x. refusal_of p x ≡ None) e none)) w is_name is_source is_target is_tables)
+      (placed-new p name source target (each_once tables) (create-none p name source target tables (subst (λ x. refusal_of p x ≡ None) e none)) w is_name is_source is_target is_tables)
 
   settled-next : (w : Live) → ComesFrom p event answer w → IsSettled w
   settled-next w (old v i e) =
@@ -316,4 +317,4 @@ module _ (P : Live → Type 0) (new : (p : Plain) (name source target : List ℕ
       reached_keeps AllHave (λ scopes w is. absurd is)
       (λ p event answer has given all.
       each_next P p event answer (λ w is. next_has P p w (live_by_name p has.apart w is) event answer (keeps p event w (all w is)) given)
-      (λ name source target tables e. new p name source target tables))
+      (λ name source target tables e. new p name source target (each_once tables)))

@@ -11,7 +11,7 @@ use Rattle.mt_model.proofs.PartLemmas.{table_of}
 use Rattle.mt_plain.specs.Answers.{Answers, Run, after}
 use Rattle.mt_plain.specs.Events.{Event, create, cancel, complete, Answer, done, row, advanced, shown, refused}
 use Rattle.mt_plain.specs.Next.{next}
-use Rattle.mt_plain.specs.Plain.{Live, Plain, has_part, live_at, moves, part_owner}
+use Rattle.mt_plain.specs.Plain.{Live, Plain, each_once, has_part, live_at, moves, part_owner}
 use Rattle.mt_plain.specs.Serve.{served_by, served_entry}
 use Rattle.mt_laws.specs.Changes.{HasSides}
 use Rattle.mt_laws.specs.WayBack.{IsReached, SinceCreate, StaysLive, ends_workflow, in_part}
@@ -60,7 +60,7 @@ stays_live p event answer name w live given lives (mapped is) = (
       ∙ ap (option_map (live_next p event answer)) live,
 )
 stays_live p event answer name w live given lives (made new source target tables e is same) =
-    (w, ap (find (λ x. same_text x.name name)) is ∙ find-push_some (λ x. same_text x.name name) p.lives (made_live p new source target tables) w live)
+    (w, ap (find (λ x. same_text x.name name)) is ∙ find-push_some (λ x. same_text x.name name) p.lives (made_live p new source target (each_once tables)) w live)
 stays_live p event answer name w live given lives (ended gone e is same) = by (same_text name gone) refl
   where
     Stays : Type 0
@@ -188,11 +188,11 @@ module _ (p : Plain) (reached : IsReached p) (name source target : List ℕ) (ta
   has : HasParts p
   has = reached_has_parts p reached
 
-  new : IsNew p name source target tables
+  new : IsNew p name source target (each_once tables)
   new = create-none p name source target tables created.0
 
   abbrev w : Live
-  w = made_live p name source target tables
+  w = made_live p name source target (each_once tables)
 
   abbrev begins : Plain
   begins = next p (create name source target tables) done
@@ -217,7 +217,7 @@ module _ (p : Plain) (reached : IsReached p) (name source target : List ℕ) (ta
       let first : has_part w key ≡ true = has_part-same w lasts.later lasts.sides key ∙ mine in
       cancelled (after begins events answers) name lasts.later key before_has lasts.live mine
       ∙ lasts.values key first
-      ∙ sym (ap (λ o. option_map_or (λ v. served_by p.topology v key) o (value_of p.topology key)) (unowned p name source target tables key new first))
+      ∙ sym (ap (λ o. option_map_or (λ v. served_by p.topology v key) o (value_of p.topology key)) (unowned p name source target (each_once tables) key new first))
 
   pub cancel_leaves_others : (key : EntryKey) → in_part (after begins events answers) name key ≡ false → served_entry (next (after begins events answers) (cancel name) done) key ≡ served_entry (after begins events answers) key
   cancel_leaves_others key other =
@@ -234,7 +234,7 @@ cancel_others name source target tables p q reached since taken key =
     (cancel_leaves_others p reached name source target tables since.created since.events since.answers since.run since.live key)
 
 -- the part is that of the sides and tables that Create was asked for
-pub cancel_sides : (name source target : List ℕ) (tables : List (List ℕ)) (p q : Plain) → IsReached p → SinceCreate name source target tables p q → (w : Live) → live_at q name ≡ Some w → (w.source ≡ source) × (w.target ≡ target) × (w.tables ≡ tables)
+pub cancel_sides : (name source target : List ℕ) (tables : List (List ℕ)) (p q : Plain) → IsReached p → SinceCreate name source target tables p q → (w : Live) → live_at q name ≡ Some w → (w.source ≡ source) × (w.target ≡ target) × (w.tables ≡ each_once tables)
 cancel_sides name source target tables p q reached since w now =
     let l = lasts p reached name source target tables since.created since.events since.answers since.run since.live in
     let found : Some w ≡ Some l.later = sym now ∙ ap (λ r. live_at r name) (sym since.is) ∙ l.live in

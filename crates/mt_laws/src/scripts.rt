@@ -1,19 +1,18 @@
 //! Laws on the output of a script.
-ghost use Rattle.std.specs.Prelude.{◌≡◌, ◌↔◌, ℕ, Bool, List, ◌++◌, Option};
+ghost use Rattle.std.specs.Prelude.{◌≡◌, ◌↔◌, ℕ, Bool, List, Option, Result, ⊤};
 ghost use Rattle.std.specs.Str.Lines.{lines};
 ghost use Rattle.mt_names.specs.declared.types.TypeSet.{TypeSet};
 ghost use Rattle.mt_model.specs.declared.entries.Scope.{Scope};
 ghost use Rattle.mt_laws.specs.Lines.{KnowsSome, line_feeds, writing_lines};
 ghost use Rattle.mt_plain.specs.Answers.{Answers};
-ghost use Rattle.mt_plain.specs.Drive.{begins, most_turns};
+ghost use Rattle.mt_plain.specs.Drive.{Driven, Drives, begins, most_turns};
+ghost use Rattle.mt_plain.specs.Events.{Event, Refusal, Answer};
 ghost use Rattle.mt_plain.specs.Output.{
   AnswersWithMemory,
-  Drives,
   IsOutput,
   IsOutputBy,
   Output,
   Reading,
-  line_feed,
   output,
   output_by,
   output_from,
@@ -43,10 +42,13 @@ pub fn each_line_that_writes_writes_one_line()
         → IsOutputBy (read_line_by read) scopes input out → line_feeds out ≡ writing_lines (lines input) }
 {}
 
-/// No drive asks for as many events as its turns are: whatever the answers are, it ends before, by telling one text in a line of
-/// its own, and the rest of the script is written from the state that it leaves.
+/// No drive asks for as many events as its turns are, and each ends: however its events are answered, among the answers that they may
+/// get; and a drive that ends so from a state, however many turns it is given, does so within these.
 pub fn drives_end_within_their_turns()
-    ensures { (p : Plain) (workflow : List ℕ) (types : TypeSet) (backward : Bool) (after : Plain → List ℕ) (out : List ℕ)
-        → Drives Answers most_turns (λ q rest. rest ≡ after q) (begins workflow types backward) p out
-        → (q : Plain) × (text : List ℕ) × (out ≡ text ++ line_feed ++ after q) }
+    ensures however_answered { (pick : Plain → Event → Answer) → ((p : Plain) (event : Event) → Answers p event (pick p event))
+        → (p : Plain) (workflow : List ℕ) (types : TypeSet) (backward : Bool)
+        → Drives (λ q event answer. answer ≡ pick q event) most_turns (λ ended q. ⊤) (begins workflow types backward) p }
+    ensures within_its_turns { (p : Plain) (workflow : List ℕ) (types : TypeSet) (backward : Bool) (turns : ℕ) (result : Result Driven Refusal)
+        (left : Plain) → Drives Answers turns (λ ended q. (ended ≡ result) × (q ≡ left)) (begins workflow types backward) p
+        → Drives Answers most_turns (λ ended q. (ended ≡ result) × (q ≡ left)) (begins workflow types backward) p }
 {}

@@ -9,7 +9,7 @@ ghost use Rattle.mt_plain.specs.Answers.{Answers};
 ghost use Rattle.mt_plain.specs.Events.{Event, begin_switch, begin_reverse, step, undo, cancel, Answer, done, Way};
 ghost use Rattle.mt_plain.specs.Drive.{way_of};
 ghost use Rattle.mt_plain.specs.Next.{next};
-ghost use Rattle.mt_plain.specs.Plain.{Live, Plain, changed_types, live_at, stands_done, write_journal};
+ghost use Rattle.mt_plain.specs.Plain.{Live, Plain, changed_types, each_once, live_at, stands_done, write_journal};
 ghost use Rattle.mt_plain.specs.Serve.{served_entry};
 
 /// Before the journal an undo with the right number is done, and so is a cancel where nothing is switched and no way is
@@ -23,11 +23,11 @@ pub fn a_way_back_is_open_before_the_journal()
 
 /// After a cancel that is taken each entry of the workflow's part is what it was before the create that made the workflow,
 /// whatever came between; each other entry is what it was just before the cancel. The part is that of the sides and tables
-/// that the create named.
+/// that the create named, each table once.
 pub fn cancel_gives_the_part_back()
     ensures sides { (name source target : List ℕ) (tables : List (List ℕ)) (p q : Plain) → IsReached p
         → SinceCreate name source target tables p q → (w : Live) → live_at q name ≡ Some w
-        → (w.source ≡ source) × (w.target ≡ target) × (w.tables ≡ tables) }
+        → (w.source ≡ source) × (w.target ≡ target) × (w.tables ≡ each_once tables) }
     ensures part { (name source target : List ℕ) (tables : List (List ℕ)) (p q : Plain) → IsReached p
         → SinceCreate name source target tables p q → Answers q (cancel name) done → (key : EntryKey)
         → in_part q name key ≡ true → served_entry (next q (cancel name) done) key ≡ served_entry p key }
