@@ -66,7 +66,7 @@ keyspace_keeps old new name result is did =
 
 pub rule_steps : (old new : CoreState) (key : RuleKey) (target : Option RuleTarget) (result : Result Reply code.Refusal) → IsCore old → EditsRule old key target result new → Steps old (edit_rule key target) result new
 rule_steps old new key target result is did = steps_from_calm old new (edit_rule key target) result (λ p stands.
-    does_step (calm p) old (edit_rule key target) (edit_rule_refusal old.topology.rules key target) (edit_rule_grows old.topology.rules key target) (MakesRule old key target) refl (rule_growing p old key target) (rule_refusing p old key target is stands) stands (rule_making p old key target stands) result new did)
+    does_step (calm p) old (edit_rule key target) (edit_rule_refusal old.topology.rules key target) (edit_rule_grows old.topology.rules key target) (MakesRule old key target) refl (rule_growing p old key target stands) (rule_refusing p old key target is stands) stands (rule_making p old key target stands) result new did)
 
 pub rule_keeps : (old new : CoreState) (key : RuleKey) (target : Option RuleTarget) (result : Result Reply code.Refusal) → IsCore old → EditsRule old key target result new → IsCore new
 rule_keeps old new key target result is did =

@@ -142,9 +142,9 @@ pub rule_refusing : (p : Plain) (core : CoreState) (key : RuleKey) (target : Opt
 rule_refusing p core key target is stands =
     rule_told p key target (subst (λ (t : TopologyState). length t.rules ≤ most_rules) stands.topology is.within.rules) ∙ ap (λ (t : TopologyState). told (edit_rule_refusal t.rules key target)) (sym stands.topology)
 
-pub rule_growing : (p : Plain) (core : CoreState) (key : RuleKey) (target : Option RuleTarget) → edit_rule_grows core.topology.rules key target ≡ true → may_grow (calm p) (edit_rule key target) ≡ true
-rule_growing p core key None grows = grows
-rule_growing p core key (Some target) grows = refl
+pub rule_growing : (p : Plain) (core : CoreState) (key : RuleKey) (target : Option RuleTarget) → Stands (calm p) core → edit_rule_grows core.topology.rules key target ≡ true → may_grow (calm p) (edit_rule key target) ≡ true
+rule_growing p core key None stands grows = grows
+rule_growing p core key (Some target) stands grows = ap (λ (t : TopologyState). edit_rule_grows t.rules key (Some target)) (sym stands.topology) ∙ grows
 
 pub rule_making : (p : Plain) (core : CoreState) (key : RuleKey) (target : Option RuleTarget) → Stands (calm p) core → (s : CoreState) → refusal_of (calm p) (edit_rule key target) ≡ None → MakesRule core key target s → Stands (next_taken (calm p) (edit_rule key target)) s
 rule_making p core key target stands s none made = rw made (record {
