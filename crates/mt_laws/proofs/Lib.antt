@@ -6,6 +6,7 @@ pub mod CompleteLemmas
 pub mod CopyLemmas
 pub mod DocumentLemmas
 pub mod DriveLemmas
+pub mod EffectLemmas
 pub mod EntriesLemmas
 pub mod EntryValueLemmas
 pub mod FedLemmas
@@ -39,6 +40,7 @@ pub mod RowWitnessLemmas
 pub mod RunLemmas
 pub mod ServeLemmas
 pub mod StepCountLemmas
+pub mod StreamEffectLemmas
 pub mod StreamLemmas
 pub mod TableLemmas
 pub mod TextLemmas

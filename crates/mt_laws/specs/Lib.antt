@@ -1,6 +1,7 @@
 pub mod Acknowledged
 pub mod Changes
 pub mod Copies
+pub mod Effects
 pub mod Headline
 pub mod Lines
 pub mod Numbers

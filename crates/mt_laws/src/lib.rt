@@ -3,6 +3,7 @@
 
 mod changes;
 mod copies;
+mod effects;
 mod events;
 mod headline;
 mod parts;
@@ -21,6 +22,9 @@ pub use changes::{
 pub use copies::{
     all_writes_are_fed_at_the_journal, level_is_what_it_says,
     the_other_side_answers_by_the_writes_that_were_fed, what_was_fed_stays_fed,
+};
+pub use effects::{
+    a_step_changes_what_changes_with_its_number, an_undo_changes_what_changed_with_the_last_step,
 };
 pub use events::{
     answers_are_determined, limits_are_told_last, reads_answer_the_row,

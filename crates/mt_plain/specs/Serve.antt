@@ -89,11 +89,22 @@ pub record IsServed (p : Plain) (t : TopologyState) : Type 0 where
   pub entries : Serves p t
   pub places : HasDistinctPlaces t
 
+-- the step with which the own list of a side's primary changes: a refresh, a step behind the topology's denial (How traffic is switched)
+abbrev pub step_of_list : Live → (keyspace : List ℕ) → ℕ
+step_of_list w keyspace = if owned_before w keyspace then refresh_source else refresh_target
+
+-- whether the own list of a keyspace's primary has the moved tables, once some types are switched (How traffic is switched)
+abbrev pub is_listed_at : Live → TypeSet → (keyspace : List ℕ) → Bool
+is_listed_at w types keyspace = is_side w keyspace && is_denied_at w types keyspace
+
+-- the same at rest and on a way
+abbrev pub refuses_by : Live → (keyspace : List ℕ) → Bool
+refuses_by w keyspace = is_listed_at w (types_by w (step_of_list w keyspace)) keyspace
+
 -- whether a primary's own list refuses a table. It follows the topology's denials with a refresh, a step later; at rest it is the
 -- denial, and no list has a table that no live workflow moves (How traffic is switched: the primary reloads its denied tables)
 abbrev pub refuses : Plain → (keyspace table : List ℕ) → Bool
-refuses p keyspace table =
-    option_map_or (λ w. is_side w keyspace && is_denied_at w (types_by w (if owned_before w keyspace then refresh_source else refresh_target)) keyspace) (mover p table) false
+refuses p keyspace table = option_map_or (λ w. refuses_by w keyspace) (mover p table) false
 
 -- whether a keyspace has a table: one that was made there, or that a live workflow moves there (MoveTables)
 abbrev pub has_table : Plain → (keyspace table : List ℕ) → Bool

@@ -1,0 +1,337 @@
+-- What a step and an undo change at an entry of the part, and on the primaries' own lists.
+use Rattle.std.proofs.Common.{◌≡◌, ◌≢◌, ℕ, suc, ◌+◌, ◌-◌, ◌<◌, ◌≤◌, Bool, true, false, not, cond, eqb, ltb, leb, List, Option, None, Some, refl, sym, ap, ◌∙◌, subst, arith, eqb-true, ltb-true, lt-ltb, le-leb}
+use Rattle.std.proofs.lemmas.Bool.{true≢false, and_from, and_parts, eq-eqb, false_from_ne_true, leb-true}
+use Rattle.std.specs.Option.{option_map_or}
+use Rattle.std.specs.Prelude.{◌&&◌, ◌||◌}
+use Rattle.mt_names.specs.declared.keys.RuleKey.{RuleKey}
+use Rattle.mt_names.specs.declared.types.TabletType.{TabletType}
+use Rattle.mt_names.specs.declared.types.TabletType.TheVariants.{Primary, Replica, Rdonly}
+use Rattle.mt_names.specs.declared.types.TypeSet.{TypeSet}
+use Rattle.mt_names.specs.Names.{same_text}
+use Rattle.mt_model.specs.declared.entries.Entry.TheVariants as entry
+use Rattle.mt_model.specs.declared.entries.EntryKey.{EntryKey}
+use Rattle.mt_model.specs.declared.entries.EntryKey.TheVariants as about
+use Rattle.mt_model.specs.Topology.{TopologyState, rule_at}
+use Rattle.mt_plain.specs.Events.{Way}
+use Rattle.mt_plain.specs.Next.{live_stepped, live_undone, way_stepped}
+use Rattle.mt_plain.specs.Plain.{Live, Plain, allow_target, behind_last, before_way, changes_primary, create_back, deny_source, differ, first_step, in_keyspace, next_step, owner_by, refresh_source, refresh_target, stands_done, write_journal}
+use Rattle.mt_plain.specs.Refuse.{new_owner}
+use Rattle.mt_plain.specs.Serve.{is_denied_at, is_listed_at, refuses_by, rule_step, serve, serve_plain, serve_rule, served_by, step_of_entry, step_of_list, types_by}
+use Rattle.mt_plain.specs.Slots.{log_length}
+use Rattle.mt_laws.specs.Changes.{HasSides}
+use Rattle.mt_laws.specs.Effects.{entry_stepped, entry_undone, last_step, list_stepped, list_undone}
+use Rattle.mt_laws.proofs.ChangeLemmas.{sides-live_stepped, sides-undone}
+use Rattle.mt_laws.proofs.ListLemmas.{cond-ap, cond-either, cond-holds}
+use Rattle.mt_laws.proofs.PlainWords.{changes_reads, types_by_way}
+use Rattle.mt_laws.proofs.TrafficLemmas.{serve-same}
+use Rattle.mt_laws.proofs.WayStepLemmas.{closes, fewer, first_step-le, more, now_done, same_done, switched-way_stepped, was_done, way-stepped, way-undone}
+
+-- ---- sets of types that are alike as far as a step is concerned
+
+-- step 0 looks at reads alone, each other step at writes alone
+pub record Alike (n : ℕ) (a b : TypeSet) : Type 0 where
+  pub reads : n ≡ 0 → (a.replica ≡ b.replica) × (a.rdonly ≡ b.rdonly)
+  pub writes : n ≢ 0 → a.primary ≡ b.primary
+
+pub alike-same : (n : ℕ) (a b : TypeSet) → a ≡ b → Alike n a b
+alike-same n a b e = record { reads = λ at. (ap (λ t. t.replica) e, ap (λ t. t.rdonly) e); writes = λ at. ap (λ t. t.primary) e }
+
+rule-alike : (u : TopologyState) (w : Live) (a b : TypeSet) (key : RuleKey) (type : Option TabletType) → Alike (rule_step type) a b → serve_rule u w a key type ≡ serve_rule u w b key type
+rule-alike u w a b key None alike = by key.keyspace
+  where
+    same : a.primary ≡ b.primary
+    same = alike.writes (λ e. absurd (omega arith))
+
+    by : (keyspace : Option (List ℕ)) → serve_plain u w a key keyspace ≡ serve_plain u w b key keyspace
+    by None = ap (λ t. Some (in_keyspace (cond t w.target w.source) key.table)) same
+    by (Some keyspace) = ap (λ t. cond (same_text w.source keyspace) (cond t (Some (in_keyspace w.target key.table)) (rule_at u.rules key)) (cond t None (Some (in_keyspace w.source key.table)))) same
+rule-alike u w a b key (Some Primary) alike = refl
+rule-alike u w a b key (Some Replica) alike = ap (λ t. Some (in_keyspace (cond t w.target w.source) key.table)) (alike.reads refl).0
+rule-alike u w a b key (Some Rdonly) alike = ap (λ t. Some (in_keyspace (cond t w.target w.source) key.table)) (alike.reads refl).1
+
+denied-alike : (w : Live) (a b : TypeSet) (keyspace : List ℕ) → a.primary ≡ b.primary → is_denied_at w a keyspace ≡ is_denied_at w b keyspace
+denied-alike w a b keyspace same = ap (λ t. cond (same_text w.source keyspace) t (not t)) same
+
+not_first : (t : Bool) (n m : ℕ) → cond {A = ℕ} t (suc n) (suc m) ≢ 0
+not_first true n m = λ e. absurd (omega arith)
+not_first false n m = λ e. absurd (omega arith)
+
+pub serve-alike : (u : TopologyState) (w : Live) (a b : TypeSet) (key : EntryKey) → Alike (step_of_entry w key) a b → serve u w a key ≡ serve u w b key
+serve-alike u w a b (about.Rule key) alike = ap (entry.Rule key) (rule-alike u w a b key key.tablet_type alike)
+serve-alike u w a b (about.Denied keyspace table) alike =
+    ap (entry.Denied keyspace table) (denied-alike w a b keyspace (alike.writes (not_first (same_text (owner_by w (before_way w)) keyspace) 0 6)))
+serve-alike u w a b (about.Present keyspace table) alike = refl
+
+listed-alike : (w : Live) (a b : TypeSet) (keyspace : List ℕ) → Alike (step_of_list w keyspace) a b → is_listed_at w a keyspace ≡ is_listed_at w b keyspace
+listed-alike w a b keyspace alike =
+    ap (λ t. (same_text w.source keyspace || same_text w.target keyspace) && t) (denied-alike w a b keyspace (alike.writes (not_first (same_text (owner_by w (before_way w)) keyspace) 1 7)))
+
+-- ---- the steps of entries and of own lists
+
+either_le : (t : Bool) (n m : ℕ) → n ≤ 11 → m ≤ 11 → cond {A = ℕ} t n m ≤ 11
+either_le t n m a b = cond-either (λ k. k ≤ 11) t n m a b
+
+rule_step-le : (type : Option TabletType) → rule_step type ≤ 11
+rule_step-le None = omega arith
+rule_step-le (Some Primary) = omega arith
+rule_step-le (Some Replica) = omega arith
+rule_step-le (Some Rdonly) = omega arith
+
+step_of_entry-le : (w : Live) (key : EntryKey) → step_of_entry w key ≤ 11
+step_of_entry-le w (about.Rule key) = rule_step-le key.tablet_type
+step_of_entry-le w (about.Denied keyspace table) = either_le (same_text (owner_by w (before_way w)) keyspace) deny_source allow_target (omega arith) (omega arith)
+step_of_entry-le w (about.Present keyspace table) = omega arith
+
+step_of_list-le : (w : Live) (keyspace : List ℕ) → step_of_list w keyspace ≤ 11
+step_of_list-le w keyspace = either_le (same_text (owner_by w (before_way w)) keyspace) refresh_source refresh_target (omega arith) (omega arith)
+
+-- they hang on the owner before the way alone
+owner-same : (v w : Live) → HasSides w v → before_way v ≡ before_way w → (keyspace : List ℕ) → same_text (owner_by v (before_way v)) keyspace ≡ same_text (owner_by w (before_way w)) keyspace
+owner-same v w same before keyspace =
+    ap (λ (t : TypeSet). same_text (cond t.primary v.target v.source) keyspace) before
+    ∙ ap (λ k. same_text (cond (before_way w).primary k v.source) keyspace) (sym same.target)
+    ∙ ap (λ k. same_text (cond (before_way w).primary w.target k) keyspace) (sym same.source)
+
+entry_step-same : (v w : Live) → HasSides w v → before_way v ≡ before_way w → (key : EntryKey) → step_of_entry v key ≡ step_of_entry w key
+entry_step-same v w same before (about.Rule key) = refl
+entry_step-same v w same before (about.Denied keyspace table) = ap (λ t. cond {A = ℕ} t deny_source allow_target) (owner-same v w same before keyspace)
+entry_step-same v w same before (about.Present keyspace table) = refl
+
+list_step-same : (v w : Live) → HasSides w v → before_way v ≡ before_way w → (keyspace : List ℕ) → step_of_list v keyspace ≡ step_of_list w keyspace
+list_step-same v w same before keyspace = ap (λ t. cond {A = ℕ} t refresh_source refresh_target) (owner-same v w same before keyspace)
+
+-- ---- the last step
+
+pub differ-false : (a b : Bool) → differ a b ≡ false → b ≡ a
+differ-false true true e = refl
+differ-false true false e = absurd (true≢false e)
+differ-false false true e = absurd (true≢false e)
+differ-false false false e = refl
+
+or-false : (a b : Bool) → (a || b) ≡ false → (a ≡ false) × (b ≡ false)
+or-false true b e = absurd (true≢false e)
+or-false false b e = (refl, e)
+
+-- the types after a way are those before it as far as the steps are concerned that do not stand done when it closes
+closing-alike : (way : Way) → closes way ≡ true → (n : ℕ) → n ≤ 11 → eqb (next_step way) n ≡ false → stands_done way n ≡ false → Alike n way.after way.before
+closing-alike way closing n le other not_done = by (changes_primary way) refl (eqb-true (suc (next_step way)) (behind_last way) closing)
+  where
+    apart : next_step way ≢ n
+    apart e = true≢false (sym (eq-eqb (next_step way) n e) ∙ other)
+
+    -- with all reads and writes done but the last, the step is the first of a way that changes no reads
+    reads_kept : next_step way ≡ 11 → n ≡ 0
+    reads_kept at = cases (leb (first_step way) n) refl
+      where
+        below : ltb n (next_step way) ≡ true
+        below = lt-ltb n (next_step way) (omega (arith, at, le, apart))
+
+        cases : (t : Bool) → leb (first_step way) n ≡ t → n ≡ 0
+        cases true t = absurd (true≢false (sym (and_from (leb (first_step way) n) (ltb n (next_step way)) t below) ∙ not_done))
+        cases false t =
+            let few = first_step-le way in
+            let short : (first_step way ≤ n) → ⊥ = λ h. true≢false (sym (le-leb (first_step way) n h) ∙ t) in
+            omega (arith, few, short)
+
+    no_reads : n ≡ 0 → changes_reads way ≡ false
+    no_reads at = cases (changes_reads way) refl
+      where
+        cases : (t : Bool) → changes_reads way ≡ t → changes_reads way ≡ false
+        cases false t = t
+        cases true t =
+            let first : first_step way ≡ 0 = ap (λ b. cond {A = ℕ} b 0 1) t in
+            let done : stands_done way n ≡ false → next_step way ≡ n = λ h. by_reads first (ltb n (next_step way)) refl in
+            absurd (apart (done not_done))
+          where
+            by_reads : first_step way ≡ 0 → (b : Bool) → ltb n (next_step way) ≡ b → next_step way ≡ n
+            by_reads first true b =
+                absurd (true≢false (sym (and_from (leb (first_step way) n) (ltb n (next_step way)) (le-leb (first_step way) n (omega (arith, first, at))) b) ∙ not_done))
+            by_reads first false b =
+                let not_below : (n < next_step way) → ⊥ = λ h. true≢false (sym (lt-ltb n (next_step way) h) ∙ b) in
+                omega (arith, at, not_below)
+
+    by : (t : Bool) → changes_primary way ≡ t → suc (next_step way) ≡ behind_last way → Alike n way.after way.before
+    by true t last =
+        let at : next_step way ≡ 11 = omega (arith, last ∙ ap (λ b. cond {A = ℕ} b 12 1) t) in
+        let zeroth : n ≡ 0 = reads_kept at in
+        let none = or-false (differ way.before.replica way.after.replica) (differ way.before.rdonly way.after.rdonly) (no_reads zeroth) in
+        record {
+          reads = λ e. (differ-false way.before.replica way.after.replica none.0, differ-false way.before.rdonly way.after.rdonly none.1);
+          writes = λ e. absurd (e zeroth);
+        }
+    by false t last =
+        let at : next_step way ≡ 0 = omega (arith, last ∙ ap (λ b. cond {A = ℕ} b 12 1) t) in
+        record {
+          reads = λ e. absurd (apart (at ∙ sym e));
+          writes = λ e. differ-false way.before.primary way.after.primary t;
+        }
+
+-- ---- the types at an entry, behind a step
+
+more_done : (way : Way) (n : ℕ) → eqb (next_step way) n ≡ true → stands_done (more way) n ≡ true
+more_done way n here =
+    let is : next_step way ≡ n = eqb-true (next_step way) n here in
+    and_from (leb (first_step way) n) (ltb n (first_step way + suc way.done)) (le-leb (first_step way) n (omega (arith, is))) (lt-ltb n (first_step way + suc way.done) (omega (arith, is)))
+
+abbrev at_way : Way → Bool → TypeSet
+at_way way t = cond t way.after way.before
+
+module _ (w v : Live) (way : Way) (opens : w.way ≡ Some way) where
+  types_at : (n : ℕ) → types_by w n ≡ at_way way (stands_done way n)
+  types_at n = ap (λ o. types_by_way w.switched o n) opens
+
+  module _ (now : v.way ≡ cond (closes way) None (Some (more way))) (switched : closes way ≡ true → v.switched ≡ way.after) where
+    stepped-alike : (n m : ℕ) → n ≤ 11 → (closes way ≡ false → m ≡ n) → Alike n (types_by v m) (cond (eqb (next_step way) n) way.after (types_by w n))
+    stepped-alike n m le same = by (closes way) refl
+      where
+        closed : closes way ≡ true → types_by v m ≡ way.after
+        closed t = ap (λ o. types_by_way v.switched o m) (now ∙ ap (λ b. cond b None (Some (more way))) t) ∙ switched t
+
+        at_last : closes way ≡ true → (b : Bool) → eqb (next_step way) n ≡ b → Alike n way.after (cond (eqb (next_step way) n) way.after (types_by w n))
+        at_last t true b = alike-same n way.after _ (sym (ap (λ x. cond x way.after (types_by w n)) b))
+        at_last t false b = subst (Alike n way.after) (sym (ap (λ x. cond x way.after (types_by w n)) b ∙ types_at n)) (done (stands_done way n) refl)
+          where
+            done : (d : Bool) → stands_done way n ≡ d → Alike n way.after (at_way way (stands_done way n))
+            done true d = alike-same n way.after _ (sym (ap (at_way way) d))
+            done false d = subst (Alike n way.after) (sym (ap (at_way way) d)) (closing-alike way t n le b d)
+
+        goes : (b : Bool) → eqb (next_step way) n ≡ b → at_way way (stands_done (more way) n) ≡ cond (eqb (next_step way) n) way.after (types_by w n)
+        goes true b = ap (at_way way) (more_done way n b) ∙ sym (ap (λ x. cond x way.after (types_by w n)) b)
+        goes false b = ap (at_way way) (same_done way n b) ∙ sym (ap (λ x. cond x way.after (types_by w n)) b ∙ types_at n)
+
+        by : (t : Bool) → closes way ≡ t → Alike n (types_by v m) (cond (eqb (next_step way) n) way.after (types_by w n))
+        by true t = subst (λ a. Alike n a (cond (eqb (next_step way) n) way.after (types_by w n))) (sym (closed t)) (at_last t (eqb (next_step way) n) refl)
+        by false t =
+            let going : v.way ≡ Some (more way) = now ∙ ap (λ b. cond b None (Some (more way))) t in
+            alike-same n (types_by v m) _ (ap (types_by v) (same t) ∙ ap (λ o. types_by_way v.switched o n) going ∙ goes (eqb (next_step way) n) refl)
+
+  module _ (now : v.way ≡ cond (eqb (way.done - 1) 0) None (Some (fewer way))) (switched : v.switched ≡ way.before) where
+    -- behind an undo
+    undone-types : (n : ℕ) → types_by v n ≡ cond (eqb (last_step way) n) way.before (types_by w n)
+    undone-types n = by (eqb (way.done - 1) 0) refl
+      where
+        here_or_done : (b : Bool) → eqb (last_step way) n ≡ b → (x : TypeSet) → (b ≡ true → x ≡ way.before) → (b ≡ false → x ≡ at_way way (stands_done way n)) → x ≡ cond (eqb (last_step way) n) way.before (types_by w n)
+        here_or_done true b x here there = here refl ∙ sym (ap (λ y. cond y way.before (types_by w n)) b)
+        here_or_done false b x here there = there refl ∙ sym (ap (λ y. cond y way.before (types_by w n)) b ∙ types_at n)
+
+        -- where none is left, none but the last stood done
+        none_else : way.done - 1 ≡ 0 → eqb (last_step way) n ≡ false → stands_done way n ≡ false
+        none_else few other = false_from_ne_true (stands_done way n) (λ t.
+            let r = and_parts (leb (first_step way) n) (ltb n (next_step way)) t in
+            let above : first_step way ≤ n = leb-true (first_step way) n r.0 in
+            let below = ltb-true n (next_step way) r.1 in
+            let apart : last_step way ≢ n = λ e. true≢false (sym (eq-eqb (last_step way) n e) ∙ other) in
+            absurd (omega (arith, above, below, apart, few)))
+
+        fewer_at : eqb (last_step way) n ≡ true → stands_done (fewer way) n ≡ false
+        fewer_at here = false_from_ne_true (stands_done (fewer way) n) (λ t.
+            let r = and_parts (leb (first_step way) n) (ltb n (first_step way + (way.done - 1))) t in
+            let below = ltb-true n (first_step way + (way.done - 1)) r.1 in
+            let above : first_step way ≤ n = leb-true (first_step way) n r.0 in
+            let is = eqb-true (last_step way) n here in
+            absurd (omega (arith, above, below, is)))
+
+        fewer_else : (b : Bool) → eqb (last_step way) n ≡ false → stands_done way n ≡ b → stands_done (fewer way) n ≡ stands_done way n
+        fewer_else true other b =
+            let r = and_parts (leb (first_step way) n) (ltb n (next_step way)) b in
+            let below = ltb-true n (next_step way) r.1 in
+            let apart : last_step way ≢ n = λ e. true≢false (sym (eq-eqb (last_step way) n e) ∙ other) in
+            let short : n < first_step way + (way.done - 1) = omega (arith, below, apart, leb-true (first_step way) n r.0) in
+            and_from (leb (first_step way) n) (ltb n (first_step way + (way.done - 1))) r.0 (lt-ltb n (first_step way + (way.done - 1)) short) ∙ sym b
+        fewer_else false other b = false_from_ne_true (stands_done (fewer way) n) (λ t. true≢false (sym (was_done way n t) ∙ b)) ∙ sym b
+
+        by : (t : Bool) → eqb (way.done - 1) 0 ≡ t → types_by v n ≡ cond (eqb (last_step way) n) way.before (types_by w n)
+        by true t =
+            let rests : types_by v n ≡ way.before = ap (λ o. types_by_way v.switched o n) (now ∙ ap (λ b. cond b None (Some (fewer way))) t) ∙ switched in
+            rests ∙ here_or_done (eqb (last_step way) n) refl way.before (λ here. refl)
+            (λ there. sym (ap (at_way way) (none_else (eqb-true (way.done - 1) 0 t) there)))
+        by false t =
+            let going : types_by v n ≡ at_way way (stands_done (fewer way) n) = ap (λ o. types_by_way v.switched o n) (now ∙ ap (λ b. cond b None (Some (fewer way))) t) in
+            going ∙ here_or_done (eqb (last_step way) n) refl (at_way way (stands_done (fewer way) n)) (λ here. ap (at_way way) (fewer_at here))
+            (λ there. ap (at_way way) (fewer_else (stands_done way n) there refl))
+
+listed-same : (w v : Live) → HasSides w v → (types : TypeSet) (keyspace : List ℕ) → is_listed_at v types keyspace ≡ is_listed_at w types keyspace
+listed-same w v same types keyspace = rw (← same.source, ← same.target) refl
+
+-- ---- a step
+
+switched-closed : (p : Plain) (w : Live) (way : Way) → closes way ≡ true → (live_stepped p w way).switched ≡ way.after
+switched-closed p w way t = by (eqb (next_step way) create_back) (eqb (next_step way) write_journal)
+  where
+    closed : (way_stepped w way).switched ≡ way.after
+    closed = switched-way_stepped w way ∙ ap (λ b. cond b way.after w.switched) t
+
+    by : (a b : Bool) → (cond a (record (way_stepped w way) { fresh_at = log_length p (new_owner w) }) (cond b (record (way_stepped w way) { switched = way.after }) (way_stepped w way))).switched ≡ way.after
+    by true b = closed
+    by false true = refl
+    by false false = closed
+
+before_opens : (w : Live) (way : Way) → w.way ≡ Some way → before_way w ≡ way.before
+before_opens w way opens = ap (λ o. option_map_or (λ (x : Way). x.before) o w.switched) opens
+
+module _ (p : Plain) (w : Live) (way : Way) (opens : w.way ≡ Some way) where
+  abbrev stepped : Live
+  stepped = live_stepped p w way
+
+  before-stepped : closes way ≡ false → before_way stepped ≡ before_way w
+  before-stepped t =
+      before_opens stepped (more way) (way-stepped p w way ∙ ap (λ b. cond b None (Some (more way))) t) ∙ sym (before_opens w way opens)
+
+  pub served-stepped : (u : TopologyState) (key : EntryKey) → served_by u stepped key ≡ entry_stepped u w way key
+  served-stepped u key =
+      let n = step_of_entry w key in
+      let at = types_by stepped (step_of_entry stepped key) in
+      let alike = stepped-alike w stepped way opens (way-stepped p w way) (switched-closed p w way) n (step_of_entry stepped key) (step_of_entry-le w key)
+          (λ t. entry_step-same stepped w (sides-live_stepped p w way) (before-stepped t) key) in
+      sym (serve-same u u w stepped at key (sides-live_stepped p w way) refl)
+      ∙ serve-alike u w at _ key alike
+      ∙ cond-ap (λ types. serve u w types key) (eqb (next_step way) n) way.after (types_by w n)
+
+  pub refused-stepped : (keyspace : List ℕ) → refuses_by stepped keyspace ≡ list_stepped w way keyspace
+  refused-stepped keyspace =
+      let n = step_of_list w keyspace in
+      let at = types_by stepped (step_of_list stepped keyspace) in
+      let same = sides-live_stepped p w way in
+      let alike = stepped-alike w stepped way opens (way-stepped p w way) (switched-closed p w way) n (step_of_list stepped keyspace) (step_of_list-le w keyspace)
+          (λ t. list_step-same stepped w same (before-stepped t) keyspace) in
+      listed-same w stepped same at keyspace
+      ∙ listed-alike w at _ keyspace alike
+      ∙ cond-ap (λ types. is_listed_at w types keyspace) (eqb (next_step way) n) way.after (types_by w n)
+
+-- ---- an undo
+
+pub switched-undone : (w : Live) (way : Way) → (live_undone w way).switched ≡ w.switched
+switched-undone w way = cond-ap (λ v. v.switched) (eqb (way.done - 1) 0) (record w { way = None }) (record w { way = Some (fewer way) }) ∙ cond-either (λ s. s ≡ w.switched) (eqb (way.done - 1) 0) _ _ refl refl
+
+module _ (w : Live) (way : Way) (opens : w.way ≡ Some way) (settled : w.switched ≡ way.before) where
+  abbrev undone : Live
+  undone = live_undone w way
+
+  before-undone : before_way undone ≡ before_way w
+  before-undone = by (eqb (way.done - 1) 0) refl
+    where
+      by : (t : Bool) → eqb (way.done - 1) 0 ≡ t → before_way undone ≡ before_way w
+      by true t =
+          ap (λ o. option_map_or (λ (x : Way). x.before) o undone.switched) (way-undone w way ∙ ap (λ b. cond b None (Some (fewer way))) t)
+          ∙ switched-undone w way ∙ settled ∙ sym (before_opens w way opens)
+      by false t =
+          before_opens undone (fewer way) (way-undone w way ∙ ap (λ b. cond b None (Some (fewer way))) t) ∙ sym (before_opens w way opens)
+
+  types-undone : (n : ℕ) → types_by undone n ≡ cond (eqb (last_step way) n) way.before (types_by w n)
+  types-undone = undone-types w undone way opens (way-undone w way) (switched-undone w way ∙ settled)
+
+  pub served-undone : (u : TopologyState) (key : EntryKey) → served_by u undone key ≡ entry_undone u w way key
+  served-undone u key =
+      let n = step_of_entry w key in
+      sym (serve-same u u w undone (types_by undone (step_of_entry undone key)) key (sides-undone w way) refl)
+      ∙ ap (λ m. serve u w (types_by undone m) key) (entry_step-same undone w (sides-undone w way) before-undone key)
+      ∙ ap (λ types. serve u w types key) (types-undone n)
+      ∙ cond-ap (λ types. serve u w types key) (eqb (last_step way) n) way.before (types_by w n)
+
+  pub refused-undone : (keyspace : List ℕ) → refuses_by undone keyspace ≡ list_undone w way keyspace
+  refused-undone keyspace =
+      let n = step_of_list w keyspace in
+      listed-same w undone (sides-undone w way) (types_by undone (step_of_list undone keyspace)) keyspace
+      ∙ ap (λ m. is_listed_at w (types_by undone m) keyspace) (list_step-same undone w (sides-undone w way) before-undone keyspace)
+      ∙ ap (λ types. is_listed_at w types keyspace) (types-undone n)
+      ∙ cond-ap (λ types. is_listed_at w types keyspace) (eqb (last_step way) n) way.before (types_by w n)

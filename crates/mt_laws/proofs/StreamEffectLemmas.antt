@@ -1,0 +1,280 @@
+-- What a step and an undo change of a workflow's streams.
+use Rattle.std.proofs.Common.{◌≡◌, ◌≢◌, ℕ, suc, ◌+◌, ◌-◌, ◌<◌, ◌≤◌, Bool, true, false, not, cond, eqb, List, Option, None, Some, option_map, refl, sym, ap, ◌∙◌, subst, arith, eqb-true}
+use Rattle.std.proofs.lemmas.Bool.{true≢false, eq-eqb, false_from_ne_true}
+use Rattle.std.specs.Option.{option_map_or}
+use Rattle.mt_plain.specs.Events.{StreamName, forward, back, StreamState, running, stopped, frozen, Slot, Way}
+use Rattle.mt_plain.specs.Next.{live_stepped, live_undone, with_fresh_stream}
+use Rattle.mt_plain.specs.Plain.{Live, Plain, before_way, behind_last, changes_primary, create_back, differ, freeze_old, next_step, stands_done, start_back, stop_feeding, write_journal}
+use Rattle.mt_plain.specs.Refuse.{new_owner}
+use Rattle.mt_plain.specs.Slots.{is_feeding, log_length, slot_before_way, slot_by_way, slot_of}
+use Rattle.mt_laws.specs.Effects.{feeding_stepped, in_state, last_step, other_stepped, slot_stepped, slot_undone}
+use Rattle.mt_laws.proofs.EffectLemmas.{differ-false, switched-undone}
+use Rattle.mt_laws.proofs.StepCountLemmas.{few_done}
+use Rattle.mt_laws.proofs.WayStepLemmas.{done_by, fewer, more, same_done, undone_by, way-undone}
+
+-- ---- a slot, by what it hangs on
+
+-- at rest: by the positions, and by whether the target owns the tables
+abbrev rest_slot : (forward_at back_at : ℕ) → Bool → StreamName → Option Slot
+rest_slot forward_at back_at target_owns forward = Some (record { state = cond target_owns frozen running; position = forward_at })
+rest_slot forward_at back_at target_owns back = cond target_owns (Some (record { state = running; position = back_at })) None
+
+-- on a way: by whether it changes writes, whether the stream feeds, which steps stand done, where the new stream stands, and the slot before it
+abbrev way_slot : (changes feeds stops creates starts : Bool) → (fresh_at : ℕ) → Option Slot → Option Slot
+way_slot changes feeds stops creates starts fresh_at slot =
+    cond (not changes) slot
+    (cond feeds (option_map (λ (s : Slot). cond stops (record s { state = stopped }) s) slot)
+    (cond creates (Some (record { state = cond starts running stopped; position = fresh_at })) slot))
+
+before-rest : (w : Live) (types_primary : Bool) (name : StreamName) → (before_way w).primary ≡ types_primary → slot_before_way w name ≡ rest_slot w.forward_at w.back_at types_primary name
+before-rest w t forward e = ap (λ b. Some (record { state = cond b frozen running; position = w.forward_at })) e
+before-rest w t back e = ap (λ b. cond b (Some (record { state = running; position = w.back_at })) None) e
+
+closed-slot : (v : Live) (name : StreamName) → v.way ≡ None → slot_of v name ≡ rest_slot v.forward_at v.back_at v.switched.primary name
+closed-slot v name none =
+    ap (λ o. slot_by_way v o name) none
+    ∙ before-rest v v.switched.primary name (ap (λ o. (option_map_or (λ (x : Way). x.before) o v.switched).primary) none)
+
+open-slot : (v : Live) (way : Way) (name : StreamName) → v.way ≡ Some way
+    → slot_of v name ≡ way_slot (changes_primary way) (is_feeding way name) (stands_done way stop_feeding) (stands_done way create_back) (stands_done way start_back) v.fresh_at
+    (rest_slot v.forward_at v.back_at way.before.primary name)
+open-slot v way name opens =
+    ap (λ o. slot_by_way v o name) opens
+    ∙ ap (way_slot (changes_primary way) (is_feeding way name) (stands_done way stop_feeding) (stands_done way create_back) (stands_done way start_back) v.fresh_at)
+    (before-rest v way.before.primary name (ap (λ o. (option_map_or (λ (x : Way). x.before) o v.switched).primary) opens))
+
+-- a slot that stays as it is
+same-state : (slot : Option Slot) → option_map (λ (s : Slot). s) slot ≡ slot
+same-state None = refl
+same-state (Some s) = refl
+
+either-same : {A : Type 0} (t : Bool) (x : A) → cond t x x ≡ x
+either-same true x = refl
+either-same false x = refl
+
+-- ---- the workflow behind a step, by the number of the step and that behind the last
+
+abbrev way_at : Live → Way → ℕ → ℕ → Live
+way_at w way n b = cond (eqb (suc n) b) (record (with_fresh_stream w way) { switched = way.after; way = None }) (record w { way = Some (more way) })
+
+abbrev live_at_step : Plain → Live → Way → ℕ → ℕ → Live
+live_at_step p w way n b =
+    cond (eqb n create_back) (record (way_at w way n b) { fresh_at = log_length p (new_owner w) })
+    (cond (eqb n write_journal) (record (way_at w way n b) { switched = way.after }) (way_at w way n b))
+
+-- a slot behind a step of this number
+abbrev slot_at_step : Way → StreamName → (n log_end : ℕ) → Option Slot → Option Slot
+slot_at_step way name n log_end slot = cond (is_feeding way name) (feeding_stepped way.back n slot) (other_stepped n log_end slot)
+
+abbrev feeds : Way → Bool → StreamName → Bool
+feeds way b name = is_feeding (record way { back = b }) name
+
+differ-true : (a b : Bool) → differ a b ≡ true → b ≡ not a
+differ-true true true e = absurd (true≢false (sym e))
+differ-true true false e = refl
+differ-true false true e = refl
+differ-true false false e = absurd (true≢false (sym e))
+
+module _ (p : Plain) (w : Live) (way : Way) (name : StreamName) (opens : w.way ≡ Some way) (turned : changes_primary way ≡ true → way.before.primary ≡ way.back) (left : next_step way < behind_last way) where
+  abbrev stepped : Live
+  stepped = live_stepped p w way
+
+  abbrev log_end : ℕ
+  log_end = log_length p (new_owner w)
+
+  abbrev Stepped : Type 0
+  Stepped = slot_of stepped name ≡ slot_stepped way name log_end (slot_of w name)
+
+  abbrev rests : Option Slot
+  rests = rest_slot w.forward_at w.back_at way.before.primary name
+
+  at_step : (n b : ℕ) → next_step way ≡ n → behind_last way ≡ b → stepped ≡ live_at_step p w way n b
+  at_step n b is last = ap (λ m. live_at_step p w way m (behind_last way)) is ∙ ap (live_at_step p w way n) last
+
+  by_number : (n : ℕ) → next_step way ≡ n → slot_of stepped name ≡ slot_at_step way name n log_end (slot_of w name) → Stepped
+  by_number n is e = e ∙ ap (λ m. slot_at_step way name m log_end (slot_of w name)) (sym is)
+
+  -- a way of reads
+  of_reads : changes_primary way ≡ false → Stepped
+  of_reads none = by_number 0 first (behind ∙ sym here)
+    where
+      last : behind_last way ≡ 1
+      last = ap (λ b. cond {A = ℕ} b 12 1) none
+
+      first : next_step way ≡ 0
+      first = omega (arith, left, last)
+
+      is : stepped ≡ record w { switched = way.after; way = None }
+      is = at_step 0 1 first last ∙ ap (λ (x : Live). record x { switched = way.after; way = None }) (ap (λ b. cond (not b) w (cond way.back (record w { forward_at = w.fresh_at }) (record w { back_at = w.fresh_at }))) none)
+
+      behind : slot_of stepped name ≡ rests
+      behind =
+          ap (λ v. slot_of v name) is ∙ closed-slot (record w { switched = way.after; way = None }) name refl
+          ∙ ap (λ b. rest_slot w.forward_at w.back_at b name) (differ-false way.before.primary way.after.primary none)
+
+      here : slot_at_step way name 0 log_end (slot_of w name) ≡ rests
+      here =
+          either-same (is_feeding way name) (slot_of w name) ∙ open-slot w way name opens
+          ∙ ap (λ c. way_slot c (is_feeding way name) (stands_done way stop_feeding) (stands_done way create_back) (stands_done way start_back) w.fresh_at rests) none
+
+  module _ (changes : changes_primary way ≡ true) where
+    last : behind_last way ≡ 12
+    last = ap (λ b. cond {A = ℕ} b 12 1) changes
+
+    -- the slot before the step, by the steps that stand done
+    was : (stops creates starts : Bool) → stands_done way stop_feeding ≡ stops → stands_done way create_back ≡ creates → stands_done way start_back ≡ starts
+        → slot_of w name ≡ way_slot true (is_feeding way name) stops creates starts w.fresh_at rests
+    was stops creates starts a b c =
+        open-slot w way name opens
+        ∙ ap (λ x. way_slot x (is_feeding way name) (stands_done way stop_feeding) (stands_done way create_back) (stands_done way start_back) w.fresh_at rests) changes
+        ∙ ap (λ x. way_slot true (is_feeding way name) x (stands_done way create_back) (stands_done way start_back) w.fresh_at rests) a
+        ∙ ap (λ x. way_slot true (is_feeding way name) stops x (stands_done way start_back) w.fresh_at rests) b
+        ∙ ap (λ x. way_slot true (is_feeding way name) stops creates x w.fresh_at rests) c
+
+    -- and behind it, while the way is open
+    now : (v : Live) → stepped ≡ v → v.way ≡ Some (more way) → v.forward_at ≡ w.forward_at → v.back_at ≡ w.back_at
+        → (stops creates starts : Bool) → stands_done (more way) stop_feeding ≡ stops → stands_done (more way) create_back ≡ creates → stands_done (more way) start_back ≡ starts
+        → slot_of stepped name ≡ way_slot true (is_feeding way name) stops creates starts v.fresh_at rests
+    now v is going same_forward same_back stops creates starts a b c =
+        ap (λ x. slot_of x name) is ∙ open-slot v (more way) name going
+        ∙ ap (λ f. way_slot (changes_primary way) (is_feeding way name) (stands_done (more way) stop_feeding) (stands_done (more way) create_back) (stands_done (more way) start_back) v.fresh_at (rest_slot f v.back_at way.before.primary name)) same_forward
+        ∙ ap (λ f. way_slot (changes_primary way) (is_feeding way name) (stands_done (more way) stop_feeding) (stands_done (more way) create_back) (stands_done (more way) start_back) v.fresh_at (rest_slot w.forward_at f way.before.primary name)) same_back
+        ∙ ap (λ x. way_slot x (is_feeding way name) (stands_done (more way) stop_feeding) (stands_done (more way) create_back) (stands_done (more way) start_back) v.fresh_at rests) changes
+        ∙ ap (λ x. way_slot true (is_feeding way name) x (stands_done (more way) create_back) (stands_done (more way) start_back) v.fresh_at rests) a
+        ∙ ap (λ x. way_slot true (is_feeding way name) stops x (stands_done (more way) start_back) v.fresh_at rests) b
+        ∙ ap (λ x. way_slot true (is_feeding way name) stops creates x v.fresh_at rests) c
+
+    further : (n : ℕ) → next_step way ≡ n → next_step (more way) ≡ suc n
+    further n is = omega (arith, is)
+
+    stops : next_step way ≡ 4 → Stepped
+    stops is =
+        let e = further 4 is in
+        by_number 4 is (now (record w { way = Some (more way) }) (at_step 4 12 is last) refl refl refl true false false
+        (done_by (more way) stop_feeding 5 e (omega arith) (omega arith)) (undone_by (more way) create_back 5 e (omega arith)) (undone_by (more way) start_back 5 e (omega arith))
+        ∙ by (is_feeding way name) rests
+        ∙ ap (slot_at_step way name 4 log_end) (sym (was false false false (undone_by way stop_feeding 4 is (omega arith)) (undone_by way create_back 4 is (omega arith)) (undone_by way start_back 4 is (omega arith)))))
+      where
+        by : (f : Bool) (slot : Option Slot) → way_slot true f true false false w.fresh_at slot ≡ cond f (feeding_stepped way.back 4 (way_slot true f false false false w.fresh_at slot)) (other_stepped 4 log_end (way_slot true f false false false w.fresh_at slot))
+        by true None = refl
+        by true (Some s) = refl
+        by false slot = refl
+
+    creates : next_step way ≡ 5 → Stepped
+    creates is =
+        let e = further 5 is in
+        by_number 5 is (now (record w { way = Some (more way); fresh_at = log_end }) (at_step 5 12 is last) refl refl refl true true false
+        (done_by (more way) stop_feeding 6 e (omega arith) (omega arith)) (done_by (more way) create_back 6 e (omega arith) (omega arith)) (undone_by (more way) start_back 6 e (omega arith))
+        ∙ by (is_feeding way name) rests
+        ∙ ap (slot_at_step way name 5 log_end) (sym (was true false false (done_by way stop_feeding 5 is (omega arith) (omega arith)) (undone_by way create_back 5 is (omega arith)) (undone_by way start_back 5 is (omega arith)))))
+      where
+        by : (f : Bool) (slot : Option Slot) → way_slot true f true true false log_end slot ≡ cond f (feeding_stepped way.back 5 (way_slot true f true false false w.fresh_at slot)) (other_stepped 5 log_end (way_slot true f true false false w.fresh_at slot))
+        by true slot = refl
+        by false slot = refl
+
+    starts : next_step way ≡ 10 → Stepped
+    starts is =
+        let e = further 10 is in
+        by_number 10 is (now (record w { way = Some (more way) }) (at_step 10 12 is last) refl refl refl true true true
+        (done_by (more way) stop_feeding 11 e (omega arith) (omega arith)) (done_by (more way) create_back 11 e (omega arith) (omega arith)) (done_by (more way) start_back 11 e (omega arith) (omega arith))
+        ∙ by (is_feeding way name) rests
+        ∙ ap (slot_at_step way name 10 log_end) (sym (was true true false (done_by way stop_feeding 10 is (omega arith) (omega arith)) (done_by way create_back 10 is (omega arith) (omega arith)) (undone_by way start_back 10 is (omega arith)))))
+      where
+        by : (f : Bool) (slot : Option Slot) → way_slot true f true true true w.fresh_at slot ≡ cond f (feeding_stepped way.back 10 (way_slot true f true true false w.fresh_at slot)) (other_stepped 10 log_end (way_slot true f true true false w.fresh_at slot))
+        by true slot = refl
+        by false slot = refl
+
+    freezes : next_step way ≡ 11 → Stepped
+    freezes is = by_number 11 is (behind ∙ by way.back name ∙ ap (slot_at_step way name 11 log_end) (sym here))
+      where
+        -- the stream that the way has made takes its place
+        closed : Bool → Live
+        closed b = record (cond b (record w { forward_at = w.fresh_at }) (record w { back_at = w.fresh_at })) { switched = way.after; way = None }
+
+        behind : slot_of stepped name ≡ cond way.back (rest_slot w.fresh_at w.back_at false name) (rest_slot w.forward_at w.fresh_at true name)
+        behind =
+            ap (λ v. slot_of v name) (at_step 11 12 is last ∙ ap (λ b. record (cond (not b) w (cond way.back (record w { forward_at = w.fresh_at }) (record w { back_at = w.fresh_at }))) { switched = way.after; way = None }) changes)
+            ∙ cases way.back (differ-true way.before.primary way.after.primary changes ∙ ap not (turned changes))
+          where
+            cases : (b : Bool) → way.after.primary ≡ not b
+                → slot_of (record (cond b (record w { forward_at = w.fresh_at }) (record w { back_at = w.fresh_at })) { switched = way.after; way = None }) name
+                ≡ cond b (rest_slot w.fresh_at w.back_at false name) (rest_slot w.forward_at w.fresh_at true name)
+            cases true e = closed-slot (record w { forward_at = w.fresh_at; switched = way.after; way = None }) name refl ∙ ap (λ t. rest_slot w.fresh_at w.back_at t name) e
+            cases false e = closed-slot (record w { back_at = w.fresh_at; switched = way.after; way = None }) name refl ∙ ap (λ t. rest_slot w.forward_at w.fresh_at t name) e
+
+        here : slot_of w name ≡ way_slot true (is_feeding way name) true true true w.fresh_at (rest_slot w.forward_at w.back_at way.back name)
+        here =
+            was true true true (done_by way stop_feeding 11 is (omega arith) (omega arith)) (done_by way create_back 11 is (omega arith) (omega arith)) (done_by way start_back 11 is (omega arith) (omega arith))
+            ∙ ap (λ t. way_slot true (is_feeding way name) true true true w.fresh_at (rest_slot w.forward_at w.back_at t name)) (turned changes)
+
+        by : (b : Bool) (n : StreamName) → cond b (rest_slot w.fresh_at w.back_at false n) (rest_slot w.forward_at w.fresh_at true n)
+            ≡ cond (feeds way b n) (feeding_stepped b 11 (way_slot true (feeds way b n) true true true w.fresh_at (rest_slot w.forward_at w.back_at b n)))
+            (other_stepped 11 log_end (way_slot true (feeds way b n) true true true w.fresh_at (rest_slot w.forward_at w.back_at b n)))
+        by true forward = refl
+        by true back = refl
+        by false forward = refl
+        by false back = refl
+
+    -- any other step
+    module _ (not_stop : eqb (next_step way) 4 ≡ false) (not_create : eqb (next_step way) 5 ≡ false) (not_start : eqb (next_step way) 10 ≡ false) (not_last : eqb (next_step way) 11 ≡ false) where
+      open_still : eqb (suc (next_step way)) (behind_last way) ≡ false
+      open_still = false_from_ne_true (eqb (suc (next_step way)) (behind_last way)) (λ t.
+          let at : next_step way ≡ 11 = omega (arith, eqb-true (suc (next_step way)) (behind_last way) t ∙ last) in
+          true≢false (sym (eq-eqb (next_step way) 11 at) ∙ not_last))
+
+      stays : Stepped
+      stays = cases (eqb (next_step way) write_journal) refl
+        where
+          going : Live
+          going = record w { way = Some (more way) }
+
+          same : (v : Live) → stepped ≡ v → v.way ≡ Some (more way) → v.forward_at ≡ w.forward_at → v.back_at ≡ w.back_at → v.fresh_at ≡ w.fresh_at → Stepped
+          same v is opened same_forward same_back same_fresh =
+              now v is opened same_forward same_back (stands_done way stop_feeding) (stands_done way create_back) (stands_done way start_back)
+              (same_done way stop_feeding not_stop) (same_done way create_back not_create) (same_done way start_back not_start)
+              ∙ ap (λ f. way_slot true (is_feeding way name) (stands_done way stop_feeding) (stands_done way create_back) (stands_done way start_back) f rests) same_fresh
+              ∙ sym (was (stands_done way stop_feeding) (stands_done way create_back) (stands_done way start_back) refl refl refl)
+              ∙ sym (ap (λ t. cond (is_feeding way name) (cond t (in_state stopped slot) (cond (eqb (next_step way) freeze_old) (cond way.back None (in_state frozen slot)) slot)) (other_stepped (next_step way) log_end slot)) not_stop
+              ∙ ap (λ t. cond (is_feeding way name) (cond t (cond way.back None (in_state frozen slot)) slot) (other_stepped (next_step way) log_end slot)) not_last
+              ∙ ap (λ t. cond (is_feeding way name) slot (cond t (Some (record { state = stopped; position = log_end })) (cond (eqb (next_step way) start_back) (in_state running slot) slot))) not_create
+              ∙ ap (λ t. cond (is_feeding way name) slot (cond t (in_state running slot) slot)) not_start
+              ∙ either-same (is_feeding way name) slot)
+            where
+              slot : Option Slot
+              slot = slot_of w name
+
+          shape : (j : Bool) → eqb (next_step way) write_journal ≡ j → stepped ≡ cond j (record going { switched = way.after }) going
+          shape j e =
+              ap (λ t. cond t (record (way_at w way (next_step way) (behind_last way)) { fresh_at = log_end }) (cond (eqb (next_step way) write_journal) (record (way_at w way (next_step way) (behind_last way)) { switched = way.after }) (way_at w way (next_step way) (behind_last way)))) not_create
+              ∙ ap (λ t. cond (eqb (next_step way) write_journal) (record (cond t (record (with_fresh_stream w way) { switched = way.after; way = None }) going) { switched = way.after }) (cond t (record (with_fresh_stream w way) { switched = way.after; way = None }) going)) open_still
+              ∙ ap (λ t. cond t (record going { switched = way.after }) going) e
+
+          cases : (j : Bool) → eqb (next_step way) write_journal ≡ j → Stepped
+          cases true e = same (record going { switched = way.after }) (shape true e) refl refl refl refl
+          cases false e = same going (shape false e) refl refl refl refl
+
+    of_writes : Stepped
+    of_writes = at_4 (eqb (next_step way) 4) refl
+      where
+        at_11 : (t : Bool) → eqb (next_step way) 4 ≡ false → eqb (next_step way) 5 ≡ false → eqb (next_step way) 10 ≡ false → eqb (next_step way) 11 ≡ t → Stepped
+        at_11 true a b c t = freezes (eqb-true (next_step way) 11 t)
+        at_11 false a b c t = stays a b c t
+
+        at_10 : (t : Bool) → eqb (next_step way) 4 ≡ false → eqb (next_step way) 5 ≡ false → eqb (next_step way) 10 ≡ t → Stepped
+        at_10 true a b t = starts (eqb-true (next_step way) 10 t)
+        at_10 false a b t = at_11 (eqb (next_step way) 11) a b t refl
+
+        at_5 : (t : Bool) → eqb (next_step way) 4 ≡ false → eqb (next_step way) 5 ≡ t → Stepped
+        at_5 true a t = creates (eqb-true (next_step way) 5 t)
+        at_5 false a t = at_10 (eqb (next_step way) 10) a t refl
+
+        at_4 : (t : Bool) → eqb (next_step way) 4 ≡ t → Stepped
+        at_4 true t = stops (eqb-true (next_step way) 4 t)
+        at_4 false t = at_5 (eqb (next_step way) 5) t refl
+
+  pub slot-stepped : Stepped
+  slot-stepped = by (changes_primary way) refl
+    where
+      by : (t : Bool) → changes_primary way ≡ t → Stepped
+      by true t = of_writes t
+      by false t = of_reads t
