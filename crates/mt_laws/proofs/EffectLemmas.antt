@@ -282,7 +282,7 @@ module _ (p : Plain) (w : Live) (way : Way) (opens : w.way ≡ Some way) where
       let n = step_of_entry w key in
       let at = types_by stepped (step_of_entry stepped key) in
       let alike = stepped-alike w stepped way opens (way-stepped p w way) (switched-closed p w way) n (step_of_entry stepped key) (step_of_entry-le w key)
-          (λ t. entry_step-same stepped w (sides-live_stepped p w way) (before-stepped t) key) in
+      (λ t. entry_step-same stepped w (sides-live_stepped p w way) (before-stepped t) key) in
       sym (serve-same u u w stepped at key (sides-live_stepped p w way) refl)
       ∙ serve-alike u w at _ key alike
       ∙ cond-ap (λ types. serve u w types key) (eqb (next_step way) n) way.after (types_by w n)
@@ -293,7 +293,7 @@ module _ (p : Plain) (w : Live) (way : Way) (opens : w.way ≡ Some way) where
       let at = types_by stepped (step_of_list stepped keyspace) in
       let same = sides-live_stepped p w way in
       let alike = stepped-alike w stepped way opens (way-stepped p w way) (switched-closed p w way) n (step_of_list stepped keyspace) (step_of_list-le w keyspace)
-          (λ t. list_step-same stepped w same (before-stepped t) keyspace) in
+      (λ t. list_step-same stepped w same (before-stepped t) keyspace) in
       listed-same w stepped same at keyspace
       ∙ listed-alike w at _ keyspace alike
       ∙ cond-ap (λ types. is_listed_at w types keyspace) (eqb (next_step way) n) way.after (types_by w n)

@@ -1,6 +1,7 @@
 pub mod AllWritesLemmas
 pub mod AnswerLemmas
 pub mod ChangeLemmas
+pub mod ChangedLemmas
 pub mod CleanLemmas
 pub mod CompleteLemmas
 pub mod CopyLemmas

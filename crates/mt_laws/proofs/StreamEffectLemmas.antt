@@ -2,15 +2,16 @@
 use Rattle.std.proofs.Common.{◌≡◌, ◌≢◌, ℕ, suc, ◌+◌, ◌-◌, ◌<◌, ◌≤◌, Bool, true, false, not, cond, eqb, List, Option, None, Some, option_map, refl, sym, ap, ◌∙◌, subst, arith, eqb-true}
 use Rattle.std.proofs.lemmas.Bool.{true≢false, eq-eqb, false_from_ne_true}
 use Rattle.std.specs.Option.{option_map_or}
+use Rattle.mt_names.specs.declared.types.TypeSet.{TypeSet}
 use Rattle.mt_plain.specs.Events.{StreamName, forward, back, StreamState, running, stopped, frozen, Slot, Way}
 use Rattle.mt_plain.specs.Next.{live_stepped, live_undone, with_fresh_stream}
 use Rattle.mt_plain.specs.Plain.{Live, Plain, before_way, behind_last, changes_primary, create_back, differ, freeze_old, next_step, stands_done, start_back, stop_feeding, write_journal}
 use Rattle.mt_plain.specs.Refuse.{new_owner}
 use Rattle.mt_plain.specs.Slots.{is_feeding, log_length, slot_before_way, slot_by_way, slot_of}
 use Rattle.mt_laws.specs.Effects.{feeding_stepped, in_state, last_step, other_stepped, slot_stepped, slot_undone}
-use Rattle.mt_laws.proofs.EffectLemmas.{differ-false, switched-undone}
+use Rattle.mt_laws.proofs.EffectLemmas.{differ-false}
 use Rattle.mt_laws.proofs.StepCountLemmas.{few_done}
-use Rattle.mt_laws.proofs.WayStepLemmas.{done_by, fewer, more, same_done, undone_by, way-undone}
+use Rattle.mt_laws.proofs.WayStepLemmas.{done_by, fewer, first_step-le, more, same_done, undone_by}
 
 -- ---- a slot, by what it hangs on
 
@@ -278,3 +279,180 @@ module _ (p : Plain) (w : Live) (way : Way) (name : StreamName) (opens : w.way �
       by : (t : Bool) → changes_primary way ≡ t → Stepped
       by true t = of_writes t
       by false t = of_reads t
+
+-- ---- an undo, before the journal
+
+module _ (w : Live) (way : Way) (name : StreamName) (opens : w.way ≡ Some way) (settled : w.switched ≡ way.before) (turned : changes_primary way ≡ true → way.before.primary ≡ way.back) (left : next_step way < behind_last way) (before : stands_done way write_journal ≡ false) where
+  abbrev undone : Live
+  undone = live_undone w way
+
+  abbrev saved : Option Slot
+  saved = slot_before_way w name
+
+  abbrev Undone : Type 0
+  Undone = slot_of undone name ≡ slot_undone way name saved (slot_of w name)
+
+  abbrev stood : Option Slot
+  stood = rest_slot w.forward_at w.back_at way.before.primary name
+
+  few : next_step way ≤ 6
+  few = few_done way before
+
+  saved_is : saved ≡ stood
+  saved_is = before-rest w way.before.primary name (ap (λ o. (option_map_or (λ (x : Way). x.before) o w.switched).primary) opens)
+
+  at_undone : (b : Bool) → eqb (way.done - 1) 0 ≡ b → undone ≡ cond b (record w { way = None }) (record w { way = Some (fewer way) })
+  at_undone b e = ap (λ t. cond t (record w { way = None }) (record w { way = Some (fewer way) })) e
+
+  none_started : stands_done way start_back ≡ false
+  none_started = undone_by way start_back (next_step way) refl (omega (arith, few))
+
+  stood_done : (stops creates : Bool) → stands_done way stop_feeding ≡ stops → stands_done way create_back ≡ creates
+      → slot_of w name ≡ way_slot (changes_primary way) (is_feeding way name) stops creates false w.fresh_at stood
+  stood_done stops creates a b =
+      open-slot w way name opens
+      ∙ ap (λ x. way_slot (changes_primary way) (is_feeding way name) x (stands_done way create_back) (stands_done way start_back) w.fresh_at stood) a
+      ∙ ap (λ x. way_slot (changes_primary way) (is_feeding way name) stops x (stands_done way start_back) w.fresh_at stood) b
+      ∙ ap (λ x. way_slot (changes_primary way) (is_feeding way name) stops creates x w.fresh_at stood) none_started
+
+  -- an undo of another step leaves the slot
+  other_step : eqb (last_step way) stop_feeding ≡ false → eqb (last_step way) create_back ≡ false → slot_undone way name saved (slot_of w name) ≡ slot_of w name
+  other_step a b =
+      ap (λ t. cond (is_feeding way name) (cond t (in_state running (slot_of w name)) (slot_of w name)) (cond (eqb (last_step way) create_back) saved (slot_of w name))) a
+      ∙ ap (λ t. cond (is_feeding way name) (slot_of w name) (cond t saved (slot_of w name))) b
+      ∙ either-same (is_feeding way name) (slot_of w name)
+
+  not_number : (n : ℕ) → last_step way ≢ n → eqb (last_step way) n ≡ false
+  not_number n apart = false_from_ne_true (eqb (last_step way) n) (λ t. apart (eqb-true (last_step way) n t))
+
+  untouched : (c f : Bool) (slot : Option Slot) → way_slot c f false false false w.fresh_at slot ≡ slot
+  untouched true true slot = same-state slot
+  untouched true false slot = refl
+  untouched false f slot = refl
+
+  -- the way is closed: no step of streams stood done
+  closed : eqb (way.done - 1) 0 ≡ true → Undone
+  closed t = behind ∙ sym (other_step (not_number 4 (λ e. absurd (omega (arith, e, none)))) (not_number 5 (λ e. absurd (omega (arith, e, none)))) ∙ here)
+    where
+      none : next_step way ≤ 2
+      none = let first = first_step-le way in omega (arith, first, eqb-true (way.done - 1) 0 t)
+
+      behind : slot_of undone name ≡ stood
+      behind = ap (λ v. slot_of v name) (at_undone true t) ∙ closed-slot (record w { way = None }) name refl ∙ ap (λ (x : TypeSet). rest_slot w.forward_at w.back_at x.primary name) settled
+
+      here : slot_of w name ≡ stood
+      here =
+          stood_done false false (undone_by way stop_feeding (next_step way) refl (omega (arith, none))) (undone_by way create_back (next_step way) refl (omega (arith, none)))
+          ∙ untouched (changes_primary way) (is_feeding way name) stood
+
+  module _ (more_left : eqb (way.done - 1) 0 ≡ false) where
+    some_done : 2 ≤ way.done
+    some_done = let apart : way.done - 1 ≢ 0 = λ e. true≢false (sym (eq-eqb (way.done - 1) 0 e) ∙ more_left) in omega (arith, apart)
+
+    changes : changes_primary way ≡ true
+    changes = by (changes_primary way) refl
+      where
+        by : (t : Bool) → changes_primary way ≡ t → changes_primary way ≡ true
+        by true t = t
+        by false t = let last : behind_last way ≡ 1 = ap (λ b. cond {A = ℕ} b 12 1) t in absurd (omega (arith, left, last, some_done))
+
+    fewer_started : stands_done (fewer way) start_back ≡ false
+    fewer_started = undone_by (fewer way) start_back (next_step (fewer way)) refl (omega (arith, few))
+
+    now_done : (stops creates : Bool) → stands_done (fewer way) stop_feeding ≡ stops → stands_done (fewer way) create_back ≡ creates
+        → slot_of undone name ≡ way_slot true (is_feeding way name) stops creates false w.fresh_at stood
+    now_done stops creates a b =
+        ap (λ v. slot_of v name) (at_undone false more_left) ∙ open-slot (record w { way = Some (fewer way) }) (fewer way) name refl
+        ∙ ap (λ x. way_slot x (is_feeding way name) (stands_done (fewer way) stop_feeding) (stands_done (fewer way) create_back) (stands_done (fewer way) start_back) w.fresh_at stood) changes
+        ∙ ap (λ x. way_slot true (is_feeding way name) x (stands_done (fewer way) create_back) (stands_done (fewer way) start_back) w.fresh_at stood) a
+        ∙ ap (λ x. way_slot true (is_feeding way name) stops x (stands_done (fewer way) start_back) w.fresh_at stood) b
+        ∙ ap (λ x. way_slot true (is_feeding way name) stops creates x w.fresh_at stood) fewer_started
+
+    was_done_by : (stops creates : Bool) → stands_done way stop_feeding ≡ stops → stands_done way create_back ≡ creates
+        → slot_of w name ≡ way_slot true (is_feeding way name) stops creates false w.fresh_at stood
+    was_done_by stops creates a b = stood_done stops creates a b ∙ ap (λ c. way_slot c (is_feeding way name) stops creates false w.fresh_at stood) changes
+
+    one_less : (n : ℕ) → next_step way ≡ suc n → next_step (fewer way) ≡ n
+    one_less n is = omega (arith, is, some_done)
+
+    -- the feeding stream runs again
+    runs_again : next_step way ≡ 5 → Undone
+    runs_again is =
+        now_done false false (undone_by (fewer way) stop_feeding 4 (one_less 4 is) (omega arith)) (undone_by (fewer way) create_back 4 (one_less 4 is) (omega arith))
+        ∙ again
+        ∙ sym (ap (λ s. cond (is_feeding way name) (in_state running s) s) here)
+        ∙ sym (ap (λ t. cond (is_feeding way name) (cond t (in_state running (slot_of w name)) (slot_of w name)) (cond (eqb (last_step way) create_back) saved (slot_of w name))) at_stop
+        ∙ ap (λ t. cond (is_feeding way name) (in_state running (slot_of w name)) (cond t saved (slot_of w name))) not_create)
+      where
+        at_stop : eqb (last_step way) stop_feeding ≡ true
+        at_stop = eq-eqb (last_step way) stop_feeding (omega (arith, is))
+
+        not_create : eqb (last_step way) create_back ≡ false
+        not_create = not_number 5 (λ e. absurd (omega (arith, e, is)))
+
+        here : slot_of w name ≡ way_slot true (is_feeding way name) true false false w.fresh_at (rest_slot w.forward_at w.back_at way.back name)
+        here =
+            was_done_by true false (done_by way stop_feeding 5 is (omega arith) (omega arith)) (undone_by way create_back 5 is (omega arith))
+            ∙ ap (λ t. way_slot true (is_feeding way name) true false false w.fresh_at (rest_slot w.forward_at w.back_at t name)) (turned changes)
+
+        ran : (b : Bool) (n : StreamName) → way_slot true (feeds way b n) false false false w.fresh_at (rest_slot w.forward_at w.back_at b n)
+            ≡ cond (feeds way b n) (in_state running (way_slot true (feeds way b n) true false false w.fresh_at (rest_slot w.forward_at w.back_at b n)))
+            (way_slot true (feeds way b n) true false false w.fresh_at (rest_slot w.forward_at w.back_at b n))
+        ran true forward = refl
+        ran true back = refl
+        ran false forward = refl
+        ran false back = refl
+
+        again : way_slot true (is_feeding way name) false false false w.fresh_at stood
+            ≡ cond (is_feeding way name) (in_state running (way_slot true (is_feeding way name) true false false w.fresh_at (rest_slot w.forward_at w.back_at way.back name)))
+            (way_slot true (is_feeding way name) true false false w.fresh_at (rest_slot w.forward_at w.back_at way.back name))
+        again =
+            ap (λ t. way_slot true (is_feeding way name) false false false w.fresh_at (rest_slot w.forward_at w.back_at t name)) (turned changes) ∙ ran way.back name
+
+    -- what stood before the way stands in the place of the new stream again
+    as_before : next_step way ≡ 6 → Undone
+    as_before is =
+        now_done true false (done_by (fewer way) stop_feeding 5 (one_less 5 is) (omega arith) (omega arith)) (undone_by (fewer way) create_back 5 (one_less 5 is) (omega arith))
+        ∙ by (is_feeding way name)
+        ∙ ap (λ s. cond (is_feeding way name) s stood) (sym here)
+        ∙ ap (λ s. cond (is_feeding way name) (slot_of w name) s) (sym saved_is)
+        ∙ sym (ap (λ t. cond (is_feeding way name) (cond t (in_state running (slot_of w name)) (slot_of w name)) (cond (eqb (last_step way) create_back) saved (slot_of w name))) not_stop
+        ∙ ap (λ t. cond (is_feeding way name) (slot_of w name) (cond t saved (slot_of w name))) at_create)
+      where
+        not_stop : eqb (last_step way) stop_feeding ≡ false
+        not_stop = not_number 4 (λ e. absurd (omega (arith, e, is)))
+
+        at_create : eqb (last_step way) create_back ≡ true
+        at_create = eq-eqb (last_step way) create_back (omega (arith, is))
+
+        here : slot_of w name ≡ way_slot true (is_feeding way name) true true false w.fresh_at stood
+        here = was_done_by true true (done_by way stop_feeding 6 is (omega arith) (omega arith)) (done_by way create_back 6 is (omega arith) (omega arith))
+
+        by : (f : Bool) → way_slot true f true false false w.fresh_at stood ≡ cond f (way_slot true f true true false w.fresh_at stood) stood
+        by true = refl
+        by false = refl
+
+    -- any other
+    stays_undone : last_step way ≢ 4 → last_step way ≢ 5 → Undone
+    stays_undone a b =
+        now_done false false (undone_by (fewer way) stop_feeding (next_step (fewer way)) refl (omega (arith, few, a, b))) (undone_by (fewer way) create_back (next_step (fewer way)) refl (omega (arith, few, a, b)))
+        ∙ sym (other_step (not_number 4 a) (not_number 5 b)
+        ∙ was_done_by false false (undone_by way stop_feeding (next_step way) refl (omega (arith, few, a, b))) (undone_by way create_back (next_step way) refl (omega (arith, few, a, b))))
+
+    still_open : Undone
+    still_open = at_4 (eqb (last_step way) 4) refl
+      where
+        at_5 : (t : Bool) → last_step way ≢ 4 → eqb (last_step way) 5 ≡ t → Undone
+        at_5 true a t = as_before (let e = eqb-true (last_step way) 5 t in omega (arith, e))
+        at_5 false a t = stays_undone a (λ e. true≢false (sym (eq-eqb (last_step way) 5 e) ∙ t))
+
+        at_4 : (t : Bool) → eqb (last_step way) 4 ≡ t → Undone
+        at_4 true t = runs_again (let e = eqb-true (last_step way) 4 t in omega (arith, e))
+        at_4 false t = at_5 (eqb (last_step way) 5) (λ e. true≢false (sym (eq-eqb (last_step way) 4 e) ∙ t)) refl
+
+  pub slot-undone : Undone
+  slot-undone = by (eqb (way.done - 1) 0) refl
+    where
+      by : (t : Bool) → eqb (way.done - 1) 0 ≡ t → Undone
+      by true t = closed t
+      by false t = still_open t

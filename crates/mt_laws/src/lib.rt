@@ -24,7 +24,9 @@ pub use copies::{
     the_other_side_answers_by_the_writes_that_were_fed, what_was_fed_stays_fed,
 };
 pub use effects::{
-    a_step_changes_what_changes_with_its_number, an_undo_changes_what_changed_with_the_last_step,
+    a_step_changes_what_changes_with_its_number, a_workflow_that_changes_changes_its_own_part,
+    an_undo_changes_what_changed_with_the_last_step,
+    steps_and_undos_change_the_state_by_their_numbers,
 };
 pub use events::{
     answers_are_determined, limits_are_told_last, reads_answer_the_row,
