@@ -24,6 +24,7 @@ pub mod NumberLemmas
 pub mod NumberedLemmas
 pub mod OpenLemmas
 pub mod OpenWayLemmas
+pub mod OrderLemmas
 pub mod OutputLemmas
 pub mod OwnerLemmas
 pub mod PartLemmas
@@ -37,7 +38,9 @@ pub mod RefusalLemmas
 pub mod ReverseLemmas
 pub mod RowWitnessLemmas
 pub mod RunLemmas
+pub mod SameLemmas
 pub mod ServeLemmas
+pub mod SortLemmas
 pub mod StepCountLemmas
 pub mod StreamLemmas
 pub mod TableLemmas

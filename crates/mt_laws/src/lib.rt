@@ -3,6 +3,7 @@
 
 mod changes;
 mod copies;
+mod documents;
 mod events;
 mod headline;
 mod parts;
@@ -22,6 +23,7 @@ pub use copies::{
     all_writes_are_fed_at_the_journal, level_is_what_it_says,
     the_other_side_answers_by_the_writes_that_were_fed, what_was_fed_stays_fed,
 };
+pub use documents::same_topologies_have_the_same_look_ups_and_documents;
 pub use events::{
     answers_are_determined, limits_are_told_last, reads_answer_the_row,
     refused_events_change_nothing,
