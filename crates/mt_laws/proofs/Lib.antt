@@ -20,6 +20,7 @@ pub mod LineLemmas
 pub mod ListLemmas
 pub mod LiveLemmas
 pub mod LogLemmas
+pub mod NamedLemmas
 pub mod NumberLemmas
 pub mod NumberedLemmas
 pub mod OpenLemmas

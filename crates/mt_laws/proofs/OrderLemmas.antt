@@ -1,5 +1,5 @@
 -- A fold over entries doesn't depend on their order, where no key has two entries and the steps at two keys can be exchanged.
-use Rattle.std.proofs.Common.{◌≡◌, ◌≢◌, ◌⊎◌, inl, inr, ℕ, Bool, true, false, cond, List, [], ◌∷◌, ◌++◌, map, filter, flat_map, fold, Option, None, Some, refl, sym, ap, subst, ◌∙◌}
+use Rattle.std.proofs.Common.{◌≡◌, ◌≢◌, ◌⊎◌, inl, inr, Bool, true, false, List, [], ◌∷◌, flat_map, fold, Option, None, Some, refl, sym, ap, subst, ◌∙◌}
 use Rattle.std.proofs.lemmas.List.Sums.{fold-append}
 use Rattle.std.proofs.lemmas.Map.Keys.{IsDistinct-head, IsDistinct-tail}
 use Rattle.std.specs.List.{AllByRecursion, IsDistinct}
@@ -75,7 +75,9 @@ module _ {K V S : Type 0} (same : K → K → Bool) (decides : DecidesEquality s
         (remove_entry-all P (same x.0) ys all) (alike-rest x xs ys distinct others alike)
         ∙ ap (λ r. fold step r (remove_entry (same x.0) ys)) first ∙ sym (pulled x.0 ys s all)
 
-  -- an entry is the one that is found for its key
+-- ---- what is found for the key of each entry
+
+module _ {K V : Type 0} (same : K → K → Bool) (decides : DecidesEquality same) where
   still_found : (d : K × V) (es xs : List (K × V)) → AllByRecursion (λ k. same d.0 k ≡ false) (keys_of xs) → AllByRecursion (λ e. lookup (same e.0) es ≡ Some e.1) xs
       → AllByRecursion (λ e. lookup (same e.0) (d ∷ es) ≡ Some e.1) xs
   still_found d es [] other all = tt

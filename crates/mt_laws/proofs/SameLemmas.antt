@@ -1,8 +1,8 @@
 -- Topologies that say the same have the same look-ups and documents.
-use Rattle.std.proofs.Common.{◌≡◌, ◌≢◌, ℕ, Bool, true, false, cond, List, [], ◌∷◌, ◌++◌, map, filter, flat_map, fold, Option, None, Some, Result, Ok, Err, is_some, unwrap_or, refl, sym, ap, ap₂, subst, ◌∙◌}
+use Rattle.std.proofs.Common.{◌≡◌, ◌≢◌, ℕ, Bool, true, false, cond, List, [], ◌∷◌, map, filter, flat_map, fold, Option, None, Some, Result, Ok, Err, is_some, unwrap_or, refl, sym, ap, ◌∙◌}
 use Rattle.std.proofs.lemmas.Bool.{true≢false}
 use Rattle.std.proofs.lemmas.List.Folds.{fold-map}
-use Rattle.std.specs.List.{AllByRecursion, IsDistinct}
+use Rattle.std.specs.List.{IsDistinct}
 use Rattle.std.specs.Map.{keys_of, lookup}
 use Rattle.std.specs.Option.{option_map_or, option_or}
 use Rattle.std.specs.Prelude.{⊤, codes}
@@ -18,7 +18,7 @@ use Rattle.mt_names.proofs.SameLemmas.{same_key_decides, same_text_decides}
 use Rattle.mt_model.specs.declared.entries.EntryKey.TheVariants as about
 use Rattle.mt_model.specs.declared.faults.TopologyFault.{TopologyFault}
 use Rattle.mt_model.specs.declared.faults.TopologyFault.TheVariants.{NoTable, Ambiguous}
-use Rattle.mt_model.specs.Documents.{array, denied_sorted, denied_text, denied_texts, document_text, dump_text, entries_of, keyspace_text, keyspaces_in_order, marked, member, object, put_by_text, quoted, rules_text, rule_text, sorted_rules, sorted_texts, tables_in_order}
+use Rattle.mt_model.specs.Documents.{array, denied_sorted, denied_text, denied_texts, dump_text, entries_of, keyspace_text, keyspaces_in_order, marked, member, object, put_by_text, quoted, rules_text, rule_text, sorted_rules, tables_in_order}
 use Rattle.mt_model.specs.Part.{IsSameTopology}
 use Rattle.mt_model.specs.Topology.{HasDistinctPlaces, KeyspaceState, Keyspaces, Marks, Rules, TopologyState, for_all_types, for_type, holders, is_denied, is_marked, is_present, keyspace_at, resolution, rule_at, rule_for, sole_holder, unruled}
 use Rattle.mt_model.proofs.TopologyLemmas.{holds_at}
@@ -189,7 +189,7 @@ sorted_rules-same t u same distinct others texts =
     ∙ ap (map (λ x. x.1)) (fold-flat_map put_rule entries_of [] t.rules
     ∙ sym (fold-alike same_key same_key_decides put_entry (IsFound t.rules)
     (λ s x y is is' other. put_entry-swapped t.rules texts s x.0 y.0 x.1 y.1 is is' (other_from same_key same_key_decides x.0 y.0 other)) u.rules t.rules [] others.rules distinct.rules
-    (each_found same_key same_key_decides put_entry t.rules distinct.rules)
+    (each_found same_key same_key_decides t.rules distinct.rules)
     (λ key s. put_entry-at u.rules key s ∙ ap (λ o. put_entry s (key, o)) (sym (rules-same t u same key)) ∙ sym (put_entry-at t.rules key s)))
     ∙ sym (fold-flat_map put_rule entries_of [] u.rules))
     ∙ sym (sorted-is (λ r. key_text r.0) (flat_map entries_of u.rules))

@@ -1,11 +1,15 @@
 //! Laws on what a topology tells its users: where names lead, and its documents.
 ghost use Rattle.std.specs.Prelude.{◌≡◌};
-ghost use Rattle.mt_laws.specs.Texts.{HasDistinctTexts, HasNamedKeys};
+ghost use Rattle.std.specs.List.{AllByRecursion};
+ghost use Rattle.mt_laws.specs.Texts.{BringsNames, HasDistinctTexts, HasNamedKeys};
+ghost use Rattle.mt_laws.specs.WayBack.{IsReached};
 ghost use Rattle.mt_model.specs.Documents.{dump_text, rules_text};
 ghost use Rattle.mt_model.specs.Part.{IsSameTopology};
 ghost use Rattle.mt_model.specs.Topology.{HasDistinctPlaces, Rules, TopologyState, resolution};
 ghost use Rattle.mt_names.specs.declared.keys.RuleKey.{RuleKey};
 ghost use Rattle.mt_names.specs.declared.types.TabletType.{TabletType};
+ghost use Rattle.mt_plain.specs.Plain.{Plain};
+ghost use Rattle.mt_plain.specs.Serve.{served};
 
 /// Two topologies with the same keyspaces and the same value at each entry are one to their users: each name leads to the
 /// same table, and the rules document and the dump are the same texts. Empty places and the order of everything may differ.
@@ -21,4 +25,10 @@ pub fn same_topologies_have_the_same_look_ups_and_documents()
     ensures dump { (t u : TopologyState) → IsSameTopology t u → HasDistinctPlaces t → HasDistinctPlaces u
         → HasDistinctTexts t.rules → dump_text t ≡ dump_text u }
     ensures distinct_texts { (rules : Rules) → HasNamedKeys rules → HasDistinctTexts rules }
+{}
+
+/// In each state that a run reaches, the keys that have a rule are made of the names that its events brought. So where these
+/// are names, the rules have distinct texts.
+pub fn served_rules_have_named_keys()
+    ensures { (p : Plain) (reached : IsReached p) → AllByRecursion BringsNames reached.events → HasNamedKeys (served p).rules }
 {}

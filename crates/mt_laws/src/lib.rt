@@ -23,7 +23,9 @@ pub use copies::{
     all_writes_are_fed_at_the_journal, level_is_what_it_says,
     the_other_side_answers_by_the_writes_that_were_fed, what_was_fed_stays_fed,
 };
-pub use documents::same_topologies_have_the_same_look_ups_and_documents;
+pub use documents::{
+    same_topologies_have_the_same_look_ups_and_documents, served_rules_have_named_keys,
+};
 pub use events::{
     answers_are_determined, limits_are_told_last, reads_answer_the_row,
     refused_events_change_nothing,
