@@ -1,5 +1,5 @@
 -- The keys of rules are made of the names that the events brought.
-use Rattle.std.proofs.Common.{◌≡◌, Bool, true, false, cond, List, [], ◌∷◌, ◌++◌, ℕ, map, fold, Option, None, Some, IfSome, is_some, unwrap_or, refl, sym, ap, subst}
+use Rattle.std.proofs.Common.{◌≡◌, Bool, true, false, List, [], ◌∷◌, ◌++◌, ℕ, map, fold, Option, None, Some, IfSome, is_some, refl, sym, subst}
 use Rattle.std.proofs.lemmas.Bool.{true≢false}
 use Rattle.std.specs.List.{AllByRecursion}
 use Rattle.std.specs.Map.{lookup, remove_entry}
@@ -12,17 +12,16 @@ use Rattle.mt_names.specs.Names.{IsKeyspaceName, IsTableName}
 use Rattle.mt_names.specs.Same.{same_key}
 use Rattle.mt_names.proofs.SameLemmas.{same_key_decides}
 use Rattle.mt_model.specs.declared.entries.EntryKey.TheVariants as about
-use Rattle.mt_model.specs.declared.entries.Scope.{Scope}
 use Rattle.mt_model.specs.Part.{keys_of_name}
 use Rattle.mt_model.specs.Topology.{Rules, TopologyState, rule_at, with_rule, with_rule_place}
 use Rattle.mt_plain.specs.Answers.{after}
-use Rattle.mt_plain.specs.Events.{Event, add_keyspace, add_table, edit_rule, create, advance, complete, Answer, done, row, advanced, shown, refused}
+use Rattle.mt_plain.specs.Events.{Event, add_keyspace, add_table, edit_rule, advance, complete, Answer, done, row, advanced, shown, refused}
 use Rattle.mt_plain.specs.Next.{next, next_taken, with_completed}
 use Rattle.mt_plain.specs.Plain.{Live, Plain, live_at, opening, rule_keys, twelve_keys}
 use Rattle.mt_plain.specs.Serve.{rule_in, rules_over, served, served_by, with_workflow}
 use Rattle.mt_laws.specs.Texts.{BringsNames, HasNamedKeys}
 use Rattle.mt_laws.specs.WayBack.{IsReached}
-use Rattle.mt_laws.proofs.ChangeLemmas.{live_next, made_live, sides-next}
+use Rattle.mt_laws.proofs.ChangeLemmas.{sides-next}
 use Rattle.mt_laws.proofs.ListLemmas.{append-all, each-mapped, flat_map-all, fold-holds, map-all, remove_entry-all, set_value-all}
 use Rattle.mt_laws.proofs.LiveLemmas.{IsIn, all_from_in}
 use Rattle.mt_laws.proofs.ReachLemmas.{each_next}
