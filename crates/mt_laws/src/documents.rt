@@ -1,5 +1,5 @@
 //! Laws on what a topology tells its users: where names lead, and its documents.
-ghost use Rattle.std.specs.Prelude.{◌≡◌};
+ghost use Rattle.std.specs.Prelude.{◌≡◌, ◌≢◌};
 ghost use Rattle.std.specs.List.{AllByRecursion};
 ghost use Rattle.mt_laws.specs.Texts.{BringsNames, HasDistinctTexts, HasNamedKeys};
 ghost use Rattle.mt_laws.specs.WayBack.{IsReached};
@@ -25,6 +25,13 @@ pub fn same_topologies_have_the_same_look_ups_and_documents()
     ensures dump { (t u : TopologyState) → IsSameTopology t u → HasDistinctPlaces t → HasDistinctPlaces u
         → HasDistinctTexts t.rules → dump_text t ≡ dump_text u }
     ensures distinct_texts { (rules : Rules) → HasNamedKeys rules → HasDistinctTexts rules }
+{}
+
+/// Without distinct texts the documents may differ: two keys with one text and different targets stand in them in the order
+/// of their places.
+pub fn documents_need_distinct_texts()
+    ensures { (t : TopologyState) × (u : TopologyState) × IsSameTopology t u × HasDistinctPlaces t × HasDistinctPlaces u
+        × (rules_text t.rules ≢ rules_text u.rules) }
 {}
 
 /// In each state that a run reaches, the keys that have a rule are made of the names that its events brought. So where these

@@ -24,7 +24,8 @@ pub use copies::{
     the_other_side_answers_by_the_writes_that_were_fed, what_was_fed_stays_fed,
 };
 pub use documents::{
-    same_topologies_have_the_same_look_ups_and_documents, served_rules_have_named_keys,
+    documents_need_distinct_texts, same_topologies_have_the_same_look_ups_and_documents,
+    served_rules_have_named_keys,
 };
 pub use events::{
     answers_are_determined, limits_are_told_last, reads_answer_the_row,
