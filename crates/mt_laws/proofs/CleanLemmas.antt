@@ -28,7 +28,7 @@ use Rattle.mt_plain.specs.Serve.{denials_over, mark_in, rule_in, rule_step, rule
 use Rattle.mt_plain.specs.Slots.{live_advanced, log_length}
 use Rattle.mt_plain.specs.Writes.{client_number, client_row, is_copied, is_write_to, other_row, row_by_mover, writes_to, row_after_write, row_after_writes, row_of}
 use Rattle.mt_laws.specs.Changes.{HasSides}
-use Rattle.mt_laws.proofs.ListLemmas.{OfSome, append-all, cond-either, each-mapped, filter-all, find-of, flat_map-all, fold-holds, lookup-of, map-all, option_map_or-of, remove_entry-all, set_value-all, take-all}
+use Rattle.mt_laws.proofs.ListLemmas.{OfSome, append-all, cond-either, each-mapped, each_once-all, filter-all, find-of, flat_map-all, fold-holds, lookup-of, map-all, option_map_or-of, remove_entry-all, set_value-all, take-all}
 use Rattle.mt_laws.proofs.TextLemmas.{NoFeed, no_feed-append}
 use Rattle.mt_laws.proofs.ChangeLemmas.{sides-advanced, sides-live_stepped, sides-on_way, sides-undone}
 
@@ -298,10 +298,6 @@ after_advance-clean p other events rows clean = clean
 with_lives-clean : (p : Plain) (lives : List Live) → IsClean p → AllByRecursion CleanLive lives → IsClean (record p { lives = lives })
 with_lives-clean p lives clean all = record { topology = clean.topology; lives = all; writes = clean.writes }
 
-each_once-clean : (tables : List (List ℕ)) → AllByRecursion NoFeed tables → AllByRecursion NoFeed (each_once tables)
-each_once-clean [] all = tt
-each_once-clean (table ∷ tables) all = (all.0, filter-all NoFeed (λ t. not (same_text t table)) (each_once tables) (each_once-clean tables all.1))
-
 next_taken-clean : (p : Plain) (event : Event) → IsClean p → CleanEvent event → IsClean (next_taken p event)
 next_taken-clean p (write keyspace table op) clean is = record {
   topology = clean.topology;
@@ -335,7 +331,7 @@ next_taken-clean p (edit_rule key target) clean is = record {
 }
 next_taken-clean p (create workflow source target tables) clean is =
     let w = created workflow source target (each_once tables) (log_length p source) in
-    let live : CleanLive (record w { fed = length (writes_to p w) }) = record { name = is.0; source = is.1; target = is.2; tables = each_once-clean tables is.3 } in
+    let live : CleanLive (record w { fed = length (writes_to p w) }) = record { name = is.0; source = is.1; target = is.2; tables = each_once-all NoFeed tables is.3 } in
     with_lives-clean p (p.lives ++ (record w { fed = length (writes_to p w) }) ∷ []) clean (append-all CleanLive p.lives ((record w { fed = length (writes_to p w) }) ∷ []) clean.lives (live, tt))
 next_taken-clean p (advance workflow name at at_most) clean is = clean
 next_taken-clean p (begin_switch workflow types) clean is = record {

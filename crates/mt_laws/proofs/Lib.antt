@@ -22,10 +22,12 @@ pub mod LineLemmas
 pub mod ListLemmas
 pub mod LiveLemmas
 pub mod LogLemmas
+pub mod NamedLemmas
 pub mod NumberLemmas
 pub mod NumberedLemmas
 pub mod OpenLemmas
 pub mod OpenWayLemmas
+pub mod OrderLemmas
 pub mod OutputLemmas
 pub mod OwnerLemmas
 pub mod PartLemmas
@@ -39,7 +41,9 @@ pub mod RefusalLemmas
 pub mod ReverseLemmas
 pub mod RowWitnessLemmas
 pub mod RunLemmas
+pub mod SameLemmas
 pub mod ServeLemmas
+pub mod SortLemmas
 pub mod StepCountLemmas
 pub mod StreamEffectLemmas
 pub mod StreamLemmas

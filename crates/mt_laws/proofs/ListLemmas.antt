@@ -1,10 +1,12 @@
 -- What holds of each item of a list holds of each item of lists that are made of it.
-use Rattle.std.proofs.Common.{◌≡◌, ℕ, Bool, true, false, cond, List, [], ◌∷◌, ◌++◌, Option, None, Some, refl, zero, suc, take}
+use Rattle.std.proofs.Common.{◌≡◌, ℕ, Bool, true, false, not, cond, List, [], ◌∷◌, ◌++◌, Option, None, Some, refl, zero, suc, take}
 use Rattle.std.specs.List.{AllByRecursion, filter, flat_map, fold}
 use Rattle.std.specs.Map.{lookup, remove_entry, set_value}
 use Rattle.std.specs.Option.{option_map_or}
 use Rattle.std.specs.Prelude.{⊤, find, map, option_and_then, option_map}
+use Rattle.mt_names.specs.Names.{same_text}
 use Rattle.mt_model.specs.Documents.{comes_before, put_by_text, sorted_by_text}
+use Rattle.mt_plain.specs.Plain.{each_once}
 
 -- ---- a test, and what holds on either side
 
@@ -116,3 +118,8 @@ module _ {A : Type 0} (P : A → Type 0) where
       map-all (λ y. P y.1) P (λ x. x.1) (fold put_by_text [] pairs) (λ x is. is)
       (fold-holds (λ y. P y.1) (AllByRecursion (λ y. P y.1)) put_by_text [] pairs (λ c x held is. put_by_text-all c x held is) tt
       (map-all P (λ y. P y.1) (λ item. (text item, item)) items (λ x is. is) all))
+
+-- names as a set are some of them
+pub each_once-all : (P : List ℕ → Type 0) (names : List (List ℕ)) → AllByRecursion P names → AllByRecursion P (each_once names)
+each_once-all P [] all = tt
+each_once-all P (name ∷ names) all = (all.0, filter-all P (λ n. not (same_text n name)) (each_once names) (each_once-all P names all.1))

@@ -6,4 +6,5 @@ pub mod Headline
 pub mod Lines
 pub mod Numbers
 pub mod Parts
+pub mod Texts
 pub mod WayBack

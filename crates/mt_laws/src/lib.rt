@@ -3,6 +3,7 @@
 
 mod changes;
 mod copies;
+mod documents;
 mod effects;
 mod events;
 mod headline;
@@ -22,6 +23,10 @@ pub use changes::{
 pub use copies::{
     all_writes_are_fed_at_the_journal, level_is_what_it_says,
     the_other_side_answers_by_the_writes_that_were_fed, what_was_fed_stays_fed,
+};
+pub use documents::{
+    documents_need_distinct_texts, same_topologies_have_the_same_look_ups_and_documents,
+    served_rules_have_named_keys,
 };
 pub use effects::{
     a_step_changes_what_changes_with_its_number, a_workflow_that_changes_changes_its_own_part,
