@@ -4,6 +4,7 @@ pub mod ChangeLemmas
 pub mod CleanLemmas
 pub mod CompleteLemmas
 pub mod CopyLemmas
+pub mod CourseLemmas
 pub mod DocumentLemmas
 pub mod DriveLemmas
 pub mod EntriesLemmas
@@ -14,6 +15,7 @@ pub mod FedStepLemmas
 pub mod FeedLemmas
 pub mod GoesOnLemmas
 pub mod HeadlineLemmas
+pub mod InPlaceLemmas
 pub mod KeepLemmas
 pub mod LevelLemmas
 pub mod LineLemmas
@@ -38,6 +40,7 @@ pub mod ReverseLemmas
 pub mod RowWitnessLemmas
 pub mod RunLemmas
 pub mod ServeLemmas
+pub mod SetLemmas
 pub mod StepCountLemmas
 pub mod StreamLemmas
 pub mod TableLemmas
