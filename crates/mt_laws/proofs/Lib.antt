@@ -14,6 +14,7 @@ pub mod FedRunLemmas
 pub mod FedStepLemmas
 pub mod FeedLemmas
 pub mod GoesOnLemmas
+pub mod HasNumberLemmas
 pub mod HeadlineLemmas
 pub mod InPlaceLemmas
 pub mod KeepLemmas
@@ -30,6 +31,7 @@ pub mod OutputLemmas
 pub mod OwnerLemmas
 pub mod PartLemmas
 pub mod PastLemmas
+pub mod PlacedLemmas
 pub mod PlainWords
 pub mod PositionLemmas
 pub mod ReachLemmas
