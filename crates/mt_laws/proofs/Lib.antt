@@ -42,6 +42,7 @@ pub mod ReverseLemmas
 pub mod RowWitnessLemmas
 pub mod RunLemmas
 pub mod ServeLemmas
+pub mod ServedPlacesLemmas
 pub mod SetLemmas
 pub mod StepCountLemmas
 pub mod StreamLemmas

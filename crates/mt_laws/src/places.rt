@@ -4,10 +4,10 @@ ghost use Rattle.mt_laws.specs.Numbers.{HasNumbers, number_at};
 ghost use Rattle.mt_laws.specs.Places.{HasOnlyWhatStands};
 ghost use Rattle.mt_laws.specs.WayBack.{IsReached};
 ghost use Rattle.mt_model.specs.declared.entries.EntryKey.TheVariants as about;
-ghost use Rattle.mt_model.specs.Topology.{has_place, is_present, rule_at};
+ghost use Rattle.mt_model.specs.Topology.{HasDistinctPlaces, has_place, is_present, rule_at};
 ghost use Rattle.mt_names.specs.declared.keys.RuleKey.{RuleKey};
 ghost use Rattle.mt_plain.specs.Plain.{Plain, in_keyspace};
-ghost use Rattle.mt_plain.specs.Serve.{has_table};
+ghost use Rattle.mt_plain.specs.Serve.{IsServed, has_table, served};
 ghost use Rattle.mt_plain.specs.Writes.{client_number, row_after_writes};
 
 /// In each state that a run reaches, the topology as if no workflow were live has places only for what stands: a rule has a
@@ -33,4 +33,11 @@ pub fn each_table_has_a_number_of_its_own()
         → row_after_writes p.writes number key ≡ None }
     ensures clients { (p : Plain) → IsReached p → (keyspace table : List ℕ) → has_table p keyspace table ≡ true
         → client_number p keyspace table < p.made }
+{}
+
+/// In each state that a run reaches, the lists of entries that are served are a topology: they give nothing two places, have
+/// the keyspaces of the state, and say at each entry what is served there.
+pub fn what_is_served_is_a_topology()
+    ensures places { (p : Plain) → IsReached p → HasDistinctPlaces (served p) }
+    ensures is_served { (p : Plain) → IsReached p → IsServed p (served p) }
 {}
