@@ -62,7 +62,7 @@ reached_next p event answer reached given =
 
 -- ---- two tables have two numbers
 
-one_name : (p : Plain) → IsReached p → (a b : RuleTarget) (n : ℕ) → number_at p.numbers a ≡ Some n → number_at p.numbers b ≡ Some n → a ≡ b
+pub one_name : (p : Plain) → IsReached p → (a b : RuleTarget) (n : ℕ) → number_at p.numbers a ≡ Some n → number_at p.numbers b ≡ Some n → a ≡ b
 one_name p reached a b n at_a at_b =
     one_name-run reached.scopes reached.events reached.answers a b n (subst (λ q. number_at q.numbers a ≡ Some n) (sym reached.is) at_a) (subst (λ q. number_at q.numbers b ≡ Some n) (sym reached.is) at_b)
 
@@ -79,7 +79,7 @@ one_table p reached k t keyspace table here there same =
 
 -- ---- to which tables a write is
 
-any_some : {X : Type 0} (test : X → Bool) (xs : List X) → list_any test xs ≡ true → (x : X) × IsIn x xs × (test x ≡ true)
+pub any_some : {X : Type 0} (test : X → Bool) (xs : List X) → list_any test xs ≡ true → (x : X) × IsIn x xs × (test x ≡ true)
 any_some test [] e = absurd (true≢false (sym e))
 any_some {X} test (x ∷ xs) e = by (any_some test xs) (test x) refl
   where
@@ -87,7 +87,7 @@ any_some {X} test (x ∷ xs) e = by (any_some test xs) (test x) refl
     by again true t = (x, inl refl, t)
     by again false t = let r = again (sym (ap (λ b. b || list_any test xs) t) ∙ e) in (r.0, inr r.1, r.2)
 
-write_there : (p : Plain) (k t : List ℕ) (op : Op) → refusal_of p (write k t op) ≡ None → has_table p k t ≡ true
+pub write_there : (p : Plain) (k t : List ℕ) (op : Op) → refusal_of p (write k t op) ≡ None → has_table p k t ≡ true
 write_there p k t op none =
     let by_row = or_else (row_refusal (op_row op (client_row p k t (op_key op)))) (refuse_if (nat_le longest_log (log_length p k)) full) in
     let by_list = refuse_if (refuses p k t) denied in

@@ -85,7 +85,7 @@ module _ (u : TopologyState) (w : Live) (apart : w.source ≢ w.target) where
 
 -- ---- places stay distinct
 
-distinct-removed : {K V : Type 0} (same : K → K → Bool) (decides : DecidesEquality same) (keys : List K) (es : List (K × V)) → IsDistinct same (keys_of es) → IsDistinct same (keys_of (fold (λ es key. remove_entry (same key) es) es keys))
+pub distinct-removed : {K V : Type 0} (same : K → K → Bool) (decides : DecidesEquality same) (keys : List K) (es : List (K × V)) → IsDistinct same (keys_of es) → IsDistinct same (keys_of (fold (λ es key. remove_entry (same key) es) es keys))
 distinct-removed same decides [] es distinct = distinct
 distinct-removed same decides (key ∷ keys) es distinct = distinct-removed same decides keys (remove_entry (same key) es) (IsDistinct-remove_entry same decides (same key) es distinct)
 

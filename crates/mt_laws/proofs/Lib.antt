@@ -5,6 +5,7 @@ pub mod ChangedLemmas
 pub mod CleanLemmas
 pub mod CompleteLemmas
 pub mod CopyLemmas
+pub mod CourseLemmas
 pub mod DocumentLemmas
 pub mod DriveLemmas
 pub mod EffectLemmas
@@ -15,7 +16,9 @@ pub mod FedRunLemmas
 pub mod FedStepLemmas
 pub mod FeedLemmas
 pub mod GoesOnLemmas
+pub mod HasNumberLemmas
 pub mod HeadlineLemmas
+pub mod InPlaceLemmas
 pub mod KeepLemmas
 pub mod LevelLemmas
 pub mod LineLemmas
@@ -32,6 +35,7 @@ pub mod OutputLemmas
 pub mod OwnerLemmas
 pub mod PartLemmas
 pub mod PastLemmas
+pub mod PlacedLemmas
 pub mod PlainWords
 pub mod PositionLemmas
 pub mod ReachLemmas
@@ -43,6 +47,8 @@ pub mod RowWitnessLemmas
 pub mod RunLemmas
 pub mod SameLemmas
 pub mod ServeLemmas
+pub mod ServedPlacesLemmas
+pub mod SetLemmas
 pub mod SortLemmas
 pub mod StepCountLemmas
 pub mod StreamEffectLemmas

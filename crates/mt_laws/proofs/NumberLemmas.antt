@@ -13,25 +13,25 @@ use Rattle.mt_plain.specs.Events.{Event, add_table, advance, complete, StreamNam
 use Rattle.mt_plain.specs.Next.{after_advance, next, next_taken, number_moved, with_advance, with_completed}
 use Rattle.mt_plain.specs.Plain.{Live, Plain, in_keyspace, live_at, moves, opening}
 
-abbrev Numbers : Type 0
+abbrev pub Numbers : Type 0
 Numbers = List (RuleTarget × ℕ)
 
 -- each number is below a bound; none stands twice
-abbrev Below : ℕ → Numbers → Type 0
+abbrev pub Below : ℕ → Numbers → Type 0
 Below bound es = AllByRecursion (λ e. e.1 < bound) es
 
-abbrev IsNot : ℕ → Numbers → Type 0
+abbrev pub IsNot : ℕ → Numbers → Type 0
 IsNot n es = AllByRecursion (λ e. n ≢ e.1) es
 
-abbrev Distinct : Numbers → Type 0
+abbrev pub Distinct : Numbers → Type 0
 Distinct [] = ⊤
 Distinct (e ∷ es) = IsNot e.1 es × Distinct es
 
-record HasNumbers (p : Plain) : Type 0 where
-  below : Below p.made p.numbers
-  distinct : Distinct p.numbers
+pub record HasNumbers (p : Plain) : Type 0 where
+  pub below : Below p.made p.numbers
+  pub distinct : Distinct p.numbers
 
-opening_has_numbers : (scopes : List Scope) → HasNumbers (opening scopes)
+pub opening_has_numbers : (scopes : List Scope) → HasNumbers (opening scopes)
 opening_has_numbers scopes = record { below = tt; distinct = tt }
 
 -- ---- a table more
@@ -90,7 +90,7 @@ taken-has_numbers p (add_table keyspace table) has =
 taken-has_numbers p (complete workflow) has = completed-has_numbers p (live_at p workflow) has
 taken-has_numbers p other has = record { below = has.below; distinct = has.distinct }
 
-next-has_numbers : (p : Plain) (event : Event) (answer : Answer) → HasNumbers p → HasNumbers (next p event answer)
+pub next-has_numbers : (p : Plain) (event : Event) (answer : Answer) → HasNumbers p → HasNumbers (next p event answer)
 next-has_numbers p event (refused refusal) has = has
 next-has_numbers p event done has = taken-has_numbers p event has
 next-has_numbers p event (row r) has = taken-has_numbers p event has

@@ -53,11 +53,11 @@ is_present-with_table t k name keyspace table other has = sym (present_elsewhere
 
 -- ---- the numbers after an event
 
-Below-more : (bound more : ℕ) (writes : List Write) → bound ≤ more → Below bound writes → Below more writes
+pub Below-more : (bound more : ℕ) (writes : List Write) → bound ≤ more → Below bound writes → Below more writes
 Below-more bound more [] le all = tt
 Below-more bound more (w ∷ ws) le all = let h = all.0 in (omega arith, Below-more bound more ws le all.1)
 
-Below-push : (bound : ℕ) (writes : List Write) (w : Write) → Below bound writes → w.table < bound → Below bound (writes ++ w ∷ [])
+pub Below-push : (bound : ℕ) (writes : List Write) (w : Write) → Below bound writes → w.table < bound → Below bound (writes ++ w ∷ [])
 Below-push bound [] w all lt = (lt, tt)
 Below-push bound (v ∷ vs) w all lt = (all.0, Below-push bound vs w all.1 lt)
 
@@ -203,7 +203,7 @@ write_at p k t op reached none keyspace table key =
 -- ---- the row after a table is made
 
 -- no write is of a number that no table has yet
-unwritten : (writes : List Write) (bound number key : ℕ) → Below bound writes → bound ≤ number → row_after_writes writes number key ≡ None
+pub unwritten : (writes : List Write) (bound number key : ℕ) → Below bound writes → bound ≤ number → row_after_writes writes number key ≡ None
 unwritten [] bound number key all le = refl
 unwritten (w ∷ ws) bound number key all le =
     let lt = all.0 in

@@ -8,6 +8,8 @@ mod effects;
 mod events;
 mod headline;
 mod parts;
+mod places;
+mod reached;
 mod rows;
 mod runs;
 mod scripts;
@@ -39,6 +41,13 @@ pub use events::{
 };
 pub use headline::{every_run_keeps_the_headline, the_way_back_and_the_rows_stand_in_every_run};
 pub use parts::{a_moved_table_is_never_writable_in_two, parts_are_apart};
+pub use places::{
+    each_table_has_a_number_of_its_own, only_what_stands_has_a_place, what_is_served_is_a_topology,
+};
+pub use reached::{
+    a_live_workflow_is_found_by_its_part, each_next_state_is_reached,
+    live_workflows_stand_in_place, names_as_a_set_have_each_name_once, ways_keep_their_course,
+};
 pub use rows::{
     a_move_with_rows_can_be_completed, each_primary_read_answers_from_the_acknowledged_writes,
     neither_side_serves_between_the_refreshes, the_owner_alone_serves_the_primary,

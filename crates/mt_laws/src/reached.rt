@@ -1,0 +1,63 @@
+//! Laws on the states that runs reach: on live workflows, their tables and their ways.
+ghost use Rattle.std.specs.Prelude.{◌≡◌, ℕ, false, true, All, List, Some};
+ghost use Rattle.std.specs.List.{IsDistinct};
+ghost use Rattle.mt_laws.specs.Reached.{HandsOver, IsInPlace, IsOnCourse};
+ghost use Rattle.mt_laws.specs.WayBack.{IsReached};
+ghost use Rattle.mt_model.specs.declared.entries.EntryKey.{EntryKey};
+ghost use Rattle.mt_model.specs.declared.entries.Scope.{Scope};
+ghost use Rattle.mt_model.specs.Topology.{is_denied};
+ghost use Rattle.mt_names.specs.Names.{same_text};
+ghost use Rattle.mt_plain.specs.Answers.{Answers, Run, after};
+ghost use Rattle.mt_plain.specs.Events.{Event, Answer, Way};
+ghost use Rattle.mt_plain.specs.Next.{next};
+ghost use Rattle.mt_plain.specs.Plain.{Live, Plain, among, changes_primary, each_once, has_part, live_at, mover, moves, opening, part_owner};
+
+/// The opening is reached; so is the state after each event with an answer that it may get, and the state after a run.
+pub fn each_next_state_is_reached()
+    ensures opening { (scopes : List Scope) → IsReached (opening scopes) }
+    ensures next { (p : Plain) → IsReached p → (event : Event) (answer : Answer) → Answers p event answer
+        → IsReached (next p event answer) }
+    ensures run { (p : Plain) → IsReached p → (events : List Event) (answers : List Answer) → Run p events answers
+        → IsReached (after p events answers) }
+{}
+
+/// Names as a set, as Create takes its tables: no name stands twice, the names are the same, and names of which none stands
+/// twice are left as they are.
+pub fn names_as_a_set_have_each_name_once()
+    ensures distinct { (names : List (List ℕ)) → IsDistinct same_text (each_once names) }
+    ensures members { (names : List (List ℕ)) (name : List ℕ) → among (each_once names) name ≡ among names name }
+    ensures stays { (names : List (List ℕ)) → IsDistinct same_text names → each_once names ≡ names }
+{}
+
+/// In each state that a run reaches, as if no workflow were live: a live workflow has two keyspaces as its sides, names no
+/// table twice, and finds each of its tables at the source and none at the target; and nothing is denied anywhere.
+pub fn live_workflows_stand_in_place()
+    ensures placed { (p : Plain) → IsReached p → (name : List ℕ) (w : Live) → live_at p name ≡ Some w
+        → IsInPlace p.topology w }
+    ensures allowed { (p : Plain) → IsReached p → (keyspace table : List ℕ)
+        → is_denied p.topology.keyspaces keyspace table ≡ false }
+{}
+
+/// In each state that a run reaches, an open way has a step left, and the switched types follow its journal; where it
+/// changes primary, the old owner hands the tables over to the new one with the journal.
+pub fn ways_keep_their_course()
+    ensures course { (p : Plain) → IsReached p → (name : List ℕ) (w : Live) → live_at p name ≡ Some w → (way : Way)
+        → w.way ≡ Some way → IsOnCourse w way }
+    ensures writes { (p : Plain) → IsReached p → (name : List ℕ) (w : Live) → live_at p name ≡ Some w → (way : Way)
+        → w.way ≡ Some way → changes_primary way ≡ true → HandsOver w way }
+{}
+
+/// In each state that a run reaches, each live workflow is found by its name, by each entry of its part and by each of its
+/// tables; and what is found so is live under its own name.
+pub fn a_live_workflow_is_found_by_its_part()
+    ensures listed { (p : Plain) → IsReached p → All (λ w. live_at p w.name ≡ Some w) p.lives }
+    ensures named { (p : Plain) (name : List ℕ) (w : Live) → live_at p name ≡ Some w → w.name ≡ name }
+    ensures owner { (p : Plain) → IsReached p → (name : List ℕ) (w : Live) → live_at p name ≡ Some w → (key : EntryKey)
+        → has_part w key ≡ true → part_owner p key ≡ Some w }
+    ensures mover { (p : Plain) → IsReached p → (name : List ℕ) (w : Live) → live_at p name ≡ Some w → (table : List ℕ)
+        → moves w table ≡ true → mover p table ≡ Some w }
+    ensures owner_is_live { (p : Plain) → IsReached p → (key : EntryKey) (w : Live) → part_owner p key ≡ Some w
+        → (has_part w key ≡ true) × (live_at p w.name ≡ Some w) }
+    ensures mover_is_live { (p : Plain) → IsReached p → (table : List ℕ) (w : Live) → mover p table ≡ Some w
+        → (moves w table ≡ true) × (live_at p w.name ≡ Some w) }
+{}
