@@ -5,9 +5,10 @@ use Rattle.std.proofs.lemmas.List.{take-append-le, take_at}
 use Rattle.std.proofs.lemmas.Map.Steps.{set_value_same}
 use Rattle.std.proofs.lemmas.Option.{slice_get_within}
 use Rattle.std.specs.List.{IsDistinct}
+use Rattle.std.specs.List.Sorted.{IsStrictlySortedBy}
 use Rattle.std.specs.Map.{keys_of, set_value}
 use Rattle.std.specs.Option.{option_map, option_map_or}
-use Rattle.mt_names.proofs.EntryLemmas.{IsDistinct-push, IsDistinct-set_value, lookup-push_elsewhere, lookup-push_here, lookup-set_value_elsewhere, lookup-set_value_here}
+use Rattle.mt_names.proofs.EntryLemmas.{IsDistinct-push, IsDistinct-remove_entry, IsDistinct-set_value, lookup-push_elsewhere, lookup-push_here, lookup-remove_entry_elsewhere, lookup-remove_entry_here, lookup-set_value_elsewhere, lookup-set_value_here, remove_entry-push}
 use Rattle.mt_names.proofs.SameLemmas.{same_text_decides}
 use Rattle.mt_names.specs.Names.{same_text}
 use Rattle.mt_model.specs.declared.faults.PrimaryFault.{PrimaryFault}
@@ -17,7 +18,7 @@ use Rattle.mt_model.specs.declared.rows.RowChange.{RowChange}
 use Rattle.mt_model.specs.Rows.{op_key, row_since, row_with}
 use Rattle.mt_primary.specs.Primary.{IsInKeyOrder, IsPrimary, PrimaryState, TableState, is_denied_at, made_at, new_table, row_at, row_in, table_at}
 use Rattle.mt_primary.specs.Tables.{ChangesRow, IsRowPut, LoggedTable, changed_row}
-use Rattle.mt_primary.specs.Writes.{IsTableMade, IsWritten, Writes, written_row}
+use Rattle.mt_primary.specs.Writes.{IsWritten, Writes, with_new_table, without_table, written_row}
 use Rattle.mt_primary.proofs.LogLemmas.{row_since-end, row_since-push, row_with-here, row_with-other_key, row_with-other_table, slice_get_push}
 
 -- ---- each table by itself
@@ -202,42 +203,68 @@ module _ (old : PrimaryState) (name : List ℕ) (table put : TableState) (found 
 
 -- ---- a table that is made
 
+in_order-new : (made : ℕ) → IsInKeyOrder (new_table made)
+unfolding IsStrictlySortedBy
+in_order-new made = tt
+
+pub made_elsewhere : (old : PrimaryState) (name other : List ℕ) → other ≢ name → table_at (with_new_table old name) other ≡ table_at old other
+made_elsewhere old name other apart = lookup-push_elsewhere same_text same_text_decides old.tables name other (new_table (length old.log)) (λ h. apart (sym h))
+
 -- a new table is what an entry from here on leads to
-logged-new : (log : List RowChange) (name : List ℕ) → IsInKeyOrder (new_table (length log)) → IsLogged log name (new_table (length log))
-logged-new log name ordered = record {
-  ordered = ordered;
+logged-new : (log : List RowChange) (name : List ℕ) → IsLogged log name (new_table (length log))
+logged-new log name = record {
+  ordered = in_order-new (length log);
   made = omega arith;
   rows = λ key. sym (row_since-end log name key);
   befores = λ i change within at of. let below : i < length log = slice_get_within log i change at in absurd (omega arith);
 }
 
 module _ (old : PrimaryState) (name : List ℕ) (absent : table_at old name ≡ None) where
-  -- the primary with the table
-  abbrev pub with_new_table : PrimaryState
-  with_new_table = record { tables = old.tables ++ (name, new_table (length old.log)) ∷ []; log = old.log }
-
-  made_here : table_at with_new_table name ≡ Some (new_table (length old.log))
+  pub made_here : table_at (with_new_table old name) name ≡ Some (new_table (length old.log))
   made_here = lookup-push_here same_text same_text_decides old.tables name (new_table (length old.log)) absent
 
-  made_elsewhere : (other : List ℕ) → other ≢ name → table_at with_new_table other ≡ table_at old other
-  made_elsewhere other apart = lookup-push_elsewhere same_text same_text_decides old.tables name other (new_table (length old.log)) (λ h. apart (sym h))
-
-  pub IsTableMade-new : IsTableMade old name with_new_table
-  IsTableMade-new = record { table = made_here; others = made_elsewhere; log = refl }
-
-  pub IsPrimary-new_table : IsPrimary old → IsInKeyOrder (new_table (length old.log)) → IsPrimary with_new_table
-  IsPrimary-new_table is ordered =
-      primary_from with_new_table (IsDistinct-push same_text same_text_decides old.tables name (new_table (length old.log)) absent is.distinct) each
+  pub IsPrimary-new_table : IsPrimary old → IsPrimary (with_new_table old name)
+  IsPrimary-new_table is =
+      primary_from (with_new_table old name) (IsDistinct-push same_text same_text_decides old.tables name (new_table (length old.log)) absent is.distinct) each
     where
-      each : (other : List ℕ) (t : TableState) → table_at with_new_table other ≡ Some t → IsLogged old.log other t
+      each : (other : List ℕ) (t : TableState) → table_at (with_new_table old name) other ≡ Some t → IsLogged old.log other t
       each other t at = by (same_text name other) refl
         where
           by : (b : Bool) → same_text name other ≡ b → IsLogged old.log other t
           by true same =
               let is_name : name ≡ other = (same_text_decides name other).0 same in
-              let both : Some (new_table (length old.log)) ≡ Some t = sym made_here ∙ ap (table_at with_new_table) is_name ∙ at in
+              let both : Some (new_table (length old.log)) ≡ Some t = sym made_here ∙ ap (table_at (with_new_table old name)) is_name ∙ at in
               let is_t : new_table (length old.log) ≡ t = cc in
-              rw (sym is_t) (logged-new old.log other ordered)
+              rw (sym is_t) (logged-new old.log other)
           by false same =
               let apart : other ≢ name = λ h. true≢false (sym ((same_text_decides name other).1 (sym h)) ∙ same) in
-              logged old other t is (sym (made_elsewhere other apart) ∙ at)
+              logged old other t is (sym (made_elsewhere old name other apart) ∙ at)
+
+-- ---- a table that is dropped
+
+pub dropped_elsewhere : (old : PrimaryState) (name other : List ℕ) → other ≢ name → table_at (without_table old name) other ≡ table_at old other
+dropped_elsewhere old name other apart = lookup-remove_entry_elsewhere same_text same_text_decides old.tables name other (λ h. apart (sym h))
+
+pub dropped_here : (old : PrimaryState) (name : List ℕ) → IsPrimary old → table_at (without_table old name) name ≡ None
+dropped_here old name is = lookup-remove_entry_here same_text same_text_decides old.tables name is.distinct
+
+-- a table made, and dropped at once
+pub made_and_dropped : (p : PrimaryState) (name : List ℕ) → table_at p name ≡ None → without_table (with_new_table p name) name ≡ p
+made_and_dropped p name absent =
+    let with_tables : List (List ℕ × TableState) → PrimaryState = λ tables. record p { tables = tables } in
+    ap with_tables (remove_entry-push same_text same_text_decides p.tables name (new_table (length p.log)) absent)
+
+pub IsPrimary-dropped : (old : PrimaryState) (name : List ℕ) → IsPrimary old → IsPrimary (without_table old name)
+IsPrimary-dropped old name is = primary_from (without_table old name) (IsDistinct-remove_entry same_text same_text_decides (same_text name) old.tables is.distinct) each
+  where
+    each : (other : List ℕ) (t : TableState) → table_at (without_table old name) other ≡ Some t → IsLogged old.log other t
+    each other t at = by (same_text name other) refl
+      where
+        by : (b : Bool) → same_text name other ≡ b → IsLogged old.log other t
+        by true same =
+            let is_name : name ≡ other = (same_text_decides name other).0 same in
+            let none : table_at (without_table old name) other ≡ None = subst (λ x. table_at (without_table old name) x ≡ None) is_name (dropped_here old name is) in
+            absurd (let both = sym none ∙ at in cc)
+        by false same =
+            let apart : other ≢ name = λ h. true≢false (sym ((same_text_decides name other).1 (sym h)) ∙ same) in
+            logged old other t is (sym (dropped_elsewhere old name other apart) ∙ at)

@@ -1,5 +1,7 @@
 -- What the calls that change a primary do, by their answers.
-use Rattle.std.specs.Prelude.{◌≡◌, ◌≢◌, ℕ, List, [], ◌∷◌, ◌++◌, length, nat_lt, if◌then◌else◌, Some, Result, Ok, Err, ⊤}
+use Rattle.std.specs.Prelude.{◌≡◌, ℕ, List, [], ◌∷◌, ◌++◌, length, nat_lt, if◌then◌else◌, Result, Ok, Err, ⊤}
+use Rattle.std.specs.Map.{remove_entry}
+use Rattle.mt_names.specs.Names.{same_text}
 use Rattle.mt_names.specs.Results.{◌>>=◌}
 use Rattle.mt_model.specs.declared.faults.PrimaryFault.{PrimaryFault}
 use Rattle.mt_model.specs.declared.faults.PrimaryFault.TheVariants.{Memory, NoTable, Denied, LogFull}
@@ -7,19 +9,21 @@ use Rattle.mt_model.specs.Limits.{longest_log}
 use Rattle.mt_model.specs.declared.rows.Op.{Op}
 use Rattle.mt_model.specs.declared.rows.RowChange.{RowChange}
 use Rattle.mt_model.specs.Rows.{Row, op_key, op_row}
-use Rattle.mt_primary.specs.Primary.{PrimaryState, has_table, is_denied_at, made_at, new_table, row_at, table_at}
+use Rattle.mt_primary.specs.Primary.{PrimaryState, has_table, is_denied_at, made_at, new_table, row_at}
 
--- ---- a table made
+-- ---- a table made, and one dropped
 
--- the table is there, without a row and not denied, and all else is as it was
-pub record IsTableMade (old : PrimaryState) (name : List ℕ) (new : PrimaryState) : Type 0 where
-  pub table : table_at new name ≡ Some (new_table (length old.log))
-  pub others : (other : List ℕ) → other ≢ name → table_at new other ≡ table_at old other
-  pub log : new.log ≡ old.log
+-- the table stands behind the others, without a row and not denied
+abbrev pub with_new_table : PrimaryState → List ℕ → PrimaryState
+with_new_table p name = record p { tables = p.tables ++ (name, new_table (length p.log)) ∷ [] }
 
 abbrev pub Creates : PrimaryState → List ℕ → Result ⊤ PrimaryFault → PrimaryState → Type 0
-Creates old name (Ok done) new = IsTableMade old name new
+Creates old name (Ok done) new = new ≡ with_new_table old name
 Creates old name (Err fault) new = (fault ≡ Memory) × (new ≡ old)
+
+-- the table is gone, with its rows and its denial, and the others stay in their order; one that isn't there leaves all as it is
+abbrev pub without_table : PrimaryState → List ℕ → PrimaryState
+without_table p name = record p { tables = remove_entry (same_text name) p.tables }
 
 -- ---- a write
 

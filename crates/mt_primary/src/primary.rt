@@ -4,7 +4,7 @@ ghost use Rattle.mt_names.specs.Tables.{most_tables};
 ghost use Rattle.mt_primary.specs.Denials.{AreDenialsSet, marks_of, told_by_mark, told_by_marks, told_by_refresh};
 ghost use Rattle.mt_primary.specs.Primary.{empty_primary, has_table, is_denied_at, IsPrimary};
 ghost use Rattle.mt_primary.specs.Reads.{read_row};
-ghost use Rattle.mt_primary.specs.Writes.{Creates, Writes};
+ghost use Rattle.mt_primary.specs.Writes.{Creates, Writes, without_table};
 
 use crate::before::{Before, Mark};
 use crate::table::{Table, change_row};
@@ -45,23 +45,33 @@ impl Primary {
         }
     }
 
-    /// How many entries the log has. Each row is what the log leaves since its table was made.
+    /// What holds of every primary, for the proofs of callers: a table has one place and its rows in the order of their
+    /// keys, each row is what the log leaves since its table was made, and each entry since then has the row that stood
+    /// before it. It does nothing.
+    pub fn what_holds(&self)
+        ensures { IsPrimary self.now }
+    {
+        let _log = &self.log;
+    }
+
+    /// How many entries the log has, which is the position behind its last one. It takes no memory. (Vitess: the
+    /// position of a primary's binary log)
     pub fn position(&self) -> Position
-        ensures value { result ≡ length self.now.log }
-        ensures primary { IsPrimary self.now }
+        ensures { result ≡ length self.now.log }
     {
         self.log.len() as u64
     }
 
-    /// Whether there is such a table.
+    /// Whether there is such a table. It takes no memory.
     pub fn has_table(&self, table: &TableName) -> bool
         ensures { result ≡ has_table self.now table.now }
     {
         self.tables.contains_key(table)
     }
 
-    /// Makes a table without rows, which begins at this position of the log, and its place on the own list, where it
-    /// is not denied. It is refused with `P0 Memory` alone.
+    /// Makes a table without rows behind the others, which begins at this position of the log, and its place on the own
+    /// list, where it is not denied. All else stays. It is refused with `P0 Memory` alone, and then changes nothing.
+    /// (Vitess: CREATE TABLE on a primary tablet)
     pub fn create_table(&mut self, table: &TableName) -> Result<(), PrimaryFault>
         requires absent { has_table self.old table.now ≡ false }
         ensures { Creates self.old table.now result self.new }
@@ -72,6 +82,15 @@ impl Primary {
             Ok(_) => Ok(()),
             Err(_) => Err(PrimaryFault::Memory),
         }
+    }
+
+    /// Drops a table with its rows and its denial. The others stay in their order, and the log stays. A table that isn't
+    /// there leaves all as it is. It takes no memory. (Vitess: DROP TABLE on a primary tablet, as Complete does at the
+    /// source, and Cancel at the target)
+    pub fn drop_table(&mut self, table: &TableName)
+        ensures { self.new ≡ without_table self.old table.now }
+    {
+        self.tables.shift_remove(table);
     }
 
     /// Does an operation on a row of a table, and answers the position behind its entry in the log. The first of

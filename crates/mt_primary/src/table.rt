@@ -3,7 +3,7 @@ ghost use Rattle.std.specs.Prelude.{◌≡◌, ◌<◌, OnOk};
 ghost use Rattle.std.specs.Option.{option_copied};
 ghost use Rattle.std.specs.Vec.{vec_len, vec_capacity};
 ghost use Rattle.mt_model.specs.Rows.{appended, op_row};
-ghost use Rattle.mt_primary.specs.Primary.{new_table, row_in, IsInKeyOrder};
+ghost use Rattle.mt_primary.specs.Primary.{new_table, row_in};
 ghost use Rattle.mt_primary.specs.Tables.{ChangesRow, MakesChange, TellsRoom, row_with_room};
 
 use mt_model::{MAX_LOG, Op, PrimaryFault, RowChange};
@@ -35,8 +35,7 @@ impl Model for Table {
 impl Table {
     /// A table without rows, which is not denied.
     pub fn new(alloc: Global, made: Position) -> Self
-        ensures value { result ≡ new_table made }
-        ensures ordered { IsInKeyOrder result }
+        ensures { result ≡ new_table made }
     {
         Table {
             made,
@@ -54,8 +53,7 @@ impl Table {
 
     /// Denies it or not.
     pub fn set_denied(&mut self, denied: bool)
-        ensures value { self.new ≡ record self.old { denied = denied } }
-        ensures ordered { IsInKeyOrder self.new }
+        ensures { self.new ≡ record self.old { denied = denied } }
     {
         self.denied = denied;
     }
