@@ -63,7 +63,7 @@ row_put-same old key absent ordered = record { here = absent; others = λ other 
 
 -- ---- the rows above a key
 
-is_lt-nat_cmp : (a b : ℕ) → is_lt (nat_cmp a b) ≡ nat_lt a b
+pub is_lt-nat_cmp : (a b : ℕ) → is_lt (nat_cmp a b) ≡ nat_lt a b
 is_lt-nat_cmp a b = by (nat_lt a b) (eqb a b)
   where
     by : (less same : Bool) → is_lt (cond less Less (cond same Equal Greater)) ≡ less

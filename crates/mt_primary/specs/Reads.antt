@@ -1,6 +1,6 @@
 -- What a read of a row answers, and what a stream reads: the log from a position on, and a table's rows in the order of their keys.
 use Rattle.std.specs.Prelude.{ℕ, Bool, true, false, List, drop, slice_get, if◌then◌else◌, nat_lt, Option, None, Some, Result, Ok, Err}
-use Rattle.std.specs.List.{find}
+use Rattle.std.specs.List.{filter, find}
 use Rattle.std.specs.Option.{option_map_or}
 use Rattle.mt_names.specs.declared.types.TabletType.{TabletType}
 use Rattle.mt_names.specs.declared.types.TabletType.TheVariants as of_type
@@ -39,6 +39,10 @@ entries_from p position = drop position p.log
 abbrev pub is_above : Option ℕ → ℕ → Bool
 is_above None key = true
 is_above (Some last) key = nat_lt last key
+
+-- the rows of a table, or those above a key
+abbrev pub rows_above : TableState → Option ℕ → List (ℕ × RowValue)
+rows_above table last = filter (λ row. is_above last row.0) table.rows
 
 -- the first row of a table, or the first above a key
 abbrev pub next_row_in : TableState → Option ℕ → Option (ℕ × RowValue)
