@@ -20,7 +20,8 @@ use Rattle.mt_model.proofs.PartLemmas.{table_of}
 use Rattle.mt_model.proofs.PlaceLemmas.{keyspace_at-stays}
 use Rattle.mt_model.proofs.TopologyLemmas.{value_of-with_keyspace, value_of-with_table_elsewhere, value_of-with_table_here}
 use Rattle.mt_topology.specs.Edits.{add_keyspace_refusal, add_table_refusal, edit_rule_grows, edit_rule_refusal}
-use Rattle.mt_primary.specs.Primary.{PrimaryState, empty_primary, has_table}
+use Rattle.mt_primary.specs.Primary.{PrimaryState, empty_primary, has_table, table_at}
+use Rattle.mt_primary.proofs.PrimaryLemmas.{made_elsewhere, made_here}
 use Rattle.mt_plain.specs.Events.{add_keyspace, add_table, edit_rule}
 use Rattle.mt_laws.specs.Numbers.{calm}
 use Rattle.mt_core.specs.Commands.{AddsKeyspace, AddsTable, EditsRule, MakesKeyspace, MakesRule, MakesTable, Steps}
@@ -136,6 +137,9 @@ table_made old new keyspace table is free made = record {
     now : primary_of new.primaries keyspace ≡ after
     now = changed_now old.primaries new.primaries keyspace before after made.1.2.0 becomes
 
+    absent : table_at before table ≡ None
+    absent = none_from (table_at before table) (subst (λ x. has_table x table ≡ false) (changed_was old.primaries new.primaries keyspace before after made.1.2.0 becomes) (table_absent old keyspace table is free).2)
+
     has : (k t : List ℕ) → has_table (primary_of new.primaries k) t ≡ is_present (with_table old.topology keyspace table).keyspaces k t
     has k t = ⊎_elim in_it (λ apart. ap (λ s. has_table s t) (changed_elsewhere old.primaries new.primaries keyspace before after made.1.2.0 becomes k apart) ∙ is.tables k t ∙ sym (other k t (λ e. apart (ap keyspace_of e)))) (same_or_other same_text same_text_decides keyspace k)
       where
@@ -147,11 +151,11 @@ table_made old new keyspace table is free made = record {
           where
             it : table ≡ t → has_table (primary_of new.primaries keyspace) t ≡ is_present (with_table old.topology keyspace table).keyspaces keyspace t
             it same = subst (λ x. has_table (primary_of new.primaries keyspace) x ≡ is_present (with_table old.topology keyspace table).keyspaces keyspace x) same
-                (ap (λ s. has_table s table) now ∙ ap is_some made.1.3.table ∙ sym (ap mark_of (value_of-with_table_here old.topology keyspace table (table_absent old keyspace table is free).0)))
+                (ap (λ s. has_table s table) now ∙ ap (λ s. has_table s table) made.1.3 ∙ ap is_some (made_here before table absent) ∙ sym (ap mark_of (value_of-with_table_here old.topology keyspace table (table_absent old keyspace table is free).0)))
 
             another : table ≢ t → has_table (primary_of new.primaries keyspace) t ≡ is_present (with_table old.topology keyspace table).keyspaces keyspace t
             another apart =
-                ap (λ s. has_table s t) now ∙ ap is_some (made.1.3.others t (λ e. apart (sym e))) ∙ sym (ap (λ s. has_table s t) (changed_was old.primaries new.primaries keyspace before after made.1.2.0 becomes)) ∙ is.tables keyspace t
+                ap (λ s. has_table s t) now ∙ ap (λ s. has_table s t) made.1.3 ∙ ap is_some (made_elsewhere before table t (λ e. apart (sym e))) ∙ sym (ap (λ s. has_table s t) (changed_was old.primaries new.primaries keyspace before after made.1.2.0 becomes)) ∙ is.tables keyspace t
                 ∙ sym (other keyspace t (λ e. apart (ap table_of e)))
 
 pub table_keeps : (old new : CoreState) (keyspace table : List ℕ) (result : Result Reply code.Refusal) → IsCore old → AddsTable old keyspace table result new → IsCore new

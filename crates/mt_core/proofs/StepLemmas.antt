@@ -2,7 +2,7 @@
 use Rattle.std.proofs.Common.{◌≤◌, ◌≡◌, ◌≢◌, ℕ, Bool, true, false, List, length, Option, None, Some, Result, Ok, Err, refl, sym, ap, ◌∙◌, subst, ⊎_elim, is_some}
 use Rattle.mt_names.proofs.SameLemmas.{same_text_decides}
 use Rattle.mt_names.specs.Names.{same_text}
-use Rattle.mt_names.proofs.EntryLemmas.{same_or_other}
+use Rattle.mt_names.proofs.EntryLemmas.{none_from, same_or_other}
 use Rattle.std.proofs.lemmas.Bool.{true≢false}
 use Rattle.std.specs.Option.{option_map, option_map_or}
 use Rattle.std.specs.Result.{OnErr}
@@ -17,8 +17,9 @@ use Rattle.mt_model.specs.declared.entries.Scope.{Scope}
 use Rattle.mt_model.specs.Limits.{most_rules}
 use Rattle.mt_model.specs.Topology.{TopologyState, keyspace_at, with_keyspace, with_rule, with_table}
 use Rattle.mt_topology.specs.Edits.{add_keyspace_refusal, add_table_refusal, edit_rule_grows, edit_rule_refusal}
-use Rattle.mt_primary.specs.Primary.{PrimaryState, TableState, has_table, is_denied_at, row_at, row_in, table_at}
-use Rattle.mt_primary.specs.Writes.{IsTableMade}
+use Rattle.mt_primary.specs.Primary.{PrimaryState, TableState, has_table, is_denied_at, new_table, row_at, row_in, table_at}
+use Rattle.mt_primary.specs.Writes.{with_new_table}
+use Rattle.mt_primary.proofs.PrimaryLemmas.{made_elsewhere, made_here}
 use Rattle.mt_plain.specs.Events.{Event, add_keyspace, add_table, edit_rule, done, refusal_from, answer_from}
 use Rattle.mt_plain.specs.Answers.{Answers, Refuses, reply_of}
 use Rattle.mt_plain.specs.Next.{next, next_taken}
@@ -162,13 +163,19 @@ pub table_refusing : (p : Plain) (core : CoreState) (keyspace table : List ℕ) 
 table_refusing p core keyspace table is stands = rw (← stands.topology) (table_told core.topology keyspace table is.within)
 
 -- a table that is made has no rows, and the other tables keep theirs
-module _ (before after : PrimaryState) (table : List ℕ) (absent : has_table before table ≡ false) (made : IsTableMade before table after) where
+module _ (before after : PrimaryState) (table : List ℕ) (absent : has_table before table ≡ false) (made : after ≡ with_new_table before table) where
+  made_table : table_at after table ≡ Some (new_table (length before.log))
+  made_table = ap (λ s. table_at s table) made ∙ made_here before table (none_from (table_at before table) absent)
+
+  made_others : (other : List ℕ) → other ≢ table → table_at after other ≡ table_at before other
+  made_others other apart = ap (λ s. table_at s other) made ∙ made_elsewhere before table other apart
+
   rows_stay : (other : List ℕ) (key : ℕ) → row_at after other key ≡ row_at before other key
   rows_stay other key = ⊎_elim here there (same_or_other same_text same_text_decides table other)
     where
       here : table ≡ other → row_at after other key ≡ row_at before other key
       here at =
-          let now : row_at after table key ≡ None = ap (λ (o : Option TableState). option_map_or (λ t. row_in t key) o None) made.table in
+          let now : row_at after table key ≡ None = ap (λ (o : Option TableState). option_map_or (λ t. row_in t key) o None) made_table in
           let was : row_at before table key ≡ None = by (table_at before table) absent in
           subst (λ x. row_at after x key ≡ row_at before x key) at (now ∙ sym was)
         where
@@ -177,7 +184,7 @@ module _ (before after : PrimaryState) (table : List ℕ) (absent : has_table be
           by (Some t) e = absurd (true≢false e)
 
       there : table ≢ other → row_at after other key ≡ row_at before other key
-      there apart = ap (λ (o : Option TableState). option_map_or (λ t. row_in t key) o None) (made.others other (λ e. apart (sym e)))
+      there apart = ap (λ (o : Option TableState). option_map_or (λ t. row_in t key) o None) (made_others other (λ e. apart (sym e)))
 
   -- nor is it denied
   denials_stay : (other : List ℕ) → is_denied_at after other ≡ is_denied_at before other
@@ -187,14 +194,14 @@ module _ (before after : PrimaryState) (table : List ℕ) (absent : has_table be
       denied_in o = option_map_or (λ t. t.denied) o false
 
       here : table ≡ other → is_denied_at after other ≡ is_denied_at before other
-      here at = subst (λ x. is_denied_at after x ≡ is_denied_at before x) at (ap denied_in made.table ∙ sym (by (table_at before table) absent))
+      here at = subst (λ x. is_denied_at after x ≡ is_denied_at before x) at (ap denied_in made_table ∙ sym (by (table_at before table) absent))
         where
           by : (o : Option TableState) → is_some o ≡ false → denied_in o ≡ false
           by None e = refl
           by (Some t) e = absurd (true≢false e)
 
       there : table ≢ other → is_denied_at after other ≡ is_denied_at before other
-      there apart = ap denied_in (made.others other (λ e. apart (sym e)))
+      there apart = ap denied_in (made_others other (λ e. apart (sym e)))
 
 pub table_making : (p : Plain) (core : CoreState) (keyspace table : List ℕ) → IsCore core → Stands (calm p) core → (s : CoreState) → refusal_of (calm p) (add_table keyspace table) ≡ None → has_table (primary_of core.primaries keyspace) table ≡ false
     → MakesTable core keyspace table s → Stands (next_taken (calm p) (add_table keyspace table)) s
@@ -202,7 +209,7 @@ table_making p core keyspace table is stands s none absent made = record {
   lives = refl;
   topology = made.0 ∙ ap (λ t. with_table t keyspace table) stands.topology;
   rows = λ k t key. kept (λ x. row_at x t key) (rows_stay before after table absent_before made.1.3 t key) k ∙ stands.rows k t key ∙ sym (done_at (calm p) (add_table keyspace table) tt stands.numbers none k t key);
-  log = λ k. kept (λ (x : PrimaryState). length x.log) (ap length made.1.3.log) k ∙ stands.log k;
+  log = λ k. kept (λ (x : PrimaryState). length x.log) (ap (λ (x : PrimaryState). length x.log) made.1.3) k ∙ stands.log k;
   denials = λ k t. kept (λ x. is_denied_at x t) (denials_stay before after table absent_before made.1.3 t) k ∙ stands.denials k t;
   numbers = done_has_numbers (calm p) (add_table keyspace table) tt stands.numbers none;
 }

@@ -142,7 +142,7 @@ module _ (before after : PrimaryState) (table : List ℕ) (op : Op) (position : 
   row_changed keyspace other key = rw (same_itself same_text same_text_decides keyspace) (by (same_text table other) refl (eqb (op_key op) key) refl)
     where
       elsewhere : ¬ ((other ≡ table) × (key ≡ op_key op)) → row_at after other key ≡ row_at before other key
-      elsewhere apart = written.others other key apart
+      elsewhere apart = written.put.others other key apart
 
       by : (t : Bool) → same_text table other ≡ t → (k : Bool) → eqb (op_key op) key ≡ k → row_at after other key ≡ fold row_with_op (row_at before other key) (cond (t && k) (op ∷ []) [])
       by false e k f = elsewhere (λ h. true≢false (sym ((same_text_decides table other).1 (sym h.0)) ∙ e))
@@ -155,7 +155,7 @@ module _ (before after : PrimaryState) (table : List ℕ) (op : Op) (position : 
           (subst (λ x. row_at after table x ≡ row_with_op (row_at before table x) op) of (rw left refl))
 
   tables_stay : (other : List ℕ) → has_table after other ≡ has_table before other
-  tables_stay other = by (table_at after other) (table_at before other) (written.made other)
+  tables_stay other = by (table_at after other) (table_at before other) (written.put.made other)
     where
       by : (a b : Option TableState) → option_map (λ (t : TableState). t.made) a ≡ option_map (λ (t : TableState). t.made) b → is_some a ≡ is_some b
       by None None e = refl
@@ -164,7 +164,7 @@ module _ (before after : PrimaryState) (table : List ℕ) (op : Op) (position : 
       by (Some t) (Some u) e = refl
 
   log_grows : length after.log ≡ suc (length before.log)
-  log_grows = let l = ap length written.log in let more = length-append before.log (record { table = table; key = op_key op; before = row_at before table (op_key op); after = row_at after table (op_key op) } ∷ []) in omega (arith, l, more)
+  log_grows = let l = ap length written.put.log in let more = length-append before.log (record { table = table; key = op_key op; before = row_at before table (op_key op); after = row_at after table (op_key op) } ∷ []) in omega (arith, l, more)
 
 -- ---- a write
 
@@ -192,7 +192,7 @@ module _ (old new : CoreState) (keyspace table : List ℕ) (op : Op) (is : IsCor
         let more : log_length (next_taken (calm p) (write keyspace table op)) k ≡ log_length p k + (0 + cond (same_text keyspace k) 1 0) = sum_by-append (λ (e : LogEntry). cond (same_text e.keyspace k) 1 0) p.log (entry ∷ []) in
         let now = log_now k in
         omega (arith, more, now);
-    denials = λ k t. kept (λ s. is_denied_at s t) (written.denied t) k ∙ stands.denials k t;
+    denials = λ k t. kept (λ s. is_denied_at s t) (written.put.denied t) k ∙ stands.denials k t;
     numbers = done_has_numbers (calm p) (write keyspace table op) tt stands.numbers none;
   }
     where

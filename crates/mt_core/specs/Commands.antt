@@ -20,7 +20,7 @@ use Rattle.mt_model.specs.Topology.{TopologyState, with_entry, with_keyspace, wi
 use Rattle.mt_topology.specs.Edits.{add_keyspace_refusal, add_table_refusal, edit_rule_grows, edit_rule_refusal}
 use Rattle.mt_primary.specs.Primary.{PrimaryState, empty_primary}
 use Rattle.mt_primary.specs.Reads.{read_row}
-use Rattle.mt_primary.specs.Writes.{IsTableMade, Writes}
+use Rattle.mt_primary.specs.Writes.{Writes, with_new_table}
 use Rattle.mt_plain.specs.Events.{Event, answer_from}
 use Rattle.mt_plain.specs.Answers.{Answers}
 use Rattle.mt_plain.specs.Next.{next}
@@ -72,7 +72,7 @@ Becomes old keyspace before after new = (primary_at old keyspace ≡ Some before
 
 abbrev pub CreatesTable : Primaries → (keyspace table : List ℕ) → Result Unit PrimaryFault → Primaries → Type 0
 CreatesTable old keyspace table (Ok done) new =
-    (before : PrimaryState) × (after : PrimaryState) × Becomes old keyspace before after new × IsTableMade before table after
+    (before : PrimaryState) × (after : PrimaryState) × Becomes old keyspace before after new × (after ≡ with_new_table before table)
 CreatesTable old keyspace table (Err fault) new = new ≡ old
 
 -- a topology without a table and its place
@@ -85,7 +85,7 @@ without_table t keyspace table =
 abbrev pub MakesTable : CoreState → (keyspace table : List ℕ) → CoreState → Type 0
 MakesTable old keyspace table new =
     (new.topology ≡ with_table old.topology keyspace table)
-    × ((before : PrimaryState) × (after : PrimaryState) × Becomes old.primaries keyspace before after new.primaries × IsTableMade before table after)
+    × ((before : PrimaryState) × (after : PrimaryState) × Becomes old.primaries keyspace before after new.primaries × (after ≡ with_new_table before table))
 
 abbrev pub AddsTable : CoreState → (keyspace table : List ℕ) → Result Reply Refusal → CoreState → Type 0
 AddsTable old keyspace table result new = Does old (add_table_refusal old.topology.keyspaces keyspace table) true (MakesTable old keyspace table) result new

@@ -2,14 +2,18 @@
 #![tactic(auto)]
 
 mod before;
+mod change_laws;
 mod laws;
 mod primary;
+mod read_laws;
 mod table;
 
 pub use before::Before;
+pub use change_laws::{a_row_is_put, a_table_is_dropped, a_table_is_made};
 pub use laws::{
     a_notice_tells_what_its_change_tells, a_refresh_concerns_named_tables, a_refresh_is_taken_back,
     denials_change_nothing_else,
 };
 pub use mt_model::{Op, PrimaryFault, RowChange};
 pub use primary::Primary;
+pub use read_laws::{a_log_is_read_in_order, rows_are_read_in_order};
