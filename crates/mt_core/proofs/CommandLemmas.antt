@@ -1,12 +1,14 @@
 -- Each command as an event, and what holds of the core after it.
 use Rattle.std.proofs.Common.{◌≡◌, ◌≢◌, ℕ, Bool, true, false, List, [], ◌∷◌, ◌++◌, length, Option, None, Some, Result, Ok, Err, refl, sym, ap, ◌∙◌, subst, arith, ⊎_elim, is_some, length-append}
-use Rattle.mt_names.proofs.SameLemmas.{same_text_decides}
+use Rattle.mt_names.proofs.SameLemmas.{same_key_decides, same_text_decides}
+use Rattle.mt_names.specs.Same.{same_key}
 use Rattle.std.proofs.lemmas.Map.{length-set_value}
 use Rattle.std.specs.Map.{set_value}
 use Rattle.std.specs.Option.{option_map_or}
 use Rattle.std.specs.Result.{OnErr}
 use Rattle.mt_names.specs.declared.keys.RuleKey.{RuleKey}
 use Rattle.mt_names.specs.declared.keys.RuleTarget.{RuleTarget}
+use Rattle.mt_names.specs.Keys.{IsRuleKey}
 use Rattle.mt_names.specs.Names.{same_text}
 use Rattle.mt_model.specs.declared.answers.Refusal as code
 use Rattle.mt_model.specs.declared.answers.Refusal.TheVariants as refusal
@@ -15,15 +17,16 @@ use Rattle.mt_model.specs.declared.entries.Entry.{Entry}
 use Rattle.mt_model.specs.declared.entries.Entry.TheVariants as entry
 use Rattle.mt_model.specs.declared.entries.EntryKey.{EntryKey}
 use Rattle.mt_model.specs.declared.entries.EntryKey.TheVariants as about
-use Rattle.mt_model.specs.Topology.{KeyspaceState, Keyspaces, TopologyState, is_marked, is_present, keyspace_at, with_keyspace, with_keyspace_state, with_new_table, with_table}
+use Rattle.mt_model.specs.Topology.{KeyspaceState, Keyspaces, Rules, TopologyState, is_marked, is_present, keyspace_at, with_keyspace, with_keyspace_state, with_new_table, with_rule, with_table}
 use Rattle.mt_model.proofs.PartLemmas.{table_of}
 use Rattle.mt_model.proofs.PlaceLemmas.{keyspace_at-stays}
-use Rattle.mt_model.proofs.TopologyLemmas.{value_of-with_keyspace, value_of-with_table_elsewhere, value_of-with_table_here}
+use Rattle.mt_model.proofs.TopologyLemmas.{rule_at-with_rule_elsewhere, value_of-with_keyspace, value_of-with_table_elsewhere, value_of-with_table_here}
 use Rattle.mt_topology.specs.Edits.{add_keyspace_refusal, add_table_refusal, edit_rule_grows, edit_rule_refusal}
 use Rattle.mt_primary.specs.Primary.{PrimaryState, empty_primary, has_table, table_at}
 use Rattle.mt_primary.proofs.PrimaryLemmas.{made_elsewhere, made_here}
 use Rattle.mt_plain.specs.Events.{add_keyspace, add_table, edit_rule}
 use Rattle.mt_laws.specs.Numbers.{calm}
+use Rattle.mt_laws.specs.Texts.{HasNamedKeys}
 use Rattle.mt_core.specs.Commands.{AddsKeyspace, AddsTable, EditsRule, MakesKeyspace, MakesRule, MakesTable, Steps}
 use Rattle.mt_core.specs.Core.{CoreState, IsCore, IsWithinLimits, primary_at, primary_of}
 use Rattle.mt_names.proofs.EntryLemmas.{is_some-set_value, none_from, same_or_other}
@@ -45,8 +48,8 @@ keyspace_of other = []
 -- ---- a keyspace more
 
 pub keyspace_steps : (old new : CoreState) (name : List ℕ) (result : Result Reply code.Refusal) → IsCore old → AddsKeyspace old name result new → Steps old (add_keyspace name) result new
-keyspace_steps old new name result is did = steps_from_calm old new (add_keyspace name) result (λ p stands.
-    does_step (calm p) old (add_keyspace name) (add_keyspace_refusal old.topology.keyspaces name) true (MakesKeyspace old name) refl (λ e. refl) (keyspace_refusing p old name is stands) stands (keyspace_making p old name is stands) result new did)
+keyspace_steps old new name result is did = steps_from_calm old new (add_keyspace name) result (λ p scopes stands.
+    does_step (calm p) scopes old (add_keyspace name) (add_keyspace_refusal old.topology.keyspaces name) true (MakesKeyspace old name) refl (λ e. refl) (keyspace_refusing p scopes old name is stands) stands (keyspace_making p scopes old name is stands) result new did)
 
 keyspace_made : (old : CoreState) (name : List ℕ) → IsCore old → add_keyspace_refusal old.topology.keyspaces name ≡ None
     → IsCore (record { topology = with_keyspace old.topology name; primaries = old.primaries ++ (name, empty_primary) ∷ [] })
@@ -57,6 +60,7 @@ keyspace_made old name is free = record {
       ap (λ s. has_table s table) (primary_of-push old.primaries name keyspace (no_primary old name is free)) ∙ is.tables keyspace table
       ∙ sym (ap mark_of (value_of-with_keyspace old.topology name (about.Present keyspace table)));
   within = within-keyspace old.topology name is.within (none_from (keyspace_at old.topology.keyspaces name) (free_name old name is free)) free;
+  named = is.named;
 }
 
 pub keyspace_keeps : (old new : CoreState) (name : List ℕ) (result : Result Reply code.Refusal) → IsCore old → AddsKeyspace old name result new → IsCore new
@@ -66,13 +70,20 @@ keyspace_keeps old new name result is did =
 -- ---- a rule edited
 
 pub rule_steps : (old new : CoreState) (key : RuleKey) (target : Option RuleTarget) (result : Result Reply code.Refusal) → IsCore old → EditsRule old key target result new → Steps old (edit_rule key target) result new
-rule_steps old new key target result is did = steps_from_calm old new (edit_rule key target) result (λ p stands.
-    does_step (calm p) old (edit_rule key target) (edit_rule_refusal old.topology.rules key target) (edit_rule_grows old.topology.rules key target) (MakesRule old key target) refl (rule_growing p old key target stands) (rule_refusing p old key target is stands) stands (rule_making p old key target stands) result new did)
+rule_steps old new key target result is did = steps_from_calm old new (edit_rule key target) result (λ p scopes stands.
+    does_step (calm p) scopes old (edit_rule key target) (edit_rule_refusal old.topology.rules key target) (edit_rule_grows old.topology.rules key target) (MakesRule old key target) refl (rule_growing p scopes old key target stands) (rule_refusing p scopes old key target is stands) stands (rule_making p scopes old key target stands) result new did)
 
-pub rule_keeps : (old new : CoreState) (key : RuleKey) (target : Option RuleTarget) (result : Result Reply code.Refusal) → IsCore old → EditsRule old key target result new → IsCore new
-rule_keeps old new key target result is did =
+-- a rule that is set has a key that is made of names
+named-rule : (rules : Rules) (key : RuleKey) (target : Option RuleTarget) → IsRuleKey key → HasNamedKeys rules → HasNamedKeys (with_rule rules key target)
+named-rule rules key target is named other there = ⊎_elim (λ at. subst IsRuleKey at is) elsewhere (same_or_other same_key same_key_decides key other)
+  where
+    elsewhere : key ≢ other → IsRuleKey other
+    elsewhere differ = named other (sym (ap is_some (rule_at-with_rule_elsewhere rules key other target differ)) ∙ there)
+
+pub rule_keeps : (old new : CoreState) (key : RuleKey) (target : Option RuleTarget) (result : Result Reply code.Refusal) → IsRuleKey key → IsCore old → EditsRule old key target result new → IsCore new
+rule_keeps old new key target result key_is is did =
     does_keeps IsCore old new (edit_rule_refusal old.topology.rules key target) (edit_rule_grows old.topology.rules key target) (MakesRule old key target) result is
-    (λ free made. subst IsCore (sym made) (record { keyspaces = is.keyspaces; count = is.count; tables = is.tables; within = within-rule old.topology key target is.within free })) did
+    (λ free made. subst IsCore (sym made) (record { keyspaces = is.keyspaces; count = is.count; tables = is.tables; within = within-rule old.topology key target is.within free; named = named-rule old.topology.rules key target key_is is.named })) did
 
 -- an edit is refused only where its key needs a place
 pub rule_needs_place : (old new : CoreState) (key : RuleKey) (target : Option RuleTarget) (result : Result Reply code.Refusal) → EditsRule old key target result new → OnErr result (edit_rule_grows old.topology.rules key target ≡ true)
@@ -105,10 +116,11 @@ table_absent core keyspace table is free =
         unmarked true e = absurd (let h = rw (at, e) at free in cc)
 
 pub table_steps : (old new : CoreState) (keyspace table : List ℕ) (result : Result Reply code.Refusal) → IsCore old → AddsTable old keyspace table result new → Steps old (add_table keyspace table) result new
-table_steps old new keyspace table result is did = steps_from_calm old new (add_table keyspace table) result (λ p stands.
-    let refusing = table_refusing p old keyspace table is stands in
-    does_step (calm p) old (add_table keyspace table) (add_table_refusal old.topology.keyspaces keyspace table) true (MakesTable old keyspace table) refl (λ e. refl) refusing stands
-    (λ s none. table_making p old keyspace table is stands s none (table_absent old keyspace table is (none_told (add_table_refusal old.topology.keyspaces keyspace table) (sym refusing ∙ none))).2) result new did)
+table_steps old new keyspace table result is did = steps_from_calm old new (add_table keyspace table) result (λ p scopes stands.
+    let refusing = table_refusing p scopes old keyspace table is stands in
+    does_step (calm p) scopes old (add_table keyspace table) (add_table_refusal old.topology.keyspaces keyspace table) true (MakesTable old keyspace table) refl (λ e. refl) refusing stands
+    (λ s none. let absent = table_absent old keyspace table is (none_told (add_table_refusal old.topology.keyspaces keyspace table) (sym refusing ∙ none)) in
+    table_making p scopes old keyspace table is stands s none absent.0 absent.2) result new did)
 
 length-changed : (change : KeyspaceState → KeyspaceState) (keyspaces : Keyspaces) (name : List ℕ) → length (with_keyspace_state change keyspaces name) ≡ length keyspaces
 length-changed change keyspaces name = by (keyspace_at keyspaces name)
@@ -123,6 +135,7 @@ table_made old new keyspace table is free made = record {
   count = ap length becomes ∙ length-set_value (same_text keyspace) old.primaries after ∙ is.count ∙ sym (ap (λ (t : TopologyState). length t.keyspaces) made.0 ∙ length-changed (with_new_table table) old.topology.keyspaces keyspace);
   tables = λ k t. has k t ∙ sym (ap (λ (x : TopologyState). is_present x.keyspaces k t) made.0);
   within = subst IsWithinLimits (sym made.0) (within-table old.topology keyspace table is.within free);
+  named = subst (λ (t : TopologyState). HasNamedKeys t.rules) (sym made.0) is.named;
 }
   where
     before : PrimaryState

@@ -1,7 +1,9 @@
+pub mod AlikeLemmas
 pub mod CommandLemmas
 pub mod CoreLemmas
 pub mod LimitLemmas
 pub mod MadeLemmas
 pub mod RefusalLemmas
+pub mod SayLemmas
 pub mod StepLemmas
 pub mod WriteLemmas

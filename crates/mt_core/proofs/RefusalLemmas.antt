@@ -60,7 +60,7 @@ marked-found (m ∷ marks) name all = by (marked-found marks name all.1) (same_t
     by again true mark is = sym is
     by again false mark is = again
 
-marked-count : (marks : Marks) → AllByRecursion (λ mark. mark.1 ≡ true) marks → count_by (λ (mark : List ℕ × Bool). mark.1) marks ≡ length marks
+pub marked-count : (marks : Marks) → AllByRecursion (λ mark. mark.1 ≡ true) marks → count_by (λ (mark : List ℕ × Bool). mark.1) marks ≡ length marks
 marked-count [] all = refl
 marked-count (m ∷ marks) all =
     let counted : ℕ = count_by (λ (mark : List ℕ × Bool). mark.1) marks in

@@ -1,7 +1,9 @@
 -- A write and a read as events.
-use Rattle.std.proofs.Common.{◌≡◌, ◌≢◌, ℕ, suc, ◌+◌, ◌≤◌, ◌⊎◌, Bool, true, false, not, cond, eqb, List, [], ◌∷◌, ◌++◌, length, Option, None, Some, Result, Ok, Err, refl, sym, ap, ◌∙◌, subst, arith, inl, inr, ⊎_elim, is_some, length-append}
+use Rattle.std.proofs.Common.{◌≡◌, ◌≢◌, ℕ, suc, ◌+◌, ◌≤◌, ◌⊎◌, Bool, true, false, not, cond, eqb, List, [], ◌∷◌, ◌++◌, length, Option, None, Some, Result, Ok, Err, refl, sym, ap, ◌∙◌, subst, arith, inl, inr, ⊎_elim, is_some, length-append, map, append-nil}
 use Rattle.std.proofs.lemmas.Bool.{true≢false, eqb-true, eq-eqb, le-leb, lt-leb, leb-false, leb-true}
-use Rattle.std.proofs.lemmas.List.Sums.{sum_by-append}
+use Rattle.std.proofs.lemmas.List.{length-map, map-append}
+use Rattle.std.proofs.lemmas.List.Elements.{filter-append}
+use Rattle.std.proofs.lemmas.List.Sums.{length-filter}
 use Rattle.std.proofs.lemmas.Map.{length-set_value}
 use Rattle.std.proofs.lemmas.Map.Steps.{set_value_same}
 use Rattle.std.specs.Map.{set_value}
@@ -16,6 +18,7 @@ use Rattle.mt_names.proofs.SameLemmas.{same_text_decides}
 use Rattle.mt_model.specs.declared.answers.Refusal as code
 use Rattle.mt_model.specs.declared.answers.Refusal.TheVariants as refusal
 use Rattle.mt_model.specs.declared.answers.Reply.{Reply}
+use Rattle.mt_model.specs.declared.entries.Scope.{Scope}
 use Rattle.mt_model.specs.declared.faults.PrimaryFault.{PrimaryFault}
 use Rattle.mt_model.specs.declared.faults.PrimaryFault.TheVariants as primary
 use Rattle.mt_model.specs.declared.rows.Op.{Op}
@@ -26,23 +29,26 @@ use Rattle.mt_model.specs.Rows.{Row, op_key, op_row}
 use Rattle.mt_model.specs.Topology.{TopologyState, is_present, keyspace_at}
 use Rattle.mt_primary.specs.Primary.{PrimaryState, TableState, has_table, is_denied_at, row_at, table_at}
 use Rattle.mt_primary.specs.Reads.{refuses_type}
-use Rattle.mt_primary.specs.Writes.{IsWritten, Writes, unless_full, written_row}
+use Rattle.mt_primary.specs.Writes.{change_by, IsWritten, Writes, unless_full, written_row}
 use Rattle.mt_plain.specs.Events.{Refusal, read, write, done, full, no_table, row, refusal_from, answer_from}
 use Rattle.mt_plain.specs.Answers.{Answers}
 use Rattle.mt_plain.specs.Next.{next, next_taken}
 use Rattle.mt_plain.specs.Serve as plain
 use Rattle.mt_plain.specs.Plain.{LogEntry, Plain, has_keyspace}
-use Rattle.mt_plain.specs.Slots.{log_length}
+use Rattle.mt_plain.specs.Slots.{log_length, log_of}
 use Rattle.mt_plain.specs.Writes.{row_of}
 use Rattle.mt_plain.specs.Refuse.{denied_read, or_else, refusal_of, refuse_if, row_refusal}
 use Rattle.mt_names.specs.declared.types.TabletType.TheVariants.{Primary, Replica, Rdonly}
 use Rattle.mt_laws.specs.Acknowledged.{row_with_op}
 use Rattle.mt_laws.specs.Numbers.{acknowledged_at, calm}
-use Rattle.mt_laws.proofs.TableLemmas.{done_at, done_has_numbers}
+use Rattle.mt_laws.specs.Texts.{HasNamedKeys}
+use Rattle.mt_laws.proofs.HasNumberLemmas.{reached_has_numbers}
+use Rattle.mt_laws.proofs.TableLemmas.{done_at}
 use Rattle.mt_core.specs.Commands.{Steps, WritesAt, WritesRow, read_at, refusal_by_primary, reply_by_read}
-use Rattle.mt_core.specs.Core.{CoreState, IsCore, IsWithinLimits, Primaries, Stands, primary_at, primary_of}
+use Rattle.mt_core.specs.Core.{CoreState, IsCore, IsWithinLimits, Primaries, Stands, entry_at, primary_at, primary_of}
 use Rattle.mt_core.proofs.CoreLemmas.{changed_elsewhere, changed_keeps, changed_now, changed_was, primary_of-found}
-use Rattle.mt_core.proofs.StepLemmas.{refuses, steps_from_calm}
+use Rattle.mt_core.proofs.AlikeLemmas.{AreAlike, same_presence}
+use Rattle.mt_core.proofs.StepLemmas.{alike, by_hand, refuses, steps_from_calm}
 
 -- ---- the refusals of a write
 
@@ -81,24 +87,27 @@ row_told (Delete key) None log = refl
 row_told (Delete key) (Some old) log = left_told None log
 
 -- a keyspace that is there is told as its primary tells
-module _ (p : Plain) (core : CoreState) (keyspace : List ℕ) (is : IsCore core) (stands : Stands (calm p) core) where
+module _ (p : Plain) (scopes : List Scope) (core : CoreState) (keyspace : List ℕ) (is : IsCore core) (stands : Stands (calm p) scopes core) where
   pub keyspace_there : (state : PrimaryState) → primary_at core.primaries keyspace ≡ Some state → has_keyspace p keyspace ≡ true
-  keyspace_there state found = sym (ap (λ (t : TopologyState). is_some (keyspace_at t.keyspaces keyspace)) stands.topology) ∙ sym (is.keyspaces keyspace) ∙ ap is_some found
+  keyspace_there state found = sym (stands.topology.keyspaces keyspace) ∙ sym (is.keyspaces keyspace) ∙ ap is_some found
 
   pub keyspace_absent : primary_at core.primaries keyspace ≡ None → has_keyspace p keyspace ≡ false
-  keyspace_absent found = sym (ap (λ (t : TopologyState). is_some (keyspace_at t.keyspaces keyspace)) stands.topology) ∙ sym (is.keyspaces keyspace) ∙ ap is_some found
+  keyspace_absent found = sym (stands.topology.keyspaces keyspace) ∙ sym (is.keyspaces keyspace) ∙ ap is_some found
 
   module _ (state : PrimaryState) (found : primary_at core.primaries keyspace ≡ Some state) where
     pub table_there : (table : List ℕ) → plain.has_table (calm p) keyspace table ≡ has_table state table
     table_there table =
-        sym (ap (λ (t : TopologyState). is_present t.keyspaces keyspace table) stands.topology) ∙ sym (is.tables keyspace table)
+        sym (same_presence core.topology p.topology (alike p scopes core stands) keyspace table) ∙ sym (is.tables keyspace table)
         ∙ ap (λ s. has_table s table) (primary_of-found core.primaries keyspace state found)
 
     pub row_there : (table : List ℕ) (key : ℕ) → row_of (calm p) keyspace table key ≡ row_at state table key
     row_there table key = sym (stands.rows keyspace table key) ∙ ap (λ s. row_at s table key) (primary_of-found core.primaries keyspace state found)
 
     pub log_there : log_length (calm p) keyspace ≡ length state.log
-    log_there = sym (stands.log keyspace) ∙ ap (λ (s : PrimaryState). length s.log) (primary_of-found core.primaries keyspace state found)
+    log_there =
+        sym (length-filter (λ (e : LogEntry). same_text e.keyspace keyspace) p.log) ∙ sym (ap length (stands.log keyspace))
+        ∙ length-map (primary_of core.primaries keyspace).log (entry_at keyspace)
+        ∙ ap (λ (s : PrimaryState). length s.log) (primary_of-found core.primaries keyspace state found)
 
     -- no list denies a table that no workflow moves
     pub not_denied : (table : List ℕ) → is_denied_at state table ≡ false
@@ -183,18 +192,13 @@ module _ (old new : CoreState) (keyspace table : List ℕ) (op : Op) (is : IsCor
   kept : {A : Type 0} (view : PrimaryState → A) → view after ≡ view before → (k : List ℕ) → view (primary_of new.primaries k) ≡ view (primary_of old.primaries k)
   kept view same k = changed_keeps old.primaries new.primaries keyspace before after found becomes view same k
 
-  write_stands : (p : Plain) → Stands (calm p) old → (position : ℕ) → refusal_of (calm p) (write keyspace table op) ≡ None → IsWritten before table op position after → Stands (next_taken (calm p) (write keyspace table op)) new
-  write_stands p stands position none written = record {
-    lives = refl;
-    topology = topology ∙ stands.topology;
-    rows = λ k t key. row_now k t key ∙ ap (λ r. fold row_with_op r (acknowledged_at k t key (write keyspace table op) done)) (stands.rows k t key) ∙ sym (done_at (calm p) (write keyspace table op) tt stands.numbers none k t key);
-    log = λ k.
-        let more : log_length (next_taken (calm p) (write keyspace table op)) k ≡ log_length p k + (0 + cond (same_text keyspace k) 1 0) = sum_by-append (λ (e : LogEntry). cond (same_text e.keyspace k) 1 0) p.log (entry ∷ []) in
-        let now = log_now k in
-        omega (arith, more, now);
-    denials = λ k t. kept (λ s. is_denied_at s t) (written.put.denied t) k ∙ stands.denials k t;
-    numbers = done_has_numbers (calm p) (write keyspace table op) tt stands.numbers none;
-  }
+  write_stands : (p : Plain) (scopes : List Scope) → Stands (calm p) scopes old → (position : ℕ) → refusal_of (calm p) (write keyspace table op) ≡ None → IsWritten before table op position after → Stands (next_taken (calm p) (write keyspace table op)) scopes new
+  write_stands p scopes stands position none written =
+      by_hand p scopes old new (write keyspace table op) stands none refl refl refl (subst (λ t. AreAlike t p.topology) (sym topology) (alike p scopes old stands))
+      (λ k t key. row_now k t key ∙ ap (λ r. fold row_with_op r (acknowledged_at k t key (write keyspace table op) done)) (stands.rows k t key)
+      ∙ sym (done_at (calm p) (write keyspace table op) tt (reached_has_numbers (calm p) stands.reached) none k t key))
+      log_now
+      (λ k t. kept (λ s. is_denied_at s t) (written.put.denied t) k ∙ stands.denials k t)
     where
       entry : LogEntry
       entry = record { keyspace = keyspace; table = table; key = op_key op }
@@ -210,20 +214,26 @@ module _ (old new : CoreState) (keyspace table : List ℕ) (op : Op) (is : IsCor
           there : keyspace ≢ k → row_at (primary_of new.primaries k) t key ≡ fold row_with_op (row_at (primary_of old.primaries k) t key) (acknowledged_at k t key (write keyspace table op) done)
           there apart = rw (differs same_text same_text_decides keyspace k apart) (ap (λ s. row_at s t key) (elsewhere k apart))
 
-      log_now : (k : List ℕ) → length (primary_of new.primaries k).log ≡ log_length p k + cond (same_text keyspace k) 1 0
-      log_now k = by (same_text keyspace k) refl
+      log_now : (k : List ℕ) → map (entry_at k) (primary_of new.primaries k).log ≡ log_of (next_taken (calm p) (write keyspace table op)) k
+      log_now k = ⊎_elim here there (same_or_other same_text same_text_decides keyspace k) ∙ sym (filter-append (λ (e : LogEntry). same_text e.keyspace k) p.log (entry ∷ []))
         where
-          by : (b : Bool) → same_text keyspace k ≡ b → length (primary_of new.primaries k).log ≡ log_length p k + cond b 1 0
-          by true e =
-              let at : keyspace ≡ k = (same_text_decides keyspace k).0 e in
-              let grown = log_grows before after table op position written in
-              let at_new : length (primary_of new.primaries keyspace).log ≡ length after.log = ap (λ (s : PrimaryState). length s.log) now in
-              let at_old : length before.log ≡ log_length p keyspace = sym (ap (λ (s : PrimaryState). length s.log) was) ∙ stands.log keyspace in
-              subst (λ x. length (primary_of new.primaries x).log ≡ log_length p x + 1) at (omega (arith, at_new, grown, at_old))
-          by false e =
-              let apart : keyspace ≢ k = λ h. true≢false (sym ((same_text_decides keyspace k).1 h) ∙ e) in
-              let same : length (primary_of new.primaries k).log ≡ log_length p k = ap (λ (s : PrimaryState). length s.log) (elsewhere k apart) ∙ stands.log k in
-              omega (arith, same)
+          Logs : List ℕ → Type 0
+          Logs x = map (entry_at x) (primary_of new.primaries x).log ≡ log_of p x ++ cond (same_text keyspace x) (entry ∷ []) []
+
+          change : RowChange
+          change = change_by before (record { table = table; key = op_key op; after = row_at after table (op_key op) })
+
+          here : keyspace ≡ k → Logs k
+          here at = subst Logs at
+              (ap (λ (s : PrimaryState). map (entry_at keyspace) s.log) now ∙ ap (map (entry_at keyspace)) written.put.log
+              ∙ map-append (entry_at keyspace) before.log (change ∷ [])
+              ∙ ap (λ l. l ++ entry ∷ []) (sym (ap (λ (s : PrimaryState). map (entry_at keyspace) s.log) was) ∙ stands.log keyspace)
+              ∙ ap (λ b. log_of p keyspace ++ cond b (entry ∷ []) []) (sym (same_itself same_text same_text_decides keyspace)))
+
+          there : keyspace ≢ k → Logs k
+          there apart =
+              ap (λ (s : PrimaryState). map (entry_at k) s.log) (elsewhere k apart) ∙ stands.log k ∙ sym (append-nil (log_of p k))
+              ∙ ap (λ b. log_of p k ++ cond b (entry ∷ []) []) (sym (differs same_text same_text_decides keyspace k apart))
 
   -- what holds of every core holds of the new one
   write_core : (position : ℕ) → IsWritten before table op position after → IsCore new
@@ -232,6 +242,7 @@ module _ (old new : CoreState) (keyspace table : List ℕ) (op : Op) (is : IsCor
     count = ap length becomes ∙ length-set_value (same_text keyspace) old.primaries after ∙ is.count ∙ sym (ap (λ (t : TopologyState). length t.keyspaces) topology);
     tables = λ k t. kept (λ s. has_table s t) (tables_stay before after table op position written t) k ∙ is.tables k t ∙ sym (ap (λ (x : TopologyState). is_present x.keyspaces k t) topology);
     within = subst IsWithinLimits (sym topology) is.within;
+    named = subst (λ (t : TopologyState). HasNamedKeys t.rules) (sym topology) is.named;
   }
 
 -- a core is its topology and its primaries
@@ -264,21 +275,21 @@ refused_by before after table op primary.LogFull did = (did.1, inr ((λ e. absur
 
 -- what a write does to the core, by its answer
 module _ (old new : CoreState) (keyspace table : List ℕ) (op : Op) (is : IsCore old) (topology : new.topology ≡ old.topology) where
-  pub write_at : (p : Plain) → Stands (calm p) old → (o : Option PrimaryState) → primary_at old.primaries keyspace ≡ o → (result : Result Reply code.Refusal) → WritesAt o old.primaries keyspace table op result new.primaries
-      → Answers (calm p) (write keyspace table op) (answer_from result) × Stands (next (calm p) (write keyspace table op) (answer_from result)) new
-  write_at p stands None found result did =
-      let absent = keyspace_absent p old keyspace is stands found in
-      rw did.0 (rw absent refl, subst (Stands (calm p)) (sym (same_core old new topology did.1)) stands)
-  write_at p stands (Some before) found result (Ok position, after, written, is_result, becomes) =
-      let none : refusal_of (calm p) (write keyspace table op) ≡ None = write_told p old keyspace is stands before found table op ∙ ap told_row written.row in
-      rw is_result ((none, refl), write_stands old new keyspace table op is before after found topology becomes p stands position none written)
-  write_at p stands (Some before) found result (Err fault, after, did, is_result, becomes) =
+  pub write_at : (p : Plain) (scopes : List Scope) → Stands (calm p) scopes old → (o : Option PrimaryState) → primary_at old.primaries keyspace ≡ o → (result : Result Reply code.Refusal) → WritesAt o old.primaries keyspace table op result new.primaries
+      → Answers (calm p) (write keyspace table op) (answer_from result) × Stands (next (calm p) (write keyspace table op) (answer_from result)) scopes new
+  write_at p scopes stands None found result did =
+      let absent = keyspace_absent p scopes old keyspace is stands found in
+      rw did.0 (rw absent refl, subst (Stands (calm p) scopes) (sym (same_core old new topology did.1)) stands)
+  write_at p scopes stands (Some before) found result (Ok position, after, written, is_result, becomes) =
+      let none : refusal_of (calm p) (write keyspace table op) ≡ None = write_told p scopes old keyspace is stands before found table op ∙ ap told_row written.row in
+      rw is_result ((none, refl), write_stands old new keyspace table op is before after found topology becomes p scopes stands position none written)
+  write_at p scopes stands (Some before) found result (Err fault, after, did, is_result, becomes) =
       let by = refused_by before after table op fault did in
       let same = refused_same old new keyspace before after found topology becomes by.0 in
-      let told = write_told p old keyspace is stands before found table op in
+      let told = write_told p scopes old keyspace is stands before found table op in
       rw is_result (⊎_elim
-      (λ memory. rw memory.0 ((told ∙ memory.1, refl), subst (Stands (calm p)) (sym same) stands))
-      (λ other. (refuses (calm p) (write keyspace table op) (refusal_by_primary fault) other.0 (told ∙ ap told_row other.1), subst (Stands (calm p)) (sym same) stands))
+      (λ memory. rw memory.0 ((told ∙ memory.1, refl), subst (Stands (calm p) scopes) (sym same) stands))
+      (λ other. (refuses (calm p) (write keyspace table op) (refusal_by_primary fault) other.0 (told ∙ ap told_row other.1), subst (Stands (calm p) scopes) (sym same) stands))
       by.1)
 
   keeps_at : (o : Option PrimaryState) → primary_at old.primaries keyspace ≡ o → (result : Result Reply code.Refusal) → WritesAt o old.primaries keyspace table op result new.primaries → IsCore new
@@ -295,7 +306,7 @@ module _ (old new : CoreState) (keyspace table : List ℕ) (op : Op) (is : IsCor
 
   module _ (result : Result Reply code.Refusal) (did : WritesRow old.primaries keyspace table op result new.primaries) where
     pub write_steps : Steps old (write keyspace table op) result new
-    write_steps = steps_from_calm old new (write keyspace table op) result (λ p stands. write_at p stands (primary_at old.primaries keyspace) refl result did)
+    write_steps = steps_from_calm old new (write keyspace table op) result (λ p scopes stands. write_at p scopes stands (primary_at old.primaries keyspace) refl result did)
 
     pub write_keeps : IsCore new
     write_keeps = keeps_at (primary_at old.primaries keyspace) refl result did
@@ -305,7 +316,7 @@ module _ (old new : CoreState) (keyspace table : List ℕ) (op : Op) (is : IsCor
 
 -- ---- a read
 
-module _ (p : Plain) (core : CoreState) (keyspace table : List ℕ) (key : ℕ) (is : IsCore core) (stands : Stands (calm p) core) where
+module _ (p : Plain) (scopes : List Scope) (core : CoreState) (keyspace table : List ℕ) (key : ℕ) (is : IsCore core) (stands : Stands (calm p) scopes core) where
   -- no list denies a table that no workflow moves
   read_none : (tablet_type : TabletType) → denied_read (calm p) keyspace table tablet_type ≡ None
   read_none Primary = refl
@@ -318,23 +329,23 @@ module _ (p : Plain) (core : CoreState) (keyspace table : List ℕ) (key : ℕ) 
   refuses_none Rdonly = refl
 
   read_calm : (tablet_type : TabletType) (o : Option PrimaryState) → primary_at core.primaries keyspace ≡ o
-      → Answers (calm p) (read keyspace table key tablet_type) (answer_from (read_at o table key tablet_type)) × Stands (next (calm p) (read keyspace table key tablet_type) (answer_from (read_at o table key tablet_type))) core
-  read_calm tablet_type None found = (rw (keyspace_absent p core keyspace is stands found) refl, stands)
-  read_calm tablet_type (Some state) found = rw (not_denied p core keyspace is stands state found table, refuses_none tablet_type) (here (has_table state table) refl)
+      → Answers (calm p) (read keyspace table key tablet_type) (answer_from (read_at o table key tablet_type)) × Stands (next (calm p) (read keyspace table key tablet_type) (answer_from (read_at o table key tablet_type))) scopes core
+  read_calm tablet_type None found = (rw (keyspace_absent p scopes core keyspace is stands found) refl, stands)
+  read_calm tablet_type (Some state) found = rw (not_denied p scopes core keyspace is stands state found table, refuses_none tablet_type) (here (has_table state table) refl)
     where
       there : has_keyspace p keyspace ≡ true
-      there = keyspace_there p core keyspace is stands state found
+      there = keyspace_there p scopes core keyspace is stands state found
 
       here : (t : Bool) → has_table state table ≡ t
           → Answers (calm p) (read keyspace table key tablet_type) (answer_from (reply_by_read (cond t (Ok (row_at state table key)) (Err primary.NoTable))))
-          × Stands (next (calm p) (read keyspace table key tablet_type) (answer_from (reply_by_read (cond t (Ok (row_at state table key)) (Err primary.NoTable))))) core
+          × Stands (next (calm p) (read keyspace table key tablet_type) (answer_from (reply_by_read (cond t (Ok (row_at state table key)) (Err primary.NoTable))))) scopes core
       here true has = (
-        (rw (there, table_there p core keyspace is stands state found table, has) (read_none tablet_type), ap row (sym (row_there p core keyspace is stands state found table key))),
+        (rw (there, table_there p scopes core keyspace is stands state found table, has) (read_none tablet_type), ap row (sym (row_there p scopes core keyspace is stands state found table key))),
         stands,
       )
-      here false has = (rw (there, table_there p core keyspace is stands state found table, has) refl, stands)
+      here false has = (rw (there, table_there p scopes core keyspace is stands state found table, has) refl, stands)
 
 pub read_steps : (core : CoreState) (keyspace table : List ℕ) (key : ℕ) (tablet_type : TabletType) (result : Result Reply code.Refusal) → IsCore core
     → result ≡ read_at (primary_at core.primaries keyspace) table key tablet_type → Steps core (read keyspace table key tablet_type) result core
 read_steps core keyspace table key tablet_type result is answer = steps_from_calm core core (read keyspace table key tablet_type) result
-    (λ p stands. rw answer (read_calm p core keyspace table key is stands tablet_type (primary_at core.primaries keyspace) refl))
+    (λ p scopes stands. rw answer (read_calm p scopes core keyspace table key is stands tablet_type (primary_at core.primaries keyspace) refl))

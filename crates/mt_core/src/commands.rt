@@ -1,6 +1,7 @@
 //! What each command does to the topology and the primaries.
 ghost use Rattle.std.specs.Prelude.{◌≡◌, ◌≢◌, ◌<◌, true, false, length, Some, Ok, is_some};
 ghost use Rattle.mt_model.specs.Topology.{has_place};
+ghost use Rattle.mt_names.specs.Keys.{IsRuleKey};
 ghost use Rattle.mt_primary.specs.Primary.{has_table};
 ghost use Rattle.mt_core.specs.Commands.{AddsKeyspace, AddsTable, CreatesTable, EditsRule, WritesRow, read_at, refusal_by_primary, refusal_by_topology, without_table};
 ghost use Rattle.mt_core.specs.Core.{IsCore, Primaries, primary_at, primary_of};
@@ -120,15 +121,27 @@ pub fn add_table(
     Ok(Reply::Done)
 }
 
+/// A key is made of names. It does nothing but to show that.
+fn key_is_named(key: &RuleKey)
+    ensures { IsRuleKey key.now }
+{
+    key.table.as_str();
+    if let Some(keyspace) = &key.keyspace {
+        keyspace.as_str();
+    }
+}
+
 /// Sets the rule of a key, or takes it away.
 pub fn edit_rule(
     topology: &mut Topology,
     key: &RuleKey,
     target: Option<RuleTarget>,
 ) -> Result<Reply, Refusal>
-    ensures { (primaries : Primaries) → EditsRule (record { topology = topology.old; primaries = primaries }) key.now target result
+    ensures edits { (primaries : Primaries) → EditsRule (record { topology = topology.old; primaries = primaries }) key.now target result
         (record { topology = topology.new; primaries = primaries }) }
+    ensures named { IsRuleKey key.now }
 {
+    key_is_named(key);
     match topology.edit_rule(key, target) {
         Ok(()) => Ok(Reply::Done),
         Err(fault) => Err(refusal_by_topology(fault)),

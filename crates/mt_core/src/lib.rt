@@ -4,5 +4,7 @@
 
 mod commands;
 mod controller;
+mod laws;
 
 pub use controller::Core;
+pub use laws::{a_core_tells_what_its_state_serves, an_empty_core_stands_for_the_opening};
