@@ -1,8 +1,7 @@
 -- A core says what the state serves that it stands for.
-use Rattle.std.proofs.Common.{◌≡◌, List, sym, ◌∙◌}
+use Rattle.std.proofs.Common.{◌≡◌, sym, ◌∙◌}
 use Rattle.mt_names.specs.declared.keys.RuleKey.{RuleKey}
 use Rattle.mt_names.specs.declared.types.TabletType.{TabletType}
-use Rattle.mt_model.specs.declared.entries.Scope.{Scope}
 use Rattle.mt_model.specs.Documents.{dump_text, rules_text}
 use Rattle.mt_model.specs.Part.{IsSameTopology}
 use Rattle.mt_model.specs.Topology.{HasDistinctPlaces, resolution}
@@ -13,7 +12,7 @@ use Rattle.mt_laws.proofs.SameLemmas.{distinct_texts, dump-same, resolution-same
 use Rattle.mt_laws.proofs.ServedPlacesLemmas.{is_served}
 use Rattle.mt_core.specs.Core.{CoreState, IsCore, Stands}
 
-module _ (p : Plain) (scopes : List Scope) (core : CoreState) (stands : Stands p scopes core) where
+module _ (p : Plain) (core : CoreState) (stands : Stands p core) where
   lists : IsServed p (served p)
   lists = is_served p stands.reached
 

@@ -43,7 +43,7 @@ use Rattle.mt_laws.proofs.PlacedLemmas.{only_what_stands}
 use Rattle.mt_laws.proofs.ServedPlacesLemmas.{served_places}
 use Rattle.mt_laws.proofs.TableLemmas.{done_at}
 use Rattle.mt_core.specs.Commands.{Becomes, Does, MakesKeyspace, MakesRule, MakesTable, Steps, refusal_by_topology}
-use Rattle.mt_core.specs.Core.{CoreState, IsCore, Stands, empty_core, entry_at, primary_at, primary_of}
+use Rattle.mt_core.specs.Core.{CoreState, IsCore, Stands, StandsWith, empty_core, entry_at, primary_at, primary_of}
 use Rattle.mt_core.proofs.AlikeLemmas.{AreAlike, alike-keyspace, alike-rule, alike-table, same_keyspaces, same_presence, same_rule_place, same_rules, same_tables}
 use Rattle.mt_core.proofs.CoreLemmas.{changed_keeps, changed_was, primary_of-push}
 use Rattle.mt_core.proofs.RefusalLemmas.{keyspace_told, marked-count, none_told, rule_told, table_told, told}
@@ -69,19 +69,19 @@ told_some (Some f) r e = let is : refusal_by_topology f ≡ r = cc in ap (λ x. 
 
 module _ (p : Plain) (scopes : List Scope) (old : CoreState) (event : Event) (fault : Option TopologyFault) (grows : Bool) (Makes : CoreState → Type 0)
     (answered : reply_of p event ≡ done) (growing : grows ≡ true → may_grow p event ≡ true)
-    (refusing : refusal_of p event ≡ told fault) (stands : Stands p scopes old)
-    (making : (s : CoreState) → refusal_of p event ≡ None → Makes s → Stands (next_taken p event) scopes s) where
+    (refusing : refusal_of p event ≡ told fault) (stands : StandsWith p scopes old)
+    (making : (s : CoreState) → refusal_of p event ≡ None → Makes s → StandsWith (next_taken p event) scopes s) where
   refused_step : (r : code.Refusal) (new : CoreState) → r ≢ refusal.Memory → (option_map refusal_by_topology fault ≡ Some r) × (new ≡ old)
-      → Answers p event (answer_from (Err r)) × Stands (next p event (answer_from (Err r))) scopes new
-  refused_step r new other is = (refuses p event r other (refusing ∙ told_some fault r is.0), subst (Stands p scopes) (sym is.1) stands)
+      → Answers p event (answer_from (Err r)) × StandsWith (next p event (answer_from (Err r))) scopes new
+  refused_step r new other is = (refuses p event r other (refusing ∙ told_some fault r is.0), subst (StandsWith p scopes) (sym is.1) stands)
 
   pub does_step : (result : Result Reply code.Refusal) (new : CoreState) → Does old fault grows Makes result new
-      → Answers p event (answer_from result) × Stands (next p event (answer_from result)) scopes new
+      → Answers p event (answer_from result) × StandsWith (next p event (answer_from result)) scopes new
   does_step (Ok reply.Done) new is =
       let none : refusal_of p event ≡ None = refusing ∙ ap told is.1 in
       ((none, sym answered), making new none is.2)
   does_step (Ok (reply.Row r)) new is = absurd (let e = is.0 in cc)
-  does_step (Err refusal.Memory) new is = ((refusing ∙ ap told is.0, growing is.1), subst (Stands p scopes) (sym is.2) stands)
+  does_step (Err refusal.Memory) new is = ((refusing ∙ ap told is.0, growing is.1), subst (StandsWith p scopes) (sym is.2) stands)
   does_step (Err refusal.NoKeyspace) new is = refused_step refusal.NoKeyspace new (λ e. absurd cc) is
   does_step (Err refusal.NoTable) new is = refused_step refusal.NoTable new (λ e. absurd cc) is
   does_step (Err refusal.Denied) new is = refused_step refusal.Denied new (λ e. absurd cc) is
@@ -115,7 +115,7 @@ does_keeps P old new fault grows Makes (Err r) was made is = subst P (sym (does_
 
 -- ---- the opening
 
-pub opening_stands : (scopes : List Scope) → Stands (opening scopes) scopes empty_core
+pub opening_stands : (scopes : List Scope) → StandsWith (opening scopes) scopes empty_core
 opening_stands scopes = record {
   reached = record { scopes = scopes; events = []; answers = []; run = tt; is = refl };
   lives = refl;
@@ -136,7 +136,7 @@ opening_stands scopes = record {
 -- ---- a state without live workflows
 
 -- the topology is that of the state, by what it says
-pub alike : (p : Plain) (scopes : List Scope) (core : CoreState) → Stands (calm p) scopes core → AreAlike core.topology p.topology
+pub alike : (p : Plain) (scopes : List Scope) (core : CoreState) → StandsWith (calm p) scopes core → AreAlike core.topology p.topology
 alike p scopes core stands = record {
   same = record { keyspaces = stands.topology.keyspaces; values = stands.topology.entries };
   places = stands.places;
@@ -145,12 +145,12 @@ alike p scopes core stands = record {
 }
 
 -- what is made by hand of both keeps it so, and leaves rows, logs and own lists where it says so
-pub by_hand : (p : Plain) (scopes : List Scope) (core new : CoreState) (event : Event) → Stands (calm p) scopes core → (none : refusal_of (calm p) event ≡ None) → reply_of (calm p) event ≡ done
+pub by_hand : (p : Plain) (scopes : List Scope) (core new : CoreState) (event : Event) → StandsWith (calm p) scopes core → (none : refusal_of (calm p) event ≡ None) → reply_of (calm p) event ≡ done
     → (next_taken (calm p) event).lives ≡ [] → (next_taken (calm p) event).scopes ≡ p.scopes → AreAlike new.topology (next_taken (calm p) event).topology
     → ((keyspace table : List ℕ) (key : ℕ) → row_at (primary_of new.primaries keyspace) table key ≡ row_of (next_taken (calm p) event) keyspace table key)
     → ((keyspace : List ℕ) → map (entry_at keyspace) (primary_of new.primaries keyspace).log ≡ log_of (next_taken (calm p) event) keyspace)
     → ((keyspace table : List ℕ) → is_denied_at (primary_of new.primaries keyspace) table ≡ false)
-    → Stands (next_taken (calm p) event) scopes new
+    → StandsWith (next_taken (calm p) event) scopes new
 by_hand p scopes core new event stands none answered lives scopes_kept made rows logs denied = record {
   reached = reached_next (calm p) event done stands.reached (none, sym answered);
   lives = lives;
@@ -171,7 +171,7 @@ by_hand p scopes core new event stands none answered lives scopes_kept made rows
 
 -- ---- a keyspace more
 
-pub keyspace_refusing : (p : Plain) (scopes : List Scope) (core : CoreState) (name : List ℕ) → IsCore core → Stands (calm p) scopes core → refusal_of (calm p) (add_keyspace name) ≡ told (add_keyspace_refusal core.topology.keyspaces name)
+pub keyspace_refusing : (p : Plain) (scopes : List Scope) (core : CoreState) (name : List ℕ) → IsCore core → StandsWith (calm p) scopes core → refusal_of (calm p) (add_keyspace name) ≡ told (add_keyspace_refusal core.topology.keyspaces name)
 keyspace_refusing p scopes core name is stands =
     let both = alike p scopes core stands in
     ap (λ b. or_else (refuse_if b exists) (refuse_if (nat_le most_keyspaces (length p.topology.keyspaces)) full)) (sym (both.same.keyspaces name))
@@ -194,7 +194,7 @@ module _ (core : CoreState) (name : List ℕ) (is : IsCore core) (free : add_key
       by None e = refl
       by (Some s) e = absurd (true≢false e)
 
-pub keyspace_making : (p : Plain) (scopes : List Scope) (core : CoreState) (name : List ℕ) → IsCore core → Stands (calm p) scopes core → (s : CoreState) → refusal_of (calm p) (add_keyspace name) ≡ None → MakesKeyspace core name s → Stands (next_taken (calm p) (add_keyspace name)) scopes s
+pub keyspace_making : (p : Plain) (scopes : List Scope) (core : CoreState) (name : List ℕ) → IsCore core → StandsWith (calm p) scopes core → (s : CoreState) → refusal_of (calm p) (add_keyspace name) ≡ None → MakesKeyspace core name s → StandsWith (next_taken (calm p) (add_keyspace name)) scopes s
 keyspace_making p scopes core name is stands s none made =
     let told_none : told (add_keyspace_refusal core.topology.keyspaces name) ≡ None = sym (keyspace_refusing p scopes core name is stands) ∙ none in
     let free : add_keyspace_refusal core.topology.keyspaces name ≡ None = none_told (add_keyspace_refusal core.topology.keyspaces name) told_none in
@@ -208,7 +208,7 @@ keyspace_making p scopes core name is stands s none made =
 
 -- ---- a rule edited
 
-pub rule_refusing : (p : Plain) (scopes : List Scope) (core : CoreState) (key : RuleKey) (target : Option RuleTarget) → IsCore core → Stands (calm p) scopes core → refusal_of (calm p) (edit_rule key target) ≡ told (edit_rule_refusal core.topology.rules key target)
+pub rule_refusing : (p : Plain) (scopes : List Scope) (core : CoreState) (key : RuleKey) (target : Option RuleTarget) → IsCore core → StandsWith (calm p) scopes core → refusal_of (calm p) (edit_rule key target) ≡ told (edit_rule_refusal core.topology.rules key target)
 rule_refusing p scopes core key None is stands = refl
 rule_refusing p scopes core key (Some target) is stands =
     let both = alike p scopes core stands in
@@ -216,11 +216,11 @@ rule_refusing p scopes core key (Some target) is stands =
     ∙ ap (λ n. if is_some (lookup (same_key key) core.topology.rules) then None else refuse_if (nat_le most_rules n) full) (sym (same_rules core.topology p.topology both))
     ∙ rule_told (record p { topology = core.topology }) key (Some target) is.within.rules
 
-pub rule_growing : (p : Plain) (scopes : List Scope) (core : CoreState) (key : RuleKey) (target : Option RuleTarget) → Stands (calm p) scopes core → edit_rule_grows core.topology.rules key target ≡ true → may_grow (calm p) (edit_rule key target) ≡ true
+pub rule_growing : (p : Plain) (scopes : List Scope) (core : CoreState) (key : RuleKey) (target : Option RuleTarget) → StandsWith (calm p) scopes core → edit_rule_grows core.topology.rules key target ≡ true → may_grow (calm p) (edit_rule key target) ≡ true
 rule_growing p scopes core key None stands grows = grows
 rule_growing p scopes core key (Some target) stands grows = ap not (sym (same_rule_place core.topology p.topology (alike p scopes core stands) key)) ∙ grows
 
-pub rule_making : (p : Plain) (scopes : List Scope) (core : CoreState) (key : RuleKey) (target : Option RuleTarget) → Stands (calm p) scopes core → (s : CoreState) → refusal_of (calm p) (edit_rule key target) ≡ None → MakesRule core key target s → Stands (next_taken (calm p) (edit_rule key target)) scopes s
+pub rule_making : (p : Plain) (scopes : List Scope) (core : CoreState) (key : RuleKey) (target : Option RuleTarget) → StandsWith (calm p) scopes core → (s : CoreState) → refusal_of (calm p) (edit_rule key target) ≡ None → MakesRule core key target s → StandsWith (next_taken (calm p) (edit_rule key target)) scopes s
 rule_making p scopes core key target stands s none made =
     rw made (by_hand p scopes core _ (edit_rule key target) stands none refl refl refl (alike-rule core.topology p.topology key target (alike p scopes core stands)) stands.rows stands.log stands.denials)
 
@@ -230,7 +230,7 @@ all_by_recursion : {A : Type 0} (P : A → Type 0) (xs : List A) → All P xs �
 all_by_recursion P [] all = tt
 all_by_recursion P (x ∷ xs) all = (All-head P x xs all, all_by_recursion P xs (All-tail P x xs all))
 
-pub table_refusing : (p : Plain) (scopes : List Scope) (core : CoreState) (keyspace table : List ℕ) → IsCore core → Stands (calm p) scopes core → refusal_of (calm p) (add_table keyspace table) ≡ told (add_table_refusal core.topology.keyspaces keyspace table)
+pub table_refusing : (p : Plain) (scopes : List Scope) (core : CoreState) (keyspace table : List ℕ) → IsCore core → StandsWith (calm p) scopes core → refusal_of (calm p) (add_table keyspace table) ≡ told (add_table_refusal core.topology.keyspaces keyspace table)
 table_refusing p scopes core keyspace table is stands =
     let both = alike p scopes core stands in
     ap (λ b. or_else (refuse_if (not b) no_keyspace) (or_else (refuse_if (is_present p.topology.keyspaces keyspace table) exists) (refuse_if (nat_le most_tables_in_keyspace (tables_in p.topology)) full))) (sym (both.same.keyspaces keyspace))
@@ -301,9 +301,9 @@ module _ (before after : PrimaryState) (table : List ℕ) (absent : has_table be
       there : table ≢ other → is_denied_at after other ≡ is_denied_at before other
       there apart = ap denied_in (made_others other (λ e. apart (sym e)))
 
-pub table_making : (p : Plain) (scopes : List Scope) (core : CoreState) (keyspace table : List ℕ) → IsCore core → Stands (calm p) scopes core → (s : CoreState) → refusal_of (calm p) (add_table keyspace table) ≡ None
+pub table_making : (p : Plain) (scopes : List Scope) (core : CoreState) (keyspace table : List ℕ) → IsCore core → StandsWith (calm p) scopes core → (s : CoreState) → refusal_of (calm p) (add_table keyspace table) ≡ None
     → is_some (keyspace_at core.topology.keyspaces keyspace) ≡ true → has_table (primary_of core.primaries keyspace) table ≡ false
-    → MakesTable core keyspace table s → Stands (next_taken (calm p) (add_table keyspace table)) scopes s
+    → MakesTable core keyspace table s → StandsWith (next_taken (calm p) (add_table keyspace table)) scopes s
 table_making p scopes core keyspace table is stands s none there absent made =
     by_hand p scopes core s (add_table keyspace table) stands none refl refl refl
     (subst (λ t. AreAlike t (with_table p.topology keyspace table)) (sym made.0) (alike-table core.topology p.topology keyspace table (alike p scopes core stands) there))
@@ -329,11 +329,16 @@ table_making p scopes core keyspace table is stands s none there absent made =
 -- ---- any state that a core stands for
 
 -- what holds of each state without live workflows holds of those that a core stands for
-pub is_calm : (p : Plain) (scopes : List Scope) (core : CoreState) → Stands p scopes core → p ≡ calm p
+pub is_calm : (p : Plain) (scopes : List Scope) (core : CoreState) → StandsWith p scopes core → p ≡ calm p
 is_calm p scopes core stands = let with_lives : List Live → Plain = λ lives. record p { lives = lives } in ap with_lives stands.lives
 
+-- the watchers are those of the state
+settled : (p : Plain) (scopes : List Scope) (core : CoreState) → StandsWith p scopes core → Stands p core
+settled p scopes core stands = subst (λ s. StandsWith p s core) (sym stands.scopes_are) stands
+
 pub steps_from_calm : (old new : CoreState) (event : Event) (result : Result Reply code.Refusal)
-    → ((p : Plain) (scopes : List Scope) → Stands (calm p) scopes old → Answers (calm p) event (answer_from result) × Stands (next (calm p) event (answer_from result)) scopes new) → Steps old event result new
-steps_from_calm old new event result steps p scopes stands =
-    let calm_is = is_calm p scopes old stands in
-    subst (λ q. Answers q event (answer_from result) × Stands (next q event (answer_from result)) scopes new) (sym calm_is) (steps p scopes (subst (λ q. Stands q scopes old) calm_is stands))
+    → ((p : Plain) (scopes : List Scope) → StandsWith (calm p) scopes old → Answers (calm p) event (answer_from result) × StandsWith (next (calm p) event (answer_from result)) scopes new) → Steps old event result new
+steps_from_calm old new event result steps p stands =
+    let calm_is = is_calm p p.scopes old stands in
+    let step = subst (λ q. Answers q event (answer_from result) × StandsWith (next q event (answer_from result)) p.scopes new) (sym calm_is) (steps p p.scopes (subst (λ q. StandsWith q p.scopes old) calm_is stands)) in
+    (step.0, settled (next p event (answer_from result)) p.scopes new step.1)

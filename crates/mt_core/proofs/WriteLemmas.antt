@@ -45,7 +45,7 @@ use Rattle.mt_laws.specs.Texts.{HasNamedKeys}
 use Rattle.mt_laws.proofs.HasNumberLemmas.{reached_has_numbers}
 use Rattle.mt_laws.proofs.TableLemmas.{done_at}
 use Rattle.mt_core.specs.Commands.{Steps, WritesAt, WritesRow, read_at, refusal_by_primary, reply_by_read}
-use Rattle.mt_core.specs.Core.{CoreState, IsCore, IsWithinLimits, Primaries, Stands, entry_at, primary_at, primary_of}
+use Rattle.mt_core.specs.Core.{CoreState, IsCore, IsWithinLimits, Primaries, StandsWith, entry_at, primary_at, primary_of}
 use Rattle.mt_core.proofs.CoreLemmas.{changed_elsewhere, changed_keeps, changed_now, changed_was, primary_of-found}
 use Rattle.mt_core.proofs.AlikeLemmas.{AreAlike, same_presence}
 use Rattle.mt_core.proofs.StepLemmas.{alike, by_hand, refuses, steps_from_calm}
@@ -87,7 +87,7 @@ row_told (Delete key) None log = refl
 row_told (Delete key) (Some old) log = left_told None log
 
 -- a keyspace that is there is told as its primary tells
-module _ (p : Plain) (scopes : List Scope) (core : CoreState) (keyspace : List ℕ) (is : IsCore core) (stands : Stands (calm p) scopes core) where
+module _ (p : Plain) (scopes : List Scope) (core : CoreState) (keyspace : List ℕ) (is : IsCore core) (stands : StandsWith (calm p) scopes core) where
   pub keyspace_there : (state : PrimaryState) → primary_at core.primaries keyspace ≡ Some state → has_keyspace p keyspace ≡ true
   keyspace_there state found = sym (stands.topology.keyspaces keyspace) ∙ sym (is.keyspaces keyspace) ∙ ap is_some found
 
@@ -192,7 +192,7 @@ module _ (old new : CoreState) (keyspace table : List ℕ) (op : Op) (is : IsCor
   kept : {A : Type 0} (view : PrimaryState → A) → view after ≡ view before → (k : List ℕ) → view (primary_of new.primaries k) ≡ view (primary_of old.primaries k)
   kept view same k = changed_keeps old.primaries new.primaries keyspace before after found becomes view same k
 
-  write_stands : (p : Plain) (scopes : List Scope) → Stands (calm p) scopes old → (position : ℕ) → refusal_of (calm p) (write keyspace table op) ≡ None → IsWritten before table op position after → Stands (next_taken (calm p) (write keyspace table op)) scopes new
+  write_stands : (p : Plain) (scopes : List Scope) → StandsWith (calm p) scopes old → (position : ℕ) → refusal_of (calm p) (write keyspace table op) ≡ None → IsWritten before table op position after → StandsWith (next_taken (calm p) (write keyspace table op)) scopes new
   write_stands p scopes stands position none written =
       by_hand p scopes old new (write keyspace table op) stands none refl refl refl (subst (λ t. AreAlike t p.topology) (sym topology) (alike p scopes old stands))
       (λ k t key. row_now k t key ∙ ap (λ r. fold row_with_op r (acknowledged_at k t key (write keyspace table op) done)) (stands.rows k t key)
@@ -275,11 +275,11 @@ refused_by before after table op primary.LogFull did = (did.1, inr ((λ e. absur
 
 -- what a write does to the core, by its answer
 module _ (old new : CoreState) (keyspace table : List ℕ) (op : Op) (is : IsCore old) (topology : new.topology ≡ old.topology) where
-  pub write_at : (p : Plain) (scopes : List Scope) → Stands (calm p) scopes old → (o : Option PrimaryState) → primary_at old.primaries keyspace ≡ o → (result : Result Reply code.Refusal) → WritesAt o old.primaries keyspace table op result new.primaries
-      → Answers (calm p) (write keyspace table op) (answer_from result) × Stands (next (calm p) (write keyspace table op) (answer_from result)) scopes new
+  pub write_at : (p : Plain) (scopes : List Scope) → StandsWith (calm p) scopes old → (o : Option PrimaryState) → primary_at old.primaries keyspace ≡ o → (result : Result Reply code.Refusal) → WritesAt o old.primaries keyspace table op result new.primaries
+      → Answers (calm p) (write keyspace table op) (answer_from result) × StandsWith (next (calm p) (write keyspace table op) (answer_from result)) scopes new
   write_at p scopes stands None found result did =
       let absent = keyspace_absent p scopes old keyspace is stands found in
-      rw did.0 (rw absent refl, subst (Stands (calm p) scopes) (sym (same_core old new topology did.1)) stands)
+      rw did.0 (rw absent refl, subst (StandsWith (calm p) scopes) (sym (same_core old new topology did.1)) stands)
   write_at p scopes stands (Some before) found result (Ok position, after, written, is_result, becomes) =
       let none : refusal_of (calm p) (write keyspace table op) ≡ None = write_told p scopes old keyspace is stands before found table op ∙ ap told_row written.row in
       rw is_result ((none, refl), write_stands old new keyspace table op is before after found topology becomes p scopes stands position none written)
@@ -288,8 +288,8 @@ module _ (old new : CoreState) (keyspace table : List ℕ) (op : Op) (is : IsCor
       let same = refused_same old new keyspace before after found topology becomes by.0 in
       let told = write_told p scopes old keyspace is stands before found table op in
       rw is_result (⊎_elim
-      (λ memory. rw memory.0 ((told ∙ memory.1, refl), subst (Stands (calm p) scopes) (sym same) stands))
-      (λ other. (refuses (calm p) (write keyspace table op) (refusal_by_primary fault) other.0 (told ∙ ap told_row other.1), subst (Stands (calm p) scopes) (sym same) stands))
+      (λ memory. rw memory.0 ((told ∙ memory.1, refl), subst (StandsWith (calm p) scopes) (sym same) stands))
+      (λ other. (refuses (calm p) (write keyspace table op) (refusal_by_primary fault) other.0 (told ∙ ap told_row other.1), subst (StandsWith (calm p) scopes) (sym same) stands))
       by.1)
 
   keeps_at : (o : Option PrimaryState) → primary_at old.primaries keyspace ≡ o → (result : Result Reply code.Refusal) → WritesAt o old.primaries keyspace table op result new.primaries → IsCore new
@@ -316,7 +316,7 @@ module _ (old new : CoreState) (keyspace table : List ℕ) (op : Op) (is : IsCor
 
 -- ---- a read
 
-module _ (p : Plain) (scopes : List Scope) (core : CoreState) (keyspace table : List ℕ) (key : ℕ) (is : IsCore core) (stands : Stands (calm p) scopes core) where
+module _ (p : Plain) (scopes : List Scope) (core : CoreState) (keyspace table : List ℕ) (key : ℕ) (is : IsCore core) (stands : StandsWith (calm p) scopes core) where
   -- no list denies a table that no workflow moves
   read_none : (tablet_type : TabletType) → denied_read (calm p) keyspace table tablet_type ≡ None
   read_none Primary = refl
@@ -329,7 +329,7 @@ module _ (p : Plain) (scopes : List Scope) (core : CoreState) (keyspace table : 
   refuses_none Rdonly = refl
 
   read_calm : (tablet_type : TabletType) (o : Option PrimaryState) → primary_at core.primaries keyspace ≡ o
-      → Answers (calm p) (read keyspace table key tablet_type) (answer_from (read_at o table key tablet_type)) × Stands (next (calm p) (read keyspace table key tablet_type) (answer_from (read_at o table key tablet_type))) scopes core
+      → Answers (calm p) (read keyspace table key tablet_type) (answer_from (read_at o table key tablet_type)) × StandsWith (next (calm p) (read keyspace table key tablet_type) (answer_from (read_at o table key tablet_type))) scopes core
   read_calm tablet_type None found = (rw (keyspace_absent p scopes core keyspace is stands found) refl, stands)
   read_calm tablet_type (Some state) found = rw (not_denied p scopes core keyspace is stands state found table, refuses_none tablet_type) (here (has_table state table) refl)
     where
@@ -338,7 +338,7 @@ module _ (p : Plain) (scopes : List Scope) (core : CoreState) (keyspace table : 
 
       here : (t : Bool) → has_table state table ≡ t
           → Answers (calm p) (read keyspace table key tablet_type) (answer_from (reply_by_read (cond t (Ok (row_at state table key)) (Err primary.NoTable))))
-          × Stands (next (calm p) (read keyspace table key tablet_type) (answer_from (reply_by_read (cond t (Ok (row_at state table key)) (Err primary.NoTable))))) scopes core
+          × StandsWith (next (calm p) (read keyspace table key tablet_type) (answer_from (reply_by_read (cond t (Ok (row_at state table key)) (Err primary.NoTable))))) scopes core
       here true has = (
         (rw (there, table_there p scopes core keyspace is stands state found table, has) (read_none tablet_type), ap row (sym (row_there p scopes core keyspace is stands state found table key))),
         stands,

@@ -15,7 +15,6 @@ use Rattle.mt_model.specs.declared.faults.TopologyFault.{TopologyFault}
 use Rattle.mt_model.specs.declared.faults.TopologyFault.TheVariants as topology
 use Rattle.mt_model.specs.declared.rows.Op.{Op}
 use Rattle.mt_model.specs.declared.entries.Entry.TheVariants.{Present}
-use Rattle.mt_model.specs.declared.entries.Scope.{Scope}
 use Rattle.mt_model.specs.Rows as rows
 use Rattle.mt_model.specs.Topology.{TopologyState, with_entry, with_keyspace, with_keyspace_state, with_rule, with_table, without_table_place}
 use Rattle.mt_topology.specs.Edits.{add_keyspace_refusal, add_table_refusal, edit_rule_grows, edit_rule_refusal}
@@ -122,5 +121,5 @@ read_at (Some state) table key tablet_type = reply_by_read (read_row state table
 -- in each state that the core stands for, the answer is one of those that the event may get, and the core stands for
 -- the state after it
 abbrev pub Steps : CoreState → Event → Result Reply Refusal → CoreState → Type 0
-Steps old event result new = (p : Plain) (scopes : List Scope) → Stands p scopes old
-    → Answers p event (answer_from result) × Stands (next p event (answer_from result)) scopes new
+Steps old event result new = (p : Plain) → Stands p old
+    → Answers p event (answer_from result) × Stands (next p event (answer_from result)) new

@@ -68,7 +68,7 @@ HasPlacesOf p t = (key : EntryKey) → has_place t key ≡ (is_some (part_owner 
 
 -- the plain state is one that a run reaches, with no workflow live and the watchers of these scopes; the topology says what the state serves;
 -- each row is what the acknowledged writes leave; and the log of a primary has, entry by entry, what the state's log has of its keyspace
-pub record Stands (p : Plain) (scopes : List Scope) (core : CoreState) : Type 0 where
+pub record StandsWith (p : Plain) (scopes : List Scope) (core : CoreState) : Type 0 where
   pub reached : IsReached p
   pub lives : p.lives ≡ []
   pub scopes_are : p.scopes ≡ scopes
@@ -78,3 +78,7 @@ pub record Stands (p : Plain) (scopes : List Scope) (core : CoreState) : Type 0 
   pub log : (keyspace : List ℕ) → map (entry_at keyspace) (primary_of core.primaries keyspace).log ≡ log_of p keyspace
   -- and its own list has the tables that it refuses
   pub denials : (keyspace table : List ℕ) → is_denied_at (primary_of core.primaries keyspace) table ≡ refuses p keyspace table
+
+-- the same with the watchers that the state has
+abbrev pub Stands : Plain → CoreState → Type 0
+Stands p core = StandsWith p p.scopes core
