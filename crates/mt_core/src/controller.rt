@@ -1,12 +1,15 @@
 //! The core: the topology, and a primary for each of its keyspaces.
-ghost use Rattle.std.specs.Prelude.{◌≡◌, true, IfErr, IfOk, OnErr, string_bytes};
+ghost use Rattle.std.specs.Prelude.{◌≡◌, true, List, IfErr, IfOk, OnErr, string_bytes};
 ghost use Rattle.mt_names.specs.declared.types.TabletType.{TabletType};
+ghost use Rattle.mt_model.specs.declared.entries.Scope.{Scope};
 ghost use Rattle.mt_model.specs.Documents.{dump_text, rules_text};
 ghost use Rattle.mt_model.specs.Topology.{resolution};
 ghost use Rattle.mt_topology.specs.Edits.{edit_rule_grows};
 ghost use Rattle.mt_plain.specs.Events.{add_keyspace, add_table, edit_rule, read, write};
+ghost use Rattle.mt_plain.specs.Plain.{Plain, opening};
+ghost use Rattle.mt_plain.specs.Serve.{served};
 ghost use Rattle.mt_core.specs.Commands.{Steps};
-ghost use Rattle.mt_core.specs.Core.{CoreState, empty_core};
+ghost use Rattle.mt_core.specs.Core.{CoreState, Stands, empty_core};
 
 use crate::commands::{Primaries, add_keyspace, add_table, edit_rule, read_row, write_row};
 use indexmap::IndexMap;
@@ -38,7 +41,8 @@ impl Model for Core {
 impl Core {
     /// A core without keyspaces.
     pub fn new(alloc: Global) -> Self
-        ensures { result ≡ empty_core }
+        ensures value { result ≡ empty_core }
+        ensures stands { (scopes : List Scope) → Stands (opening scopes) result }
     {
         Core {
             alloc,
@@ -53,7 +57,8 @@ impl Core {
         key: &RuleKey,
         tablet_type: TabletType,
     ) -> Result<RuleTarget, TopologyFault>
-        ensures { result ≡ resolution self.now.topology key.now tablet_type }
+        ensures value { result ≡ resolution self.now.topology key.now tablet_type }
+        ensures served { (p : Plain) → Stands p self.now → result ≡ resolution (served p) key.now tablet_type }
     {
         self.topology.resolve(key, tablet_type)
     }
@@ -117,6 +122,7 @@ impl Core {
     /// The document of the rules, as the commands `rules` and `mt rules` write them: `R0 Memory`.
     pub fn rules_json(&self) -> Result<String, RulesFault>
         ensures text { IfOk result (λ text. string_bytes text ≡ rules_text self.now.topology.rules) }
+        ensures served { (p : Plain) → Stands p self.now → IfOk result (λ text. string_bytes text ≡ rules_text (served p).rules) }
         ensures memory { IfErr result (λ fault. fault ≡ RulesFault.Memory) }
     {
         self.topology.rules().to_json(self.alloc)
@@ -125,6 +131,7 @@ impl Core {
     /// The document of the whole topology: `T0 Memory`.
     pub fn dump(&self) -> Result<String, TopologyFault>
         ensures text { IfOk result (λ text. string_bytes text ≡ dump_text self.now.topology) }
+        ensures served { (p : Plain) → Stands p self.now → IfOk result (λ text. string_bytes text ≡ dump_text (served p)) }
         ensures memory { IfErr result (λ fault. fault ≡ TopologyFault.Memory) }
     {
         self.topology.dump(self.alloc)
