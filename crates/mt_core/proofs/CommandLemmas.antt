@@ -1,5 +1,5 @@
 -- Each command as an event, and what holds of the core after it.
-use Rattle.std.proofs.Common.{◌≡◌, ◌≢◌, ℕ, Bool, true, false, List, [], ◌∷◌, ◌++◌, length, Option, None, Some, Result, Ok, Err, refl, sym, ap, ◌∙◌, subst, arith, ⊎_elim, is_some, length-append}
+use Rattle.std.proofs.Common.{◌≡◌, ◌≢◌, ℕ, Bool, true, false, List, [], ◌∷◌, ◌++◌, length, Option, None, Some, Result, Ok, Err, refl, sym, ap, ◌∙◌, subst, arith, ◌⊎◌, inl, inr, ⊎_elim, is_some, length-append}
 use Rattle.mt_names.proofs.SameLemmas.{same_key_decides, same_text_decides}
 use Rattle.mt_names.specs.Same.{same_key}
 use Rattle.std.proofs.lemmas.Map.{length-set_value}
@@ -27,13 +27,13 @@ use Rattle.mt_primary.proofs.PrimaryLemmas.{made_elsewhere, made_here}
 use Rattle.mt_plain.specs.Events.{add_keyspace, add_table, edit_rule}
 use Rattle.mt_laws.specs.Numbers.{calm}
 use Rattle.mt_laws.specs.Texts.{HasNamedKeys}
-use Rattle.mt_core.specs.Commands.{AddsKeyspace, AddsTable, EditsRule, MakesKeyspace, MakesRule, MakesTable, Steps}
+use Rattle.mt_core.specs.Commands.{AddsKeyspace, AddsTable, EditsRule, MakesKeyspace, MakesRule, MakesTable, Steps, is_memory, unless_memory}
 use Rattle.mt_core.specs.Core.{CoreState, IsCore, IsWithinLimits, primary_at, primary_of}
 use Rattle.mt_names.proofs.EntryLemmas.{is_some-set_value, none_from, same_or_other}
 use Rattle.mt_core.proofs.CoreLemmas.{changed_elsewhere, changed_now, changed_was, is_some-push_both, primary_of-push}
 use Rattle.mt_core.proofs.RefusalLemmas.{none_told, refused_grows}
 use Rattle.mt_core.proofs.LimitLemmas.{within-keyspace, within-rule, within-table}
-use Rattle.mt_core.proofs.StepLemmas.{does_keeps, does_step, free_name, keyspace_making, keyspace_refusing, no_primary, rule_growing, rule_making, rule_refusing, steps_from_calm, table_making, table_refusing}
+use Rattle.mt_core.proofs.StepLemmas.{does_keeps, does_step, free_name, keyspace_making, keyspace_refusing, memory_or, no_primary, rule_growing, rule_making, rule_refusing, steps_from_calm, table_making, table_refusing}
 
 -- the mark of a table's entry
 abbrev pub mark_of : Entry → Bool
@@ -88,15 +88,11 @@ rule_keeps old new key target result key_is is did =
 -- an edit is refused only where its key needs a place
 pub rule_needs_place : (old new : CoreState) (key : RuleKey) (target : Option RuleTarget) (result : Result Reply code.Refusal) → EditsRule old key target result new → OnErr result (edit_rule_grows old.topology.rules key target ≡ true)
 rule_needs_place old new key target (Ok reply) did = tt
-rule_needs_place old new key target (Err refusal.Memory) did = did.1
-rule_needs_place old new key target (Err refusal.NoKeyspace) did = refused_grows old.topology.rules key target refusal.NoKeyspace did.0
-rule_needs_place old new key target (Err refusal.NoTable) did = refused_grows old.topology.rules key target refusal.NoTable did.0
-rule_needs_place old new key target (Err refusal.Denied) did = refused_grows old.topology.rules key target refusal.Denied did.0
-rule_needs_place old new key target (Err refusal.RowExists) did = refused_grows old.topology.rules key target refusal.RowExists did.0
-rule_needs_place old new key target (Err refusal.NoRow) did = refused_grows old.topology.rules key target refusal.NoRow did.0
-rule_needs_place old new key target (Err refusal.Full) did = refused_grows old.topology.rules key target refusal.Full did.0
-rule_needs_place old new key target (Err refusal.TooLong) did = refused_grows old.topology.rules key target refusal.TooLong did.0
-rule_needs_place old new key target (Err refusal.Exists) did = refused_grows old.topology.rules key target refusal.Exists did.0
+rule_needs_place old new key target (Err r) did = by (memory_or r)
+  where
+    by : ((r ≡ refusal.Memory) × (unless_memory r ≡ None)) ⊎ ((is_memory r ≡ false) × (unless_memory r ≡ Some r)) → edit_rule_grows old.topology.rules key target ≡ true
+    by (inl (is, none)) = did.1 (ap is_memory is)
+    by (inr (other, some)) = refused_grows old.topology.rules key target r (did.0 ∙ some)
 
 -- ---- a table more
 

@@ -1,5 +1,5 @@
 -- A command leads from a plain state that the core stands for to the next one.
-use Rattle.std.proofs.Common.{◌≡◌, ◌≢◌, ℕ, Bool, true, false, not, cond, List, [], ◌∷◌, find, length, map, Option, None, Some, Result, Ok, Err, refl, sym, ap, ◌∙◌, subst, ⊎_elim, is_some}
+use Rattle.std.proofs.Common.{◌≡◌, ◌≢◌, ℕ, Bool, true, false, not, cond, List, [], ◌∷◌, find, length, map, Option, None, Some, Result, Ok, Err, refl, sym, ap, ◌∙◌, subst, ◌⊎◌, inl, inr, ⊎_elim, is_some}
 use Rattle.mt_names.proofs.SameLemmas.{same_text_decides}
 use Rattle.mt_names.specs.Names.{same_text}
 use Rattle.mt_names.proofs.EntryLemmas.{none_from, same_or_other}
@@ -38,11 +38,12 @@ use Rattle.mt_plain.specs.Slots.{log_of}
 use Rattle.mt_plain.specs.Writes.{row_of}
 use Rattle.mt_laws.specs.Numbers.{calm}
 use Rattle.mt_laws.proofs.AllWritesLemmas.{reached_next}
+use Rattle.mt_laws.proofs.AnswerLemmas.{refused_as_decided}
 use Rattle.mt_laws.proofs.HasNumberLemmas.{reached_has_numbers}
 use Rattle.mt_laws.proofs.PlacedLemmas.{only_what_stands}
 use Rattle.mt_laws.proofs.ServedPlacesLemmas.{served_places}
 use Rattle.mt_laws.proofs.TableLemmas.{done_at}
-use Rattle.mt_core.specs.Commands.{Becomes, Does, MakesKeyspace, MakesRule, MakesTable, Steps, refusal_by_topology}
+use Rattle.mt_core.specs.Commands.{Becomes, Does, MakesKeyspace, MakesRule, MakesTable, Steps, is_memory, refusal_by_topology, unless_memory}
 use Rattle.mt_core.specs.Core.{CoreState, IsCore, Stands, StandsWith, empty_core, entry_at, primary_at, primary_of}
 use Rattle.mt_core.proofs.AlikeLemmas.{AreAlike, alike-keyspace, alike-rule, alike-table, same_keyspaces, same_presence, same_rule_place, same_rules, same_tables}
 use Rattle.mt_core.proofs.CoreLemmas.{changed_keeps, changed_was, primary_of-push}
@@ -50,30 +51,30 @@ use Rattle.mt_core.proofs.RefusalLemmas.{keyspace_told, marked-count, none_told,
 
 -- ---- any command
 
--- a refusal that the definitions give, in the code's words
-pub refuses : (p : Plain) (event : Event) (r : code.Refusal) → r ≢ refusal.Memory → refusal_of p event ≡ Some (refusal_from r) → Refuses p event (refusal_from r)
-refuses p event refusal.Memory other is = absurd (other refl)
-refuses p event refusal.NoKeyspace other is = is
-refuses p event refusal.NoTable other is = is
-refuses p event refusal.Denied other is = is
-refuses p event refusal.RowExists other is = is
-refuses p event refusal.NoRow other is = is
-refuses p event refusal.Full other is = is
-refuses p event refusal.TooLong other is = is
-refuses p event refusal.Exists other is = is
+-- a refusal is Memory, or the state decides it
+pub memory_or : (r : code.Refusal) → ((r ≡ refusal.Memory) × (unless_memory r ≡ None)) ⊎ ((is_memory r ≡ false) × (unless_memory r ≡ Some r))
+memory_or refusal.Memory = inl (refl, refl)
+memory_or other = inr (refl, refl)
 
 -- the definitions' refusal from that of the topology
 told_some : (fault : Option TopologyFault) (r : code.Refusal) → option_map refusal_by_topology fault ≡ Some r → told fault ≡ Some (refusal_from r)
 told_some None r e = absurd cc
 told_some (Some f) r e = let is : refusal_by_topology f ≡ r = cc in ap (λ x. Some (refusal_from x)) is
 
+none_by_topology : (fault : Option TopologyFault) → option_map refusal_by_topology fault ≡ None → fault ≡ None
+none_by_topology None e = refl
+none_by_topology (Some f) e = absurd cc
+
 module _ (p : Plain) (scopes : List Scope) (old : CoreState) (event : Event) (fault : Option TopologyFault) (grows : Bool) (Makes : CoreState → Type 0)
     (answered : reply_of p event ≡ done) (growing : grows ≡ true → may_grow p event ≡ true)
     (refusing : refusal_of p event ≡ told fault) (stands : StandsWith p scopes old)
     (making : (s : CoreState) → refusal_of p event ≡ None → Makes s → StandsWith (next_taken p event) scopes s) where
-  refused_step : (r : code.Refusal) (new : CoreState) → r ≢ refusal.Memory → (option_map refusal_by_topology fault ≡ Some r) × (new ≡ old)
-      → Answers p event (answer_from (Err r)) × StandsWith (next p event (answer_from (Err r))) scopes new
-  refused_step r new other is = (refuses p event r other (refusing ∙ told_some fault r is.0), subst (StandsWith p scopes) (sym is.1) stands)
+  refused_step : (r : code.Refusal) → option_map refusal_by_topology fault ≡ unless_memory r → (is_memory r ≡ true → grows ≡ true)
+      → ((r ≡ refusal.Memory) × (unless_memory r ≡ None)) ⊎ ((is_memory r ≡ false) × (unless_memory r ≡ Some r)) → Refuses p event (refusal_from r)
+  refused_step r told_is wants (inl (is, none)) =
+      subst (λ x. Refuses p event (refusal_from x)) (sym is)
+      (refusing ∙ ap told (none_by_topology fault (told_is ∙ none)), growing (wants (ap is_memory is)))
+  refused_step r told_is wants (inr (other, some)) = refused_as_decided p event (refusal_from r) (refusing ∙ told_some fault r (told_is ∙ some))
 
   pub does_step : (result : Result Reply code.Refusal) (new : CoreState) → Does old fault grows Makes result new
       → Answers p event (answer_from result) × StandsWith (next p event (answer_from result)) scopes new
@@ -81,27 +82,11 @@ module _ (p : Plain) (scopes : List Scope) (old : CoreState) (event : Event) (fa
       let none : refusal_of p event ≡ None = refusing ∙ ap told is.1 in
       ((none, sym answered), making new none is.2)
   does_step (Ok (reply.Row r)) new is = absurd (let e = is.0 in cc)
-  does_step (Err refusal.Memory) new is = ((refusing ∙ ap told is.0, growing is.1), subst (StandsWith p scopes) (sym is.2) stands)
-  does_step (Err refusal.NoKeyspace) new is = refused_step refusal.NoKeyspace new (λ e. absurd cc) is
-  does_step (Err refusal.NoTable) new is = refused_step refusal.NoTable new (λ e. absurd cc) is
-  does_step (Err refusal.Denied) new is = refused_step refusal.Denied new (λ e. absurd cc) is
-  does_step (Err refusal.RowExists) new is = refused_step refusal.RowExists new (λ e. absurd cc) is
-  does_step (Err refusal.NoRow) new is = refused_step refusal.NoRow new (λ e. absurd cc) is
-  does_step (Err refusal.Full) new is = refused_step refusal.Full new (λ e. absurd cc) is
-  does_step (Err refusal.TooLong) new is = refused_step refusal.TooLong new (λ e. absurd cc) is
-  does_step (Err refusal.Exists) new is = refused_step refusal.Exists new (λ e. absurd cc) is
+  does_step (Err r) new is = (refused_step r is.0 is.1 (memory_or r), subst (StandsWith p scopes) (sym is.2) stands)
 
 -- a refusal leaves the core
 pub does_unchanged : (old new : CoreState) (fault : Option TopologyFault) (grows : Bool) (Makes : CoreState → Type 0) (r : code.Refusal) → Does old fault grows Makes (Err r) new → new ≡ old
-does_unchanged old new fault grows Makes refusal.Memory is = is.2
-does_unchanged old new fault grows Makes refusal.NoKeyspace is = is.1
-does_unchanged old new fault grows Makes refusal.NoTable is = is.1
-does_unchanged old new fault grows Makes refusal.Denied is = is.1
-does_unchanged old new fault grows Makes refusal.RowExists is = is.1
-does_unchanged old new fault grows Makes refusal.NoRow is = is.1
-does_unchanged old new fault grows Makes refusal.Full is = is.1
-does_unchanged old new fault grows Makes refusal.TooLong is = is.1
-does_unchanged old new fault grows Makes refusal.Exists is = is.1
+does_unchanged old new fault grows Makes r is = is.2
 
 pub does_leave : (old new : CoreState) (fault : Option TopologyFault) (grows : Bool) (Makes : CoreState → Type 0) (result : Result Reply code.Refusal) → Does old fault grows Makes result new → OnErr result (new ≡ old)
 does_leave old new fault grows Makes (Ok reply) is = tt

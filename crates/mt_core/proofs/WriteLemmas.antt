@@ -42,13 +42,14 @@ use Rattle.mt_names.specs.declared.types.TabletType.TheVariants.{Primary, Replic
 use Rattle.mt_laws.specs.Acknowledged.{row_with_op}
 use Rattle.mt_laws.specs.Numbers.{acknowledged_at, calm}
 use Rattle.mt_laws.specs.Texts.{HasNamedKeys}
+use Rattle.mt_laws.proofs.AnswerLemmas.{refused_as_decided}
 use Rattle.mt_laws.proofs.HasNumberLemmas.{reached_has_numbers}
 use Rattle.mt_laws.proofs.TableLemmas.{done_at}
 use Rattle.mt_core.specs.Commands.{Steps, WritesAt, WritesRow, read_at, refusal_by_primary, reply_by_read}
 use Rattle.mt_core.specs.Core.{CoreState, IsCore, IsWithinLimits, Primaries, StandsWith, entry_at, primary_at, primary_of}
 use Rattle.mt_core.proofs.CoreLemmas.{changed_elsewhere, changed_keeps, changed_now, changed_was, primary_of-found}
 use Rattle.mt_core.proofs.AlikeLemmas.{AreAlike, same_presence}
-use Rattle.mt_core.proofs.StepLemmas.{alike, by_hand, refuses, steps_from_calm}
+use Rattle.mt_core.proofs.StepLemmas.{alike, by_hand, steps_from_calm}
 
 -- ---- the refusals of a write
 
@@ -289,7 +290,7 @@ module _ (old new : CoreState) (keyspace table : List ℕ) (op : Op) (is : IsCor
       let told = write_told p scopes old keyspace is stands before found table op in
       rw is_result (⊎_elim
       (λ memory. rw memory.0 ((told ∙ memory.1, refl), subst (StandsWith (calm p) scopes) (sym same) stands))
-      (λ other. (refuses (calm p) (write keyspace table op) (refusal_by_primary fault) other.0 (told ∙ ap told_row other.1), subst (StandsWith (calm p) scopes) (sym same) stands))
+      (λ other. (refused_as_decided (calm p) (write keyspace table op) (refusal_from (refusal_by_primary fault)) (told ∙ ap told_row other.1), subst (StandsWith (calm p) scopes) (sym same) stands))
       by.1)
 
   keeps_at : (o : Option PrimaryState) → primary_at old.primaries keyspace ≡ o → (result : Result Reply code.Refusal) → WritesAt o old.primaries keyspace table op result new.primaries → IsCore new

@@ -1,5 +1,5 @@
 -- What each command does to a core, by its answer.
-use Rattle.std.specs.Prelude.{◌≡◌, ℕ, Bool, true, false, List, [], ◌∷◌, ◌++◌, Option, None, Some, option_map, Result, Ok, Err}
+use Rattle.std.specs.Prelude.{◌≡◌, ℕ, Bool, true, false, List, [], ◌∷◌, ◌++◌, Option, None, Some, if◌then◌else◌, option_map, Result, Ok, Err}
 use Rattle.std.specs.Map.{set_value}
 use Rattle.mt_names.specs.declared.keys.RuleKey.{RuleKey}
 use Rattle.mt_names.specs.declared.keys.RuleTarget.{RuleTarget}
@@ -51,12 +51,21 @@ reply_by_primary (Err fault) = Err (refusal_by_primary fault)
 
 -- ---- the commands
 
--- what becomes of a core where a command is refused as `refused` says, and else makes what `Makes` says of it, which takes
--- memory where it `grows`. A refusal leaves the core as it was
+-- whether a refusal is Memory
+abbrev pub is_memory : Refusal → Bool
+is_memory refusal.Memory = true
+is_memory other = false
+
+-- a refusal that the state decides; Memory it does not
+abbrev pub unless_memory : Refusal → Option Refusal
+unless_memory r = if is_memory r then None else Some r
+
+-- what becomes of a core if a command is refused as `refused` says, and else makes what `Makes` says of it, which takes
+-- memory if it `grows`. A refusal leaves the core as it was
 abbrev pub Does : CoreState → Option TopologyFault → Bool → (CoreState → Type 0) → Result Reply Refusal → CoreState → Type 0
 Does old refused grows Makes (Ok reply) new = (reply ≡ Done) × (refused ≡ None) × Makes new
-Does old refused grows Makes (Err refusal.Memory) new = (refused ≡ None) × (grows ≡ true) × (new ≡ old)
-Does old refused grows Makes (Err r) new = (option_map refusal_by_topology refused ≡ Some r) × (new ≡ old)
+Does old refused grows Makes (Err r) new =
+    (option_map refusal_by_topology refused ≡ unless_memory r) × (is_memory r ≡ true → grows ≡ true) × (new ≡ old)
 
 -- the keyspace is there, with an empty primary
 abbrev pub MakesKeyspace : CoreState → List ℕ → CoreState → Type 0

@@ -201,5 +201,9 @@ answers-or p event None e own = by (reply_of p event) refl
     by (shown s) is = (e, sym is)
     by (refused refusal) is = absurd (subst IsTaken is (reply_of-taken p event))
 
+-- what the state refuses, it may refuse
+pub refused_as_decided : (p : Plain) (event : Event) (refusal : Refusal) → refusal_of p event ≡ Some refusal → Refuses p event refusal
+refused_as_decided p event refusal e = refuses-own p event refusal e (subst OwnIfAny e (refusal_of-own p event).is)
+
 pub answers-answer_of : (p : Plain) (event : Event) → Answers p event (answer_of p event)
 answers-answer_of p event = answers-or p event (refusal_of p event) refl (refusal_of-own p event).is

@@ -1,8 +1,9 @@
 -- Where the primary has no memory, the topology is as it was.
+use Rattle.std.specs.Option.{option_map}
 use Rattle.std.proofs.Common.{◌≡◌, ◌∙◌, true, refl, ap, subst, sym}
 use Rattle.mt_model.specs.declared.entries.EntryKey.TheVariants as about
 use Rattle.mt_model.specs.Topology.{TopologyState, has_place}
-use Rattle.mt_core.specs.Commands.{without_table}
+use Rattle.mt_core.specs.Commands.{refusal_by_topology, without_table}
 use Rattle.mt_core.specs.Core.{CoreState, Primaries}
 use Rattle.mt_core.proofs.MadeLemmas.{not_created, table_has_place, taken_back}
 use Rattle.mt_core.proofs.commands.add_table.Goals as goal
@@ -22,4 +23,4 @@ returns-then-is_err c =
     let kept = not_created c.args.primaries.now.entries c.create_table.new.primaries.entries c.args.keyspace.now c.args.table.now c.create_table.result (sym c.is_err.ensures.value ∙ c.if-is_err.true) c.create_table.ensures in
     let by_topology : TopologyState → CoreState = λ t. record { topology = t; primaries = c.create_table.new.primaries.entries } in
     let by_primaries : Primaries → CoreState = λ ps. record { topology = c.args.topology.now; primaries = ps } in
-    (made.0, refl, ap by_topology back ∙ ap by_primaries kept)
+    (ap (option_map refusal_by_topology) made.0, λ e. refl, ap by_topology back ∙ ap by_primaries kept)
