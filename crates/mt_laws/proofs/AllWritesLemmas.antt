@@ -87,7 +87,7 @@ any_some {X} test (x ∷ xs) e = by (any_some test xs) (test x) refl
     by again true t = (x, inl refl, t)
     by again false t = let r = again (sym (ap (λ b. b || list_any test xs) t) ∙ e) in (r.0, inr r.1, r.2)
 
-write_there : (p : Plain) (k t : List ℕ) (op : Op) → refusal_of p (write k t op) ≡ None → has_table p k t ≡ true
+pub write_there : (p : Plain) (k t : List ℕ) (op : Op) → refusal_of p (write k t op) ≡ None → has_table p k t ≡ true
 write_there p k t op none =
     let by_row = or_else (row_refusal (op_row op (client_row p k t (op_key op)))) (refuse_if (nat_le longest_log (log_length p k)) full) in
     let by_list = refuse_if (refuses p k t) denied in
@@ -227,7 +227,7 @@ module _ (p : Plain) (reached : IsReached p) (w v : Live) (in_it : IsIn w p.live
       ∙ any_same (λ table. eqb (number_of q w.source table) x.table) (λ table. eqb (number_of p w.source table) x.table) w.tables
       (λ table is. ap (λ n. eqb n x.table) (number_stays p reached w in_it event answer given lives table (in_moved w table is)))
 
-  all_by : writes_to q v ≡ filter (is_write_to p w) q.writes
+  pub all_by : writes_to q v ≡ filter (is_write_to p w) q.writes
   all_by = filter_same (is_write_to q v) (is_write_to p w) q.writes same_test
 
   count_one : (b : Bool) (x : Write) → is_write_to p w x ≡ b → length (filter (is_write_to p w) (p.writes ++ x ∷ [])) ≡ length (writes_to p w) + cond b 1 0

@@ -28,6 +28,7 @@ pub mod OutputLemmas
 pub mod OwnerLemmas
 pub mod PartLemmas
 pub mod PastLemmas
+pub mod PendingLemmas
 pub mod PlainWords
 pub mod PositionLemmas
 pub mod ReachLemmas

@@ -28,7 +28,7 @@ moved_past p w keyspace at = count_by (of_moved w) (drop at (log_of p keyspace))
 
 -- ---- counting
 
-count_append : {X : Type 0} (test : X → Bool) (xs ys : List X) → count_by test (xs ++ ys) ≡ count_by test xs + count_by test ys
+pub count_append : {X : Type 0} (test : X → Bool) (xs ys : List X) → count_by test (xs ++ ys) ≡ count_by test xs + count_by test ys
 count_append test xs ys = sum_by-append (λ x. cond (test x) 1 0) xs ys
 
 count_none : {X : Type 0} (test : X → Bool) (xs : List X) → AllByRecursion (λ x. test x ≡ false) xs → count_by test xs ≡ 0
@@ -37,11 +37,11 @@ count_none test (x ∷ xs) all =
     sum_by-cons (λ y. cond (test y) 1 0) x xs ∙ ap (λ b. cond b 1 0 + count_by test xs) all.0
     ∙ (let e = count_none test xs all.1 in let f : 0 + count_by test xs ≡ 0 = omega arith in f)
 
-filter_none : {X : Type 0} (test : X → Bool) (xs : List X) → AllByRecursion (λ x. test x ≡ false) xs → filter test xs ≡ []
+pub filter_none : {X : Type 0} (test : X → Bool) (xs : List X) → AllByRecursion (λ x. test x ≡ false) xs → filter test xs ≡ []
 filter_none test [] all = refl
 filter_none test (x ∷ xs) all = rw all.0 (filter_none test xs all.1)
 
-all_filter : {X : Type 0} (P : X → Type 0) (test : X → Bool) (xs : List X) → ((x : X) → test x ≡ true → P x) → AllByRecursion P (filter test xs)
+pub all_filter : {X : Type 0} (P : X → Type 0) (test : X → Bool) (xs : List X) → ((x : X) → test x ≡ true → P x) → AllByRecursion P (filter test xs)
 all_filter P test [] each = tt
 all_filter P test (x ∷ xs) each = by (test x) refl (all_filter P test xs each)
   where
@@ -49,7 +49,7 @@ all_filter P test (x ∷ xs) each = by (test x) refl (all_filter P test xs each)
     by true b all = (each x b, all)
     by false b all = all
 
-drop_twice : {X : Type 0} (n m : ℕ) (xs : List X) → drop m (drop n xs) ≡ drop (n + m) xs
+pub drop_twice : {X : Type 0} (n m : ℕ) (xs : List X) → drop m (drop n xs) ≡ drop (n + m) xs
 drop_twice zero m xs = let e : 0 + m ≡ m = omega arith in ap (λ k. drop k xs) (sym e)
 drop_twice {X} (suc n) m [] = drop_all {X = X} m [] (omega arith) ∙ sym (drop_all {X = X} (suc n + m) [] (omega arith))
 drop_twice (suc n) m (x ∷ xs) = drop_twice n m xs ∙ (let e : suc (n + m) ≡ suc n + m = omega arith in ap (λ k. drop k (x ∷ xs)) e)
@@ -57,7 +57,7 @@ drop_twice (suc n) m (x ∷ xs) = drop_twice n m xs ∙ (let e : suc (n + m) ≡
 -- ---- what an advance writes
 
 -- it is of the tables of its workflow
-all_of_moved : (u : Live) (name : StreamName) (entries : List LogEntry) (rows : List (List ℕ × ℕ)) → AllByRecursion (λ r. moves u r.0 ≡ true) rows → AllByRecursion (λ e. moves u e.table ≡ true) (logged u name entries rows)
+pub all_of_moved : (u : Live) (name : StreamName) (entries : List LogEntry) (rows : List (List ℕ × ℕ)) → AllByRecursion (λ r. moves u r.0 ≡ true) rows → AllByRecursion (λ e. moves u e.table ≡ true) (logged u name entries rows)
 all_of_moved u name entries rows all =
     append-all (λ e. moves u e.table ≡ true) (map (λ e. entry_of_row (written_side u name) (e.table, e.key)) (filter (applies u) entries)) (map (entry_of_row (written_side u name)) rows)
     (map-all (λ e. moves u e.table ≡ true) (λ e. moves u e.table ≡ true) (λ e. entry_of_row (written_side u name) (e.table, e.key)) (filter (applies u) entries) (λ e is. is)
@@ -71,18 +71,18 @@ all_uncopied p u =
     (λ table moved. each-mapped (λ r. moves u r.0 ≡ true) (λ key. (table, key)) (filter (λ key. not (is_copied u table key)) (keys_of_rows p u table)) (λ key. moved))
     (all_from_in (λ t. moves u t ≡ true) u.tables (λ t is. in_moved u t is))
 
-all_to_copy : (p : Plain) (u : Live) (entries : List LogEntry) → AllByRecursion (λ r. moves u r.0 ≡ true) (to_copy p u entries)
+pub all_to_copy : (p : Plain) (u : Live) (entries : List LogEntry) → AllByRecursion (λ r. moves u r.0 ≡ true) (to_copy p u entries)
 all_to_copy p u [] = all_uncopied p u
 all_to_copy p u (e ∷ es) = tt
 
 -- and at the side that its stream writes
-all_at_side : (u : Live) (name : StreamName) (entries : List LogEntry) (rows : List (List ℕ × ℕ)) → AllByRecursion (λ e. e.keyspace ≡ written_side u name) (logged u name entries rows)
+pub all_at_side : (u : Live) (name : StreamName) (entries : List LogEntry) (rows : List (List ℕ × ℕ)) → AllByRecursion (λ e. e.keyspace ≡ written_side u name) (logged u name entries rows)
 all_at_side u name entries rows =
     append-all (λ e. e.keyspace ≡ written_side u name) (map (λ e. entry_of_row (written_side u name) (e.table, e.key)) (filter (applies u) entries)) (map (entry_of_row (written_side u name)) rows)
     (each-mapped (λ e. e.keyspace ≡ written_side u name) (λ e. entry_of_row (written_side u name) (e.table, e.key)) (filter (applies u) entries) (λ e. refl))
     (each-mapped (λ e. e.keyspace ≡ written_side u name) (entry_of_row (written_side u name)) rows (λ r. refl))
 
-all_map : {X : Type 0} (P Q : X → Type 0) (xs : List X) → ((x : X) → P x → Q x) → AllByRecursion P xs → AllByRecursion Q xs
+pub all_map : {X : Type 0} (P Q : X → Type 0) (xs : List X) → ((x : X) → P x → Q x) → AllByRecursion P xs → AllByRecursion Q xs
 all_map P Q [] each all = tt
 all_map P Q (x ∷ xs) each all = (each x all.0, all_map P Q xs each all.1)
 
