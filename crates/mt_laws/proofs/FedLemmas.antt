@@ -18,7 +18,8 @@ use Rattle.mt_laws.proofs.AllWritesLemmas.{adds, all_after, found}
 use Rattle.mt_laws.proofs.LiveLemmas.{IsIn, sides_same}
 use Rattle.mt_laws.proofs.OwnerLemmas.{IsJournaled, reached_journaled}
 use Rattle.mt_laws.proofs.PartLemmas.{IsSettled}
-use Rattle.mt_laws.proofs.PastLemmas.{IsOther, adds_here, moved_past, past_after}
+use Rattle.mt_laws.proofs.PastLemmas.{IsOther}
+use Rattle.mt_laws.proofs.PendingLemmas.{ArePending, pending_after, pending_same}
 use Rattle.mt_laws.proofs.PlainWords.{side_by}
 use Rattle.mt_laws.proofs.PositionLemmas.{position_in, reached_within, rest_at}
 use Rattle.mt_laws.proofs.ReachLemmas.{reached_has_parts}
@@ -34,7 +35,7 @@ abbrev pub at_by : Live → Bool → ℕ
 at_by w is_target = cond is_target w.back_at w.forward_at
 
 abbrev pub Level : Plain → Live → (keyspace : List ℕ) → ℕ → Type 0
-Level p w keyspace at = w.fed + moved_past p w keyspace at ≡ length (writes_to p w)
+Level p w keyspace at = (w.fed ≤ length (writes_to p w)) × ArePending p w w.fed keyspace at
 
 pub record IsFed (p : Plain) (w : Live) : Type 0 where
   pub rests : w.way ≡ None → Level p w (side_by w w.switched.primary) (at_by w w.switched.primary)
@@ -53,14 +54,12 @@ writes_same p w v same =
     ap (λ k. filter (λ x. list_any (λ table. eqb (number_of p k table) x.table) v.tables) p.writes) (sym same.source)
     ∙ ap (λ ts. filter (λ x. list_any (λ table. eqb (number_of p w.source table) x.table) ts) p.writes) (sym same.tables)
 
-pub past_same : (p : Plain) (w v : Live) → HasSides w v → (keyspace : List ℕ) (at : ℕ) → moved_past p v keyspace at ≡ moved_past p w keyspace at
-past_same p w v same keyspace at = ap (λ ts. count_by (λ (e : LogEntry). list_any (λ t. same_text t e.table) ts) (drop at (log_of p keyspace))) (sym same.tables)
-
 level_same : (p : Plain) (w v : Live) → HasSides w v → v.fed ≡ w.fed → (keyspace : List ℕ) (at : ℕ) → Level p w keyspace at → Level p v keyspace at
 level_same p w v same fed keyspace at level =
-    let a = past_same p w v same keyspace at in
-    let b : length (writes_to p v) ≡ length (writes_to p w) = ap length (writes_same p w v same) in
-    omega arith
+    let le = level.0 in
+    let all = writes_same p w v same in
+    let b : length (writes_to p v) ≡ length (writes_to p w) = ap length all in
+    (omega arith, pending_same p w v same all w.fed v.fed fed keyspace at level.1)
 
 pub side_same : (w v : Live) → HasSides w v → (b : Bool) → side_by v b ≡ side_by w b
 side_same w v same true = sym same.target
@@ -128,21 +127,9 @@ module _ (p : Plain) (reached : IsReached p) (w : Live) (in_it : IsIn w p.lives)
   module _ (event : Event) (answer : Answer) (given : Answers p event answer) (lives : ends_workflow w.name event answer ≡ false) where
     level_other : (keyspace : List ℕ) (at : ℕ) (inside : at ≤ log_length p keyspace) → is_side w keyspace ≡ true → Here keyspace → IsOther p w keyspace at inside event → Level p w keyspace at → Level (next p event answer) w keyspace at
     level_other keyspace at inside side one other level =
+        let le = level.0 in
         let a = all_after p reached w w in_it (sides_same w) event answer given lives in
-        let b = past_after p w keyspace at inside event answer given other in
-        let c = same event answer given in
-        omega arith
-      where
-        same : (event : Event) (answer : Answer) → Answers p event answer → adds w event answer ≡ adds_here p w keyspace at inside event answer
-        same (write k t op) done given = by (moves w t) refl (is_side w k) refl (same_text k keyspace) refl
-          where
-            by : (a : Bool) → moves w t ≡ a → (b : Bool) → is_side w k ≡ b → (c : Bool) → same_text k keyspace ≡ c → cond {A = ℕ} (moves w t && is_side w k) 1 0 ≡ cond {A = ℕ} (moves w t && same_text k keyspace) 1 0
-            by false a b e c f = rw a refl
-            by true a true e true f = ap (λ x. cond {A = ℕ} (moves w t && x) 1 0) (e ∙ sym f)
-            by true a false e false f = ap (λ x. cond {A = ℕ} (moves w t && x) 1 0) (e ∙ sym f)
-            by true a true e false f = absurd (true≢false (sym ((same_text_decides k keyspace).1 (one k t op given a e)) ∙ f))
-            by true a false e true f = absurd (true≢false (sym (ap (is_side w) ((same_text_decides k keyspace).0 f) ∙ side) ∙ e))
-        same event answer given = refl
+        (omega arith, pending_after p reached w in_it w.fed keyspace at inside event answer given lives side one other le level.1)
 
     window_other : (way : Way) → w.way ≡ Some way → changes_primary way ≡ true → stands_done way catch_up ≡ true → stands_done way refresh_target ≡ false → length (writes_to p w) ≤ w.fed → length (writes_to (next p event answer) w) ≤ w.fed
     window_other way opens changes caught waits level =

@@ -29,6 +29,7 @@ pub mod OwnerLemmas
 pub mod PartLemmas
 pub mod PastLemmas
 pub mod PendingLemmas
+pub mod PendingReadLemmas
 pub mod PlainWords
 pub mod PositionLemmas
 pub mod ReachLemmas

@@ -2,7 +2,7 @@
 -- is one more of either, an advance that reads them takes them off both, and no other event changes them.
 use Rattle.std.proofs.Common.{◌≡◌, ◌≢◌, ℕ, suc, zero, ◌+◌, ◌≤◌, Bool, true, false, cond, List, [], ◌∷◌, ◌++◌, drop, take, length, filter, map, Option, None, Some, refl, sym, ap, ◌∙◌, arith, append-nil}
 use Rattle.std.proofs.lemmas.Bool.{true≢false}
-use Rattle.std.proofs.lemmas.List.{drop-append-le, drop-map, drop_all, map-append}
+use Rattle.std.proofs.lemmas.List.{drop-append-le, drop-map, drop_all, length-drop, length-map, map-append, take-append-drop}
 use Rattle.std.proofs.lemmas.List.Elements.{filter-append}
 use Rattle.std.proofs.lemmas.List.Sums.{length-filter, sum_by-cons}
 use Rattle.std.specs.List.{AllByRecursion, count_by}
@@ -71,6 +71,15 @@ pending_same p w v same all n m is keyspace at pending =
     entries : (ts : List (List ℕ)) → w.tables ≡ ts → map (row_of_entry p w) (filter (of_moved (record w { tables = ts })) (drop at (log_of p keyspace))) ≡ map (row_of_entry p w) (pending_at p w keyspace at)
     entries ts e = ap (λ l. map (row_of_entry p w) (filter (of_moved (record w { tables = l })) (drop at (log_of p keyspace)))) (sym e)
 
+-- how many they are
+pub pending_count : (p : Plain) (w : Live) (fed : ℕ) (keyspace : List ℕ) (at : ℕ) → fed ≤ length (writes_to p w) → ArePending p w fed keyspace at → fed + length (pending_at p w keyspace at) ≡ length (writes_to p w)
+pending_count p w fed keyspace at le pending =
+    let a = length-map (pending_at p w keyspace at) (row_of_entry p w) in
+    let b = length-map (drop fed (writes_to p w)) row_of_write in
+    let c = ap length pending in
+    let d = length-drop fed (writes_to p w) in
+    omega arith
+
 -- past the end there is nothing
 pub pending_end : (p : Plain) (w : Live) (fed : ℕ) (keyspace : List ℕ) → length (writes_to p w) ≤ fed → ArePending p w fed keyspace (log_length p keyspace)
 pending_end p w fed keyspace all =
@@ -79,6 +88,17 @@ pending_end p w fed keyspace all =
     ∙ ap (map row_of_write) (sym (drop_all fed (writes_to p w) all))
 
 -- ---- an advance of the workflow's own stream
+
+-- it reads no more of them than there are
+pub read-le : (p : Plain) (w : Live) (fed : ℕ) (keyspace : List ℕ) (at events : ℕ) → fed ≤ length (writes_to p w) → ArePending p w fed keyspace at
+    → fed + count_by (of_moved w) (take events (drop at (log_of p keyspace))) ≤ length (writes_to p w)
+read-le p w fed keyspace at events le pending =
+    let entries = drop at (log_of p keyspace) in
+    let a = pending_count p w fed keyspace at le pending in
+    let b : length (pending_at p w keyspace at) ≡ count_by (of_moved w) entries = length-filter (of_moved w) entries in
+    let c = ap (count_by (of_moved w)) (take-append-drop events entries) in
+    let d = count_append (of_moved w) (take events entries) (drop events entries) in
+    omega arith
 
 -- in the log that it reads: it writes nothing there
 pub pending_own : (p : Plain) (w : Live) (name : StreamName) (keyspace : List ℕ) (position at_most events rows fed : ℕ) → written_side w name ≢ keyspace
@@ -210,12 +230,12 @@ module _ (p : Plain) (reached : IsReached p) (w : Live) (in_it : IsIn w p.lives)
       by (Some u) f = after_advance u (other workflow name position at_most refl u f) name position at_most events rows
 
   -- where each write to its tables is acknowledged at one side
-  abbrev pub AllHere : Event → Answer → Type 0
-  AllHere event answer = (k t : List ℕ) (op : Op) → event ≡ write k t op → answer ≡ done → moves w t ≡ true → is_side w k ≡ true → k ≡ keyspace
+  abbrev pub AllHere : Type 0
+  AllHere = (k t : List ℕ) (op : Op) → Answers p (write k t op) done → moves w t ≡ true → is_side w k ≡ true → k ≡ keyspace
 
-  pub pending_after : (event : Event) (answer : Answer) → Answers p event answer → ends_workflow w.name event answer ≡ false → is_side w keyspace ≡ true → AllHere event answer → IsOther p w keyspace at inside event
+  pub pending_after : (event : Event) (answer : Answer) → Answers p event answer → ends_workflow w.name event answer ≡ false → is_side w keyspace ≡ true → AllHere → IsOther p w keyspace at inside event
       → fed ≤ length (writes_to p w) → ArePending p w fed keyspace at → ArePending (next p event answer) w fed keyspace at
-  pending_after (write k t op) done given lives side one other le = after_write k t op given side (one k t op refl refl) le
+  pending_after (write k t op) done given lives side one other le = after_write k t op given side (one k t op given) le
   pending_after (write k t op) (row r) given lives side one other le = let h : row r ≡ done = given.1 in absurd cc
   pending_after (write k t op) (advanced events rows) given lives side one other le = same_log (write k t op) (advanced events rows) given lives refl refl
   pending_after (write k t op) (shown s) given lives side one other le = same_log (write k t op) (shown s) given lives refl refl
