@@ -1,16 +1,13 @@
 -- How many writes were fed: those of all acknowledged ones that don't stand past the position of the stream that feeds.
-use Rattle.std.proofs.Common.{◌≡◌, ℕ, ◌+◌, ◌≤◌, Bool, true, false, not, cond, eqb, List, drop, length, filter, None, Some, refl, sym, ap, ◌∙◌, subst, arith}
+use Rattle.std.proofs.Common.{◌≡◌, ℕ, ◌≤◌, Bool, true, false, not, cond, eqb, List, length, filter, None, Some, refl, sym, ap, ◌∙◌, subst, arith}
 use Rattle.std.proofs.lemmas.Bool.{true≢false, and_from}
-use Rattle.std.specs.List.{count_by, list_any}
+use Rattle.std.specs.List.{list_any}
 use Rattle.std.specs.Prelude.{◌&&◌}
-use Rattle.mt_names.specs.Names.{same_text}
-use Rattle.mt_names.proofs.SameLemmas.{same_text_decides}
-use Rattle.mt_model.specs.declared.rows.Op.{Op}
 use Rattle.mt_plain.specs.Answers.{Answers}
 use Rattle.mt_plain.specs.Events.{Event, write, StreamName, forward, back, Answer, done, Way}
 use Rattle.mt_plain.specs.Next.{next}
-use Rattle.mt_plain.specs.Plain.{Live, LogEntry, Plain, catch_up, changes_primary, create_back, is_side, moves, number_of, owner, refresh_target, stands_done, write_journal}
-use Rattle.mt_plain.specs.Slots.{is_fresh, log_length, log_of, read_side}
+use Rattle.mt_plain.specs.Plain.{Live, Plain, catch_up, changes_primary, create_back, is_side, moves, number_of, owner, refresh_target, stands_done, write_journal}
+use Rattle.mt_plain.specs.Slots.{is_fresh, log_length, read_side}
 use Rattle.mt_plain.specs.Writes.{writes_to}
 use Rattle.mt_laws.specs.Changes.{HasSides}
 use Rattle.mt_laws.specs.WayBack.{IsReached, ends_workflow}
@@ -18,7 +15,7 @@ use Rattle.mt_laws.proofs.AllWritesLemmas.{adds, all_after, found}
 use Rattle.mt_laws.proofs.LiveLemmas.{IsIn, sides_same}
 use Rattle.mt_laws.proofs.OwnerLemmas.{IsJournaled, reached_journaled}
 use Rattle.mt_laws.proofs.PartLemmas.{IsSettled}
-use Rattle.mt_laws.proofs.PastLemmas.{IsOther}
+use Rattle.mt_laws.proofs.PastLemmas.{IsOther, IsWrittenAt}
 use Rattle.mt_laws.proofs.PendingLemmas.{ArePending, pending_after, pending_same}
 use Rattle.mt_laws.proofs.PlainWords.{side_by}
 use Rattle.mt_laws.proofs.PositionLemmas.{position_in, reached_within, rest_at}
@@ -117,15 +114,11 @@ module _ (p : Plain) (reached : IsReached p) (w : Live) (in_it : IsIn w p.lives)
       by true b = new forward (rw (changes, b, created) refl)
       by false b = new back (rw (changes, b, created) refl)
 
-  -- where each write to its tables is acknowledged at one side
-  abbrev Here : List ℕ → Type 0
-  Here keyspace = (k t : List ℕ) (op : Op) → Answers p (write k t op) done → moves w t ≡ true → is_side w k ≡ true → k ≡ keyspace
-
-  here_owner : (keyspace : List ℕ) → owner w ≡ keyspace → Here keyspace
+  here_owner : (keyspace : List ℕ) → owner w ≡ keyspace → IsWrittenAt p w keyspace
   here_owner keyspace is k t op given moved side = writes_at_the_owner p reached t w (found p reached w in_it t moved) k side op given ∙ is
 
   module _ (event : Event) (answer : Answer) (given : Answers p event answer) (lives : ends_workflow w.name event answer ≡ false) where
-    level_other : (keyspace : List ℕ) (at : ℕ) (inside : at ≤ log_length p keyspace) → is_side w keyspace ≡ true → Here keyspace → IsOther p w keyspace at inside event → Level p w keyspace at → Level (next p event answer) w keyspace at
+    level_other : (keyspace : List ℕ) (at : ℕ) (inside : at ≤ log_length p keyspace) → is_side w keyspace ≡ true → IsWrittenAt p w keyspace → IsOther p w event → Level p w keyspace at → Level (next p event answer) w keyspace at
     level_other keyspace at inside side one other level =
         let le = level.0 in
         let a = all_after p reached w w in_it (sides_same w) event answer given lives in
@@ -146,19 +139,19 @@ module _ (p : Plain) (reached : IsReached p) (w : Live) (in_it : IsIn w p.lives)
             by true a true e = absurd (no_write_between p reached t w way (found p reached w in_it t a) opens changes (done_in_order way 1 catch_up (omega arith) caught) waits k e op given)
         none event answer given = refl
 
-    pub fed_other : ((keyspace : List ℕ) (at : ℕ) (inside : at ≤ log_length p keyspace) → IsOther p w keyspace at inside event) → IsFed p w → IsFed (next p event answer) w
+    pub fed_other : IsOther p w event → IsFed p w → IsFed (next p event answer) w
     fed_other other is = record {
       rests = λ rests. let b = w.switched.primary in
-          level_other (side_by w b) (at_by w b) (at_within b) (side_by-is_side w b) (here_owner (side_by w b) refl) (other (side_by w b) (at_by w b) (at_within b)) (is.rests rests);
+          level_other (side_by w b) (at_by w b) (at_within b) (side_by-is_side w b) (here_owner (side_by w b) refl) other (is.rests rests);
       before = λ way opens guard. let b = way.before.primary in
-          level_other (side_by w b) (at_by w b) (at_within b) (side_by-is_side w b) (here_owner (side_by w b) (owner_before w settled journaled way opens guard)) (other (side_by w b) (at_by w b) (at_within b)) (is.before way opens guard);
+          level_other (side_by w b) (at_by w b) (at_within b) (side_by-is_side w b) (here_owner (side_by w b) (owner_before w settled journaled way opens guard)) other (is.before way opens guard);
       fresh = λ way opens changes created. let b = not way.before.primary in
           level_other (side_by w b) w.fresh_at (fresh_within way opens changes created) (side_by-is_side w b) (here_fresh way opens changes created (stands_done way refresh_target) refl)
-          (other (side_by w b) w.fresh_at (fresh_within way opens changes created)) (is.fresh way opens changes created);
+          other (is.fresh way opens changes created);
       window = λ way opens changes caught waits. window_other way opens changes caught waits (is.window way opens changes caught waits);
     }
       where
-        here_fresh : (way : Way) → w.way ≡ Some way → changes_primary way ≡ true → stands_done way create_back ≡ true → (t : Bool) → stands_done way refresh_target ≡ t → Here (side_by w (not way.before.primary))
+        here_fresh : (way : Way) → w.way ≡ Some way → changes_primary way ≡ true → stands_done way create_back ≡ true → (t : Bool) → stands_done way refresh_target ≡ t → IsWrittenAt p w (side_by w (not way.before.primary))
         here_fresh way opens changes created true t = here_owner (side_by w (not way.before.primary)) (owner_behind w settled journaled way opens changes (done_in_order way 5 refresh_target (omega arith) t))
         here_fresh way opens changes created false t = λ k table op given moved side.
             absurd (no_write_between p reached table w way (found p reached w in_it table moved) opens changes (done_in_order way 1 create_back (omega arith) created) t k side op given)

@@ -219,14 +219,14 @@ module _ (p : Plain) (reached : IsReached p) (w : Live) (in_it : IsIn w p.lives)
           (advanced_fed p reached w in_it is workflow (named workflow t) stream at at_most events rows (advance_runs p w stream at at_most (running_at (slot_of w stream)) (at_it p workflow w (advance_refusal p stream at at_most) (named workflow t) given.0)))
       by false t =
           fed_other p reached w in_it (advance workflow stream at at_most) (advanced events rows) given refl
-          (λ keyspace from inside other_one name to most e u found. other_tables workflow t u (ap (live_at p) (of_it other_one e) ∙ found)) is
+          (λ other_one name to most e u found. other_tables workflow t u (ap (live_at p) (of_it other_one e) ∙ found)) is
         where
           of_it : (other_one : List ℕ) {name : StreamName} {to most : ℕ} → advance workflow stream at at_most ≡ advance other_one name to most → workflow ≡ other_one
           of_it other_one e = cc
 
   other_fed : (event : Event) (answer : Answer) → Answers p event answer → ends_workflow w.name event answer ≡ false → ¬ (IsAdvance event) → IsFed (next p event answer) w
   other_fed event answer given lives other =
-      fed_other p reached w in_it event answer given lives (λ keyspace at inside workflow name to most e. absurd (other (subst IsAdvance (sym e) tt))) is
+      fed_other p reached w in_it event answer given lives (λ workflow name to most e. absurd (other (subst IsAdvance (sym e) tt))) is
 
   next_fed : (event : Event) (answer : Answer) → Answers p event answer → ends_workflow w.name event answer ≡ false → IsFed (next p event answer) (live_next p event answer w)
   next_fed (begin_switch workflow types) done given lives =

@@ -14,7 +14,7 @@ use Rattle.mt_model.specs.Rows.{op_key, op_row}
 use Rattle.mt_plain.specs.Answers.{Answers}
 use Rattle.mt_plain.specs.Events.{Event, write, advance, StreamName, Answer, done, row, advanced, shown, refused}
 use Rattle.mt_plain.specs.Next.{next, row_left, with_advance}
-use Rattle.mt_plain.specs.Plain.{Live, LogEntry, Plain, Write, is_side, live_at, mover, moves, number_of}
+use Rattle.mt_plain.specs.Plain.{Live, LogEntry, Plain, Write, is_side, live_at, moves, number_of}
 use Rattle.mt_plain.specs.Slots.{log_length, log_of, logged, past, to_copy, written_side}
 use Rattle.mt_plain.specs.Writes.{client_number, client_row, is_write_to, writes_to}
 use Rattle.mt_laws.specs.Changes.{HasSides}
@@ -24,7 +24,7 @@ use Rattle.mt_laws.proofs.AllWritesLemmas.{all_by, found, is_to, number_stays, w
 use Rattle.mt_laws.proofs.CopyLemmas.{client_number-side}
 use Rattle.mt_laws.proofs.ListLemmas.{filter-all, take-all}
 use Rattle.mt_laws.proofs.LiveLemmas.{IsIn, sides_same, text_differs}
-use Rattle.mt_laws.proofs.PastLemmas.{IsOther, all_at_side, all_filter, all_map, all_of_moved, all_to_copy, count_append, drop_twice, filter_none, of_moved}
+use Rattle.mt_laws.proofs.PastLemmas.{IsOther, IsWrittenAt, all_at_side, all_filter, all_map, all_of_moved, all_to_copy, count_append, drop_twice, filter_none, of_moved}
 use Rattle.mt_laws.proofs.UntouchedLemmas.{same_logs, same_writes}
 
 -- the entries of its tables that a log has past a position
@@ -221,7 +221,7 @@ module _ (p : Plain) (reached : IsReached p) (w : Live) (in_it : IsIn w p.lives)
       ∙ ap (λ l. pending_at p w keyspace at ++ l) (none_of u apart name (take events entries) copied (take-all (λ r. moves u r.0 ≡ true) rows (to_copy p u entries) (all_to_copy p u entries)))
       ∙ append-nil (pending_at p w keyspace at)
 
-  advance_entries : (workflow : List ℕ) (name : StreamName) (position at_most events rows : ℕ) → IsOther p w keyspace at inside (advance workflow name position at_most)
+  advance_entries : (workflow : List ℕ) (name : StreamName) (position at_most events rows : ℕ) → IsOther p w (advance workflow name position at_most)
       → pending_at (with_advance p name position at_most events rows (live_at p workflow)) w keyspace at ≡ pending_at p w keyspace at
   advance_entries workflow name position at_most events rows other = by (live_at p workflow) refl
     where
@@ -229,11 +229,7 @@ module _ (p : Plain) (reached : IsReached p) (w : Live) (in_it : IsIn w p.lives)
       by None f = refl
       by (Some u) f = after_advance u (other workflow name position at_most refl u f) name position at_most events rows
 
-  -- where each write to its tables is acknowledged at one side
-  abbrev pub AllHere : Type 0
-  AllHere = (k t : List ℕ) (op : Op) → Answers p (write k t op) done → moves w t ≡ true → is_side w k ≡ true → k ≡ keyspace
-
-  pub pending_after : (event : Event) (answer : Answer) → Answers p event answer → ends_workflow w.name event answer ≡ false → is_side w keyspace ≡ true → AllHere → IsOther p w keyspace at inside event
+  pub pending_after : (event : Event) (answer : Answer) → Answers p event answer → ends_workflow w.name event answer ≡ false → is_side w keyspace ≡ true → IsWrittenAt p w keyspace → IsOther p w event
       → fed ≤ length (writes_to p w) → ArePending p w fed keyspace at → ArePending (next p event answer) w fed keyspace at
   pending_after (write k t op) done given lives side one other le = after_write k t op given side (one k t op given) le
   pending_after (write k t op) (row r) given lives side one other le = let h : row r ≡ done = given.1 in absurd cc
