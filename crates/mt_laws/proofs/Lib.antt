@@ -26,6 +26,7 @@ pub mod OpenLemmas
 pub mod OpenWayLemmas
 pub mod OutputLemmas
 pub mod OwnerLemmas
+pub mod OwnerStreamLemmas
 pub mod PartLemmas
 pub mod PastLemmas
 pub mod PendingLemmas

@@ -1,13 +1,20 @@
 //! Laws on the writes that are not fed yet.
-ghost use Rattle.std.specs.Prelude.{◌≡◌, ◌↔◌, ℕ, ◌+◌, List, [], Some, drop, length, map};
+ghost use Rattle.std.specs.Prelude.{◌≡◌, ◌≢◌, ◌↔◌, ℕ, ◌+◌, List, [], Some, drop, length, map};
 ghost use Rattle.std.specs.List.{list_any};
 ghost use Rattle.mt_laws.specs.Pending.{pending, row_of_entry, row_of_write};
 ghost use Rattle.mt_laws.specs.WayBack.{IsReached};
-ghost use Rattle.mt_plain.specs.Events.{StreamName, Slot};
+ghost use Rattle.mt_plain.specs.Events.{StreamName, Slot, frozen};
 ghost use Rattle.mt_plain.specs.Plain.{Live, Plain, live_at, moves, owner};
 ghost use Rattle.mt_plain.specs.Refuse.{is_behind};
 ghost use Rattle.mt_plain.specs.Slots.{past, read_side, slot_of};
 ghost use Rattle.mt_plain.specs.Writes.{writes_to};
+
+/// In each state that a run reaches a live workflow has a stream that reads the owner's log, running or stopped, and never
+/// frozen: also behind the journal, where the one that fed up to there reads the side that was the owner.
+pub fn a_stream_reads_the_owner()
+    ensures reads { (p : Plain) → IsReached p → (name : List ℕ) (w : Live) → live_at p name ≡ Some w
+        → (stream : StreamName) × (s : Slot) × (slot_of w stream ≡ Some s) × (read_side w stream ≡ owner w) × (s.state ≢ frozen) }
+{}
 
 /// In each state that a run reaches, at each stream of a live workflow that reads the owner's log, running or stopped: the
 /// entries of moved tables past its position are, one for one and in order, the acknowledged writes to these tables that were
