@@ -31,6 +31,7 @@ pub mod PartLemmas
 pub mod PastLemmas
 pub mod PendingLemmas
 pub mod PendingReadLemmas
+pub mod PendingRowLemmas
 pub mod PlainWords
 pub mod PositionLemmas
 pub mod ReachLemmas

@@ -29,7 +29,10 @@ pub use events::{
 };
 pub use headline::{every_run_keeps_the_headline, the_way_back_and_the_rows_stand_in_every_run};
 pub use parts::{a_moved_table_is_never_writable_in_two, parts_are_apart};
-pub use pending::{a_stream_reads_the_owner, what_is_pending_was_not_fed};
+pub use pending::{
+    a_stream_reads_the_owner, what_is_pending_was_not_fed,
+    what_was_not_fed_makes_the_rows_of_the_owner,
+};
 pub use rows::{
     a_move_with_rows_can_be_completed, each_primary_read_answers_from_the_acknowledged_writes,
     neither_side_serves_between_the_refreshes, the_owner_alone_serves_the_primary,
