@@ -13,7 +13,8 @@ ghost use Rattle.mt_plain.specs.Writes.{client_row, is_copied, other_row, row_af
 /// frozen: also behind the journal, where the one that fed up to there reads the side that was the owner.
 pub fn a_stream_reads_the_owner()
     ensures reads { (p : Plain) → IsReached p → (name : List ℕ) (w : Live) → live_at p name ≡ Some w
-        → (stream : StreamName) × (s : Slot) × (slot_of w stream ≡ Some s) × (read_side w stream ≡ owner w) × (s.state ≢ frozen) }
+        → (stream : StreamName) × (s : Slot) × (slot_of w stream ≡ Some s) × (read_side w stream ≡ owner w)
+        × (s.state ≢ frozen) }
 {}
 
 /// In each state that a run reaches, at each stream of a live workflow that reads the owner's log, running or stopped: the
@@ -40,5 +41,6 @@ pub fn what_is_pending_was_not_fed()
 pub fn what_was_not_fed_makes_the_rows_of_the_owner()
     ensures rows { (p : Plain) → IsReached p → (name : List ℕ) (w : Live) → live_at p name ≡ Some w
         → (table : List ℕ) → moves w table ≡ true → (key : ℕ) → is_copied w table key ≡ true
-        → fold (row_after_write (number_of p w.source table) key) (other_row p w table key) (drop w.fed (writes_to p w)) ≡ client_row p (owner w) table key }
+        → fold (row_after_write (number_of p w.source table) key) (other_row p w table key) (drop w.fed (writes_to p w))
+        ≡ client_row p (owner w) table key }
 {}
