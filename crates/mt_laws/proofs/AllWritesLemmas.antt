@@ -227,7 +227,7 @@ module _ (p : Plain) (reached : IsReached p) (w v : Live) (in_it : IsIn w p.live
       ∙ any_same (λ table. eqb (number_of q w.source table) x.table) (λ table. eqb (number_of p w.source table) x.table) w.tables
       (λ table is. ap (λ n. eqb n x.table) (number_stays p reached w in_it event answer given lives table (in_moved w table is)))
 
-  all_by : writes_to q v ≡ filter (is_write_to p w) q.writes
+  pub all_by : writes_to q v ≡ filter (is_write_to p w) q.writes
   all_by = filter_same (is_write_to q v) (is_write_to p w) q.writes same_test
 
   count_one : (b : Bool) (x : Write) → is_write_to p w x ≡ b → length (filter (is_write_to p w) (p.writes ++ x ∷ [])) ≡ length (writes_to p w) + cond b 1 0

@@ -118,7 +118,7 @@ module _ (p : Plain) (name : List ℕ) (w : Live) (way : Way) (live : live_at p 
 -- ---- what is fed is all there is
 
 -- a list without the items that change nothing
-fold_filter : {A B : Type 0} (f : B → A → B) (test : A → Bool) (xs : List A) (first : B) → ((x : A) (b : B) → test x ≡ false → f b x ≡ b) → fold f first (filter test xs) ≡ fold f first xs
+pub fold_filter : {A B : Type 0} (f : B → A → B) (test : A → Bool) (xs : List A) (first : B) → ((x : A) (b : B) → test x ≡ false → f b x ≡ b) → fold f first (filter test xs) ≡ fold f first xs
 fold_filter f test [] first same = refl
 fold_filter {A} {B} f test (x ∷ xs) first same = by (λ b. fold_filter f test xs b same) (test x) refl
   where
@@ -140,7 +140,7 @@ module _ (p : Plain) (w : Live) (table : List ℕ) (moved : moves w table ≡ tr
   number = number_of p w.source table
 
   -- a write to no table of the workflow leaves the row
-  other_write : (write : Write) (before : Row) → is_write_to p w write ≡ false → row_after_write number key before write ≡ before
+  pub other_write : (write : Write) (before : Row) → is_write_to p w write ≡ false → row_after_write number key before write ≡ before
   other_write write before other = by (eqb write.table number) refl
     where
       by : (t : Bool) → eqb write.table number ≡ t → row_after_write number key before write ≡ before

@@ -1,16 +1,13 @@
 -- How many writes were fed: those of all acknowledged ones that don't stand past the position of the stream that feeds.
-use Rattle.std.proofs.Common.{◌≡◌, ℕ, ◌+◌, ◌≤◌, Bool, true, false, not, cond, eqb, List, drop, length, filter, None, Some, refl, sym, ap, ◌∙◌, subst, arith}
+use Rattle.std.proofs.Common.{◌≡◌, ℕ, ◌≤◌, Bool, true, false, not, cond, eqb, List, length, filter, None, Some, refl, sym, ap, ◌∙◌, subst, arith}
 use Rattle.std.proofs.lemmas.Bool.{true≢false, and_from}
-use Rattle.std.specs.List.{count_by, list_any}
+use Rattle.std.specs.List.{list_any}
 use Rattle.std.specs.Prelude.{◌&&◌}
-use Rattle.mt_names.specs.Names.{same_text}
-use Rattle.mt_names.proofs.SameLemmas.{same_text_decides}
-use Rattle.mt_model.specs.declared.rows.Op.{Op}
 use Rattle.mt_plain.specs.Answers.{Answers}
 use Rattle.mt_plain.specs.Events.{Event, write, StreamName, forward, back, Answer, done, Way}
 use Rattle.mt_plain.specs.Next.{next}
-use Rattle.mt_plain.specs.Plain.{Live, LogEntry, Plain, catch_up, changes_primary, create_back, is_side, moves, number_of, owner, refresh_target, stands_done, write_journal}
-use Rattle.mt_plain.specs.Slots.{is_fresh, log_length, log_of, read_side}
+use Rattle.mt_plain.specs.Plain.{Live, Plain, catch_up, changes_primary, create_back, is_side, moves, number_of, owner, refresh_target, stands_done, write_journal}
+use Rattle.mt_plain.specs.Slots.{is_fresh, log_length, read_side}
 use Rattle.mt_plain.specs.Writes.{writes_to}
 use Rattle.mt_laws.specs.Changes.{HasSides}
 use Rattle.mt_laws.specs.WayBack.{IsReached, ends_workflow}
@@ -18,7 +15,8 @@ use Rattle.mt_laws.proofs.AllWritesLemmas.{adds, all_after, found}
 use Rattle.mt_laws.proofs.LiveLemmas.{IsIn, sides_same}
 use Rattle.mt_laws.proofs.OwnerLemmas.{IsJournaled, reached_journaled}
 use Rattle.mt_laws.proofs.PartLemmas.{IsSettled}
-use Rattle.mt_laws.proofs.PastLemmas.{IsOther, adds_here, moved_past, past_after}
+use Rattle.mt_laws.proofs.PastLemmas.{IsOther, IsWrittenAt}
+use Rattle.mt_laws.proofs.PendingLemmas.{ArePending, pending_after, pending_same}
 use Rattle.mt_laws.proofs.PlainWords.{side_by}
 use Rattle.mt_laws.proofs.PositionLemmas.{position_in, reached_within, rest_at}
 use Rattle.mt_laws.proofs.ReachLemmas.{reached_has_parts}
@@ -34,7 +32,7 @@ abbrev pub at_by : Live → Bool → ℕ
 at_by w is_target = cond is_target w.back_at w.forward_at
 
 abbrev pub Level : Plain → Live → (keyspace : List ℕ) → ℕ → Type 0
-Level p w keyspace at = w.fed + moved_past p w keyspace at ≡ length (writes_to p w)
+Level p w keyspace at = (w.fed ≤ length (writes_to p w)) × ArePending p w w.fed keyspace at
 
 pub record IsFed (p : Plain) (w : Live) : Type 0 where
   pub rests : w.way ≡ None → Level p w (side_by w w.switched.primary) (at_by w w.switched.primary)
@@ -53,14 +51,12 @@ writes_same p w v same =
     ap (λ k. filter (λ x. list_any (λ table. eqb (number_of p k table) x.table) v.tables) p.writes) (sym same.source)
     ∙ ap (λ ts. filter (λ x. list_any (λ table. eqb (number_of p w.source table) x.table) ts) p.writes) (sym same.tables)
 
-pub past_same : (p : Plain) (w v : Live) → HasSides w v → (keyspace : List ℕ) (at : ℕ) → moved_past p v keyspace at ≡ moved_past p w keyspace at
-past_same p w v same keyspace at = ap (λ ts. count_by (λ (e : LogEntry). list_any (λ t. same_text t e.table) ts) (drop at (log_of p keyspace))) (sym same.tables)
-
 level_same : (p : Plain) (w v : Live) → HasSides w v → v.fed ≡ w.fed → (keyspace : List ℕ) (at : ℕ) → Level p w keyspace at → Level p v keyspace at
 level_same p w v same fed keyspace at level =
-    let a = past_same p w v same keyspace at in
-    let b : length (writes_to p v) ≡ length (writes_to p w) = ap length (writes_same p w v same) in
-    omega arith
+    let le = level.0 in
+    let all = writes_same p w v same in
+    let b : length (writes_to p v) ≡ length (writes_to p w) = ap length all in
+    (omega arith, pending_same p w v same all w.fed v.fed fed keyspace at level.1)
 
 pub side_same : (w v : Live) → HasSides w v → (b : Bool) → side_by v b ≡ side_by w b
 side_same w v same true = sym same.target
@@ -118,31 +114,15 @@ module _ (p : Plain) (reached : IsReached p) (w : Live) (in_it : IsIn w p.lives)
       by true b = new forward (rw (changes, b, created) refl)
       by false b = new back (rw (changes, b, created) refl)
 
-  -- where each write to its tables is acknowledged at one side
-  abbrev Here : List ℕ → Type 0
-  Here keyspace = (k t : List ℕ) (op : Op) → Answers p (write k t op) done → moves w t ≡ true → is_side w k ≡ true → k ≡ keyspace
-
-  here_owner : (keyspace : List ℕ) → owner w ≡ keyspace → Here keyspace
+  here_owner : (keyspace : List ℕ) → owner w ≡ keyspace → IsWrittenAt p w keyspace
   here_owner keyspace is k t op given moved side = writes_at_the_owner p reached t w (found p reached w in_it t moved) k side op given ∙ is
 
   module _ (event : Event) (answer : Answer) (given : Answers p event answer) (lives : ends_workflow w.name event answer ≡ false) where
-    level_other : (keyspace : List ℕ) (at : ℕ) (inside : at ≤ log_length p keyspace) → is_side w keyspace ≡ true → Here keyspace → IsOther p w keyspace at inside event → Level p w keyspace at → Level (next p event answer) w keyspace at
+    level_other : (keyspace : List ℕ) (at : ℕ) (inside : at ≤ log_length p keyspace) → is_side w keyspace ≡ true → IsWrittenAt p w keyspace → IsOther p w event → Level p w keyspace at → Level (next p event answer) w keyspace at
     level_other keyspace at inside side one other level =
+        let le = level.0 in
         let a = all_after p reached w w in_it (sides_same w) event answer given lives in
-        let b = past_after p w keyspace at inside event answer given other in
-        let c = same event answer given in
-        omega arith
-      where
-        same : (event : Event) (answer : Answer) → Answers p event answer → adds w event answer ≡ adds_here p w keyspace at inside event answer
-        same (write k t op) done given = by (moves w t) refl (is_side w k) refl (same_text k keyspace) refl
-          where
-            by : (a : Bool) → moves w t ≡ a → (b : Bool) → is_side w k ≡ b → (c : Bool) → same_text k keyspace ≡ c → cond {A = ℕ} (moves w t && is_side w k) 1 0 ≡ cond {A = ℕ} (moves w t && same_text k keyspace) 1 0
-            by false a b e c f = rw a refl
-            by true a true e true f = ap (λ x. cond {A = ℕ} (moves w t && x) 1 0) (e ∙ sym f)
-            by true a false e false f = ap (λ x. cond {A = ℕ} (moves w t && x) 1 0) (e ∙ sym f)
-            by true a true e false f = absurd (true≢false (sym ((same_text_decides k keyspace).1 (one k t op given a e)) ∙ f))
-            by true a false e true f = absurd (true≢false (sym (ap (is_side w) ((same_text_decides k keyspace).0 f) ∙ side) ∙ e))
-        same event answer given = refl
+        (omega arith, pending_after p reached w in_it w.fed keyspace at inside event answer given lives side one other le level.1)
 
     window_other : (way : Way) → w.way ≡ Some way → changes_primary way ≡ true → stands_done way catch_up ≡ true → stands_done way refresh_target ≡ false → length (writes_to p w) ≤ w.fed → length (writes_to (next p event answer) w) ≤ w.fed
     window_other way opens changes caught waits level =
@@ -159,19 +139,19 @@ module _ (p : Plain) (reached : IsReached p) (w : Live) (in_it : IsIn w p.lives)
             by true a true e = absurd (no_write_between p reached t w way (found p reached w in_it t a) opens changes (done_in_order way 1 catch_up (omega arith) caught) waits k e op given)
         none event answer given = refl
 
-    pub fed_other : ((keyspace : List ℕ) (at : ℕ) (inside : at ≤ log_length p keyspace) → IsOther p w keyspace at inside event) → IsFed p w → IsFed (next p event answer) w
+    pub fed_other : IsOther p w event → IsFed p w → IsFed (next p event answer) w
     fed_other other is = record {
       rests = λ rests. let b = w.switched.primary in
-          level_other (side_by w b) (at_by w b) (at_within b) (side_by-is_side w b) (here_owner (side_by w b) refl) (other (side_by w b) (at_by w b) (at_within b)) (is.rests rests);
+          level_other (side_by w b) (at_by w b) (at_within b) (side_by-is_side w b) (here_owner (side_by w b) refl) other (is.rests rests);
       before = λ way opens guard. let b = way.before.primary in
-          level_other (side_by w b) (at_by w b) (at_within b) (side_by-is_side w b) (here_owner (side_by w b) (owner_before w settled journaled way opens guard)) (other (side_by w b) (at_by w b) (at_within b)) (is.before way opens guard);
+          level_other (side_by w b) (at_by w b) (at_within b) (side_by-is_side w b) (here_owner (side_by w b) (owner_before w settled journaled way opens guard)) other (is.before way opens guard);
       fresh = λ way opens changes created. let b = not way.before.primary in
           level_other (side_by w b) w.fresh_at (fresh_within way opens changes created) (side_by-is_side w b) (here_fresh way opens changes created (stands_done way refresh_target) refl)
-          (other (side_by w b) w.fresh_at (fresh_within way opens changes created)) (is.fresh way opens changes created);
+          other (is.fresh way opens changes created);
       window = λ way opens changes caught waits. window_other way opens changes caught waits (is.window way opens changes caught waits);
     }
       where
-        here_fresh : (way : Way) → w.way ≡ Some way → changes_primary way ≡ true → stands_done way create_back ≡ true → (t : Bool) → stands_done way refresh_target ≡ t → Here (side_by w (not way.before.primary))
+        here_fresh : (way : Way) → w.way ≡ Some way → changes_primary way ≡ true → stands_done way create_back ≡ true → (t : Bool) → stands_done way refresh_target ≡ t → IsWrittenAt p w (side_by w (not way.before.primary))
         here_fresh way opens changes created true t = here_owner (side_by w (not way.before.primary)) (owner_behind w settled journaled way opens changes (done_in_order way 5 refresh_target (omega arith) t))
         here_fresh way opens changes created false t = λ k table op given moved side.
             absurd (no_write_between p reached table w way (found p reached w in_it table moved) opens changes (done_in_order way 1 create_back (omega arith) created) t k side op given)

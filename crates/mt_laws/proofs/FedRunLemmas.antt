@@ -20,13 +20,13 @@ use Rattle.mt_laws.specs.WayBack.{IsReached, ends_workflow}
 use Rattle.mt_laws.proofs.AllWritesLemmas.{reached_next}
 use Rattle.mt_laws.proofs.ChangeLemmas.{live_next, made_live, sides-advanced, sides-next}
 use Rattle.mt_laws.proofs.CopyLemmas.{advance_runs, level_if_taken}
-use Rattle.mt_laws.proofs.FedLemmas.{IsFed, Level, at_by, fed_other, owner_before, owner_behind, past_same, side_same, writes_same}
+use Rattle.mt_laws.proofs.FedLemmas.{IsFed, Level, at_by, fed_other, owner_before, owner_behind, side_same, writes_same}
 use Rattle.mt_laws.proofs.FedStepLemmas.{begun_fed, stepped_fed, undone_fed}
 use Rattle.mt_laws.proofs.KeepLemmas.{at_it, changed_has, on_way_has}
 use Rattle.mt_laws.proofs.LiveLemmas.{IsIn, find_some, unique}
 use Rattle.mt_laws.proofs.OwnerLemmas.{IsJournaled, reached_journaled}
 use Rattle.mt_laws.proofs.PartLemmas.{IsSettled}
-use Rattle.mt_laws.proofs.PastLemmas.{moved_past, past_end, past_own}
+use Rattle.mt_laws.proofs.PendingLemmas.{ArePending, pending_end, pending_own, pending_same, read-le}
 use Rattle.mt_laws.proofs.PositionLemmas.{position_in, rest_at, running_slot, slot_position}
 use Rattle.mt_laws.proofs.ReachLemmas.{live_by_name, not_ended, reached_has_parts, each_next, reached_keeps}
 use Rattle.mt_laws.proofs.RefusalLemmas.{reverse-none, switch-none}
@@ -79,11 +79,10 @@ module _ (p : Plain) (reached : IsReached p) (w : Live) (in_it : IsIn w p.lives)
 
   level_read : Level p w (read_side w stream) at → Level q v (read_side w stream) (at + events)
   level_read level =
-      let a = past_own p w stream (read_side w stream) at at_most events rows written_elsewhere in
-      let b = past_same q w v sides (read_side w stream) (at + events) in
-      let c : length (writes_to q v) ≡ length (writes_to q w) = ap length (writes_same q w v sides) in
-      let d : length (writes_to q w) ≡ length (writes_to p w) = refl in
-      omega arith
+      let all = writes_same q w v sides in
+      let a : length (writes_to q v) ≡ length (writes_to p w) = ap length all in
+      let le = read-le p w w.fed (read_side w stream) at events level.0 level.1 in
+      (omega arith, pending_same q w v sides all _ v.fed refl (read_side w stream) (at + events) (pending_own p w stream (read_side w stream) at at_most events rows w.fed written_elsewhere level.1))
 
   level_by : (b : Bool) (n m : ℕ) → read_side w stream ≡ side_by w b → n ≡ at → m ≡ at + events → Level p w (side_by w b) n → Level q v (side_by v b) m
   level_by b n m reads_it from to level =
@@ -163,27 +162,6 @@ module _ (p : Plain) (reached : IsReached p) (w : Live) (in_it : IsIn w p.lives)
       let r = rest_moves b reads (ap (λ o. is_fresh o stream) rests) in
       subst (λ s. Level q v (side_by v s.primary) (at_by v s.primary)) (sym same_types) (level_by b (at_by w b) (at_by v b) reads r.0 r.1 (is.rests rests))
 
-  -- what is not fed stands past the position
-  level_at : (b : Bool) (n : ℕ) → read_side w stream ≡ side_by w b → n ≡ at → Level p w (side_by w b) n → Level p w (read_side w stream) at
-  level_at b n reads_it from level = subst (λ k. Level p w k at) (sym reads_it) (subst (Level p w (side_by w b)) from level)
-
-  level_on_way : (way : Way) → w.way ≡ Some way → (t : Bool) → (changes_primary way && stands_done way write_journal) ≡ t → Level p w (read_side w stream) at
-  level_on_way way opens false guard =
-      let b = way.before.primary in
-      let here = reads ∙ owner_before w settled journaled way opens guard in
-      level_at b (at_by w b) here (rest_moves b here (not_fresh way opens guard)).0 (is.before way opens guard)
-  level_on_way way opens true guard =
-      let r = and_parts (changes_primary way) (stands_done way write_journal) guard in
-      let created = done_in_order way 4 write_journal (omega arith) r.1 in
-      level_at (not way.before.primary) w.fresh_at (reads ∙ owner_behind w settled journaled way opens r.0 r.1) (fresh_moves (is_made way opens r.0 created)).0 (is.fresh way opens r.0 created)
-
-  pub level_running : Level p w (read_side w stream) at
-  level_running = by w.way refl
-    where
-      by : (o : Option Way) → w.way ≡ o → Level p w (read_side w stream) at
-      by None rests = let b = w.switched.primary in level_at b (at_by w b) reads (rest_moves b reads (ap (λ o. is_fresh o stream) rests)).0 (is.rests rests)
-      by (Some way) opens = level_on_way way opens (changes_primary way && stands_done way write_journal) refl
-
   pub advanced_fed : IsFed q v
   advanced_fed = record {
     rests = λ r. rests_read (sym same_way ∙ r);
@@ -241,14 +219,14 @@ module _ (p : Plain) (reached : IsReached p) (w : Live) (in_it : IsIn w p.lives)
           (advanced_fed p reached w in_it is workflow (named workflow t) stream at at_most events rows (advance_runs p w stream at at_most (running_at (slot_of w stream)) (at_it p workflow w (advance_refusal p stream at at_most) (named workflow t) given.0)))
       by false t =
           fed_other p reached w in_it (advance workflow stream at at_most) (advanced events rows) given refl
-          (λ keyspace from inside other_one name to most e u found. other_tables workflow t u (ap (live_at p) (of_it other_one e) ∙ found)) is
+          (λ other_one name to most e u found. other_tables workflow t u (ap (live_at p) (of_it other_one e) ∙ found)) is
         where
           of_it : (other_one : List ℕ) {name : StreamName} {to most : ℕ} → advance workflow stream at at_most ≡ advance other_one name to most → workflow ≡ other_one
           of_it other_one e = cc
 
   other_fed : (event : Event) (answer : Answer) → Answers p event answer → ends_workflow w.name event answer ≡ false → ¬ (IsAdvance event) → IsFed (next p event answer) w
   other_fed event answer given lives other =
-      fed_other p reached w in_it event answer given lives (λ keyspace at inside workflow name to most e. absurd (other (subst IsAdvance (sym e) tt))) is
+      fed_other p reached w in_it event answer given lives (λ workflow name to most e. absurd (other (subst IsAdvance (sym e) tt))) is
 
   next_fed : (event : Event) (answer : Answer) → Answers p event answer → ends_workflow w.name event answer ≡ false → IsFed (next p event answer) (live_next p event answer w)
   next_fed (begin_switch workflow types) done given lives =
@@ -292,11 +270,9 @@ same_writes_to p q w numbers made_too writes =
 new_fed : (p : Plain) (event : Event) (answer : Answer) (name source target : List ℕ) (named tables : List (List ℕ)) → event ≡ create name source target named → IsFed (next p event answer) (made_live p name source target tables)
 new_fed p event answer name source target named tables e = record {
   rests = λ r.
-      let a = past_end q w source in
-      let b : log_length q source ≡ log_length p source = ap (count_by (λ x. same_text x.keyspace source)) (same_logs p event answer (λ h. subst ChangesLogs e h)) in
-      let c : moved_past q w source (log_length p source) ≡ 0 = ap (moved_past q w source) (sym b) ∙ a in
-      let d : length (writes_to q w) ≡ length (writes_to p w) = ap length all_same in
-      omega arith;
+      let a : log_length q source ≡ log_length p source = ap (count_by (λ x. same_text x.keyspace source)) (same_logs p event answer (λ h. subst ChangesLogs e h)) in
+      let b : length (writes_to q w) ≡ length (writes_to p w) = ap length all_same in
+      (omega arith, subst (ArePending q w w.fed source) a (pending_end q w w.fed source (omega arith)));
   before = λ way opens. absurd cc;
   fresh = λ way opens. absurd cc;
   window = λ way opens. absurd cc;

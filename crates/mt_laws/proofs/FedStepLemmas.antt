@@ -15,7 +15,7 @@ use Rattle.mt_laws.proofs.ChangeLemmas.{sides-live_stepped}
 use Rattle.mt_laws.proofs.CopyLemmas.{fed-stepped}
 use Rattle.mt_laws.proofs.FedLemmas.{IsFed, Level, at_by, level_moved, side_same, writes_same, if-not}
 use Rattle.mt_laws.proofs.PartLemmas.{IsSettled}
-use Rattle.mt_laws.proofs.PastLemmas.{past_end}
+use Rattle.mt_laws.proofs.PendingLemmas.{pending_end}
 use Rattle.mt_laws.proofs.PlainWords.{side_by}
 use Rattle.mt_laws.proofs.StreamLemmas.{IsTurned, differ_not, differ_to}
 use Rattle.mt_laws.proofs.WayStepLemmas.{before_then, done_by, done_in_order, fewer, more, no_way, none_done, not_before, one_way, undone_by, was_done, way-stepped}
@@ -162,10 +162,10 @@ module _ (p : Plain) (w : Live) (way : Way) (opens : w.way ≡ Some way) (is : I
         let early = undone_by way write_journal 5 five (omega arith) in
         let a = is.before way opens (and_right (changes_primary way) (stands_done way write_journal) early) in
         let d = is.window way opens changes (done_by way catch_up 5 five (omega arith) (omega arith)) (undone_by way refresh_target 5 five (omega arith)) in
-        let none = past_end p v (new_owner w) in
+        let le = a.0 in
         let f = fed in
         let g = writes_are in
-        let level : Level p v (new_owner w) made_at = omega arith in
+        let level : Level p v (new_owner w) made_at = (omega arith, pending_end p v v.fed (new_owner w) (omega arith)) in
         subst (λ k. Level p v k v.fresh_at) (owner_is ∙ sym (side_same w v sides (not way.before.primary))) (subst (Level p v (new_owner w)) (sym fresh_is) level)
       where
         fresh_is : v.fresh_at ≡ made_at

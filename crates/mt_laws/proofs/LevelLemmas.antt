@@ -1,5 +1,6 @@
 -- Where all acknowledged writes are fed.
-use Rattle.std.proofs.Common.{◌≡◌, ℕ, ◌+◌, ◌≤◌, Bool, true, false, List, length, Option, None, Some, refl, arith}
+use Rattle.std.proofs.Common.{◌≡◌, ℕ, ◌+◌, ◌≤◌, Bool, true, false, List, length, Option, None, Some, refl, subst, arith}
+use Rattle.std.proofs.lemmas.List.Sums.{length-filter}
 use Rattle.std.proofs.lemmas.Bool.{and_parts}
 use Rattle.std.specs.List.{count_by}
 use Rattle.std.specs.Prelude.{◌&&◌}
@@ -13,9 +14,12 @@ use Rattle.mt_laws.specs.Copies.{tests_level}
 use Rattle.mt_laws.specs.WayBack.{IsReached}
 use Rattle.mt_laws.proofs.CopyLemmas.{level_if_taken, same_rows}
 use Rattle.mt_laws.proofs.FedLemmas.{IsFed}
-use Rattle.mt_laws.proofs.FedRunLemmas.{level_running, reached_fed}
+use Rattle.mt_laws.proofs.FedRunLemmas.{reached_fed}
 use Rattle.mt_laws.proofs.LiveLemmas.{find_some}
 use Rattle.mt_laws.proofs.OpenWayLemmas.{journals}
+use Rattle.mt_laws.proofs.PendingReadLemmas.{pending_counted}
+use Rattle.mt_laws.proofs.PositionLemmas.{running_slot}
+use Rattle.mt_laws.proofs.StreamLemmas.{runs_at_the_owner}
 use Rattle.mt_laws.proofs.WayStepLemmas.{done_by, done_in_order, undone_by}
 
 module _ (p : Plain) (reached : IsReached p) (name : List ℕ) (w : Live) (live : live_at p name ≡ Some w) where
@@ -30,19 +34,23 @@ module _ (p : Plain) (reached : IsReached p) (name : List ℕ) (w : Live) (live 
   never_more = by w.way refl
     where
       on_way : (way : Way) → w.way ≡ Some way → (t : Bool) → (changes_primary way && stands_done way write_journal) ≡ t → w.fed ≤ all
-      on_way way opens false t = let e = is.before way opens t in omega arith
+      on_way way opens false t = (is.before way opens t).0
       on_way way opens true t =
           let r = and_parts (changes_primary way) (stands_done way write_journal) t in
-          let e = is.fresh way opens r.0 (done_in_order way 4 write_journal (omega arith) r.1) in
-          omega arith
+          (is.fresh way opens r.0 (done_in_order way 4 write_journal (omega arith) r.1)).0
 
       by : (o : Option Way) → w.way ≡ o → w.fed ≤ all
-      by None rests = let e = is.rests rests in omega arith
+      by None rests = (is.rests rests).0
       by (Some way) opens = on_way way opens (changes_primary way && stands_done way write_journal) refl
 
   -- what is not fed stands past the position of the stream that runs
   pub fed_up_to_position : (stream : StreamName) (at : ℕ) → running_at (slot_of w stream) ≡ Some at → w.fed + count_by (λ e. moves w e.table) (past p w stream at) ≡ all
-  fed_up_to_position stream at runs = level_running p reached w (find_some (λ v. same_text v.name name) p.lives w live).0 is name live stream at 0 0 0 runs
+  fed_up_to_position stream at runs =
+      let r = running_slot (slot_of w stream) at runs in
+      let a = pending_counted p reached name w live stream r.0 r.1 (runs_at_the_owner p reached name w live stream at runs) in
+      let b = length-filter (λ e. moves w e.table) (past p w stream r.0.position) in
+      let e : w.fed + count_by (λ e. moves w e.table) (past p w stream r.0.position) ≡ all = omega arith in
+      subst (λ n. w.fed + count_by (λ e. moves w e.table) (past p w stream n) ≡ all) r.2 e
 
   module _ (way : Way) (opens : w.way ≡ Some way) where
     -- from the catch-up to the refresh of the new owner's primary

@@ -33,8 +33,12 @@ pub mod OpenWayLemmas
 pub mod OrderLemmas
 pub mod OutputLemmas
 pub mod OwnerLemmas
+pub mod OwnerStreamLemmas
 pub mod PartLemmas
 pub mod PastLemmas
+pub mod PendingLemmas
+pub mod PendingReadLemmas
+pub mod PendingRowLemmas
 pub mod PlacedLemmas
 pub mod PlainWords
 pub mod PositionLemmas

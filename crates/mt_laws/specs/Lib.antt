@@ -6,6 +6,7 @@ pub mod Headline
 pub mod Lines
 pub mod Numbers
 pub mod Parts
+pub mod Pending
 pub mod Places
 pub mod Reached
 pub mod Texts

@@ -8,6 +8,7 @@ mod effects;
 mod events;
 mod headline;
 mod parts;
+mod pending;
 mod places;
 mod reached;
 mod rows;
@@ -41,6 +42,10 @@ pub use events::{
 };
 pub use headline::{every_run_keeps_the_headline, the_way_back_and_the_rows_stand_in_every_run};
 pub use parts::{a_moved_table_is_never_writable_in_two, parts_are_apart};
+pub use pending::{
+    a_stream_reads_the_owner, what_is_pending_was_not_fed,
+    what_was_not_fed_makes_the_rows_of_the_owner,
+};
 pub use places::{
     each_table_has_a_number_of_its_own, only_what_stands_has_a_place, what_is_served_is_a_topology,
 };
