@@ -20,6 +20,7 @@ pub mod LineLemmas
 pub mod ListLemmas
 pub mod LiveLemmas
 pub mod LogLemmas
+pub mod NoJournalLemmas
 pub mod NumberLemmas
 pub mod NumberedLemmas
 pub mod OpenLemmas
@@ -39,6 +40,8 @@ pub mod RowWitnessLemmas
 pub mod RunLemmas
 pub mod ServeLemmas
 pub mod StepCountLemmas
+pub mod StepUndoneLemmas
+pub mod StepWitnessLemmas
 pub mod StreamLemmas
 pub mod TableLemmas
 pub mod TextLemmas

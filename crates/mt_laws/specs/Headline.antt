@@ -100,4 +100,4 @@ pub record Headline (p : Plain) (events : List Event) (answers : List Answer) : 
   pub reads_answer_the_writes : (i : ℕ) (keyspace table : List ℕ) (key : ℕ) (r : Row)
       → IsLine events answers i (read keyspace table key Primary) (row r)
       → r ≡ fold row_with_op (row_after_writes p.writes (client_number (state_at p events answers i) keyspace table) key)
-          (acknowledged p (client_number (state_at p events answers i) keyspace table) key (take i events) (take i answers))
+      (acknowledged p (client_number (state_at p events answers i) keyspace table) key (take i events) (take i answers))

@@ -5,4 +5,5 @@ pub mod Headline
 pub mod Lines
 pub mod Numbers
 pub mod Parts
+pub mod Steps
 pub mod WayBack

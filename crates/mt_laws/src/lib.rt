@@ -10,6 +10,7 @@ mod rows;
 mod runs;
 mod scripts;
 mod serving;
+mod steps;
 mod streams;
 mod tables;
 mod way_back;
@@ -40,6 +41,9 @@ pub use scripts::{
     output_is_what_is_written_where_memory_is_ample,
 };
 pub use serving::lists_of_entries_say_what_is_served;
+pub use steps::{
+    a_step_can_be_taken_back, an_abandoned_way_writes_no_journal, an_undo_takes_a_step_back,
+};
 pub use streams::{
     a_stream_that_runs_reads_the_owner, at_rest_the_stream_that_reads_the_owner_runs,
     positions_never_fall,
