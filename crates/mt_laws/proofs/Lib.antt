@@ -26,6 +26,7 @@ pub mod NumberedLemmas
 pub mod OpenLemmas
 pub mod OpenWayLemmas
 pub mod OutputLemmas
+pub mod OwedLemmas
 pub mod OwnerLemmas
 pub mod PartLemmas
 pub mod PastLemmas

@@ -5,6 +5,7 @@ mod changes;
 mod copies;
 mod events;
 mod headline;
+mod owed;
 mod parts;
 mod rows;
 mod runs;
@@ -28,6 +29,7 @@ pub use events::{
     refused_events_change_nothing,
 };
 pub use headline::{every_run_keeps_the_headline, the_way_back_and_the_rows_stand_in_every_run};
+pub use owed::each_event_owes_one_at_most;
 pub use parts::{a_moved_table_is_never_writable_in_two, parts_are_apart};
 pub use rows::{
     a_move_with_rows_can_be_completed, each_primary_read_answers_from_the_acknowledged_writes,
