@@ -1,5 +1,5 @@
 -- From the lines of a run to its pieces.
-use Rattle.std.proofs.Common.{◌≡◌, ◌⊎◌, inl, inr, ℕ, suc, ◌+◌, ◌-◌, ◌<◌, ◌≤◌, true, false, List, [], ◌∷◌, take, drop, None, Some, is_some, option_map, refl, sym, ap, ◌∙◌, subst, arith}
+use Rattle.std.proofs.Common.{◌≡◌, ◌⊎◌, inl, inr, ℕ, suc, ◌+◌, ◌-◌, ◌<◌, ◌≤◌, true, false, List, [], ◌∷◌, ◌++◌, take, drop, None, Some, is_some, option_map, refl, sym, ap, ◌∙◌, subst, arith}
 use Rattle.std.specs.Prelude.{slice_get, zero}
 use Rattle.mt_names.specs.declared.types.TabletType.TheVariants.{Primary}
 use Rattle.mt_model.specs.declared.entries.Scope.{Scope}
@@ -266,6 +266,18 @@ module _ (p : Plain) (events : List Event) (answers : List Answer) (reached : Is
         primary_reads (at_line i) (reached_at i) keyspace table key r (here i (read keyspace table key Primary) (row r) is).0
         ∙ row-run (take i events) (take i answers) p (client_number (at_line i) keyspace table) key (run_take i events answers p run);
   }
+
+-- a run behind another
+run_joined : (earlier : List Event) (earlier_answers : List Answer) (p : Plain) (events : List Event) (answers : List Answer) → Run p earlier earlier_answers → Run (after p earlier earlier_answers) events answers → Run p (earlier ++ events) (earlier_answers ++ answers)
+run_joined [] [] p events answers first rest = rest
+run_joined [] (a ∷ as') p events answers first rest = absurd first
+run_joined (e ∷ es) [] p events answers first rest = absurd first
+run_joined (e ∷ es) (a ∷ as') p events answers first rest = (first.0, run_joined es as' (next p e a) events answers first.1 rest)
+
+pub headline_joined : (p : Plain) (earlier events : List Event) (earlier_answers answers : List Answer) → IsReached p → Run p earlier earlier_answers → Run (after p earlier earlier_answers) events answers
+    → Headline p (earlier ++ events) (earlier_answers ++ answers)
+headline_joined p earlier events earlier_answers answers reached first rest =
+    headline p (earlier ++ events) (earlier_answers ++ answers) reached (run_joined earlier earlier_answers p events answers first rest)
 
 -- a run from an opening
 pub headline_of_opening : (scopes : List Scope) (events : List Event) (answers : List Answer) → Run (opening scopes) events answers → Headline (opening scopes) events answers

@@ -1,16 +1,18 @@
 -- A way that an undo closed never came to its journal.
-use Rattle.std.proofs.Common.{◌≡◌, ℕ, true, false, eqb, List, [], ◌∷◌, Some, is_some, sym, ap, ◌∙◌, subst, arith}
+use Rattle.std.proofs.Common.{◌≡◌, ℕ, suc, true, false, cond, eqb, List, [], ◌∷◌, Option, None, Some, is_some, refl, sym, ap, ◌∙◌, subst, arith}
 use Rattle.std.proofs.lemmas.Bool.{true≢false, and_parts, false_from_ne_true}
 use Rattle.std.specs.Option.{option_map_or}
+use Rattle.std.specs.Prelude.{◌&&◌, option_and_then}
 use Rattle.mt_names.specs.Names.{same_text}
 use Rattle.mt_names.proofs.EntryLemmas.{some_from}
 use Rattle.mt_names.proofs.SameLemmas.{same_text_decides}
 use Rattle.mt_plain.specs.Answers.{Answers, Run, after}
 use Rattle.mt_plain.specs.Drive.{way_of}
-use Rattle.mt_plain.specs.Events.{Event, step, undo, Answer, done, Way}
-use Rattle.mt_plain.specs.Next.{live_stepped, next}
+use Rattle.mt_plain.specs.Events.{Event, step, undo, Answer, done, row, advanced, shown, refused, Way}
+use Rattle.mt_plain.specs.Next.{journal_after, live_stepped, next}
 use Rattle.mt_plain.specs.Plain.{Live, Plain, live_at, next_step, stands_done, write_journal}
 use Rattle.mt_plain.specs.Refuse.{undo_refusal}
+use Rattle.mt_laws.specs.Changes.{IsOf}
 use Rattle.mt_laws.specs.Steps.{StaysBeforeJournal, WritesNoJournal, is_past_journal, writes_journal}
 use Rattle.mt_laws.specs.WayBack.{IsBegin, IsReached, StaysOpen, WayFrom}
 use Rattle.mt_laws.proofs.ChangeLemmas.{live_after, lives_after}
@@ -21,7 +23,7 @@ use Rattle.mt_laws.proofs.ReachLemmas.{live_by_name, next_has_parts, reached_has
 use Rattle.mt_laws.proofs.RefusalLemmas.{in_workflow-none, reverse-none, switch-none}
 use Rattle.mt_laws.proofs.StepUndoneLemmas.{at_way_stepped, one_more}
 use Rattle.mt_laws.proofs.TrafficLemmas.{begin_ends_nothing, begin_rests, not_ended_open, open_now, way_at}
-use Rattle.mt_laws.proofs.UntouchedLemmas.{traffic-advanced}
+use Rattle.mt_laws.proofs.UntouchedLemmas.{same_journal, traffic-advanced}
 use Rattle.mt_laws.proofs.WayBackLemmas.{one_event}
 use Rattle.mt_laws.proofs.WayLemmas.{undo_before_journal}
 use Rattle.mt_laws.proofs.WayStepLemmas.{closes, more, no_way, now_done, still_done, way-stepped, way_holds, way_holds-by}
@@ -129,3 +131,31 @@ module _ (name : List ℕ) (begin : Event) (at : ℕ) (p q : Plain) (reached : I
 
   pub before_it : StaysBeforeJournal name begun_at way_from.events way_from.answers
   before_it = both.1
+
+-- ---- the journal's entries
+
+module _ (p : Plain) where
+  abbrev one_entry_more : Option Way → ℕ
+  one_entry_more o = cond (option_map_or (λ way. eqb (next_step way) write_journal) o false) (suc p.journal) p.journal
+
+  counted_by_way : (o : Option Way) → option_map_or (λ way. cond (eqb (next_step way) write_journal) (suc p.journal) p.journal) o p.journal ≡ one_entry_more o
+  counted_by_way None = refl
+  counted_by_way (Some way) = refl
+
+  counted_by_live : (o : Option Live) → journal_after p o ≡ one_entry_more (option_and_then (λ w. w.way) o)
+  counted_by_live None = refl
+  counted_by_live (Some w) = counted_by_way w.way
+
+  counted_step : (workflow : List ℕ) (at : ℕ) → journal_after p (live_at p workflow) ≡ cond (writes_journal workflow p (step workflow at) done) (suc p.journal) p.journal
+  counted_step workflow at =
+      counted_by_live (live_at p workflow)
+      ∙ sym (ap (λ t. cond (t && option_map_or (λ way. eqb (next_step way) write_journal) (way_of p workflow) false) (suc p.journal) p.journal) ((same_text_decides workflow workflow).1 refl))
+
+  pub journal_counted : (name : List ℕ) (event : Event) (answer : Answer) → Answers p event answer → IsOf name event → (next p event answer).journal ≡ cond (writes_journal name p event answer) (suc p.journal) p.journal
+  journal_counted name (step workflow at) done given of =
+      subst (λ n. journal_after p (live_at p workflow) ≡ cond (writes_journal n p (step workflow at) done) (suc p.journal) p.journal) of (counted_step workflow at)
+  journal_counted name (step workflow at) (row r) given of = let h : row r ≡ done = given.1 in absurd cc
+  journal_counted name (step workflow at) (shown s) given of = refl
+  journal_counted name (step workflow at) (advanced events rows) given of = refl
+  journal_counted name (step workflow at) (refused refusal) given of = refl
+  journal_counted name event answer given of = same_journal p event answer (λ h. h)

@@ -3,20 +3,21 @@ use Rattle.std.proofs.Common.{◌≡◌, ◌⊎◌, inl, inr, ℕ, suc, ◌+◌,
 use Rattle.std.proofs.lemmas.Bool.{true≢false, and_parts, false_from_ne_true, leb-true}
 use Rattle.std.specs.List.{list_any}
 use Rattle.std.specs.Option.{option_map_or}
-use Rattle.std.specs.Prelude.{◌&&◌, ◌||◌}
+use Rattle.std.specs.Prelude.{◌&&◌, ◌||◌, option_and_then, option_map}
 use Rattle.mt_names.specs.Names.{same_text}
 use Rattle.mt_names.proofs.SameLemmas.{same_text_decides}
 use Rattle.mt_model.specs.declared.entries.EntryKey.{EntryKey}
 use Rattle.mt_model.specs.declared.entries.EntryKey.TheVariants as about
 use Rattle.mt_model.specs.Topology.{TopologyState, value_of}
 use Rattle.mt_plain.specs.Answers.{Answers, Run, after, reply_of}
-use Rattle.mt_plain.specs.Events.{Event, begin_switch, begin_reverse, step, undo, cancel, complete, Answer, done, row, advanced, shown, refused, Way, past_journal, stale, undoing}
+use Rattle.mt_plain.specs.Events.{Event, begin_switch, begin_reverse, step, undo, cancel, complete, StreamName, forward, back, StreamState, running, stopped, Slot, Answer, done, row, advanced, shown, refused, Way, past_journal, stale, undoing}
 use Rattle.mt_plain.specs.Next.{after_advance, live_stepped, live_undone, next, on_way_of}
-use Rattle.mt_plain.specs.Plain.{Live, Plain, allow_target, before_way, deny_source, first_step, has_part, is_side, live_at, mover, moves, next_step, owner_by, refresh_source, refresh_target, stands_done, write_journal}
+use Rattle.mt_plain.specs.Plain.{Live, Plain, allow_target, before_way, changes_primary, create_back, deny_source, first_step, has_part, is_side, live_at, mover, moves, next_step, owner_by, refresh_source, refresh_target, stands_done, start_back, stop_feeding, write_journal}
 use Rattle.mt_plain.specs.Refuse.{or_else, own_refusal, refuse_if, step_refusal, undo_refusal}
 use Rattle.mt_plain.specs.Serve.{is_denied_at, owned_before, refuses, serve, served_by, served_entry, step_of_entry, types_by}
+use Rattle.mt_plain.specs.Slots.{is_feeding, slot_at_rest, slot_before_way, slot_by_way, slot_of}
 use Rattle.mt_laws.specs.Changes.{HasSides, IsOf}
-use Rattle.mt_laws.specs.Steps.{IsLeftAlone, StepUndone, is_command}
+use Rattle.mt_laws.specs.Steps.{IsLeftAlone, StepUndone, is_command, stream_state}
 use Rattle.mt_laws.specs.WayBack.{IsReached, ends_workflow, in_part}
 use Rattle.mt_laws.proofs.ChangeLemmas.{live_after, lives_after}
 use Rattle.mt_laws.proofs.LiveLemmas.{changed, find_some, find_the_one, sides_joined, sides_same}
@@ -33,9 +34,14 @@ use Rattle.mt_laws.proofs.WritableLemmas.{before_by}
 
 -- ---- what is served and refused follows from the types from before the way, and those at each step
 
+-- what a stream does
+abbrev pub state_of_slot : Option Slot → Option StreamState
+state_of_slot o = option_map (λ s. s.state) o
+
 pub record SameTraffic (w v : Live) : Type 0 where
   pub before : before_way v ≡ before_way w
   pub types : (n : ℕ) → types_by v n ≡ types_by w n
+  pub streams : (stream : StreamName) → state_of_slot (slot_of v stream) ≡ state_of_slot (slot_of w stream)
 
 module _ (w v : Live) (sides : HasSides w v) (same : SameTraffic w v) where
   owner_before : owner_by v (before_way v) ≡ owner_by w (before_way w)
@@ -83,6 +89,64 @@ nothing_done way n none =
 same_steps : (way : Way) (n : ℕ) → stands_done (fewer (more way)) n ≡ stands_done way n
 same_steps way n = let e : suc way.done - 1 ≡ way.done = omega arith in ap (λ d. leb (first_step way) n && ltb n (first_step way + d)) e
 
+-- what a stream does on a way, by whether the way changes writes and feeds by it, and whether its feeding is stopped, a new one made, and
+-- that started
+abbrev state_by : (changes feeds stopped_by made_by started : Bool) → Option StreamState → Option StreamState
+state_by changes feeds stopped_by made_by started o =
+    cond (not changes) o (cond feeds (option_map (λ s. cond stopped_by stopped s) o) (cond made_by (Some (cond started running stopped)) o))
+
+state_on_way : (changes feeds stopped_by made_by started : Bool) (o : Option Slot) (fresh : ℕ)
+    → state_of_slot (cond (not changes) o (cond feeds (option_map (λ s. cond stopped_by (record s { state = stopped }) s) o) (cond made_by (Some (record { state = cond started running stopped; position = fresh })) o)))
+    ≡ state_by changes feeds stopped_by made_by started (state_of_slot o)
+state_on_way false f d e g o fresh = refl
+state_on_way true true d e g None fresh = refl
+state_on_way true true true e g (Some s) fresh = refl
+state_on_way true true false e g (Some s) fresh = refl
+state_on_way true false d true g o fresh = refl
+state_on_way true false d false g o fresh = refl
+
+-- as at rest, where no step stands done
+state_at_first : (changes feeds : Bool) (o : Option StreamState) → state_by changes feeds false false false o ≡ o
+state_at_first false f o = refl
+state_at_first true true None = refl
+state_at_first true true (Some s) = refl
+state_at_first true false o = refl
+
+state_at_rest : (v w : Live) (target_owns : Bool) (stream : StreamName) → state_of_slot (slot_at_rest v target_owns stream) ≡ state_of_slot (slot_at_rest w target_owns stream)
+state_at_rest v w t forward = refl
+state_at_rest v w true back = refl
+state_at_rest v w false back = refl
+
+state_before : (v w : Live) (stream : StreamName) → before_way v ≡ before_way w → state_of_slot (slot_before_way v stream) ≡ state_of_slot (slot_before_way w stream)
+state_before v w stream same = state_at_rest v w (before_way v).primary stream ∙ ap (λ types. state_of_slot (slot_at_rest w types.primary stream)) same
+
+-- of a workflow with that way open
+abbrev state_of_way : Way → StreamName → Option StreamState → Option StreamState
+state_of_way way stream o = state_by (changes_primary way) (is_feeding way stream) (stands_done way stop_feeding) (stands_done way create_back) (stands_done way start_back) o
+
+state_of_open : (w : Live) (way : Way) (stream : StreamName) → w.way ≡ Some way → state_of_slot (slot_of w stream) ≡ state_of_way way stream (state_of_slot (slot_before_way w stream))
+state_of_open w way stream opens =
+    ap (λ o. state_of_slot (slot_by_way w o stream)) opens
+    ∙ state_on_way (changes_primary way) (is_feeding way stream) (stands_done way stop_feeding) (stands_done way create_back) (stands_done way start_back) (slot_before_way w stream) w.fresh_at
+
+state_first : (way : Way) (stream : StreamName) (o : Option StreamState) → ((n : ℕ) → stands_done way n ≡ false) → state_of_way way stream o ≡ o
+state_first way stream o none =
+    ap (λ t. state_by (changes_primary way) (is_feeding way stream) t (stands_done way create_back) (stands_done way start_back) o) (none stop_feeding)
+    ∙ ap (λ t. state_by (changes_primary way) (is_feeding way stream) false t (stands_done way start_back) o) (none create_back)
+    ∙ ap (λ t. state_by (changes_primary way) (is_feeding way stream) false false t o) (none start_back)
+    ∙ state_at_first (changes_primary way) (is_feeding way stream) o
+
+same_feeding : (way : Way) (stream : StreamName) → is_feeding (fewer (more way)) stream ≡ is_feeding way stream
+same_feeding way forward = refl
+same_feeding way back = refl
+
+state_again : (way : Way) (stream : StreamName) (o : Option StreamState) → state_of_way (fewer (more way)) stream o ≡ state_of_way way stream o
+state_again way stream o =
+    ap (λ f. state_by (changes_primary way) f (stands_done (fewer (more way)) stop_feeding) (stands_done (fewer (more way)) create_back) (stands_done (fewer (more way)) start_back) o) (same_feeding way stream)
+    ∙ ap (λ t. state_by (changes_primary way) (is_feeding way stream) t (stands_done (fewer (more way)) create_back) (stands_done (fewer (more way)) start_back) o) (same_steps way stop_feeding)
+    ∙ ap (λ t. state_by (changes_primary way) (is_feeding way stream) (stands_done way stop_feeding) t (stands_done (fewer (more way)) start_back) o) (same_steps way create_back)
+    ∙ ap (λ t. state_by (changes_primary way) (is_feeding way stream) (stands_done way stop_feeding) (stands_done way create_back) t o) (same_steps way start_back)
+
 undone_traffic : (w m : Live) (way : Way) → w.way ≡ Some way → m.way ≡ Some (more way) → IsSettled m → stands_done (more way) write_journal ≡ false → SameTraffic w (live_undone m (more way))
 undone_traffic w m way opens opened settled before = by (eqb ((more way).done - 1) 0) refl
   where
@@ -90,16 +154,28 @@ undone_traffic w m way opens opened settled before = by (eqb ((more way).done - 
     by true e =
         let zero_left : suc way.done - 1 ≡ 0 = eqb-true (suc way.done - 1) 0 e in
         let none : way.done ≡ 0 = omega arith in
+        let same : m.switched ≡ before_way w = settled (more way) opened before ∙ sym (ap (before_by w.switched) opens) in
         record {
-          before = settled (more way) opened before ∙ sym (ap (before_by w.switched) opens);
+          before = same;
           types = λ n.
               settled (more way) opened before ∙ sym (ap (λ b. cond b way.after way.before) (nothing_done way n none))
               ∙ sym (ap (λ o. types_by_way w.switched o n) opens);
+          streams = λ stream.
+              state_before (record m { way = None }) w stream same
+              ∙ sym (state_of_open w way stream opens ∙ state_first way stream (state_of_slot (slot_before_way w stream)) (λ n. nothing_done way n none));
         }
-    by false e = record {
-      before = sym (ap (before_by w.switched) opens);
-      types = λ n. ap (λ b. cond b way.after way.before) (same_steps way n) ∙ sym (ap (λ o. types_by_way w.switched o n) opens);
-    }
+    by false e =
+        let same : way.before ≡ before_way w = sym (ap (before_by w.switched) opens) in
+        let v : Live = record m { way = Some (fewer (more way)) } in
+        record {
+          before = same;
+          types = λ n. ap (λ b. cond b way.after way.before) (same_steps way n) ∙ sym (ap (λ o. types_by_way w.switched o n) opens);
+          streams = λ stream.
+              state_of_open v (fewer (more way)) stream refl
+              ∙ state_again way stream (state_of_slot (slot_before_way v stream))
+              ∙ ap (state_of_way way stream) (state_before v w stream same)
+              ∙ sym (state_of_open w way stream opens);
+        }
 
 -- ---- an event that is no command of the workflow
 
@@ -286,3 +362,9 @@ module _ (name : List ℕ) (at at_undo : ℕ) (p q : Plain) (reached : IsReached
       ap (λ o. refuses_moved o keyspace) (mover_of q name undone.final table undone.parts undone.live_final (moves_same undone.first undone.final undone.sides table mine))
       ∙ refuses_same undone.first undone.final undone.sides undone.traffic keyspace
       ∙ sym (ap (λ o. refuses_moved o keyspace) (mover_of p name undone.first table has undone.live_first mine))
+
+  pub undone_streams : (stream : StreamName) → stream_state q name stream ≡ stream_state p name stream
+  undone_streams stream =
+      ap (λ o. state_of_slot (option_and_then (λ w. slot_of w stream) o)) undone.live_final
+      ∙ undone.traffic.streams stream
+      ∙ sym (ap (λ o. state_of_slot (option_and_then (λ w. slot_of w stream) o)) undone.live_first)

@@ -45,6 +45,7 @@ pub use scripts::{
 pub use serving::lists_of_entries_say_what_is_served;
 pub use steps::{
     a_step_can_be_taken_back, an_abandoned_way_writes_no_journal, an_undo_takes_a_step_back,
+    the_journal_has_an_entry_for_each_such_step,
 };
 pub use streams::{
     a_stream_that_runs_reads_the_owner, at_rest_the_stream_that_reads_the_owner_runs,
