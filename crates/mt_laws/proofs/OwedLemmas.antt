@@ -1,16 +1,18 @@
 -- What is owed to the live workflows: an undo and a Cancel take from it, and no event adds more than one.
-use Rattle.std.proofs.Common.{◌≡◌, ◌≢◌, inl, inr, ℕ, suc, ◌+◌, ◌-◌, ◌≤◌, max, Bool, true, false, not, cond, eqb, List, [], ◌∷◌, map, filter, Option, None, Some, refl, sym, ap, ◌∙◌, subst, arith}
-use Rattle.std.proofs.lemmas.Bool.{true≢false}
+use Rattle.std.proofs.Common.{◌≡◌, ◌≢◌, inl, inr, ℕ, suc, ◌+◌, ◌-◌, ◌*◌, ◌≤◌, max, Bool, true, false, not, cond, eqb, leb, ltb, fold, is_some, length, List, [], ◌∷◌, map, filter, Option, None, Some, refl, sym, ap, ◌∙◌, subst, arith, length-append}
+use Rattle.std.proofs.lemmas.Bool.{true≢false, and_from, le-leb, leb-false, lt-ltb}
+use Rattle.std.proofs.lemmas.List.{length-map}
 use Rattle.std.proofs.lemmas.List.Sums.{sum_by-cons, sum_by_push}
 use Rattle.std.specs.Option.{option_map_or}
-use Rattle.std.specs.Prelude.{sum_by}
+use Rattle.std.specs.Prelude.{◌⊎◌, ◌||◌, sum_by}
 use Rattle.mt_names.specs.Names.{same_text}
 use Rattle.mt_names.proofs.SameLemmas.{same_text_decides}
+use Rattle.mt_model.specs.Limits.{most_rules, most_tables_in_keyspace}
 use Rattle.mt_plain.specs.Answers.{Answers}
-use Rattle.mt_plain.specs.Events.{Event, begin_switch, begin_reverse, step, undo, cancel, Answer, done, Way}
+use Rattle.mt_plain.specs.Events.{Event, create, begin_switch, begin_reverse, step, undo, cancel, Answer, done, full, no_keyspace, no_tables, same_keyspace, workflow_exists, Way}
 use Rattle.mt_plain.specs.Next.{live_stepped, live_undone, next, types_and, types_without, with_way_to}
-use Rattle.mt_plain.specs.Plain.{Live, Plain, each_once, live_at, stands_done, write_journal}
-use Rattle.mt_plain.specs.Refuse.{cancel_refusal, owed, owed_by, undo_refusal}
+use Rattle.mt_plain.specs.Plain.{Live, Plain, each_once, first_step, has_keyspace, live_at, stands_done, twelve_keys, write_journal}
+use Rattle.mt_plain.specs.Refuse.{cancel_refusal, create_is_full, keys_without_rule, most_workflows, moved_tables_refusal, or_else, owed, owed_by, refusal_of, refuse_if, rule_count, table_count, undo_refusal, watcher_refusal}
 use Rattle.mt_laws.specs.Changes.{ChangesWay, IsOf}
 use Rattle.mt_laws.specs.WayBack.{IsReached}
 use Rattle.mt_laws.proofs.ChangeLemmas.{LivesAfter, ended, live_next, lives_after, made, made_live, mapped}
@@ -18,12 +20,12 @@ use Rattle.mt_laws.proofs.KeepLemmas.{Keeps, next_has}
 use Rattle.mt_laws.proofs.LiveLemmas.{Apart, IsApart, IsIn, find_none, find_some, in_all}
 use Rattle.mt_laws.proofs.ListLemmas.{cond-either}
 use Rattle.mt_laws.proofs.PartLemmas.{HasParts}
-use Rattle.mt_laws.proofs.ReachLemmas.{live_by_name, reached_has_parts}
-use Rattle.mt_laws.proofs.RefusalLemmas.{in_workflow-none}
+use Rattle.mt_laws.proofs.ReachLemmas.{live_by_name, reached_has_parts, reached_holds, taken_or_same}
+use Rattle.mt_laws.proofs.RefusalLemmas.{in_workflow-none, or_else-none, refuse_if-none}
 use Rattle.mt_laws.proofs.StepUndoneLemmas.{at_way_undone, undo_way}
 use Rattle.mt_laws.proofs.UntouchedLemmas.{next_elsewhere, same_traffic, traffic-advanced}
 use Rattle.mt_laws.proofs.WayLemmas.{undo_before_journal}
-use Rattle.mt_laws.proofs.WayStepLemmas.{closes, fewer, more, not_before, way-stepped, way-undone}
+use Rattle.mt_laws.proofs.WayStepLemmas.{closes, fewer, first_step-le, more, not_before, way-stepped, way-undone}
 
 -- ---- sums over live workflows
 
@@ -227,3 +229,96 @@ owed_by_cancel p reached name given =
   where
     joined : (a b n : ℕ) → a + n ≤ b → 1 ≤ n → a + 1 ≤ b
     joined a b n le one = omega arith
+
+-- ---- how much is owed at most
+
+most_owed : (w : Live) → owed_by w ≤ 7
+most_owed w = by w.way
+  where
+    open_most : (way : Way) (t : Bool) → stands_done way write_journal ≡ t → 1 + cond t 0 (max 1 way.done) ≤ 7
+    open_most way true e = omega arith
+    open_most way false e =
+        let first = first_step-le way in
+        let few : 7 ≤ way.done → ⊥ = λ le. true≢false (sym (and_from (leb (first_step way) 6) (ltb 6 (first_step way + way.done)) (le-leb (first_step way) 6 (omega arith)) (lt-ltb 6 (first_step way + way.done) (omega arith))) ∙ e) in
+        by_size way.done few
+      where
+        by_size : (n : ℕ) → (7 ≤ n → ⊥) → 1 + max 1 n ≤ 7
+        by_size n few = omega (arith, few)
+
+    by : (o : Option Way) → 1 + owed_way o ≤ 7
+    by None = omega arith
+    by (Some way) = open_most way (stands_done way write_journal) refl
+
+sum_most : (f : Live → ℕ) → ((w : Live) → f w ≤ 7) → (xs : List Live) → sum_by f xs ≤ 7 * length xs
+sum_most f each [] = omega arith
+sum_most f each (x ∷ xs) = let a = sum_by-cons f x xs in let b = sum_most f each xs in let c = each x in omega (arith, a, b, c)
+
+-- 16 workflows are live at most
+abbrev AreFew : Plain → Type 0
+AreFew p = length p.lives ≤ most_workflows
+
+filter_few : (keep : Live → Bool) (xs : List Live) → length (filter keep xs) ≤ length xs
+filter_few keep [] = omega arith
+filter_few keep (x ∷ xs) = by (keep x) (filter_few keep xs)
+  where
+    by : (t : Bool) → length (filter keep xs) ≤ length xs → length (cond t (x ∷ filter keep xs) (filter keep xs)) ≤ length (x ∷ xs)
+    by true le = omega (arith, le)
+    by false le = omega (arith, le)
+
+-- a Create that is taken finds room for a workflow
+create_finds_room : (p : Plain) (name source target : List ℕ) (tables : List (List ℕ)) → refusal_of p (create name source target tables) ≡ None → suc (length p.lives) ≤ most_workflows
+create_finds_room p name source target tables none =
+    let once = each_once tables in
+    let h7 = refuse_if (create_is_full p source target once) full in
+    let h6 = or_else (watcher_refusal p target) h7 in
+    let h5 = or_else (moved_tables_refusal p source target once) h6 in
+    let h4 = or_else (refuse_if (not (has_keyspace p target)) no_keyspace) h5 in
+    let h3 = or_else (refuse_if (not (has_keyspace p source)) no_keyspace) h4 in
+    let h2 = or_else (refuse_if (same_text source target) same_keyspace) h3 in
+    let h1 = or_else (refuse_if (eqb (length once) 0) no_tables) h2 in
+    let r0 = or_else-none (refuse_if (is_some (live_at p name)) workflow_exists) h1 none in
+    let r1 = or_else-none (refuse_if (eqb (length once) 0) no_tables) h2 r0.1 in
+    let r2 = or_else-none (refuse_if (same_text source target) same_keyspace) h3 r1.1 in
+    let r3 = or_else-none (refuse_if (not (has_keyspace p source)) no_keyspace) h4 r2.1 in
+    let r4 = or_else-none (refuse_if (not (has_keyspace p target)) no_keyspace) h5 r3.1 in
+    let r5 = or_else-none (moved_tables_refusal p source target once) h6 r4.1 in
+    let r6 = or_else-none (watcher_refusal p target) h7 r5.1 in
+    let room = refuse_if-none (create_is_full p source target once) full r6.1 in
+    below (length p.lives)
+    (first_of_three (leb most_workflows (length p.lives)) (ltb most_tables_in_keyspace (table_count p target + length once))
+    (ltb most_rules (fold (λ n table. n + keys_without_rule p.topology.rules (twelve_keys source target table)) (rule_count p) once)) room)
+  where
+    first_of_three : (a b c : Bool) → (a || b || c) ≡ false → a ≡ false
+    first_of_three true b c e = absurd (true≢false e)
+    first_of_three false b c e = refl
+
+    below : (n : ℕ) → leb 16 n ≡ false → suc n ≤ 16
+    below n e = let h = leb-false 16 n e in omega (arith, h)
+
+few_next : (p : Plain) (event : Event) (answer : Answer) → Answers p event answer → AreFew p → AreFew (next p event answer)
+few_next p event answer given few = by_taken (taken_or_same p event answer given)
+  where
+    by : refusal_of p event ≡ None → LivesAfter p (next p event answer) event answer → AreFew (next p event answer)
+    by none (mapped lives) = subst (λ xs. length xs ≤ most_workflows) (sym lives) (let e = length-map p.lives (live_next p event answer) in omega (arith, e, few))
+    by none (made name source target tables e lives same) =
+        subst (λ xs. length xs ≤ most_workflows) (sym lives)
+        (let l = length-append p.lives (made_live p name source target (each_once tables) ∷ []) in
+        let room = create_finds_room p name source target tables (subst (λ x. refusal_of p x ≡ None) e none) in
+        omega (arith, l, room))
+    by none (ended name e lives same) =
+        subst (λ xs. length xs ≤ most_workflows) (sym lives) (let le = filter_few (λ w. not (same_text w.name name)) p.lives in omega (arith, le, few))
+
+    by_taken : (refusal_of p event ≡ None) ⊎ (next p event answer ≡ p) → AreFew (next p event answer)
+    by_taken (inl none) = by none (lives_after p event answer)
+    by_taken (inr same) = subst AreFew (sym same) few
+
+pub owed_bounded : (p : Plain) → IsReached p → owed p ≤ 7 * most_workflows
+owed_bounded p reached =
+    bound (length p.lives) (sum_by owed_by p.lives)
+    (reached_holds AreFew few_next (λ scopes. none_live) p reached) (sum_most owed_by most_owed p.lives)
+  where
+    none_live : 0 ≤ 16
+    none_live = omega arith
+
+    bound : (n s : ℕ) → n ≤ 16 → s ≤ 7 * n → s ≤ 112
+    bound n s few le = omega (arith, few, le)
