@@ -1,5 +1,5 @@
 -- From the lines of a run to its pieces.
-use Rattle.std.proofs.Common.{◌≡◌, ◌⊎◌, inl, inr, ℕ, suc, ◌+◌, ◌-◌, ◌<◌, ◌≤◌, true, false, List, [], ◌∷◌, take, drop, None, Some, is_some, option_map, refl, sym, ap, ◌∙◌, subst, arith}
+use Rattle.std.proofs.Common.{◌≡◌, ◌⊎◌, inl, inr, ℕ, suc, ◌+◌, ◌-◌, ◌<◌, ◌≤◌, true, false, List, [], ◌∷◌, ◌++◌, take, drop, None, Some, is_some, option_map, refl, sym, ap, ◌∙◌, subst, arith}
 use Rattle.std.specs.Prelude.{slice_get, zero}
 use Rattle.mt_names.specs.declared.types.TabletType.TheVariants.{Primary}
 use Rattle.mt_model.specs.declared.entries.Scope.{Scope}
@@ -9,18 +9,21 @@ use Rattle.mt_plain.specs.Events.{Event, write, read, create, begin_switch, begi
 use Rattle.mt_plain.specs.Next.{next}
 use Rattle.mt_plain.specs.Plain.{Live, Plain, changed_types, live_at, moves, next_step, opening, owner, write_journal}
 use Rattle.mt_plain.specs.Serve.{served_entry}
-use Rattle.mt_plain.specs.Writes.{client_row, other_row}
+use Rattle.mt_plain.specs.Writes.{client_number, client_row, other_row}
 use Rattle.mt_laws.specs.Copies.{tests_level}
 use Rattle.mt_laws.specs.Headline.{Headline, IsLine, IsWay, LivesBetween, NoWayEndsBetween, state_at, types_changed}
 use Rattle.mt_laws.specs.WayBack.{EndsNoWay, IsReached, NoWayBetween, SinceCreate, StaysLive, StaysOpen, WayFrom, ends_way, ends_workflow}
+use Rattle.mt_laws.proofs.AllWritesLemmas.{reached_next}
 use Rattle.mt_laws.proofs.CopyLemmas.{is_answer, nothing_lost}
 use Rattle.mt_laws.proofs.GoesOnLemmas.{completed-row}
 use Rattle.mt_laws.proofs.LevelLemmas.{fed_up_to_position, rows_at_the_journal}
-use Rattle.mt_laws.proofs.ReadLemmas.{primary_reads-run, writes_at_the_owner}
-use Rattle.mt_laws.proofs.StreamLemmas.{runs_at_the_owner}
+use Rattle.mt_laws.proofs.ReachLemmas.{run_keeps}
+use Rattle.mt_laws.proofs.ReadLemmas.{primary_reads, writes_at_the_owner}
 use Rattle.mt_laws.proofs.ReverseLemmas.{both_ways}
+use Rattle.mt_laws.proofs.RunLemmas.{row-run}
+use Rattle.mt_laws.proofs.StreamLemmas.{runs_at_the_owner}
 use Rattle.mt_laws.proofs.TrafficLemmas.{abandon_back}
-use Rattle.mt_laws.proofs.WayBackLemmas.{cancel_back}
+use Rattle.mt_laws.proofs.WayBackLemmas.{cancel_back, cancel_touches_no_other}
 use Rattle.mt_laws.proofs.WritableLemmas.{never_writable_in_two}
 
 -- ---- a line
@@ -168,15 +171,15 @@ module _ (p : Plain) (events : List Event) (answers : List Answer) (run : Run p 
 
 -- ---- the headline
 
-module _ (scopes : List Scope) (events : List Event) (answers : List Answer) (run : Run (opening scopes) events answers) where
+module _ (p : Plain) (events : List Event) (answers : List Answer) (reached : IsReached p) (run : Run p events answers) where
   abbrev at_line : ℕ → Plain
-  at_line i = state_at (opening scopes) events answers i
+  at_line i = state_at p events answers i
 
   reached_at : (i : ℕ) → IsReached (at_line i)
-  reached_at i = record { scopes = scopes; events = take i events; answers = take i answers; run = run_take i events answers (opening scopes) run; is = refl }
+  reached_at i = run_keeps IsReached (λ q event answer given is. reached_next q event answer is given) (take i events) (take i answers) p (run_take i events answers p run) reached
 
   here : (i : ℕ) (event : Event) (answer : Answer) → IsLine events answers i event answer → Answers (at_line i) event answer × (at_line (suc i) ≡ next (at_line i) event answer)
-  here i event answer is = line_at i events answers (opening scopes) run event answer is
+  here i event answer is = line_at i events answers p run event answer is
 
   since_create : (name source target : List ℕ) (tables : List (List ℕ)) (i j : ℕ) → i < j → IsLine events answers i (create name source target tables) done → LivesBetween name events answers i j
       → SinceCreate name source target tables (at_line i) (at_line j)
@@ -185,46 +188,46 @@ module _ (scopes : List Scope) (events : List Event) (answers : List Answer) (ru
       let le : suc i ≤ j = omega arith in
       record {
         created = first.0;
-        events = piece (opening scopes) events answers run (suc i) j le;
-        answers = piece_answers (opening scopes) events answers run (suc i) j le;
-        run = subst (λ s. Run s (piece (opening scopes) events answers run (suc i) j le) (piece_answers (opening scopes) events answers run (suc i) j le)) first.1 (piece_run (opening scopes) events answers run (suc i) j le);
-        live = piece_lives (opening scopes) events answers run (suc i) j le name (λ k event answer after_it before_it is. lives k event answer (omega arith) before_it is);
-        is = ap (λ s. after s (piece (opening scopes) events answers run (suc i) j le) (piece_answers (opening scopes) events answers run (suc i) j le)) (sym first.1) ∙ piece_ends (opening scopes) events answers run (suc i) j le;
+        events = piece p events answers run (suc i) j le;
+        answers = piece_answers p events answers run (suc i) j le;
+        run = subst (λ s. Run s (piece p events answers run (suc i) j le) (piece_answers p events answers run (suc i) j le)) first.1 (piece_run p events answers run (suc i) j le);
+        live = piece_lives p events answers run (suc i) j le name (λ k event answer after_it before_it is. lives k event answer (omega arith) before_it is);
+        is = ap (λ s. after s (piece p events answers run (suc i) j le) (piece_answers p events answers run (suc i) j le)) (sym first.1) ∙ piece_ends p events answers run (suc i) j le;
       }
 
-  way_from : (name : List ℕ) (begin last : Event) (i j : ℕ) → IsWay name begin last (opening scopes) events answers i j → WayFrom name begin last (at_line i) (at_line (suc j))
+  way_from : (name : List ℕ) (begin last : Event) (i j : ℕ) → IsWay name begin last p events answers i j → WayFrom name begin last (at_line i) (at_line (suc j))
   way_from name begin last i j way =
       let first = here i begin done way.begins in
       let end = here j last done way.ends in
       let lt = way.order in
       let le : suc i ≤ j = omega arith in
-      let es = piece (opening scopes) events answers run (suc i) j le in
-      let rs = piece_answers (opening scopes) events answers run (suc i) j le in
-      let to_last : after (next (at_line i) begin done) es rs ≡ at_line j = ap (λ s. after s es rs) (sym first.1) ∙ piece_ends (opening scopes) events answers run (suc i) j le in
+      let es = piece p events answers run (suc i) j le in
+      let rs = piece_answers p events answers run (suc i) j le in
+      let to_last : after (next (at_line i) begin done) es rs ≡ at_line j = ap (λ s. after s es rs) (sym first.1) ∙ piece_ends p events answers run (suc i) j le in
       record {
         begun = first.0;
         events = es;
         answers = rs;
-        run = subst (λ s. Run s es rs) first.1 (piece_run (opening scopes) events answers run (suc i) j le);
-        stays_open = subst (λ s. StaysOpen name s es rs) first.1 (piece_opens (opening scopes) events answers run (suc i) j le name (λ k after_it before_it. way.stays_open k (omega arith) before_it));
+        run = subst (λ s. Run s es rs) first.1 (piece_run p events answers run (suc i) j le);
+        stays_open = subst (λ s. StaysOpen name s es rs) first.1 (piece_opens p events answers run (suc i) j le name (λ k after_it before_it. way.stays_open k (omega arith) before_it));
         taken = subst (λ s. Answers s last done) (sym to_last) end.0;
         is = ap (λ s. next s last done) to_last ∙ sym end.1;
         closed = way.closed;
       }
 
-  no_way_between : (name : List ℕ) (j k : ℕ) → j < k → LivesBetween name events answers j k → NoWayEndsBetween name (opening scopes) events answers j k → NoWayBetween name (at_line (suc j)) (at_line k)
+  no_way_between : (name : List ℕ) (j k : ℕ) → j < k → LivesBetween name events answers j k → NoWayEndsBetween name p events answers j k → NoWayBetween name (at_line (suc j)) (at_line k)
   no_way_between name j k order lives none =
       let le : suc j ≤ k = omega arith in
       record {
-        events = piece (opening scopes) events answers run (suc j) k le;
-        answers = piece_answers (opening scopes) events answers run (suc j) k le;
-        run = piece_run (opening scopes) events answers run (suc j) k le;
-        live = piece_lives (opening scopes) events answers run (suc j) k le name (λ m event answer after_it before_it is. lives m event answer (omega arith) before_it is);
-        none = piece_ends_no_way (opening scopes) events answers run (suc j) k le name (λ m event answer after_it before_it is. none m event answer (omega arith) before_it is);
-        is = piece_ends (opening scopes) events answers run (suc j) k le;
+        events = piece p events answers run (suc j) k le;
+        answers = piece_answers p events answers run (suc j) k le;
+        run = piece_run p events answers run (suc j) k le;
+        live = piece_lives p events answers run (suc j) k le name (λ m event answer after_it before_it is. lives m event answer (omega arith) before_it is);
+        none = piece_ends_no_way p events answers run (suc j) k le name (λ m event answer after_it before_it is. none m event answer (omega arith) before_it is);
+        is = piece_ends p events answers run (suc j) k le;
       }
 
-  begun_types : (name : List ℕ) (begin : Event) (i : ℕ) → IsLine events answers i begin done → types_changed name (opening scopes) events answers i ≡ option_map changed_types (way_of (next (at_line i) begin done) name)
+  begun_types : (name : List ℕ) (begin : Event) (i : ℕ) → IsLine events answers i begin done → types_changed name p events answers i ≡ option_map changed_types (way_of (next (at_line i) begin done) name)
   begun_types name begin i begins = ap (λ s. option_map changed_types (way_of s name)) (here i begin done begins).1
 
   kept_rows : (i : ℕ) (name : List ℕ) (at : ℕ) (w : Live) (way : Way) → IsLine events answers i (step name at) done → live_at (at_line i) name ≡ Some w → w.way ≡ Some way
@@ -232,12 +235,15 @@ module _ (scopes : List Scope) (events : List Event) (answers : List Answer) (ru
   kept_rows i name at w way is live opens (inl tests) = nothing_lost (at_line i) (reached_at i) name w way live opens at tests (here i (step name at) done is).0
   kept_rows i name at w way is live opens (inr journal) = rows_at_the_journal (at_line i) (reached_at i) name w live way opens journal
 
-  pub headline : Headline (opening scopes) events answers
+  pub headline : Headline p events answers
   headline = record {
     cancel_gives_back = λ name source target tables i j order creates cancels lives key part.
         let end = here j (cancel name) done cancels in
         ap (λ s. served_entry s key) end.1
         ∙ cancel_back name source target tables (at_line i) (at_line j) (reached_at i) (since_create name source target tables i j order creates lives) end.0 key part;
+    cancel_leaves_others = λ name i cancels key other.
+        let end = here i (cancel name) done cancels in
+        ap (λ s. served_entry s key) end.1 ∙ cancel_touches_no_other (at_line i) (reached_at i) name end.0 key other;
     reverse_gives_back = λ name types back_types at at_back i j k l order there back_again lives none same.
         both_ways name (begin_switch name types) (begin_reverse name back_types) at at_back (at_line i) (at_line (suc j)) (at_line k) (at_line (suc l)) (reached_at i) refl refl
         (way_from name (begin_switch name types) (step name at) i j there) (no_way_between name j k order lives none)
@@ -257,5 +263,23 @@ module _ (scopes : List Scope) (events : List Event) (answers : List Answer) (ru
     completion_keeps_the_rows = λ i name w is live table moved key.
         ap (λ s. client_row s w.target table key) (here i (complete name) done is).1 ∙ completed-row (at_line i) (reached_at i) name w live table moved key;
     reads_answer_the_writes = λ i keyspace table key r is.
-        primary_reads-run scopes (take i events) (take i answers) (run_take i events answers (opening scopes) run) keyspace table key r (here i (read keyspace table key Primary) (row r) is).0;
+        primary_reads (at_line i) (reached_at i) keyspace table key r (here i (read keyspace table key Primary) (row r) is).0
+        ∙ row-run (take i events) (take i answers) p (client_number (at_line i) keyspace table) key (run_take i events answers p run);
   }
+
+-- a run behind another
+run_joined : (earlier : List Event) (earlier_answers : List Answer) (p : Plain) (events : List Event) (answers : List Answer) → Run p earlier earlier_answers → Run (after p earlier earlier_answers) events answers → Run p (earlier ++ events) (earlier_answers ++ answers)
+run_joined [] [] p events answers first rest = rest
+run_joined [] (a ∷ as') p events answers first rest = absurd first
+run_joined (e ∷ es) [] p events answers first rest = absurd first
+run_joined (e ∷ es) (a ∷ as') p events answers first rest = (first.0, run_joined es as' (next p e a) events answers first.1 rest)
+
+pub headline_joined : (p : Plain) (earlier events : List Event) (earlier_answers answers : List Answer) → IsReached p → Run p earlier earlier_answers → Run (after p earlier earlier_answers) events answers
+    → Headline p (earlier ++ events) (earlier_answers ++ answers)
+headline_joined p earlier events earlier_answers answers reached first rest =
+    headline p (earlier ++ events) (earlier_answers ++ answers) reached (run_joined earlier earlier_answers p events answers first rest)
+
+-- a run from an opening
+pub headline_of_opening : (scopes : List Scope) (events : List Event) (answers : List Answer) → Run (opening scopes) events answers → Headline (opening scopes) events answers
+headline_of_opening scopes events answers run =
+    headline (opening scopes) events answers (record { scopes = scopes; events = []; answers = []; run = tt; is = refl }) run

@@ -26,12 +26,14 @@ pub mod ListLemmas
 pub mod LiveLemmas
 pub mod LogLemmas
 pub mod NamedLemmas
+pub mod NoJournalLemmas
 pub mod NumberLemmas
 pub mod NumberedLemmas
 pub mod OpenLemmas
 pub mod OpenWayLemmas
 pub mod OrderLemmas
 pub mod OutputLemmas
+pub mod OwedLemmas
 pub mod OwnerLemmas
 pub mod OwnerStreamLemmas
 pub mod PartLemmas
@@ -55,6 +57,8 @@ pub mod ServedPlacesLemmas
 pub mod SetLemmas
 pub mod SortLemmas
 pub mod StepCountLemmas
+pub mod StepUndoneLemmas
+pub mod StepWitnessLemmas
 pub mod StreamEffectLemmas
 pub mod StreamLemmas
 pub mod TableLemmas

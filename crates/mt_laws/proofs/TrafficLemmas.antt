@@ -84,13 +84,13 @@ ended_gone p (complete gone) done name ends =
     (λ x i e. ap not ((same_text_decides x.name gone).1 ((same_text_decides x.name name).0 e ∙ sym ((same_text_decides gone name).0 ends))))
 ended_gone p event answer name ends = absurd (true≢false (sym ends))
 
-open_now : (name : List ℕ) (p : Plain) (events : List Event) (answers : List Answer) → StaysOpen name p events answers → is_some (way_of p name) ≡ true
+pub open_now : (name : List ℕ) (p : Plain) (events : List Event) (answers : List Answer) → StaysOpen name p events answers → is_some (way_of p name) ≡ true
 open_now name p [] answers stays = stays
 open_now name p (event ∷ events) [] stays = stays
 open_now name p (event ∷ events) (answer ∷ answers) stays = stays.0
 
 -- an event after which a way is open did not end the workflow
-not_ended_open : (p : Plain) (event : Event) (answer : Answer) (name : List ℕ) → is_some (way_of (next p event answer) name) ≡ true → ends_workflow name event answer ≡ false
+pub not_ended_open : (p : Plain) (event : Event) (answer : Answer) (name : List ℕ) → is_some (way_of (next p event answer) name) ≡ true → ends_workflow name event answer ≡ false
 not_ended_open p event answer name opens = by (ends_workflow name event answer) refl
   where
     by : (t : Bool) → ends_workflow name event answer ≡ t → ends_workflow name event answer ≡ false
@@ -141,7 +141,7 @@ open_run (event ∷ events) (answer ∷ answers) p name w way has live opens run
 -- ---- a whole way
 
 -- a begin is taken of a workflow at rest
-begin_rests : (p : Plain) (name : List ℕ) (begin : Event) → IsBegin name begin → refusal_of p begin ≡ None → (w : Live) × (live_at p name ≡ Some w) × (w.way ≡ None)
+pub begin_rests : (p : Plain) (name : List ℕ) (begin : Event) → IsBegin name begin → refusal_of p begin ≡ None → (w : Live) × (live_at p name ≡ Some w) × (w.way ≡ None)
 begin_rests p name (begin_switch workflow types) is none =
     let r = in_workflow-none (live_at p workflow) (begin_switch_refusal p types) none in (
       r.0,
@@ -156,7 +156,7 @@ begin_rests p name (begin_reverse workflow types) is none =
     )
 begin_rests p name event is none = absurd is
 
-begin_ends_nothing : (name : List ℕ) (begin : Event) → IsBegin name begin → ends_workflow name begin done ≡ false
+pub begin_ends_nothing : (name : List ℕ) (begin : Event) → IsBegin name begin → ends_workflow name begin done ≡ false
 begin_ends_nothing name (begin_switch workflow types) is = refl
 begin_ends_nothing name (begin_reverse workflow types) is = refl
 begin_ends_nothing name event is = absurd is
@@ -245,10 +245,27 @@ undone_switched name at w v way (completed first steps was now is) settled opens
 undone_switched name at w v way (abandoned first undoes was now is journal) settled opens rests =
     is ∙ settled first was journal ∙ ap (λ x. x.before) (one_way w.way first way was opens)
 
-pub abandon_back : (name : List ℕ) (begin : Event) (at : ℕ) (p q : Plain) → IsReached p → IsBegin name begin → WayFrom name begin (undo name at) p q → (key : EntryKey) → in_part p name key ≡ true → served_entry q key ≡ served_entry p key
-abandon_back name begin at p q reached is way_from key part =
-    let has = reached_has_parts p reached in
-    let c = closed name begin (undo name at) p q has is refl way_from in
-    let mine : has_part c.first key ≡ true = sym (in_part-of p name c.first key c.live_first) ∙ part in
-    rest-same p q name c.first c.final key has c.parts c.live_first c.live_final c.rests c.rests_again c.sides
-    (undone_switched name at c.open_to c.final c.opened c.change c.settled c.opens c.rests_again ∙ c.before_open ∙ c.before) (c.values key mine) mine
+module _ (name : List ℕ) (begin : Event) (at : ℕ) (p q : Plain) (reached : IsReached p) (is : IsBegin name begin) (way_from : WayFrom name begin (undo name at) p q) where
+  abbrev back_again : Closed name begin (undo name at) p q
+  back_again = closed name begin (undo name at) p q (reached_has_parts p reached) is refl way_from
+
+  same_switched : back_again.final.switched ≡ back_again.first.switched
+  same_switched =
+      let c = back_again in
+      undone_switched name at c.open_to c.final c.opened c.change c.settled c.opens c.rests_again ∙ c.before_open ∙ c.before
+
+  pub abandon_switched : (w v : Live) → live_at p name ≡ Some w → live_at q name ≡ Some v → v.switched ≡ w.switched
+  abandon_switched w v before now =
+      let c = back_again in
+      let first : Some w ≡ Some c.first = sym before ∙ c.live_first in
+      let last : Some v ≡ Some c.final = sym now ∙ c.live_final in
+      let one : w ≡ c.first = cc in
+      let two : v ≡ c.final = cc in
+      ap (λ x. x.switched) two ∙ same_switched ∙ sym (ap (λ x. x.switched) one)
+
+  pub abandon_back : (key : EntryKey) → in_part p name key ≡ true → served_entry q key ≡ served_entry p key
+  abandon_back key part =
+      let c = back_again in
+      let mine : has_part c.first key ≡ true = sym (in_part-of p name c.first key c.live_first) ∙ part in
+      rest-same p q name c.first c.final key (reached_has_parts p reached) c.parts c.live_first c.live_final c.rests c.rests_again c.sides
+      same_switched (c.values key mine) mine

@@ -12,6 +12,7 @@ use Rattle.mt_plain.specs.Answers.{Answers, Run, after}
 use Rattle.mt_plain.specs.Events.{Event, create, cancel, complete, Answer, done, row, advanced, shown, refused}
 use Rattle.mt_plain.specs.Next.{next}
 use Rattle.mt_plain.specs.Plain.{Live, Plain, each_once, has_part, live_at, moves, part_owner}
+use Rattle.mt_plain.specs.Refuse.{cancel_refusal}
 use Rattle.mt_plain.specs.Serve.{served_by, served_entry}
 use Rattle.mt_laws.specs.Changes.{HasSides}
 use Rattle.mt_laws.specs.WayBack.{IsReached, SinceCreate, StaysLive, ends_workflow, in_part}
@@ -19,6 +20,7 @@ use Rattle.mt_laws.proofs.ChangeLemmas.{LivesAfter, ended, live_after, live_next
 use Rattle.mt_laws.proofs.LiveLemmas.{IsIn, find-filter_gone, find-filter_kept, find-map, find-push_none, find-push_some, find_nowhere, find_some, find_none, find_the_one, sides_joined, sides_same, unique}
 use Rattle.mt_laws.proofs.PartLemmas.{HasParts, kept_from_part, moved_from_part, value-kept}
 use Rattle.mt_laws.proofs.ReachLemmas.{IsNew, create-none, live_by_name, moved_new, next_has_parts, reached_has_parts, run_has_parts}
+use Rattle.mt_laws.proofs.RefusalLemmas.{in_workflow-none}
 use Rattle.mt_laws.proofs.WayLemmas.{WayChange, way_change}
 
 -- ---- a part, by sides and tables
@@ -171,6 +173,12 @@ module _ (p : Plain) (name : List ℕ) (w : Live) (key : EntryKey) (has : HasPar
 
   pub not_cancelled : has_part w key ≡ false → served_entry (next p (cancel name) done) key ≡ served_entry p key
   not_cancelled part = ap (λ o. option_map_or (λ v. served_by p.topology v key) o (value_of p.topology key)) (other_owner part)
+
+-- a Cancel that is taken is of a live workflow, and changes no entry outside of its part
+pub cancel_touches_no_other : (p : Plain) → IsReached p → (name : List ℕ) → Answers p (cancel name) done → (key : EntryKey) → in_part p name key ≡ false → served_entry (next p (cancel name) done) key ≡ served_entry p key
+cancel_touches_no_other p reached name taken key other =
+    let r = in_workflow-none (live_at p name) cancel_refusal taken.0 in
+    not_cancelled p name r.0 key (reached_has_parts p reached) r.1 (sym (in_part-of p name r.0 key r.1) ∙ other)
 
 -- before Create no live workflow has an entry of the part
 unowned : (p : Plain) (name source target : List ℕ) (tables : List (List ℕ)) (key : EntryKey) → IsNew p name source target tables → has_part (made_live p name source target tables) key ≡ true → part_owner p key ≡ None

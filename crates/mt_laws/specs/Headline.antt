@@ -1,5 +1,6 @@
--- What is promised of a run from an opening. Its lines are counted from 0: each asks for an event, and has the answer to it.
-use Rattle.std.specs.Prelude.{◌≡◌, ◌≢◌, ◌⊎◌, ℕ, suc, ◌+◌, ◌<◌, ◌≤◌, true, false, List, count_by, length, take, slice_get, Option, None, Some, is_some, option_map}
+-- What is promised of a run from each state that is reached, an opening among them. Its lines are counted from 0: each asks for an event, and
+-- has the answer to it.
+use Rattle.std.specs.Prelude.{◌≡◌, ◌≢◌, ◌⊎◌, ℕ, suc, ◌+◌, ◌<◌, ◌≤◌, true, false, List, count_by, fold, length, take, slice_get, Option, None, Some, is_some, option_map}
 use Rattle.mt_names.specs.declared.types.TabletType.{TabletType}
 use Rattle.mt_names.specs.declared.types.TabletType.TheVariants.{Primary}
 use Rattle.mt_names.specs.declared.types.TypeSet.{TypeSet}
@@ -12,8 +13,8 @@ use Rattle.mt_plain.specs.Events.{Event, write, read, create, begin_switch, begi
 use Rattle.mt_plain.specs.Plain.{Live, Plain, changed_types, is_side, live_at, mover, moves, next_step, owner, write_journal}
 use Rattle.mt_plain.specs.Serve.{IsWritable, served_entry}
 use Rattle.mt_plain.specs.Slots.{past, read_side, running_at, slot_of}
-use Rattle.mt_plain.specs.Writes.{client_number, client_row, other_row, writes_to}
-use Rattle.mt_laws.specs.Acknowledged.{acknowledged, row_by}
+use Rattle.mt_plain.specs.Writes.{client_number, client_row, other_row, row_after_writes, writes_to}
+use Rattle.mt_laws.specs.Acknowledged.{acknowledged, row_with_op}
 use Rattle.mt_laws.specs.Copies.{tests_level}
 use Rattle.mt_laws.specs.WayBack.{IsBegin, ends_way, ends_workflow, in_part}
 
@@ -55,6 +56,10 @@ pub record Headline (p : Plain) (events : List Event) (answers : List Answer) : 
       → IsLine events answers i (create name source target tables) done → IsLine events answers j (cancel name) done
       → LivesBetween name events answers i j → (key : EntryKey) → in_part (state_at p events answers j) name key ≡ true
       → served_entry (state_at p events answers (suc j)) key ≡ served_entry (state_at p events answers i) key
+  -- and leaves every other entry as it was just before
+  pub cancel_leaves_others : (name : List ℕ) (i : ℕ) → IsLine events answers i (cancel name) done → (key : EntryKey)
+      → in_part (state_at p events answers i) name key ≡ false
+      → served_entry (state_at p events answers (suc i)) key ≡ served_entry (state_at p events answers i) key
   -- ReverseTraffic gives back that from before SwitchTraffic
   pub reverse_gives_back : (name : List ℕ) (types back_types : TypeSet) (at at_back i j k l : ℕ) → j < k
       → IsWay name (begin_switch name types) (step name at) p events answers i j
@@ -91,7 +96,8 @@ pub record Headline (p : Plain) (events : List Event) (answers : List Answer) : 
   pub completion_keeps_the_rows : (i : ℕ) (name : List ℕ) (w : Live) → IsLine events answers i (complete name) done
       → live_at (state_at p events answers i) name ≡ Some w → (table : List ℕ) → moves w table ≡ true → (key : ℕ)
       → client_row (state_at p events answers (suc i)) w.target table key ≡ client_row (state_at p events answers i) w.target table key
-  -- each primary read answers from the acknowledged writes, each once
+  -- each primary read answers what the writes acknowledged in the run, each once, make of the row that those before it had left
   pub reads_answer_the_writes : (i : ℕ) (keyspace table : List ℕ) (key : ℕ) (r : Row)
       → IsLine events answers i (read keyspace table key Primary) (row r)
-      → r ≡ row_by (acknowledged p (client_number (state_at p events answers i) keyspace table) key (take i events) (take i answers))
+      → r ≡ fold row_with_op (row_after_writes p.writes (client_number (state_at p events answers i) keyspace table) key)
+      (acknowledged p (client_number (state_at p events answers i) keyspace table) key (take i events) (take i answers))

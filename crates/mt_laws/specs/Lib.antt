@@ -9,5 +9,6 @@ pub mod Parts
 pub mod Pending
 pub mod Places
 pub mod Reached
+pub mod Steps
 pub mod Texts
 pub mod WayBack

@@ -1,5 +1,5 @@
 //! The headline: what holds of every run.
-ghost use Rattle.std.specs.Prelude.{◌≡◌, ℕ, true, List, Some, option_map};
+ghost use Rattle.std.specs.Prelude.{◌≡◌, ℕ, true, List, ◌++◌, Some, option_map};
 ghost use Rattle.mt_laws.specs.Acknowledged.{acknowledged, row_by};
 ghost use Rattle.mt_laws.specs.Headline.{Headline};
 ghost use Rattle.mt_laws.specs.WayBack.{IsBegin, IsReached, NoWayBetween, SinceCreate, WayFrom, in_part};
@@ -42,11 +42,19 @@ pub fn the_way_back_and_the_rows_stand_in_every_run()
 {}
 
 /// The same of the lines of a run, as a call that runs events can state it of its own run: line by line, each of the five
-/// as `Headline` says it. With them stand the rows of a move: each write to a moved table is acknowledged at the owner; the
-/// other side answers what the writes that were fed leave; those that were not fed yet are just those past the position of
-/// the stream that runs; where reads are switched to the other side, and where the journal hands the tables over, that side has
-/// every row of the owner; and Complete leaves the target its rows.
+/// as `Headline` says it, and that a Cancel leaves every other entry as it was just before. With them stand the rows of a
+/// move: each write to a moved table is acknowledged at the owner; the other side answers what the writes that were fed
+/// leave; as many were not fed yet as stand past the position of the stream that runs; where reads are switched to
+/// the other side, and where the journal hands the tables over, that side has every row of the owner; and Complete leaves
+/// the target its rows. The run may begin in any state that is reached, whatever workflows are live and whatever was
+/// written before; one from an opening is such a run, and so is one with the lines of an earlier run before it, where a
+/// workflow may have been made, or a switch begun.
 pub fn every_run_keeps_the_headline()
-    ensures { (scopes : List Scope) (events : List Event) (answers : List Answer) → Run (opening scopes) events answers
-        → Headline (opening scopes) events answers }
+    ensures from_each_state { (p : Plain) (events : List Event) (answers : List Answer) → IsReached p → Run p events answers
+        → Headline p events answers }
+    ensures with_earlier_lines { (p : Plain) (earlier events : List Event) (earlier_answers answers : List Answer)
+        → IsReached p → Run p earlier earlier_answers → Run (after p earlier earlier_answers) events answers
+        → Headline p (earlier ++ events) (earlier_answers ++ answers) }
+    ensures from_the_opening { (scopes : List Scope) (events : List Event) (answers : List Answer)
+        → Run (opening scopes) events answers → Headline (opening scopes) events answers }
 {}

@@ -7,6 +7,7 @@ mod documents;
 mod effects;
 mod events;
 mod headline;
+mod owed;
 mod parts;
 mod pending;
 mod places;
@@ -15,6 +16,7 @@ mod rows;
 mod runs;
 mod scripts;
 mod serving;
+mod steps;
 mod streams;
 mod tables;
 mod way_back;
@@ -41,6 +43,7 @@ pub use events::{
     refused_events_change_nothing,
 };
 pub use headline::{every_run_keeps_the_headline, the_way_back_and_the_rows_stand_in_every_run};
+pub use owed::each_event_owes_one_at_most;
 pub use parts::{a_moved_table_is_never_writable_in_two, parts_are_apart};
 pub use pending::{
     a_stream_reads_the_owner, what_is_pending_was_not_fed,
@@ -65,6 +68,10 @@ pub use scripts::{
     output_is_what_is_written_where_memory_is_ample,
 };
 pub use serving::lists_of_entries_say_what_is_served;
+pub use steps::{
+    a_step_can_be_taken_back, an_abandoned_way_writes_no_journal, an_undo_takes_a_step_back,
+    the_journal_has_an_entry_for_each_such_step,
+};
 pub use streams::{
     a_stream_that_runs_reads_the_owner, at_rest_the_stream_that_reads_the_owner_runs,
     positions_never_fall,
