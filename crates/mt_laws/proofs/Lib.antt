@@ -1,3 +1,4 @@
+pub mod AdvanceLemmas
 pub mod AllWritesLemmas
 pub mod AnswerLemmas
 pub mod ChangeLemmas
@@ -16,6 +17,7 @@ pub mod FeedLemmas
 pub mod GoesOnLemmas
 pub mod HasNumberLemmas
 pub mod HeadlineLemmas
+pub mod IdleLemmas
 pub mod InPlaceLemmas
 pub mod KeepLemmas
 pub mod LevelLemmas
