@@ -207,11 +207,11 @@ abbrev pub adds : Live → Event → Answer → ℕ
 adds w (write k t op) done = cond (moves w t && is_side w k) 1 0
 adds w event answer = 0
 
-any_same : {X : Type 0} (f g : X → Bool) (xs : List X) → ((x : X) → IsIn x xs → f x ≡ g x) → list_any f xs ≡ list_any g xs
+pub any_same : {X : Type 0} (f g : X → Bool) (xs : List X) → ((x : X) → IsIn x xs → f x ≡ g x) → list_any f xs ≡ list_any g xs
 any_same f g [] each = refl
 any_same f g (x ∷ xs) each = ap (λ b. b || list_any f xs) (each x (inl refl)) ∙ ap (λ b. g x || b) (any_same f g xs (λ y is. each y (inr is)))
 
-filter_same : {X : Type 0} (f g : X → Bool) (xs : List X) → ((x : X) → f x ≡ g x) → filter f xs ≡ filter g xs
+pub filter_same : {X : Type 0} (f g : X → Bool) (xs : List X) → ((x : X) → f x ≡ g x) → filter f xs ≡ filter g xs
 filter_same f g [] each = refl
 filter_same f g (x ∷ xs) each = ap (λ b. cond b (x ∷ filter f xs) (filter f xs)) (each x) ∙ ap (λ l. cond (g x) (x ∷ l) l) (filter_same f g xs each)
 

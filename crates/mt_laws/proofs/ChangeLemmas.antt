@@ -107,7 +107,7 @@ map-nowhere : (change : Live → Live) (name : List ℕ) (xs : List Live) → ((
 map-nowhere change name [] each = refl
 map-nowhere change name (x ∷ xs) each = rw (each x (inl refl)) (ap (λ l. x ∷ l) (map-nowhere change name xs (λ w is. each w (inr is))))
 
-lives-advance : (p : Plain) (workflow : List ℕ) (name : StreamName) (at at_most events rows : ℕ) (o : Option Live) → live_at p workflow ≡ o
+pub lives-advance : (p : Plain) (workflow : List ℕ) (name : StreamName) (at at_most events rows : ℕ) (o : Option Live) → live_at p workflow ≡ o
     → (with_advance p name at at_most events rows o).lives ≡ map (changed (λ v. live_advanced p v name at at_most events rows) workflow) p.lives
 lives-advance p workflow name at at_most events rows None none =
     map-nowhere (λ v. live_advanced p v name at at_most events rows) workflow p.lives (find_none (λ w. same_text w.name workflow) p.lives none)

@@ -1,9 +1,9 @@
 -- The course of an open way, and the owners before and after it.
-use Rattle.std.proofs.Common.{◌≡◌, ℕ, ◌<◌, Bool, true, false, not, cond, List, Some, refl, sym, ap, ◌∙◌, arith, ltb-true}
+use Rattle.std.proofs.Common.{◌≡◌, ℕ, ◌<◌, Bool, true, false, not, cond, leb, ltb, List, Some, refl, sym, ap, ◌∙◌, arith, ltb-true}
 use Rattle.std.proofs.lemmas.Bool.{and_parts, true≢false}
 use Rattle.std.specs.Option.{option_map_or}
 use Rattle.mt_plain.specs.Events.{Way}
-use Rattle.mt_plain.specs.Plain.{Live, Plain, behind_last, changes_primary, live_at, next_step, owner, stands_done, write_journal}
+use Rattle.mt_plain.specs.Plain.{Live, Plain, behind_last, changes_primary, first_step, live_at, next_step, owner, stands_done, write_journal}
 use Rattle.mt_plain.specs.Refuse.{new_owner, old_owner}
 use Rattle.mt_laws.specs.Reached.{HandsOver, IsOnCourse}
 use Rattle.mt_laws.specs.WayBack.{IsReached}
@@ -30,7 +30,7 @@ module _ (p : Plain) (reached : IsReached p) (name : List ℕ) (w : Live) (live 
       by : (t : Bool) → changes_primary way ≡ t → changes_primary way ≡ true
       by true t = t
       by false t =
-          let behind = ltb-true write_journal (next_step way) (and_parts _ _ stands).1 in
+          let behind = ltb-true write_journal (next_step way) (and_parts (leb (first_step way) write_journal) (ltb write_journal (next_step way)) stands).1 in
           let last : behind_last way ≡ 1 = ap (λ b. cond b 12 1) t in
           let le = within in
           absurd (omega arith)

@@ -1,3 +1,4 @@
+pub mod AdvanceLemmas
 pub mod AllWritesLemmas
 pub mod AnswerLemmas
 pub mod ChangeLemmas
@@ -18,6 +19,7 @@ pub mod FeedLemmas
 pub mod GoesOnLemmas
 pub mod HasNumberLemmas
 pub mod HeadlineLemmas
+pub mod IdleLemmas
 pub mod InPlaceLemmas
 pub mod KeepLemmas
 pub mod LevelLemmas

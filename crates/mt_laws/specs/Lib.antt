@@ -1,4 +1,5 @@
 pub mod Acknowledged
+pub mod Advances
 pub mod Changes
 pub mod Copies
 pub mod Effects

@@ -1,11 +1,12 @@
 -- What holds in each state that a run reaches: of its live workflows, and of their ways.
-use Rattle.std.specs.Prelude.{◌≡◌, ℕ, ◌<◌, true, false, List, if◌then◌else◌}
+use Rattle.std.specs.Prelude.{◌≡◌, ◌≢◌, ℕ, ◌<◌, true, false, List, None, if◌then◌else◌}
 use Rattle.std.specs.List.{IsDistinct}
 use Rattle.mt_names.specs.Names.{same_text}
 use Rattle.mt_model.specs.Topology.{TopologyState, is_present}
-use Rattle.mt_plain.specs.Events.{Way}
+use Rattle.mt_plain.specs.Events.{StreamName, Way}
 use Rattle.mt_plain.specs.Plain.{Live, behind_last, changes_primary, moves, next_step, owner, stands_done, write_journal}
 use Rattle.mt_plain.specs.Refuse.{new_owner, old_owner}
+use Rattle.mt_plain.specs.Slots.{is_fresh, read_side, running_at, slot_of}
 use Rattle.mt_laws.specs.Parts.{HasSides}
 
 -- where a live workflow stands on the topology as if none were live: both its sides are keyspaces, and not the same one; it names no
@@ -32,3 +33,10 @@ pub record HandsOver (w : Live) (way : Way) : Type 0 where
   pub new : new_owner w ≡ (if way.back then w.source else w.target)
   pub owned : stands_done way write_journal ≡ false → owner w ≡ old_owner w
   pub handed : stands_done way write_journal ≡ true → owner w ≡ new_owner w
+
+-- a stream that is not in use: it is absent, stopped or frozen; it would read the side that isn't the owner; and it is none that the open
+-- way has made
+pub record IsIdle (w : Live) (stream : StreamName) : Type 0 where
+  pub stands : running_at (slot_of w stream) ≡ None
+  pub reads : read_side w stream ≢ owner w
+  pub old : is_fresh w.way stream ≡ false

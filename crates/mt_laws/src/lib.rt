@@ -53,8 +53,9 @@ pub use places::{
     each_table_has_a_number_of_its_own, only_what_stands_has_a_place, what_is_served_is_a_topology,
 };
 pub use reached::{
-    a_live_workflow_is_found_by_its_part, each_next_state_is_reached,
+    a_live_workflow_is_found_by_its_part, an_advance_writes_one_log, each_next_state_is_reached,
     live_workflows_stand_in_place, names_as_a_set_have_each_name_once, ways_keep_their_course,
+    while_a_stream_runs_the_other_is_idle,
 };
 pub use rows::{
     a_move_with_rows_can_be_completed, each_primary_read_answers_from_the_acknowledged_writes,

@@ -1,16 +1,18 @@
 //! Laws on the states that runs reach: on live workflows, their tables and their ways.
-ghost use Rattle.std.specs.Prelude.{◌≡◌, ℕ, false, true, All, List, Some};
+ghost use Rattle.std.specs.Prelude.{◌≡◌, ◌≢◌, ℕ, false, true, All, List, Some};
 ghost use Rattle.std.specs.List.{IsDistinct};
-ghost use Rattle.mt_laws.specs.Reached.{HandsOver, IsInPlace, IsOnCourse};
+ghost use Rattle.mt_laws.specs.Advances.{IsAfterAdvance};
+ghost use Rattle.mt_laws.specs.Reached.{HandsOver, IsIdle, IsInPlace, IsOnCourse};
 ghost use Rattle.mt_laws.specs.WayBack.{IsReached};
 ghost use Rattle.mt_model.specs.declared.entries.EntryKey.{EntryKey};
 ghost use Rattle.mt_model.specs.declared.entries.Scope.{Scope};
 ghost use Rattle.mt_model.specs.Topology.{is_denied};
 ghost use Rattle.mt_names.specs.Names.{same_text};
 ghost use Rattle.mt_plain.specs.Answers.{Answers, Run, after};
-ghost use Rattle.mt_plain.specs.Events.{Event, Answer, Way};
+ghost use Rattle.mt_plain.specs.Events.{Event, advance, Answer, advanced, StreamName, Way};
 ghost use Rattle.mt_plain.specs.Next.{next};
 ghost use Rattle.mt_plain.specs.Plain.{Live, Plain, among, changes_primary, each_once, has_part, live_at, mover, moves, opening, part_owner};
+ghost use Rattle.mt_plain.specs.Slots.{running_at, slot_of};
 
 /// The opening is reached; so is the state after each event with an answer that it may get, and the state after a run.
 pub fn each_next_state_is_reached()
@@ -60,4 +62,19 @@ pub fn a_live_workflow_is_found_by_its_part()
         → (has_part w key ≡ true) × (live_at p w.name ≡ Some w) }
     ensures mover_is_live { (p : Plain) → IsReached p → (table : List ℕ) (w : Live) → mover p table ≡ Some w
         → (moves w table ≡ true) × (live_at p w.name ≡ Some w) }
+{}
+
+/// In each state that a run reaches, while one stream of a workflow runs the other is not in use.
+pub fn while_a_stream_runs_the_other_is_idle()
+    ensures { (p : Plain) → IsReached p → (name : List ℕ) (w : Live) → live_at p name ≡ Some w
+        → (stream other : StreamName) → stream ≢ other → (at : ℕ) → running_at (slot_of w stream) ≡ Some at
+        → IsIdle w other }
+{}
+
+/// An advance, whatever its counts, changes how far its own workflow has read and copied, and the log of the side that its
+/// stream writes, and nothing else.
+pub fn an_advance_writes_one_log()
+    ensures { (p : Plain) (workflow : List ℕ) (w : Live) → live_at p workflow ≡ Some w → (stream : StreamName)
+        (at at_most events rows : ℕ)
+        → IsAfterAdvance p (next p (advance workflow stream at at_most) (advanced events rows)) workflow w stream at at_most events rows }
 {}
