@@ -51,14 +51,13 @@ fn has_entry(primary: &Primary, position: u64, entry: Entry<'_>) -> Result<bool,
 
 /// Whether the log has these entries, and no others.
 fn has_log(primary: &Primary, entries: &[Entry<'_>]) -> bool {
-    let mut position = 0;
-    for entry in entries {
-        if !has_entry(primary, position, *entry).unwrap_or(false) {
+    for (position, entry) in entries.iter().enumerate() {
+        if !has_entry(primary, position as u64, *entry).unwrap_or(false) {
             return false;
         }
-        position += 1;
     }
-    primary.entry(position).is_none() && primary.position() == position
+    let end = entries.len() as u64;
+    primary.entry(end).is_none() && primary.position() == end
 }
 
 /// Whether this is the first row of a table, or the first above a key.
