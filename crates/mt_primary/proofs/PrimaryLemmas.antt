@@ -2,6 +2,7 @@
 use Rattle.std.proofs.Common.{◌≡◌, ◌≢◌, ℕ, ◌≤◌, ◌<◌, ◌⊎◌, Bool, true, false, eqb, List, [], ◌∷◌, ◌++◌, length, take, slice_get, Option, Some, None, Result, Ok, Err, refl, sym, ap, subst, ◌∙◌, inl, inr, ⊎_elim, arith, length-append}
 use Rattle.std.proofs.lemmas.Bool.{eqb-true, eqb-false, true≢false}
 use Rattle.std.proofs.lemmas.List.{take-append-le, take_at}
+use Rattle.std.proofs.lemmas.Map.{keys-set_value}
 use Rattle.std.proofs.lemmas.Map.Steps.{set_value_same}
 use Rattle.std.proofs.lemmas.Option.{slice_get_within}
 use Rattle.std.specs.List.{IsDistinct}
@@ -178,6 +179,7 @@ module _ (old : PrimaryState) (name : List ℕ) (table put : TableState) (found 
     IsPut-changed after left = record {
       row = row_at-here (old.log ++ change ∷ []) key ∙ left;
       others = others_stay (old.log ++ change ∷ []);
+      tables = keys-set_value (same_text name) old.tables put;
       made = made_stays (old.log ++ change ∷ []);
       denied = denied_stays (old.log ++ change ∷ []);
       log = rw (row_at-old key, left) refl;

@@ -1,17 +1,16 @@
 -- What a change of one table is, and what becomes of the log with it.
-use Rattle.std.specs.Prelude.{◌≡◌, ◌≢◌, ◌⊎◌, ℕ, true, List, [], ◌∷◌, ◌++◌, length, nat_lt, if◌then◌else◌, ⊤, Option, None, Some, Result, Ok, Err}
+use Rattle.std.specs.Prelude.{◌≡◌, ◌≢◌, ◌⊎◌, ℕ, true, List, [], ◌∷◌, ◌++◌, length, if◌then◌else◌, ⊤, Option, None, Some, Result, Ok, Err}
 use Rattle.std.specs.declared.ops.Bound.{Bound}
 use Rattle.std.specs.declared.ops.Bound.TheVariants.{Excluded, Unbounded}
 use Rattle.mt_names.specs.Results.{◌>>=◌}
 use Rattle.mt_model.specs.declared.faults.PrimaryFault.{PrimaryFault}
 use Rattle.mt_model.specs.declared.faults.PrimaryFault.TheVariants.{Memory, LogFull}
-use Rattle.mt_model.specs.Limits.{longest_log}
 use Rattle.mt_model.specs.declared.rows.RowChange.{RowChange}
 use Rattle.mt_model.specs.Rows.{Row, op_key, op_row}
 use Rattle.mt_primary.specs.declared.table.RowEdit.{RowEdit}
 use Rattle.mt_primary.specs.declared.table.RowEdit.TheVariants.{Put, Write}
 use Rattle.mt_primary.specs.Primary.{TableState, IsInKeyOrder, row_in}
-use Rattle.mt_primary.specs.Writes.{unless_full}
+use Rattle.mt_primary.specs.Writes.{has_room, unless_full}
 
 -- one row is set or taken away
 pub record IsRowPut (old : TableState) (key : ℕ) (row : Row) (new : TableState) : Type 0 where
@@ -56,8 +55,8 @@ ChangesRow old name edit (Err fault) new = (changed_row old edit ≡ Err fault) 
 
 -- whether the log has room for an entry, by what making it answered
 abbrev pub TellsRoom : List RowChange → Result ⊤ PrimaryFault → Type 0
-TellsRoom log (Ok done) = nat_lt (length log) longest_log ≡ true
-TellsRoom log (Err fault) = fault ≡ (if nat_lt (length log) longest_log then Memory else LogFull)
+TellsRoom log (Ok done) = has_room log ≡ true
+TellsRoom log (Err fault) = fault ≡ (if has_room log then Memory else LogFull)
 
 -- the row that an edit leaves where there is room for its entry, or what refuses it
 abbrev pub row_with_room : RowEdit → Row → Result ⊤ PrimaryFault → Result Row PrimaryFault

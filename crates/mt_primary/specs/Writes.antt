@@ -1,6 +1,6 @@
 -- What the calls that change a primary do, by their answers.
 use Rattle.std.specs.Prelude.{◌≡◌, ℕ, ◌&&◌, ◌==◌, Bool, true, false, List, [], ◌∷◌, ◌++◌, length, nat_lt, if◌then◌else◌, Result, Ok, Err, ⊤}
-use Rattle.std.specs.Map.{remove_entry}
+use Rattle.std.specs.Map.{keys_of, remove_entry}
 use Rattle.mt_names.specs.Names.{same_text}
 use Rattle.mt_names.specs.Results.{◌>>=◌}
 use Rattle.mt_model.specs.declared.faults.PrimaryFault.{PrimaryFault}
@@ -49,6 +49,8 @@ row_after_put table key row put = if same_text table put.table && (key == put.ke
 pub record IsPut (old : PrimaryState) (put : RowPut) (new : PrimaryState) : Type 0 where
   pub row : row_at new put.table put.key ≡ put.after
   pub others : (other : List ℕ) (key : ℕ) → ¬ ((other ≡ put.table) × (key ≡ put.key)) → row_at new other key ≡ row_at old other key
+  -- the tables stay in their order, with the positions at which they were made and their denials
+  pub tables : keys_of new.tables ≡ keys_of old.tables
   pub made : (other : List ℕ) → made_at new other ≡ made_at old other
   pub denied : (other : List ℕ) → is_denied_at new other ≡ is_denied_at old other
   pub log : new.log ≡ old.log ++ change_by old put ∷ []

@@ -1,5 +1,5 @@
 //! What follows from how tables are made and dropped, and rows put.
-ghost use Rattle.std.specs.Prelude.{◌≡◌, ◌≢◌, ℕ, false, List, [], ◌∷◌, None, Some, length};
+ghost use Rattle.std.specs.Prelude.{◌≡◌, ◌≢◌, ℕ, ◌≤◌, false, List, [], ◌∷◌, ◌++◌, None, Some, length};
 ghost use Rattle.mt_primary.specs.Primary.{IsPrimary, PrimaryState, has_table, new_table, row_at, table_at};
 ghost use Rattle.mt_primary.specs.Reads.{entries_from};
 ghost use Rattle.mt_primary.specs.Writes.{IsPut, RowPut, change_by, row_after_put, with_new_table, without_table};
@@ -22,12 +22,13 @@ pub fn a_table_is_dropped()
         → table_at (without_table p name) other ≡ table_at p other }
 {}
 
-/// A row that is put changes no other row and no table's presence, and its entry is what the log has from where it ended.
+/// A row that is put changes no other row and no table's presence, and its entry stands behind those that the log has
+/// from any position on.
 pub fn a_row_is_put()
     ensures rows { (old new : PrimaryState) (put : RowPut) → IsPut old put new
         → (table : List ℕ) (key : ℕ) → row_at new table key ≡ row_after_put table key (row_at old table key) put }
     ensures tables { (old new : PrimaryState) (put : RowPut) → IsPut old put new
         → (name : List ℕ) → has_table new name ≡ has_table old name }
     ensures entry { (old new : PrimaryState) (put : RowPut) → IsPut old put new
-        → entries_from new (length old.log) ≡ change_by old put ∷ [] }
+        → (position : ℕ) → position ≤ length old.log → entries_from new position ≡ entries_from old position ++ change_by old put ∷ [] }
 {}

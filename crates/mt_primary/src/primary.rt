@@ -36,7 +36,7 @@ impl Model for Primary {
 }
 
 impl Primary {
-    /// A primary without tables. It takes no memory.
+    /// A primary without tables and with an empty log. It takes no memory. (Vitess: the primary tablet of a new shard)
     pub fn new(alloc: Global) -> Self
         ensures { result ≡ empty_primary }
     {
@@ -52,6 +52,7 @@ impl Primary {
     pub fn what_holds(&self)
         ensures { IsPrimary self.now }
     {
+        // A proof knows what holds of the fields once one of them is read.
         let _log = &self.log;
     }
 
@@ -63,7 +64,7 @@ impl Primary {
         self.log.len() as u64
     }
 
-    /// Whether there is such a table. It takes no memory.
+    /// Whether there is such a table. It takes no memory. (Vitess: the schema of a tablet)
     pub fn has_table(&self, table: &TableName) -> bool
         ensures { result ≡ has_table self.now table.now }
     {
@@ -95,8 +96,9 @@ impl Primary {
     }
 
     /// Does an operation on a row of a table, and answers the position behind its entry in the log. The first of
-    /// these that holds is answered: `P1 NoTable`, `P2 Denied`, `P3 RowExists` or `P4 NoRow`, `P5 TooLong`,
-    /// `P6 LogFull`, `P0 Memory`.
+    /// these that holds is answered, and then nothing changed: `P1 NoTable`, `P2 Denied`, `P3 RowExists` or `P4 NoRow`,
+    /// `P5 TooLong`, `P6 LogFull`, `P0 Memory`. (Vitess: a client's write at a primary tablet, which the denied tables
+    /// refuse, and a row event of its binary log)
     pub fn write(&mut self, table: &TableName, op: Op) -> Result<Position, PrimaryFault>
         ensures { Writes self.old table.now op result self.new }
     {
@@ -131,7 +133,8 @@ impl Primary {
     }
 
     /// The row of a table and a key, as a tablet of this type has it: replicas see the rows of the primary. `P1 NoTable`,
-    /// then `P2 Denied` of type primary alone, where the own list has the table. It takes no memory.
+    /// then `P2 Denied` of type primary alone, where the own list has the table. It takes no memory. (Vitess: a query at a
+    /// tablet of this type)
     pub fn read(
         &self,
         table: &TableName,

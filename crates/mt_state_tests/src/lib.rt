@@ -8,4 +8,6 @@ mod primary;
 #[cfg(test)]
 mod refreshes;
 #[cfg(test)]
+mod streams;
+#[cfg(test)]
 mod topology;

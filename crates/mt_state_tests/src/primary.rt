@@ -30,7 +30,8 @@ pub enum Answer<'a> {
 /// A value of 64 bytes, the longest.
 pub const LONGEST: [u8; 64] = [b'x'; 64];
 
-fn value(bytes: &[u8]) -> Value {
+/// A value of these bytes, at most 64.
+pub fn value(bytes: &[u8]) -> Value {
     let mut value = Value::new();
     let _fits = value.try_extend_from_slice(bytes);
     value

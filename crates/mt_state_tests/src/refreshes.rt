@@ -8,7 +8,7 @@ use std::alloc::Global;
 use std::test::Fail;
 
 /// What a denied call is answered with.
-const DENIED: Answer<'static> = Answer::Refused(PrimaryFault::Denied);
+pub const DENIED: Answer<'static> = Answer::Refused(PrimaryFault::Denied);
 
 /// The notice that a keyspace denies these tables, or allows them.
 fn notice_of(alloc: Global, keyspace: &str, said: &[(&str, bool)]) -> Result<Notice, Fail> {
@@ -49,7 +49,7 @@ const ROW: [(Call<'static>, Answer<'static>); 1] = [(
 )];
 
 /// A primary of the tables `t` and `u`, with a row in `t`, that took over these notices in turn, each of a keyspace.
-fn refreshed(alloc: Global, notices: &[(&str, &[(&str, bool)])]) -> Result<Primary, Fail> {
+pub fn refreshed(alloc: Global, notices: &[(&str, &[(&str, bool)])]) -> Result<Primary, Fail> {
     let mut primary = primary_with(alloc, &["t", "u"])?;
     if !all_answered(&mut primary, &ROW) {
         return Err(Fail::from("no row"));
@@ -61,7 +61,7 @@ fn refreshed(alloc: Global, notices: &[(&str, &[(&str, bool)])]) -> Result<Prima
 }
 
 /// Both tables are denied.
-const BOTH: [(&str, bool); 2] = [("t", true), ("u", true)];
+pub const BOTH: [(&str, bool); 2] = [("t", true), ("u", true)];
 
 /// What is answered where `t` is denied and `u` isn't: a denied table is read by the other types.
 const T_IS_DENIED: [(Call<'static>, Answer<'static>); 7] = [
