@@ -9,10 +9,11 @@ pub mod ExamplesOne
 pub mod ExamplesTwo
 pub mod FreeAnswers
 pub mod Growth
+pub mod Histories
 pub mod Limits
 pub mod Lines
 pub mod Orders
-pub mod Publications
+pub mod SharpScripts
 pub mod Watched
 pub mod Ways
 pub mod WholeEight

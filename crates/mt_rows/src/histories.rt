@@ -1,8 +1,8 @@
-//! Notices, histories and publications.
-ghost use Rattle.mt_rows.specs.Publications.{the_list_denies_what_the_entry_denies, the_list_has_the_table_that_the_entry_has, the_list_leads_where_the_entry_leads, the_list_allows_the_source_before_its_step, a_read_that_fails_leaves_nothing, a_read_that_fails_leaves_no_answer, a_script_of_a_line_is_not_too_long, routers_are_told_rules_and_tables, a_primary_is_told_its_denials, another_primary_is_told_its_own, the_owner_is_writable, the_other_side_is_not_writable, no_side_is_writable_behind_the_refresh, the_new_owner_is_writable, the_old_owner_is_not_writable, a_history_of_two_clients_is_legal, a_history_with_an_invented_answer_is_not, a_view_after_two_lines_is_empty, a_view_after_three_lines_has_the_table, a_view_after_all_lines_has_the_rule, no_view_is_of_another_front, no_front_is_past_the_history};
+//! Notices and histories.
+ghost use Rattle.mt_rows.specs.Histories.{the_list_denies_what_the_entry_denies, the_list_has_the_table_that_the_entry_has, the_list_leads_where_the_entry_leads, the_list_allows_the_source_before_its_step, a_read_that_fails_leaves_nothing, a_read_that_fails_leaves_no_answer, a_script_of_a_line_is_not_too_long, routers_are_told_rules_and_tables, a_primary_is_told_its_denials, another_primary_is_told_its_own, the_owner_is_writable, the_other_side_is_not_writable, no_side_is_writable_behind_the_refresh, the_new_owner_is_writable, the_old_owner_is_not_writable, a_history_of_two_clients_is_legal, a_history_with_an_invented_answer_is_not};
 
-/// A notice has what concerns its scope, a history follows from its opening, and a publication tells the view of its front.
-pub fn notices_histories_and_publications()
+/// A notice has what concerns its scope, and a history follows from its opening.
+pub fn notices_and_histories()
     ensures routers_are_told_rules_and_tables { routers_are_told_rules_and_tables }
     ensures a_primary_is_told_its_denials { a_primary_is_told_its_denials }
     ensures another_primary_is_told_its_own { another_primary_is_told_its_own }
@@ -13,11 +13,6 @@ pub fn notices_histories_and_publications()
     ensures the_old_owner_is_not_writable { the_old_owner_is_not_writable }
     ensures a_history_of_two_clients_is_legal { a_history_of_two_clients_is_legal }
     ensures a_history_with_an_invented_answer_is_not { a_history_with_an_invented_answer_is_not }
-    ensures a_view_after_two_lines_is_empty { a_view_after_two_lines_is_empty }
-    ensures a_view_after_three_lines_has_the_table { a_view_after_three_lines_has_the_table }
-    ensures a_view_after_all_lines_has_the_rule { a_view_after_all_lines_has_the_rule }
-    ensures no_view_is_of_another_front { no_view_is_of_another_front }
-    ensures no_front_is_past_the_history { no_front_is_past_the_history }
     ensures a_read_that_fails_leaves_nothing { a_read_that_fails_leaves_nothing }
     ensures a_read_that_fails_leaves_no_answer { a_read_that_fails_leaves_no_answer }
     ensures a_script_of_a_line_is_not_too_long { a_script_of_a_line_is_not_too_long }

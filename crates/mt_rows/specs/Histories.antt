@@ -1,17 +1,18 @@
--- Notices, writable tables, histories of several clients, and publications.
+-- Notices, writable tables and histories of several clients.
 use Rattle.std.specs.Prelude.{◌≡◌, ℕ, true, false, List, [], ◌∷◌, codes, None, Some}
 use Rattle.mt_names.specs.declared.types.TabletType.TheVariants.{Primary}
 use Rattle.mt_model.specs.declared.entries.Entry.{Entry}
 use Rattle.mt_model.specs.declared.entries.Entry.TheVariants as entry
 use Rattle.mt_model.specs.declared.entries.EntryKey.TheVariants as about
 use Rattle.mt_model.specs.declared.entries.Scope.TheVariants as scope
+use Rattle.mt_model.specs.Notices.{notice_of}
 use Rattle.mt_model.specs.Topology.{value_of}
-use Rattle.mt_plain.specs.Answers.{HistoryLine, History, IsLegal, Publication, IsPublication}
+use Rattle.mt_plain.specs.Answers.{HistoryLine, History, IsLegal}
 use Rattle.mt_plain.specs.Events.{Event, read, add_keyspace, add_table, edit_rule, step, Answer, done, row, refused, no_table, exists}
 use Rattle.mt_plain.specs.Output.{Leaves, read_fault, too_long, watchers_of}
 use Rattle.mt_plain.specs.Script.{read_line}
 use Rattle.mt_plain.specs.Plain.{Plain, in_keyspace, opening}
-use Rattle.mt_plain.specs.Serve.{IsWritable, notice_of, served, served_entry}
+use Rattle.mt_plain.specs.Serve.{IsWritable, served, served_entry}
 use Rattle.mt_rows.specs.Answers.{commerce, customer, corder}
 use Rattle.mt_rows.specs.Workflows.{after_events, live, mv, plain, stepped, switched}
 
@@ -36,17 +37,8 @@ history =
 abbrev pub invented : History
 invented = line 1 (add_keyspace commerce) done ∷ line 2 (read commerce corder 1 Primary) (row None) ∷ []
 
-abbrev pub front : ℕ → List Entry → Publication
-front n view = record { front = n; view = view }
-
 abbrev pub start : Plain
 start = opening (watchers_of [])
-
-abbrev pub table_entry : Entry
-table_entry = entry.Present commerce corder true
-
-abbrev pub c_entry : Entry
-c_entry = entry.Rule (plain (codes "c")) (Some (in_keyspace commerce corder))
 
 -- ---- rows
 
@@ -79,21 +71,6 @@ a_history_of_two_clients_is_legal = IsLegal start history
 
 abbrev pub a_history_with_an_invented_answer_is_not : Type 0
 a_history_with_an_invented_answer_is_not = ¬ (IsLegal start invented)
-
-abbrev pub a_view_after_two_lines_is_empty : Type 0
-a_view_after_two_lines_is_empty = IsPublication start history (front 2 [])
-
-abbrev pub a_view_after_three_lines_has_the_table : Type 0
-a_view_after_three_lines_has_the_table = IsPublication start history (front 3 (table_entry ∷ []))
-
-abbrev pub a_view_after_all_lines_has_the_rule : Type 0
-a_view_after_all_lines_has_the_rule = IsPublication start history (front 5 (c_entry ∷ table_entry ∷ []))
-
-abbrev pub no_view_is_of_another_front : Type 0
-no_view_is_of_another_front = ¬ (IsPublication start history (front 3 []))
-
-abbrev pub no_front_is_past_the_history : Type 0
-no_front_is_past_the_history = ¬ (IsPublication start history (front 6 (c_entry ∷ table_entry ∷ [])))
 
 abbrev pub a_read_that_fails_leaves_nothing : Type 0
 a_read_that_fails_leaves_nothing = Leaves read_line [] read_fault (codes "keyspace k\n") []
