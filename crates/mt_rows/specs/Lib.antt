@@ -1,6 +1,8 @@
 pub mod Answers
+pub mod Asked
 pub mod Copies
 pub mod CopyOrder
+pub mod DriveEnds
 pub mod Drives
 pub mod Edges
 pub mod Ends
@@ -12,7 +14,11 @@ pub mod Growth
 pub mod Histories
 pub mod Limits
 pub mod Lines
+pub mod Memory
 pub mod Orders
+pub mod Owed
+pub mod Publications
+pub mod RepeatedTables
 pub mod SharpScripts
 pub mod Watched
 pub mod Ways

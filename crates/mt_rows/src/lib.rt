@@ -2,8 +2,10 @@
 #![tactic(auto)]
 
 mod answers;
+mod asked_watchers;
 mod copies;
 mod copy_order;
+mod drive_ends;
 mod drives;
 mod edges;
 mod ends;
@@ -18,7 +20,11 @@ mod growth;
 mod histories;
 mod limits;
 mod line_refusals;
+mod memory_of_changes;
 mod orders;
+mod owed_events;
+mod publications;
+mod repeated_tables;
 mod sharp_scripts;
 mod watched;
 mod ways_opened;
@@ -38,8 +44,10 @@ mod workflow_refusals;
 mod workflow_refusals_more;
 
 pub use answers::events_get_their_answers;
+pub use asked_watchers::watchers_are_asked_with_a_change;
 pub use copies::copies_follow_what_is_read;
 pub use copy_order::rows_are_copied_in_their_order;
+pub use drive_ends::drives_end_as_they_may;
 pub use drives::drives_and_limits_of_workflows;
 pub use edges::what_no_other_row_tells;
 pub use ends::cancel_and_complete_leave_what_they_may;
@@ -54,7 +62,11 @@ pub use growth::workflows_count_to_the_limits;
 pub use histories::notices_and_histories;
 pub use limits::limits_are_exact;
 pub use line_refusals::lines_are_refused_exactly;
+pub use memory_of_changes::changes_alone_run_out_of_memory;
 pub use orders::first_refusal_comes;
+pub use owed_events::each_workflow_is_owed_its_end;
+pub use publications::publications_tell_the_views_of_their_fronts;
+pub use repeated_tables::a_table_named_twice_counts_once;
 pub use sharp_scripts::sharp_scripts_print_their_outputs;
 pub use watched::watchers_may_refuse;
 pub use ways_opened::entries_change_with_their_steps;
