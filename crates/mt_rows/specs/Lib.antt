@@ -20,6 +20,7 @@ pub mod Owed
 pub mod Publications
 pub mod RepeatedTables
 pub mod SharpScripts
+pub mod UndoneStreams
 pub mod Watched
 pub mod Ways
 pub mod WholeEight
