@@ -19,6 +19,7 @@ pub mod Orders
 pub mod Owed
 pub mod Publications
 pub mod RepeatedTables
+pub mod ServedTopologies
 pub mod SharpScripts
 pub mod UndoneStreams
 pub mod Watched
