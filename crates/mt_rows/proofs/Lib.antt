@@ -1,0 +1,3 @@
+pub mod DriveLemmas
+pub mod RoutesLemmas
+pub mod ViewLemmas

@@ -1,7 +1,7 @@
 -- Whole switches of traffic, as far as they go on, and limits of workflows.
-use Rattle.std.specs.Prelude.{◌≡◌, ℕ, false, [], ◌∷◌, codes, replicate, Some}
+use Rattle.std.specs.Prelude.{◌≡◌, ℕ, false, [], ◌∷◌, codes, replicate, Some, Ok}
 use Rattle.mt_names.specs.Types.{all_types}
-use Rattle.mt_plain.specs.Drive.{begins, steps, feeds, gives_up, goes_on, ends, event_of, heard}
+use Rattle.mt_plain.specs.Drive.{begins, steps, feeds, gives_up, stopped, goes_on, ends, event_of, heard}
 use Rattle.mt_plain.specs.Events.{advance, begin_switch, step, forward, done, refused, memory, not_level, full}
 use Rattle.mt_plain.specs.Next.{created}
 use Rattle.mt_plain.specs.Plain.{Plain, in_keyspace}
@@ -32,7 +32,7 @@ abbrev pub an_advance_between_tries_reads_100 : Type 0
 an_advance_between_tries_reads_100 = event_of behind (feeds mv 1) ≡ advance mv forward 1 100
 
 abbrev pub past_the_journal_it_stops : Type 0
-past_the_journal_it_stops = heard journalled (steps mv 64) (refused memory) ≡ ends (codes "stopped F0 Memory 7")
+past_the_journal_it_stops = heard journalled (steps mv 64) (refused memory) ≡ ends (Ok (stopped memory 7))
 
 abbrev pub before_the_journal_it_gives_up : Type 0
 before_the_journal_it_gives_up = heard before_journal (steps mv 64) (refused memory) ≡ goes_on (gives_up mv memory)

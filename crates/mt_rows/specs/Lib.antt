@@ -1,6 +1,8 @@
 pub mod Answers
+pub mod Asked
 pub mod Copies
 pub mod CopyOrder
+pub mod DriveEnds
 pub mod Drives
 pub mod Edges
 pub mod Ends
@@ -9,10 +11,17 @@ pub mod ExamplesOne
 pub mod ExamplesTwo
 pub mod FreeAnswers
 pub mod Growth
+pub mod Histories
 pub mod Limits
 pub mod Lines
+pub mod Memory
 pub mod Orders
+pub mod Owed
 pub mod Publications
+pub mod RepeatedTables
+pub mod ServedTopologies
+pub mod SharpScripts
+pub mod UndoneStreams
 pub mod Watched
 pub mod Ways
 pub mod WholeEight
