@@ -8,4 +8,6 @@ mod primary;
 #[cfg(test)]
 mod refreshes;
 #[cfg(test)]
+mod routes;
+#[cfg(test)]
 mod topology;
