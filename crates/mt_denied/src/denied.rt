@@ -48,11 +48,19 @@ impl DeniedTables {
         }
     }
 
+    /// What is true of every denied list, for a caller's proof: there are at most 256 places, and no name has two. It does
+    /// nothing.
+    pub fn facts(&self)
+        ensures within { length self.now ≤ most_tables_in_keyspace }
+        ensures distinct { IsDistinct same_text (keys_of self.now) }
+    {
+        let _places = &self.places;
+    }
+
     /// How many places there are.
     pub fn len(&self) -> usize
         ensures len { result ≡ length self.now }
         ensures within { length self.now ≤ most_tables_in_keyspace }
-        ensures distinct { IsDistinct same_text (keys_of self.now) }
     {
         self.places.len()
     }

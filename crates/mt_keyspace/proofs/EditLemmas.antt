@@ -10,9 +10,9 @@ use Rattle.mt_names.proofs.EntryLemmas.{none_from}
 use Rattle.mt_model.specs.declared.faults.TopologyFault.{TopologyFault}
 use Rattle.mt_model.specs.declared.faults.TopologyFault.TheVariants.{Memory, NoKeyspace, NoTable, Ambiguous, Exists, Full, BadDump}
 use Rattle.mt_model.specs.Limits.{most_keyspaces}
-use Rattle.mt_model.specs.Topology.{Keyspaces, KeyspaceState, keyspace_at, with_keyspace_state, with_new_table}
+use Rattle.mt_model.specs.Topology.{Keyspaces, KeyspaceState, keyspace_at, with_keyspace_state}
 use Rattle.mt_model.proofs.TopologyLemmas.{with_keyspace_state-found}
-use Rattle.mt_keyspace.specs.Edits.{Edits, add_keyspace_refusal, add_table_grows, add_table_refusal, lacks_table_place, new_table_refusal}
+use Rattle.mt_keyspace.specs.Edits.{Edits, add_keyspace_refusal, grows_at, refusal_at}
 
 -- what an edit makes or leaves of a part, it makes or leaves of the whole
 pub Edits-carried : {A B : Type 0} (old made new : A) (old_whole made_whole new_whole : B) (refusal : Option TopologyFault) (grows : Bool) (r : Result Unit TopologyFault)
@@ -26,16 +26,16 @@ Edits-carried old made new old_whole made_whole new_whole refusal grows (Err Exi
 Edits-carried old made new old_whole made_whole new_whole refusal grows (Err Full) makes leaves e = (e.0, leaves e.1)
 Edits-carried old made new old_whole made_whole new_whole refusal grows (Err BadDump) makes leaves e = (e.0, leaves e.1)
 
--- a table more in the keyspace that is found
-pub table_added : (keyspaces new : Keyspaces) (keyspace table : List ℕ) (state state_new : KeyspaceState) (r : Result Unit TopologyFault) → keyspace_at keyspaces keyspace ≡ Some state
-    → new ≡ set_value (same_text keyspace) keyspaces state_new → Edits state (new_table_refusal state table) (lacks_table_place state table) (with_new_table table state) r state_new
-    → Edits keyspaces (add_table_refusal keyspaces keyspace table) (add_table_grows keyspaces keyspace table) (with_keyspace_state (with_new_table table) keyspaces keyspace) r new
-table_added keyspaces new keyspace table state state_new r found is e =
-    let whole : Edits keyspaces (new_table_refusal state table) (lacks_table_place state table) (with_keyspace_state (with_new_table table) keyspaces keyspace) r new =
-    Edits-carried state (with_new_table table state) state_new keyspaces (with_keyspace_state (with_new_table table) keyspaces keyspace) new (new_table_refusal state table) (lacks_table_place state table) r
-    (λ made. is ∙ ap (set_value (same_text keyspace) keyspaces) made ∙ sym (with_keyspace_state-found (with_new_table table) keyspaces keyspace state found))
+-- an edit of the keyspace that is found
+pub edited_at : (refusal : KeyspaceState → Option TopologyFault) (grows : KeyspaceState → Bool) (change : KeyspaceState → KeyspaceState) (keyspaces new : Keyspaces) (keyspace : List ℕ) (state state_new : KeyspaceState) (r : Result Unit TopologyFault)
+    → keyspace_at keyspaces keyspace ≡ Some state → new ≡ set_value (same_text keyspace) keyspaces state_new → Edits state (refusal state) (grows state) (change state) r state_new
+    → Edits keyspaces (refusal_at refusal keyspaces keyspace) (grows_at grows keyspaces keyspace) (with_keyspace_state change keyspaces keyspace) r new
+edited_at refusal grows change keyspaces new keyspace state state_new r found is e =
+    let whole : Edits keyspaces (refusal state) (grows state) (with_keyspace_state change keyspaces keyspace) r new =
+    Edits-carried state (change state) state_new keyspaces (with_keyspace_state change keyspaces keyspace) new (refusal state) (grows state) r
+    (λ made. is ∙ ap (set_value (same_text keyspace) keyspaces) made ∙ sym (with_keyspace_state-found change keyspaces keyspace state found))
     (λ same. is ∙ ap (set_value (same_text keyspace) keyspaces) same ∙ set_value_same (same_text keyspace) keyspaces state found) e in
-    subst (λ k. Edits keyspaces (option_map_or (λ s. new_table_refusal s table) k (Some NoKeyspace)) (option_map_or (λ s. lacks_table_place s table) k false) (with_keyspace_state (with_new_table table) keyspaces keyspace) r new) (sym found) whole
+    subst (λ k. Edits keyspaces (option_map_or refusal k (Some NoKeyspace)) (option_map_or grows k false) (with_keyspace_state change keyspaces keyspace) r new) (sym found) whole
 
 -- no keyspace of the name, and room for one
 pub keyspace_taken : (keyspaces : Keyspaces) (name : List ℕ) → is_some (keyspace_at keyspaces name) ≡ false → (length keyspaces == most_keyspaces) ≡ false → add_keyspace_refusal keyspaces name ≡ None

@@ -10,8 +10,9 @@ use Rattle.mt_names.proofs.EntryLemmas.{same_itself}
 use Rattle.mt_names.proofs.SameLemmas.{same_text_decides}
 use Rattle.mt_model.specs.declared.faults.TopologyFault.TheVariants.{Memory}
 use Rattle.mt_model.specs.Limits.{most_tables_in_keyspace}
-use Rattle.mt_model.specs.Topology.{KeyspaceState, is_marked, with_new_table}
+use Rattle.mt_model.specs.Topology.{KeyspaceState, Marks, is_marked, with_new_table}
 use Rattle.mt_keyspace.specs.Edits.{Edits, lacks_table_place, new_table_refusal}
+use Rattle.mt_keyspace.specs.Room.{lacks_mark_place, mark_place_refusal}
 
 -- it makes a place where the key has none, and sets its value
 pub insert_entry-place : {K V : Type 0} (same : K → K → Bool) (decides : (a b : K) → Decides (same a b) (a ≡ b)) (es : List (K × V)) (k : K) (v blank : V) → insert_entry same es k v ≡ set_value (same k) (option_map_or (λ old. es) (lookup (same k) es) (es ++ (k, blank) ∷ [])) v
@@ -40,3 +41,9 @@ not_added state new table copy absent room copied none is = (rw (absent, room) r
 pub within-place : (old new limit : ℕ) (there : Bool) → old ≤ limit → (not there && (old == limit)) ≡ false → new ≡ old + (if there then 0 else 1) → new ≤ limit
 within-place old new limit true within room is = omega (arith, within, is)
 within-place old new limit false within room is = grind (arith, common_steps, within, room, is)
+
+-- ---- a place more
+
+-- where a name lacks a place, and there is room, none is refused
+pub room_for_place : (marks : Marks) (name : List ℕ) → is_some (lookup (same_text name) marks) ≡ false → (lacks_mark_place marks name && (length marks == most_tables_in_keyspace)) ≡ false → (mark_place_refusal marks name ≡ None) × (lacks_mark_place marks name ≡ true)
+room_for_place marks name lacks room = (rw room refl, ap not lacks)

@@ -2,5 +2,5 @@ pub mod EditLemmas
 pub mod GatherLemmas
 pub mod KeyspaceLemmas
 pub mod LoadLemmas
-pub mod PlaceLemmas
+pub mod RouteLemmas
 pub mod SortLemmas

@@ -7,6 +7,7 @@ use Rattle.mt_model.specs.declared.faults.TopologyFault.{TopologyFault}
 use Rattle.mt_model.specs.declared.faults.TopologyFault.TheVariants.{Memory, NoKeyspace, Exists, Full}
 use Rattle.mt_model.specs.Limits.{most_keyspaces, most_tables_in_keyspace}
 use Rattle.mt_model.specs.Topology.{Keyspaces, KeyspaceState, is_marked, keyspace_at}
+use Rattle.mt_keyspace.specs.Room.{lacks_mark_place, mark_place_refusal}
 
 -- what becomes of a value where an edit would make `made` of it, is refused as `refusal` says, and `grows` where it takes
 -- memory. A refusal leaves it as it was
@@ -14,6 +15,14 @@ abbrev pub Edits : {A : Type 0} → A → Option TopologyFault → Bool → A �
 Edits old refusal grows made (Ok done) new = (refusal ≡ None) × (new ≡ made)
 Edits old refusal grows made (Err Memory) new = (refusal ≡ None) × (grows ≡ true) × (new ≡ old)
 Edits old refusal grows made (Err fault) new = (refusal ≡ Some fault) × (new ≡ old)
+
+-- why a call on the keyspace of a name is refused: it isn't there, or itself refuses
+abbrev pub refusal_at : (KeyspaceState → Option TopologyFault) → Keyspaces → List ℕ → Option TopologyFault
+refusal_at refusal keyspaces keyspace = option_map_or refusal (keyspace_at keyspaces keyspace) (Some NoKeyspace)
+
+-- a call on the keyspace of a name takes memory
+abbrev pub grows_at : (KeyspaceState → Bool) → Keyspaces → List ℕ → Bool
+grows_at grows keyspaces keyspace = option_map_or grows (keyspace_at keyspaces keyspace) false
 
 -- a keyspace more
 abbrev pub add_keyspace_refusal : Keyspaces → List ℕ → Option TopologyFault
@@ -34,9 +43,21 @@ new_table_refusal state table =
     else None
 
 abbrev pub add_table_refusal : Keyspaces → List ℕ → List ℕ → Option TopologyFault
-add_table_refusal keyspaces keyspace table =
-    option_map_or (λ state. new_table_refusal state table) (keyspace_at keyspaces keyspace) (Some NoKeyspace)
+add_table_refusal keyspaces keyspace table = refusal_at (λ state. new_table_refusal state table) keyspaces keyspace
 
 abbrev pub add_table_grows : Keyspaces → List ℕ → List ℕ → Bool
-add_table_grows keyspaces keyspace table =
-    option_map_or (λ state. lacks_table_place state table) (keyspace_at keyspaces keyspace) false
+add_table_grows keyspaces keyspace table = grows_at (λ state. lacks_table_place state table) keyspaces keyspace
+
+-- a place for a table in a keyspace
+abbrev pub table_place_refusal : Keyspaces → List ℕ → List ℕ → Option TopologyFault
+table_place_refusal keyspaces keyspace table = refusal_at (λ state. mark_place_refusal state.tables table) keyspaces keyspace
+
+abbrev pub table_place_grows : Keyspaces → List ℕ → List ℕ → Bool
+table_place_grows keyspaces keyspace table = grows_at (λ state. lacks_mark_place state.tables table) keyspaces keyspace
+
+-- a place for a table's denial at a keyspace
+abbrev pub denied_place_refusal : Keyspaces → List ℕ → List ℕ → Option TopologyFault
+denied_place_refusal keyspaces keyspace table = refusal_at (λ state. mark_place_refusal state.denied table) keyspaces keyspace
+
+abbrev pub denied_place_grows : Keyspaces → List ℕ → List ℕ → Bool
+denied_place_grows keyspaces keyspace table = grows_at (λ state. lacks_mark_place state.denied table) keyspaces keyspace

@@ -10,9 +10,9 @@ use Rattle.mt_model.specs.declared.faults.TopologyFault.{TopologyFault}
 use Rattle.mt_model.specs.declared.faults.TopologyFault.TheVariants.{Memory, BadDump}
 use Rattle.mt_model.specs.Limits.{most_tables_in_keyspace}
 use Rattle.mt_model.specs.Topology.{Keyspaces, KeyspaceState, Marks, is_marked, keyspace_at}
-use Rattle.mt_rules.specs.Whole.{unless_fault}
+use Rattle.mt_rules.specs.Member.{unless_fault}
 pub use Rattle.mt_rules.specs.Read.{answer_with}
-pub use Rattle.mt_rules.specs.Whole.{listed}
+pub use Rattle.mt_rules.specs.Member.{listed}
 
 -- the list of a member, which may be missing
 abbrev pub list_of : Option Data → Option Items

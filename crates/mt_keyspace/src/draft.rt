@@ -64,6 +64,14 @@ impl Draft {
         add_mark(&mut self.denied, table)
     }
 
+    /// What is true of every draft, for a caller's proof: no table and no denial stands twice. It does nothing.
+    pub(crate) fn facts(&self)
+        ensures tables { IsDistinct same_text (keys_of self.now.tables) }
+        ensures denied { IsDistinct same_text (keys_of self.now.denied) }
+    {
+        let _tables = &self.tables;
+    }
+
     /// Whether a table is there.
     fn has_table(&self, table: &TableName) -> bool
         ensures { result ≡ is_marked self.now.tables table.now }
@@ -83,8 +91,6 @@ impl Draft {
         requires { length self.tables ≤ most_tables_in_keyspace }
         ensures value { IfOk result (λ keyspace. keyspace ≡ self) }
         ensures memory { IfErr result (λ fault. fault ≡ TopologyFault.Memory) }
-        ensures tables { IsDistinct same_text (keys_of self.tables) }
-        ensures denied { IsDistinct same_text (keys_of self.denied) }
     {
         let Draft { tables, denied } = self;
         let denied = denials(alloc, &denied)?;

@@ -1,21 +1,22 @@
 //! One keyspace of a topology.
-ghost use Rattle.std.specs.Prelude.{◌≡◌, ◌&&◌, ◌==◌, ◌≤◌, [], true, false, length, is_some, if◌then◌else◌, IfOk, OnOk};
+ghost use Rattle.std.specs.Prelude.{◌≡◌, ◌&&◌, ◌==◌, ◌≤◌, [], true, false, length, is_some, slice_get, IfOk, OnOk};
 ghost use Rattle.std.specs.List.{AllByRecursion, IsDistinct};
 ghost use Rattle.std.specs.Map.{keys_of, lookup};
 ghost use Rattle.serde_json.specs.View.{view};
 ghost use Rattle.mt_names.specs.Names.{IsTableName, same_text};
 ghost use Rattle.mt_model.specs.Limits.{most_tables_in_keyspace};
+ghost use Rattle.mt_model.specs.Part.{table_routes};
 ghost use Rattle.mt_model.specs.Topology.{is_marked, with_table_mark, with_denied_mark, with_new_table, with_table_place, without_table_place, with_denied_place, without_denied_place};
 ghost use Rattle.mt_keyspace.specs.Edits.{Edits, new_table_refusal, lacks_table_place};
-ghost use Rattle.mt_keyspace.specs.Room.{has_mark_room, lacking_marks};
+ghost use Rattle.mt_keyspace.specs.Room.{has_mark_room, lacking_marks, lacks_mark_place, mark_place_refusal};
 ghost use Rattle.mt_keyspace.specs.Values.{HasSameTexts, texts_value};
 ghost use Rattle.mt_model.specs.Documents.{marked, tables_in_order};
 
-use crate::write;
+use crate::{routes, write};
 use indexmap::IndexMap;
-use mt_denied::DeniedTables;
-use mt_model::{MAX_TABLES_IN_KEYSPACE, TopologyFault};
-use mt_names::TableName;
+use mt_denied::{DeniedFault, DeniedTables};
+use mt_model::{Entry, MAX_TABLES_IN_KEYSPACE, TopologyFault};
+use mt_names::{KeyspaceName, TableName};
 use serde_json::Value;
 use std::alloc::{AllocError, Global};
 use std::marker::Model;
@@ -61,6 +62,15 @@ impl Keyspace {
         ensures { result ≡ record { tables = tables.entries; denied = denied } }
     {
         Keyspace { tables, denied }
+    }
+
+    /// What is true of every keyspace, for a caller's proof: it has at most 256 places for tables, and no table has two. It
+    /// does nothing.
+    pub(crate) fn facts(&self)
+        ensures tables { IsDistinct same_text (keys_of self.now.tables) }
+        ensures few { length self.now.tables ≤ most_tables_in_keyspace }
+    {
+        let _tables = &self.tables;
     }
 
     /// Whether the keyspace has a table.
@@ -127,29 +137,33 @@ impl Keyspace {
         lacking_denials(&self.denied, tables) <= MAX_TABLES_IN_KEYSPACE - self.denied.len()
     }
 
-    /// Makes a place for a table, and answers whether it has one now.
-    pub(crate) fn reserve_table(&mut self, table: &TableName) -> bool
-        ensures places { self.new ≡ (if result then with_table_place table.now self.old else self.old) }
-        ensures lacks { result ≡ false → is_some (lookup (same_text table.now) self.old.tables) ≡ false }
+    /// Makes a place for a table, which isn't there by it. Where the table has one nothing changes. `T5 Full` at a 257th
+    /// place, `T0 Memory`.
+    pub(crate) fn reserve_table(&mut self, table: &TableName) -> Result<(), TopologyFault>
+        ensures { Edits self.old (mark_place_refusal self.old.tables table.now) (lacks_mark_place self.old.tables table.now) (with_table_place table.now self.old) result self.new }
     {
         if self.has_place(table) {
-            return true;
+            return Ok(());
         }
         if self.is_full_for(table) {
-            return false;
+            return Err(TopologyFault::Full);
         }
         match self.tables.insert(table.copied(), false) {
-            Ok(_) => true,
-            Err(_) => false,
+            Ok(_) => Ok(()),
+            Err(_) => Err(TopologyFault::Memory),
         }
     }
 
-    /// Makes a place for the denial of a table, and answers whether it has one now.
-    pub(crate) fn reserve_denial(&mut self, table: &TableName) -> bool
-        ensures places { self.new ≡ (if result then with_denied_place table.now self.old else self.old) }
-        ensures lacks { result ≡ false → is_some (lookup (same_text table.now) self.old.denied) ≡ false }
+    /// Makes a place for the denial of a table, which isn't denied by it. Where the denial has one nothing changes.
+    /// `T5 Full` at a 257th place, `T0 Memory`.
+    pub(crate) fn reserve_denial(&mut self, table: &TableName) -> Result<(), TopologyFault>
+        ensures { Edits self.old (mark_place_refusal self.old.denied table.now) (lacks_mark_place self.old.denied table.now) (with_denied_place table.now self.old) result self.new }
     {
-        self.denied.reserve(table).is_ok()
+        match self.denied.reserve(table) {
+            Ok(()) => Ok(()),
+            Err(DeniedFault::Full) => Err(TopologyFault::Full),
+            Err(DeniedFault::Memory) => Err(TopologyFault::Memory),
+        }
     }
 
     /// Drops the place of a table that isn't there. It takes no memory.
@@ -168,6 +182,21 @@ impl Keyspace {
         self.denied.release(table);
     }
 
+    /// How many tables are there.
+    pub(crate) fn table_count(&self) -> usize
+        ensures value { result ≡ length (marked self.now.tables) }
+        ensures within { result ≤ most_tables_in_keyspace }
+    {
+        routes::table_count(&self.tables)
+    }
+
+    /// The entry of a table that is there, by its index among those.
+    pub(crate) fn table_entry(&self, name: &KeyspaceName, index: usize) -> Option<Entry>
+        ensures { result ≡ slice_get (table_routes (name.now, self.now)) index }
+    {
+        routes::table_entry(name, &self.tables, index)
+    }
+
     /// Whether a table lacks a place, and there are as many as there may be.
     fn is_full_for(&self, table: &TableName) -> bool
         ensures { result ≡ (lacks_table_place self.now table.now && (length self.now.tables == most_tables_in_keyspace)) }
@@ -179,7 +208,6 @@ impl Keyspace {
     pub(crate) fn value_of_tables(&self, alloc: Global) -> Result<Value, AllocError>
         ensures value { IfOk result (λ list. view list ≡ texts_value (tables_in_order self.now)) }
         ensures named { OnOk result (AllByRecursion IsTableName (tables_in_order self.now)) }
-        ensures few { length self.now.tables ≤ most_tables_in_keyspace }
     {
         write::value_of_tables(alloc, &self.tables)
     }
@@ -188,6 +216,7 @@ impl Keyspace {
     pub(crate) fn denied_tables(&self, alloc: Global) -> Result<Vec<TableName>, AllocError>
         ensures { IfOk result (λ tables. HasSameTexts tables.items (marked self.now.denied)) }
     {
+        self.denied.facts();
         if self.denied.len() == 0 {
             return Ok(Vec::new(alloc));
         }

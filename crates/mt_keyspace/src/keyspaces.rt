@@ -1,11 +1,11 @@
 //! The keyspaces of a topology: what is read, written, edited and reserved at them.
-ghost use Rattle.std.specs.Prelude.{◌≡◌, ◌++◌, ◌∷◌, [], true, length, false, Some, is_some, if◌then◌else◌, option_copied};
+ghost use Rattle.std.specs.Prelude.{◌≡◌, ◌++◌, ◌∷◌, [], true, length, false, Some, is_some, option_copied};
 ghost use Rattle.std.specs.List.{cons_option};
 ghost use Rattle.std.specs.Map.{lookup};
 ghost use Rattle.std.specs.Option.{option_map_or};
 ghost use Rattle.mt_names.specs.Names.{same_text};
 ghost use Rattle.mt_model.specs.Topology.{holders, is_denied, is_present, keyspace_at, sole_holder, with_denied_mark, with_denied_place, with_keyspace_state, with_new_table, with_table_mark, with_table_place, without_denied_place, without_table_place};
-ghost use Rattle.mt_keyspace.specs.Edits.{Edits, add_keyspace_refusal, add_table_grows, add_table_refusal};
+ghost use Rattle.mt_keyspace.specs.Edits.{Edits, add_keyspace_refusal, add_table_grows, add_table_refusal, denied_place_grows, denied_place_refusal, table_place_grows, table_place_refusal};
 
 use crate::keyspace::Keyspace;
 use indexmap::IndexMap;
@@ -113,6 +113,7 @@ pub fn sole_holder(keyspaces: &Keyspaces, table: &TableName) -> Result<RuleTarge
         }),
     }
 }
+
 /// Adds a keyspace without tables.
 pub fn add_keyspace(
     keyspaces: &mut Keyspaces,
@@ -150,28 +151,37 @@ pub fn add_table(
     }
 }
 
-/// Makes a place for a table in a keyspace, and answers whether it has one now, or the keyspace isn't there.
-pub fn reserve_table(keyspaces: &mut Keyspaces, keyspace: &KeyspaceName, table: &TableName) -> bool
-    ensures places { keyspaces.new.entries ≡ (if result then with_keyspace_state (with_table_place table.now) keyspaces.old.entries keyspace.now else keyspaces.old.entries) }
-    ensures lacks { result ≡ false → option_map_or (λ state. is_some (lookup (same_text table.now) state.tables)) (keyspace_at keyspaces.old.entries keyspace.now) true ≡ false }
+/// Makes a place for a table in a keyspace. Where the table has one nothing changes. `T1 NoKeyspace`, `T5 Full` at a 257th
+/// place of the keyspace, `T0 Memory`; each leaves all as it was.
+pub fn reserve_table(
+    keyspaces: &mut Keyspaces,
+    keyspace: &KeyspaceName,
+    table: &TableName,
+) -> Result<(), TopologyFault>
+    ensures edits { Edits keyspaces.old.entries (table_place_refusal keyspaces.old.entries keyspace.now table.now) (table_place_grows keyspaces.old.entries keyspace.now table.now)
+        (with_keyspace_state (with_table_place table.now) keyspaces.old.entries keyspace.now) result keyspaces.new.entries }
     ensures len { length keyspaces.new.entries ≡ length keyspaces.old.entries }
 {
     match keyspaces.get_mut(keyspace) {
         Some(keyspace) => keyspace.reserve_table(table),
-        None => true,
+        None => Err(TopologyFault::NoKeyspace),
     }
 }
 
-/// Makes a place for the denial of a table in a keyspace, and answers whether it has one now, or the keyspace isn't
-/// there.
-pub fn reserve_denial(keyspaces: &mut Keyspaces, keyspace: &KeyspaceName, table: &TableName) -> bool
-    ensures places { keyspaces.new.entries ≡ (if result then with_keyspace_state (with_denied_place table.now) keyspaces.old.entries keyspace.now else keyspaces.old.entries) }
-    ensures lacks { result ≡ false → option_map_or (λ state. is_some (lookup (same_text table.now) state.denied)) (keyspace_at keyspaces.old.entries keyspace.now) true ≡ false }
+/// Makes a place for the denial of a table in a keyspace. Where the denial has one nothing changes. `T1 NoKeyspace`,
+/// `T5 Full` at a 257th place of the keyspace, `T0 Memory`; each leaves all as it was.
+pub fn reserve_denial(
+    keyspaces: &mut Keyspaces,
+    keyspace: &KeyspaceName,
+    table: &TableName,
+) -> Result<(), TopologyFault>
+    ensures edits { Edits keyspaces.old.entries (denied_place_refusal keyspaces.old.entries keyspace.now table.now) (denied_place_grows keyspaces.old.entries keyspace.now table.now)
+        (with_keyspace_state (with_denied_place table.now) keyspaces.old.entries keyspace.now) result keyspaces.new.entries }
     ensures len { length keyspaces.new.entries ≡ length keyspaces.old.entries }
 {
     match keyspaces.get_mut(keyspace) {
         Some(keyspace) => keyspace.reserve_denial(table),
-        None => true,
+        None => Err(TopologyFault::NoKeyspace),
     }
 }
 

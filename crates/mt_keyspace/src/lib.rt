@@ -5,6 +5,7 @@ mod draft;
 mod keyspace;
 mod keyspaces;
 mod load;
+mod routes;
 mod write;
 
 pub use keyspace::Keyspace;
@@ -14,4 +15,5 @@ pub use keyspaces::{
     sole_holder,
 };
 pub use load::{Drafts, drafts_in, is_too_large, settled};
+pub use routes::{route_entry, route_len};
 pub use write::{value_of_denials, value_of_keyspaces};

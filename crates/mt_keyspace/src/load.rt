@@ -229,6 +229,7 @@ pub fn settled(alloc: Global, drafts: Drafts) -> Result<Keyspaces, TopologyFault
 {
     let mut keyspaces = IndexMap::new(alloc);
     'drafts: for (name, draft) in drafts.into_iter() {
+        draft.facts();
         let keyspace = draft.settled(alloc)?;
         put_keyspace(&mut keyspaces, name, keyspace)?;
     }

@@ -66,6 +66,7 @@ fn value_of_keyspace(
     ensures value { IfOk result (λ value. view value ≡ keyspace_value (name.now, keyspace.now)) }
     ensures named { OnOk result (IsNamedKeyspace (name.now, keyspace.now)) }
 {
+    keyspace.facts();
     let tables = keyspace.value_of_tables(alloc)?;
     json!(in alloc; {"name": name.as_str(), "tables": tables})
 }

@@ -6,6 +6,8 @@ mod command_lines;
 #[cfg(test)]
 mod denied;
 #[cfg(test)]
+mod keyspaces;
+#[cfg(test)]
 mod primary;
 #[cfg(test)]
 mod rules;

@@ -1,4 +1,5 @@
 pub mod DistinctLemmas
 pub mod PartLemmas
 pub mod PlaceLemmas
+pub mod RouteLemmas
 pub mod TopologyLemmas

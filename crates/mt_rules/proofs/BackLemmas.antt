@@ -22,7 +22,7 @@ use Rattle.mt_rules.specs.declared.fault.RulesFault.TheVariants.{NotJson}
 use Rattle.mt_rules.specs.Read.{rule_of, or_bad_name, rules_of_value, with_one_more, with_rules}
 use Rattle.mt_rules.specs.Values.{IsNamed, IsWellSorted, Says, document_value, rule_value, ruled, rules_value}
 use Rattle.mt_model.specs.Documents.{rules_text, sorted_rules}
-use Rattle.mt_rules.specs.Whole.{rules_in, rules_of, unless_fault, with_new_rule}
+use Rattle.mt_rules.specs.Member.{rules_in, rules_of, unless_fault, with_new_rule}
 use Rattle.mt_rules.proofs.KeysLemmas.{none_yet, still_none}
 use Rattle.mt_rules.proofs.ReadLemmas.{value_of_text-some}
 use Rattle.mt_rules.proofs.RulesLemmas.{with_one_more-new}

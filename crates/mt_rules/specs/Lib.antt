@@ -1,4 +1,4 @@
+pub mod Member
 pub mod Read
 pub mod Rules
 pub mod Values
-pub mod Whole

@@ -2,9 +2,9 @@
 #![tactic(auto)]
 
 mod fault;
+mod member;
 mod read;
 mod rules;
-mod whole;
 mod write;
 
 pub use fault::RulesFault;

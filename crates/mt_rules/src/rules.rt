@@ -1,20 +1,21 @@
 //! The table of routing rules.
-ghost use Rattle.std.specs.Prelude.{◌≡◌, ◌≤◌, ◌<◌, ◌↔◌, ◌==◌, [], true, false, length, IsTrue, IfOk, IfErr, OnOk, string_bytes, option_copied, option_map};
+ghost use Rattle.std.specs.Prelude.{◌≡◌, ◌≤◌, ◌<◌, ◌↔◌, ◌==◌, [], true, false, length, IsTrue, IfOk, IfErr, OnOk, string_bytes, option_copied, option_map, slice_get};
 ghost use Rattle.std.specs.List.{IsDistinct};
 ghost use Rattle.std.specs.Map.{keys_of, set_value};
 ghost use Rattle.mt_names.specs.Same.{same_key};
 ghost use Rattle.mt_model.specs.Limits.{most_rules};
+ghost use Rattle.mt_model.specs.Part.{rule_routes};
 ghost use Rattle.mt_model.specs.Topology.{rule_at, without_rule_place};
 ghost use Rattle.mt_rules.specs.Read.{IsUnlessMemory, answer_with, rules_of_text, with_one_more};
 ghost use Rattle.serde_json.specs.View.{view};
 ghost use Rattle.mt_rules.specs.Values.{IsWellSorted, Says, rules_value};
-ghost use Rattle.mt_rules.specs.Whole.{rules_within};
+ghost use Rattle.mt_rules.specs.Member.{rules_within};
 ghost use Rattle.mt_model.specs.Documents.{rules_text};
 ghost use Rattle.mt_rules.specs.Rules.{Reserves, has_rule_place};
 
-use crate::{RulesFault, read, whole, write};
+use crate::{RulesFault, member, read, write};
 use indexmap::IndexMap;
-use mt_model::MAX_RULES;
+use mt_model::{Entry, MAX_RULES};
 use mt_names::{RuleKey, RuleTarget};
 use serde_json::Value;
 use std::alloc::Global;
@@ -68,10 +69,9 @@ impl RoutingRules {
     /// `from_json`. `R3 Shape` of every fault of the list or of a rule, then `R1 Full` where there are more than 4,096 of
     /// them, `R0 Memory`.
     pub fn from_member(alloc: Global, member: Option<&Value>) -> Result<Self, RulesFault>
-        ensures answer { IsUnlessMemory result (rules_within (option_map (λ v. view v.now) member.entry)) }
-        ensures distinct { IfOk result (λ rules. IsDistinct same_key (keys_of rules)) }
+        ensures { IsUnlessMemory result (rules_within (option_map (λ v. view v.now) member.entry)) }
     {
-        let places = whole::places_of_member(alloc, member)?;
+        let places = member::places_of_member(alloc, member)?;
         if places.len() > MAX_RULES {
             return Err(RulesFault::Full);
         }
@@ -95,7 +95,6 @@ impl RoutingRules {
     pub fn to_value(&self, alloc: Global) -> Result<Value, RulesFault>
         ensures value { IfOk result (λ value. view value ≡ rules_value self.now) }
         ensures sorted { OnOk result (IsWellSorted self.now) }
-        ensures within { length self.now ≤ most_rules }
         ensures memory { IfErr result (λ fault. fault ≡ RulesFault.Memory) }
     {
         match write::value_of_rules(alloc, &self.places) {
@@ -104,11 +103,18 @@ impl RoutingRules {
         }
     }
 
+    /// What is true of all rules, for a caller's proof: there are at most 4,096 places, and no key has two. It does nothing.
+    pub fn facts(&self)
+        ensures within { length self.now ≤ most_rules }
+        ensures distinct { IsDistinct same_key (keys_of self.now) }
+    {
+        let _places = &self.places;
+    }
+
     /// How many places there are.
     pub fn len(&self) -> usize
         ensures len { result ≡ length self.now }
         ensures within { length self.now ≤ most_rules }
-        ensures distinct { IsDistinct same_key (keys_of self.now) }
     {
         self.places.len()
     }
@@ -134,6 +140,22 @@ impl RoutingRules {
         ensures { option_copied result ≡ rule_at self.now key.now }
     {
         self.places.get(key)?.as_ref()
+    }
+
+    /// How many keys have a rule. It takes no memory; it looks at each place.
+    pub fn rule_count(&self) -> usize
+        ensures value { result ≡ length (rule_routes self.now) }
+        ensures within { result ≤ most_rules }
+    {
+        rule_count(&self.places)
+    }
+
+    /// The entry of a rule, by its index among the keys that have one, in the order of their places. It takes no memory;
+    /// it looks at each place before it.
+    pub fn rule_entry(&self, index: usize) -> Option<Entry>
+        ensures { result ≡ slice_get (rule_routes self.now) index }
+    {
+        rule_entry(&self.places, index)
     }
 
     /// Whether a key is reserved.
@@ -196,4 +218,35 @@ impl RoutingRules {
             self.places.shift_remove(key);
         }
     }
+}
+
+/// How many keys have a rule.
+fn rule_count(places: &IndexMap<RuleKey, Option<RuleTarget>>) -> usize
+    requires { length places.now.entries ≤ most_rules }
+    ensures value { result ≡ length (rule_routes places.now.entries) }
+    ensures within { result ≤ most_rules }
+{
+    let mut count = 0;
+    for (_, rule) in places.iter() {
+        if rule.is_some() {
+            count += 1;
+        }
+    }
+    count
+}
+
+/// The entry of a rule, by its index among the keys that have one.
+fn rule_entry(places: &IndexMap<RuleKey, Option<RuleTarget>>, index: usize) -> Option<Entry>
+    ensures { result ≡ slice_get (rule_routes places.now.entries) index }
+{
+    let mut before = index;
+    for (key, rule) in places.iter() {
+        if let Some(target) = rule {
+            if before == 0 {
+                return Some(Entry::Rule(key.copied(), Some(target.copied())));
+            }
+            before -= 1;
+        }
+    }
+    None
 }

@@ -8,6 +8,8 @@ mod primary;
 #[cfg(test)]
 mod refreshes;
 #[cfg(test)]
+mod routes;
+#[cfg(test)]
 mod streams;
 #[cfg(test)]
 mod topology;

@@ -8,6 +8,8 @@ mod command_lines;
 #[cfg(test)]
 mod denied;
 #[cfg(test)]
+mod keyspaces;
+#[cfg(test)]
 mod names;
 #[cfg(test)]
 mod rules;

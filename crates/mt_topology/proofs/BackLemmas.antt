@@ -16,7 +16,7 @@ use Rattle.mt_names.proofs.NameLemmas.{read_name-name}
 use Rattle.mt_names.proofs.SameLemmas.{same_text_decides}
 use Rattle.mt_model.specs.Documents.{denied_text, tables_in_order}
 use Rattle.mt_model.specs.Topology.{Keyspaces, KeyspaceState, Marks, is_denied, is_marked, keyspace_at}
-use Rattle.mt_rules.specs.Whole.{unless_fault}
+use Rattle.mt_rules.specs.Member.{unless_fault}
 use Rattle.mt_rules.proofs.KeysLemmas.{none_yet, still_none}
 use Rattle.mt_keyspace.specs.Load.{denials_of, keyspaces_of, state_of, tables_of, with_denial, with_denial_of, with_new_denial, with_new_keyspace, with_new_mark}
 use Rattle.mt_keyspace.specs.Values.{IsNamedKeyspace, keyspace_value}

@@ -38,3 +38,13 @@ pub keyspace_more : (t : TopologyState) (name : List ℕ) → add_keyspace_refus
 keyspace_more t name free distinct within =
     let room = room_for t.keyspaces name free in
     (distinct-with_keyspace t name room.0 distinct, omega (arith, within, eqb-false (length t.keyspaces) most_keyspaces room.1, length-append t.keyspaces ((name, record { tables = []; denied = [] }) ∷ [])))
+
+-- a fault leaves what was
+pub Edits-left : {A : Type 0} (old made new : A) (refusal : Option TopologyFault) (grows : Bool) (fault : TopologyFault) → Edits old refusal grows made (Err fault) new → new ≡ old
+Edits-left old made new refusal grows Memory e = e.2
+Edits-left old made new refusal grows NoKeyspace e = e.1
+Edits-left old made new refusal grows NoTable e = e.1
+Edits-left old made new refusal grows Ambiguous e = e.1
+Edits-left old made new refusal grows Exists e = e.1
+Edits-left old made new refusal grows Full e = e.1
+Edits-left old made new refusal grows BadDump e = e.1

@@ -7,3 +7,4 @@ pub mod OnceLemmas
 pub mod OrderLemmas
 pub mod ReserveLemmas
 pub mod SaysLemmas
+pub mod WriteLemmas

@@ -8,7 +8,7 @@ use Rattle.mt_model.specs.declared.faults.TopologyFault.{TopologyFault}
 use Rattle.mt_model.specs.declared.faults.TopologyFault.TheVariants.{Full, BadDump}
 use Rattle.mt_model.specs.Limits.{most_keyspaces, most_rules}
 use Rattle.mt_model.specs.Topology.{Keyspaces, Rules}
-use Rattle.mt_rules.specs.Whole.{rules_in}
+use Rattle.mt_rules.specs.Member.{rules_in}
 use Rattle.mt_keyspace.specs.Load.{IsUnlessMemory, has_too_many_tables, keyspaces_in, or_bad_dump}
 use Rattle.mt_topology.specs.Dump.{is_one, is_too_large, unless_many, whole_topology, within_limits}
 

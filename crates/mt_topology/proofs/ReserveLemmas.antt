@@ -1,5 +1,5 @@
 -- Places that are made one after the other, and taken back.
-use Rattle.std.proofs.Common.{◌≡◌, ℕ, ◌+◌, ◌<◌, Bool, true, false, cond, not, ◌||◌, nat_lt, if◌then◌else◌, List, [], ◌∷◌, ◌++◌, length, filter, fold, take, drop, reverse, Option, None, Some, is_some, slice_index_or, refl, sym, ap, subst, ◌∙◌, arith}
+use Rattle.std.proofs.Common.{◌≡◌, ℕ, ◌+◌, ◌<◌, Bool, true, false, cond, not, ◌||◌, nat_lt, List, [], ◌∷◌, ◌++◌, length, filter, fold, take, drop, reverse, Option, None, Some, is_some, slice_index_or, refl, sym, ap, ◌∙◌, arith}
 use Rattle.std.proofs.lemmas.Bool.{lt-ltb, true≢false}
 use Rattle.std.proofs.lemmas.Grind.{flat_map-append}
 use Rattle.std.proofs.lemmas.List.{append-nil, drop_more, reverse-append, take_more}
@@ -19,11 +19,6 @@ use Rattle.mt_model.specs.Part.{part_keys, table_part_keys, with_place, with_pla
 use Rattle.mt_model.specs.Topology.{TopologyState, Keyspaces, KeyspaceState, Marks, Rules, has_place, keyspace_at, with_keyspace_state, with_mark_place, with_rule_place, with_table_place, with_denied_place}
 use Rattle.mt_model.proofs.PlaceLemmas.{place_back}
 use Rattle.mt_topology.specs.Part.{lacking_rules, lacks_a_place}
-
--- a fact of what is made and of what was
-pub kept_if : {A : Type 0} (P : A → Type 0) (b : Bool) (made old new : A) → P made → P old → new ≡ (if b then made else old) → P new
-kept_if P true made old new holds was is = subst P (sym is) holds
-kept_if P false made old new holds was is = subst P (sym is) was
 
 -- ---- a place that is there
 

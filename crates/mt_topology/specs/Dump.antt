@@ -10,7 +10,7 @@ use Rattle.mt_model.specs.declared.faults.TopologyFault.TheVariants.{Full, BadDu
 use Rattle.mt_model.specs.Limits.{most_keyspaces, most_rules}
 use Rattle.mt_model.specs.Topology.{KeyspaceState, Rules, TopologyState}
 use Rattle.mt_rules.specs.Read.{value_of_text}
-use Rattle.mt_rules.specs.Whole.{rules_in}
+use Rattle.mt_rules.specs.Member.{rules_in}
 use Rattle.mt_keyspace.specs.Load.{has_too_many_tables, keyspaces_in}
 pub use Rattle.mt_keyspace.specs.Load.{IsUnlessMemory}
 

@@ -18,3 +18,11 @@ edit_rule_grows rules key (Some target) = not (is_some (lookup (same_key key) ru
 abbrev pub edit_rule_refusal : Rules → RuleKey → Option RuleTarget → Option TopologyFault
 edit_rule_refusal rules key target =
     if edit_rule_grows rules key target && (length rules == most_rules) then Some Full else None
+
+-- the key lacks a place
+abbrev pub lacks_rule_place : Rules → RuleKey → Bool
+lacks_rule_place rules key = not (is_some (lookup (same_key key) rules))
+
+-- why a key gets no place, if it doesn't: it lacks one, and there are as many as there may be
+abbrev pub rule_place_refusal : Rules → RuleKey → Option TopologyFault
+rule_place_refusal rules key = if lacks_rule_place rules key && (length rules == most_rules) then Some Full else None

@@ -6,12 +6,15 @@ use Rattle.std.specs.Option.{option_map_or}
 use Rattle.mt_names.specs.declared.keys.RuleKey.{RuleKey}
 use Rattle.mt_names.specs.Same.{same_key}
 use Rattle.mt_model.specs.declared.entries.EntryKey.{EntryKey}
+use Rattle.mt_model.specs.declared.entries.EntryKey.TheVariants as about
 use Rattle.mt_model.specs.declared.faults.TopologyFault.{TopologyFault}
 use Rattle.mt_model.specs.declared.faults.TopologyFault.TheVariants.{NoKeyspace, Full}
 use Rattle.mt_model.specs.Limits.{most_rules}
 use Rattle.mt_model.specs.Part.{table_rule_keys}
 use Rattle.mt_model.specs.Topology.{TopologyState, KeyspaceState, Rules, has_place, keyspace_at}
+use Rattle.mt_keyspace.specs.Edits.{denied_place_grows, denied_place_refusal, table_place_grows, table_place_refusal}
 use Rattle.mt_keyspace.specs.Room.{has_mark_room}
+use Rattle.mt_topology.specs.Edits.{lacks_rule_place, rule_place_refusal}
 
 -- how many of some rule keys lack a place, each counted as often as it is named (this profile's own)
 abbrev pub lacking_rules : Rules → List RuleKey → ℕ
@@ -36,3 +39,15 @@ reserve_refusal t source target tables =
 -- a key lacks a place, so that to reserve the keys takes memory (this profile's own)
 abbrev pub lacks_a_place : TopologyState → List EntryKey → Bool
 lacks_a_place t keys = list_any (λ key. not (has_place t key)) keys
+
+-- why the key of an entry gets no place, if it doesn't (this profile's own)
+abbrev pub place_refusal : TopologyState → EntryKey → Option TopologyFault
+place_refusal t (about.Rule key) = rule_place_refusal t.rules key
+place_refusal t (about.Denied keyspace table) = denied_place_refusal t.keyspaces keyspace table
+place_refusal t (about.Present keyspace table) = table_place_refusal t.keyspaces keyspace table
+
+-- a place for it takes memory (this profile's own)
+abbrev pub place_grows : TopologyState → EntryKey → Bool
+place_grows t (about.Rule key) = lacks_rule_place t.rules key
+place_grows t (about.Denied keyspace table) = denied_place_grows t.keyspaces keyspace table
+place_grows t (about.Present keyspace table) = table_place_grows t.keyspaces keyspace table

@@ -1,13 +1,14 @@
 //! The topology: its keyspaces with their tables and denials, its routing rules, and how a name is looked up in it.
 #![tactic(auto)]
 
-mod dump;
+mod examples;
 mod load;
-mod places;
+mod room;
+mod routes;
 mod rules;
 mod topology;
 mod write;
 
-pub use dump::dumps_are_read;
+pub use examples::dumps_are_read;
 pub use mt_model::{Entry, EntryKey, TopologyFault};
 pub use topology::Topology;

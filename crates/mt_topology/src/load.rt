@@ -11,7 +11,7 @@ ghost use Rattle.mt_names.specs.Same.{same_key};
 ghost use Rattle.mt_model.specs.Limits.{most_keyspaces};
 ghost use Rattle.mt_model.specs.Topology.{HasDistinctPlaces};
 ghost use Rattle.mt_rules.specs.Read.{value_of_text};
-ghost use Rattle.mt_rules.specs.Whole.{rules_in};
+ghost use Rattle.mt_rules.specs.Member.{rules_in};
 ghost use Rattle.mt_keyspace.specs.Load.{IsUnlessMemory, answer_with, denials_of, has_too_many_tables, keyspaces_in, keyspaces_of, list_of, listed, name_of, or_bad_dump, state_of, table_of, tables_of, with_denial, with_denial_of, with_keyspace_of, with_new_keyspace, with_table_of};
 ghost use Rattle.mt_topology.specs.Dump.{is_one, joined, topology_of_text, unless_many, whole_topology, within_limits};
 
@@ -23,8 +23,7 @@ use std::alloc::Global;
 
 /// The rules of a document, or none where there are too many.
 fn rules_in(alloc: Global, member: Option<&Value>) -> Result<Option<RoutingRules>, TopologyFault>
-    ensures answer { IsUnlessMemory result (or_bad_dump (option_map unless_many (rules_in (option_map (λ v. view v.now) member.entry)))) }
-    ensures distinct { IfOk result (λ found. IfSome found (λ rules. IsDistinct same_key (keys_of rules))) }
+    ensures { IsUnlessMemory result (or_bad_dump (option_map unless_many (rules_in (option_map (λ v. view v.now) member.entry)))) }
 {
     match RoutingRules::from_member(alloc, member) {
         Ok(rules) => Ok(Some(rules)),
@@ -58,6 +57,7 @@ fn parts_of_value(
     let Some(rules) = rules else {
         return Err(TopologyFault::Full);
     };
+    rules.facts();
     if is_too_large(&drafts) {
         return Err(TopologyFault::Full);
     }

@@ -1,10 +1,8 @@
 //! What is looked up and edited at the rules.
-ghost use Rattle.std.specs.Prelude.{◌≡◌, Some, None, false, is_some, if◌then◌else◌};
-ghost use Rattle.std.specs.Map.{lookup};
-ghost use Rattle.mt_names.specs.Same.{same_key};
+ghost use Rattle.std.specs.Prelude.{◌≡◌, Some, None};
 ghost use Rattle.mt_model.specs.Topology.{rule_for, with_rule, with_rule_place};
 ghost use Rattle.mt_keyspace.specs.Edits.{Edits};
-ghost use Rattle.mt_topology.specs.Edits.{edit_rule_grows, edit_rule_refusal};
+ghost use Rattle.mt_topology.specs.Edits.{edit_rule_grows, edit_rule_refusal, lacks_rule_place, rule_place_refusal};
 
 use mt_model::TopologyFault;
 use mt_names::{RuleKey, RuleTarget, TabletType};
@@ -51,10 +49,16 @@ pub fn take_rule(rules: &mut RoutingRules, key: &RuleKey)
     }
     rules.release_key(key);
 }
-/// Makes a place for a rule key, and answers whether it has one now.
-pub fn reserve_rule(rules: &mut RoutingRules, key: &RuleKey) -> bool
-    ensures places { rules.new ≡ (if result then with_rule_place rules.old key.now else rules.old) }
-    ensures lacks { result ≡ false → is_some (lookup (same_key key.now) rules.old) ≡ false }
+
+/// Makes a place for a rule key, without a rule. Where the key has one nothing changes. `T5 Full` at a 4,097th place,
+/// `T0 Memory`.
+pub fn reserve_rule(rules: &mut RoutingRules, key: &RuleKey) -> Result<(), TopologyFault>
+    ensures { Edits rules.old (rule_place_refusal rules.old key.now) (lacks_rule_place rules.old key.now) (with_rule_place rules.old key.now) result rules.new }
 {
-    rules.reserve_key(key).is_ok()
+    let reserved = rules.reserve_key(key);
+    match reserved {
+        Ok(()) => Ok(()),
+        Err(RulesFault::Full) => Err(TopologyFault::Full),
+        Err(_) => Err(TopologyFault::Memory),
+    }
 }

@@ -1,8 +1,9 @@
 //! The topology as one value.
-ghost use Rattle.std.specs.Prelude.{◌≡◌, true, false, IsTrue, IfOk, IfErr, reverse, string_bytes, if◌then◌else◌};
+ghost use Rattle.std.specs.Prelude.{◌≡◌, ◌<◌, ◌≤◌, true, All, Some, IsTrue, IfOk, IfErr, length, reverse, slice_get, string_bytes};
+ghost use Rattle.mt_model.specs.Limits.{most_keyspaces};
 ghost use Rattle.mt_model.specs.Topology.{HasDistinctPlaces, empty_topology, has_place, key_of, resolution, value_of, with_entry, with_keyspace, with_keyspace_state, with_rule, with_table, without_table_place};
-ghost use Rattle.mt_model.specs.Part.{part_keys, table_part_keys, with_place, with_places, without_place, without_places};
-ghost use Rattle.mt_topology.specs.Part.{lacks_a_place, reserve_refusal};
+ghost use Rattle.mt_model.specs.Part.{befores, part_keys, routes_of, table_part_keys, with_entries, with_place, with_places, without_place, without_places};
+ghost use Rattle.mt_topology.specs.Part.{lacks_a_place, place_grows, place_refusal, reserve_refusal};
 ghost use Rattle.mt_keyspace.specs.Load.{IsUnlessMemory};
 ghost use Rattle.mt_topology.specs.Dump.{topology_of_text};
 ghost use Rattle.mt_topology.specs.Says.{HasDeniedTables, Says};
@@ -11,7 +12,7 @@ ghost use Rattle.mt_keyspace.specs.Edits.{Edits, add_keyspace_refusal, add_table
 ghost use Rattle.mt_topology.specs.Edits.{edit_rule_grows, edit_rule_refusal};
 
 use crate::rules::{put_rule, reserve_rule, rule_for, take_rule};
-use crate::{load, places, write};
+use crate::{load, room, routes, write};
 use indexmap::IndexMap;
 use mt_keyspace::{
     Keyspaces, add_keyspace, add_table, has_denied_place, has_place, is_denied, is_present,
@@ -97,10 +98,36 @@ impl Topology {
         &self.rules
     }
 
+    /// What is true of every topology, for a caller's proof: no name and no key has two places, and there are at most 32
+    /// keyspaces. It does nothing.
+    pub fn facts(&self)
+        ensures distinct { HasDistinctPlaces self.now }
+        ensures few { length self.now.keyspaces ≤ most_keyspaces }
+    {
+        let _keyspaces = &self.keyspaces;
+    }
+
+    /// How many routes there are: the rules that stand, and the tables that are there. A denial is none, nor is a place
+    /// that holds nothing. It takes no memory; it looks at each place.
+    pub fn route_len(&self) -> usize
+        ensures { result ≡ length (routes_of self.now) }
+    {
+        routes::count(&self.rules, &self.keyspaces)
+    }
+
+    /// A route by its index: first the rules in the order of their places, then the tables, keyspace by keyspace. No two
+    /// routes have the same key. It takes no memory; it looks at each place before it, so that a walk over all routes takes
+    /// time in the square of their number, some 12,000 at most.
+    pub fn route_entry(&self, index: usize) -> Entry
+        requires { index < length (routes_of self.now) }
+        ensures { Some result ≡ slice_get (routes_of self.now) index }
+    {
+        routes::at(&self.rules, &self.keyspaces, index).unwrap()
+    }
+
     /// What the topology says at a key. It takes no memory.
     pub fn value(&self, key: &EntryKey) -> Entry
-        ensures value { result ≡ value_of self.now key.now }
-        ensures distinct { HasDistinctPlaces self.now }
+        ensures { result ≡ value_of self.now key.now }
     {
         match key {
             EntryKey::Rule(key) => {
@@ -150,6 +177,27 @@ impl Topology {
                 Entry::Present(keyspace, table, before)
             }
         }
+    }
+
+    /// Writes several entries, each of which has a place, in their order, and leaves in place of each what stood before it:
+    /// written back in reverse, these give back the topology. An entry may be among them more than once. It takes no memory.
+    pub fn write_all(&mut self, entries: &mut [Entry])
+        requires { All (λ entry. has_place self.old (key_of entry) ≡ true) entries.old }
+        ensures befores { entries.new ≡ befores self.old entries.old }
+        ensures after { self.new ≡ with_entries self.old entries.old }
+    {
+        for entry in entries.iter_mut() {
+            self.exchange(entry);
+        }
+    }
+
+    /// Writes an entry that has a place, and leaves what stood before in place of it.
+    fn exchange(&mut self, entry: &mut Entry)
+        requires { has_place self.old (key_of entry.old) ≡ true }
+        ensures before { entry.new ≡ value_of self.old (key_of entry.old) }
+        ensures after { self.new ≡ with_entry self.old entry.old }
+    {
+        *entry = self.write(entry.copied());
     }
 
     /// Where a name leads for a type: where its rule for the type, else its rule for all types leads, which is not looked
@@ -219,12 +267,14 @@ impl Topology {
             }
         }
     }
+
     /// Makes a place for every entry of a workflow's part, as MoveTables moves the tables from the source to the target:
     /// twelve rule keys a table, its denial at both sides, its presence at the target. No value is changed. First
     /// `T1 NoKeyspace`, where the source or the target isn't there; then `T5 Full`, where the places that the part lacks
     /// don't all find room, a table that is named twice counted twice: 4,096 rule entries, and at each keyspace 256 tables
     /// and 256 denials; at last `T0 Memory`, which can't come where the part lacks no place. A refusal leaves no place
-    /// behind.
+    /// behind. It is refused for the denials alone only where the
+    /// places that they lack would pass 256 at the source or at the target.
     pub fn reserve_part(
         &mut self,
         source: &KeyspaceName,
@@ -234,7 +284,7 @@ impl Topology {
         ensures { Edits self.old (reserve_refusal self.old source.now target.now tables.now) (lacks_a_place self.old (part_keys source.now target.now tables.now))
             (with_places self.old (part_keys source.now target.now tables.now)) result self.new }
     {
-        let refusal = places::refusal(&self.rules, &self.keyspaces, source, target, tables);
+        let refusal = room::refusal(&self.rules, &self.keyspaces, source, target, tables);
         if let Some(fault) = refusal {
             return Err(fault);
         }
@@ -337,17 +387,18 @@ impl Topology {
         if made.push(key.copied()).is_err() {
             return false;
         }
-        let is_made = self.make_place(key);
-        if !is_made {
-            made.pop();
+        match self.make_place(key) {
+            Ok(()) => true,
+            Err(_) => {
+                made.pop();
+                false
+            }
         }
-        is_made
     }
 
-    /// Makes the place of a key, and answers whether it has one now.
-    fn make_place(&mut self, key: &EntryKey) -> bool
-        ensures places { self.new ≡ (if result then with_place self.old key.now else self.old) }
-        ensures lacks { result ≡ false → has_place self.old key.now ≡ false }
+    /// Makes the place of a key. Where the key has one nothing changes. `T1 NoKeyspace`, `T5 Full`, `T0 Memory`.
+    fn make_place(&mut self, key: &EntryKey) -> Result<(), TopologyFault>
+        ensures { Edits self.old (place_refusal self.old key.now) (place_grows self.old key.now) (with_place self.old key.now) result self.new }
     {
         match key {
             EntryKey::Rule(key) => reserve_rule(&mut self.rules, key),

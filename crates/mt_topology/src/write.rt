@@ -26,6 +26,7 @@ fn value_of_rules(alloc: Global, rules: &RoutingRules) -> Result<Value, AllocErr
     ensures sorted { OnOk result (IsWellSorted rules.now) }
     ensures within { length rules.now ≤ most_rules }
 {
+    rules.facts();
     match rules.to_value(alloc) {
         Ok(list) => Ok(list),
         Err(_) => Err(AllocError),

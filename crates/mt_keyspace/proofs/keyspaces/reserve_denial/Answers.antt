@@ -1,16 +1,12 @@
--- One keyspace is changed, or none.
-use Rattle.std.proofs.Common.{true, is_some, ap, sym, ◌∙◌}
-use Rattle.std.specs.Map.{lookup}
-use Rattle.std.specs.Option.{option_map_or}
-use Rattle.mt_names.specs.Names.{same_text}
+-- A place more in one keyspace.
+use Rattle.std.proofs.Common.{sym}
 use Rattle.mt_model.specs.Topology.{with_denied_place}
-use Rattle.mt_keyspace.proofs.PlaceLemmas.{changed_if}
+use Rattle.mt_keyspace.specs.Room.{lacks_mark_place, mark_place_refusal}
+use Rattle.mt_keyspace.proofs.EditLemmas.{edited_at}
 use Rattle.mt_keyspace.proofs.keyspaces.reserve_denial.Goals as goal
 
-pub returns-in-Some-clause-places : goal.returns-in-Some-clause-places
-returns-in-Some-clause-places c =
-    changed_if (with_denied_place c.args.table.now) c.args.keyspaces.now.entries _ c.args.keyspace.now c.in-Some.keyspace.now c.reserve_denial.new.self c.reserve_denial.result (sym c.in-Some.ensures.value) c.reserve_denial.ensures.places (c.get_mut.follows.holds c.reserve_denial.new.self).0
-
-pub returns-in-Some-clause-lacks : goal.returns-in-Some-clause-lacks
-returns-in-Some-clause-lacks c = λ refused.
-    ap (λ k. option_map_or (λ state. is_some (lookup (same_text c.args.table.now) state.denied)) k true) (sym c.in-Some.ensures.value) ∙ c.reserve_denial.ensures.lacks refused
+pub returns-in-Some-clause-edits : goal.returns-in-Some-clause-edits
+returns-in-Some-clause-edits c =
+    let table = c.args.table.now in
+    edited_at (λ state. mark_place_refusal state.denied table) (λ state. lacks_mark_place state.denied table) (with_denied_place table)
+    c.args.keyspaces.now.entries _ c.args.keyspace.now c.in-Some.keyspace.now c.reserve_denial.new.self c.reserve_denial.result (sym c.in-Some.ensures.value) (c.get_mut.follows.holds c.reserve_denial.new.self).0 c.reserve_denial.ensures

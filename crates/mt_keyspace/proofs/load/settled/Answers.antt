@@ -15,7 +15,7 @@ pub drafts-preserved : goal.drafts-preserved
 drafts-preserved c =
     let left : c.drafts.name-iterator ≡ (c.in-Some.name, c.in-Some.draft) ∷ c.next.new.self = search rules in
     keyspace_settled c.args.drafts.entries c.next.new.self c.drafts.keyspaces c.put_keyspace.new.keyspaces.entries c.in-Some.name c.in-Some.draft c.in_ok-keyspace.keyspace c.requires.distinct
-    (c.drafts.invariant.0 ∙ ap (λ l. c.drafts.keyspaces.entries ++ l) left) c.in_ok-keyspace.ensures.value (c.in_ok-keyspace.ensures.tables, c.in_ok-keyspace.ensures.denied) c.drafts.invariant.1 c.in_ok-put_keyspace.ensures.entries
+    (c.drafts.invariant.0 ∙ ap (λ l. c.drafts.keyspaces.entries ++ l) left) c.in_ok-keyspace.ensures.value (c.facts.ensures.tables, c.facts.ensures.denied) c.drafts.invariant.1 c.in_ok-put_keyspace.ensures.entries
 
 pub returns-clause-places : goal.returns-clause-places
 returns-clause-places c =

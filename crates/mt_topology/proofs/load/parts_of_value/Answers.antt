@@ -1,5 +1,5 @@
 -- The limits are looked at last.
-use Rattle.std.proofs.Common.{◌≡◌, [], inr, true, false, Ok, Some, IfSome, ap, subst, sym, option_map, option_and_then, codes, ◌∙◌}
+use Rattle.std.proofs.Common.{◌≡◌, [], inr, true, false, Ok, Some, ap, subst, sym, option_map, option_and_then, codes, ◌∙◌}
 use Rattle.std.specs.List.{IsDistinct}
 use Rattle.std.specs.Map.{keys_of}
 use Rattle.serde_json.specs.Find.{as_number, get}
@@ -7,7 +7,7 @@ use Rattle.serde_json.specs.View.{view}
 use Rattle.mt_names.specs.Same.{same_key}
 use Rattle.mt_model.specs.Topology.{HasDistinctPlaces, TopologyState}
 use Rattle.mt_model.proofs.DistinctLemmas.{distinct-rules}
-use Rattle.mt_rules.specs.Whole.{rules_in}
+use Rattle.mt_rules.specs.Member.{rules_in}
 use Rattle.mt_keyspace.specs.Load.{IsUnlessMemory, or_bad_dump}
 use Rattle.mt_topology.specs.Dump.{is_one, unless_many}
 use Rattle.mt_topology.proofs.LoadLemmas.{limits_looked_at}
@@ -19,7 +19,7 @@ returns-then-is_too_large-clause-answer c =
     let one : is_one (option_and_then as_number (get (codes "version") d)) ≡ true = sym c.is_version_one.ensures ∙ c.if-not-is_version_one.false in
     let read : IsUnlessMemory (Ok (Some c.in-Some.rules)) (or_bad_dump (option_map unless_many (rules_in (get (codes "rules") d)))) =
     subst (λ m. IsUnlessMemory (Ok (Some c.in-Some.rules)) (or_bad_dump (option_map unless_many (rules_in m)))) c.get.ensures
-    (subst (λ o. IsUnlessMemory (Ok o) (or_bad_dump (option_map unless_many (rules_in (option_map (λ v. view v.now) c.get.result))))) c.in-Some.is c.in_ok-rules.ensures.answer) in
+    (subst (λ o. IsUnlessMemory (Ok o) (or_bad_dump (option_map unless_many (rules_in (option_map (λ v. view v.now) c.get.result))))) c.in-Some.is c.in_ok-rules.ensures) in
     inr (limits_looked_at d c.in-Some.rules c.in_ok-drafts.drafts.entries one read c.in_ok-drafts.ensures.answer true (sym c.is_too_large.ensures ∙ c.if-is_too_large.true))
 
 pub returns-clause-answer : goal.returns-clause-answer
@@ -28,7 +28,7 @@ returns-clause-answer c =
     let one : is_one (option_and_then as_number (get (codes "version") d)) ≡ true = sym c.is_version_one.ensures ∙ c.if-not-is_version_one.false in
     let read : IsUnlessMemory (Ok (Some c.in-Some.rules)) (or_bad_dump (option_map unless_many (rules_in (get (codes "rules") d)))) =
     subst (λ m. IsUnlessMemory (Ok (Some c.in-Some.rules)) (or_bad_dump (option_map unless_many (rules_in m)))) c.get.ensures
-    (subst (λ o. IsUnlessMemory (Ok o) (or_bad_dump (option_map unless_many (rules_in (option_map (λ v. view v.now) c.get.result))))) c.in-Some.is c.in_ok-rules.ensures.answer) in
+    (subst (λ o. IsUnlessMemory (Ok o) (or_bad_dump (option_map unless_many (rules_in (option_map (λ v. view v.now) c.get.result))))) c.in-Some.is c.in_ok-rules.ensures) in
     inr (ap (λ keyspaces. Ok (record { rules = c.in-Some.rules; keyspaces = keyspaces })) c.in_ok-keyspaces.ensures.value
     ∙ limits_looked_at d c.in-Some.rules c.in_ok-drafts.drafts.entries one read c.in_ok-drafts.ensures.answer false (sym c.is_too_large.ensures ∙ c.if-is_too_large.false))
 
@@ -36,5 +36,5 @@ pub returns-clause-places : goal.returns-clause-places
 returns-clause-places c =
     let keyspaces = c.in_ok-drafts.drafts.entries in
     let empty : TopologyState = record { rules = []; keyspaces = keyspaces } in
-    let distinct : IsDistinct same_key (keys_of c.in-Some.rules) = subst (λ o. IfSome o (λ rules. IsDistinct same_key (keys_of rules))) c.in-Some.is c.in_ok-rules.ensures.distinct in
+    let distinct : IsDistinct same_key (keys_of c.in-Some.rules) = c.facts.ensures.distinct in
     subst (λ ks. HasDistinctPlaces (record { rules = c.in-Some.rules; keyspaces = ks })) (sym c.in_ok-keyspaces.ensures.value) (distinct-rules empty c.in-Some.rules distinct c.in_ok-keyspaces.ensures.places)

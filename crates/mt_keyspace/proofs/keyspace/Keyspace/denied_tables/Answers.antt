@@ -10,4 +10,4 @@ use Rattle.mt_keyspace.proofs.keyspace.Keyspace.denied_tables.Goals as goal
 pub returns-in-Ok : goal.returns-in-Ok
 returns-in-Ok c = λ text.
     c.in-Ok.ensures.members.members text ∙ ap (λ s. is_marked s.denied text) c.self.view_is
-    ∙ sym (marked-found c.args.self.now.denied text (subst (λ s. IsDistinct same_text (keys_of s.denied)) c.self.view_is c.len.ensures.distinct))
+    ∙ sym (marked-found c.args.self.now.denied text (subst (λ s. IsDistinct same_text (keys_of s.denied)) c.self.view_is c.facts.ensures.distinct))

@@ -1,14 +1,12 @@
 -- A place that is there, and one that is made and noted.
 use Rattle.std.proofs.Common.{rules, ◌≡◌, [], ◌∷◌, ◌++◌, sym, ◌∙◌}
-use Rattle.mt_model.specs.Part.{with_place}
 use Rattle.mt_topology.proofs.ReserveLemmas.{made_noted, with_place-there}
 use Rattle.mt_topology.proofs.topology.Topology.make_noted.Goals as goal
 
 pub returns-then-has_place-clause-all : goal.returns-then-has_place-clause-all
 returns-then-has_place-clause-all c = λ made. sym (with_place-there c.args.self.now c.args.key.now (sym c.has_place.ensures ∙ c.if-has_place.true))
 
-pub returns-else-not-is_made-clause-back : goal.returns-else-not-is_made-clause-back
-returns-else-not-is_made-clause-back c =
-    let is_made : c.make_place-is_made.new.self ≡ with_place c.args.self.now c.args.key.now = search rules in
+pub returns-in-Ok-clause-back : goal.returns-in-Ok-clause-back
+returns-in-Ok-clause-back c =
     let noted : c.push.new.self.items ≡ c.args.made.now.items ++ c.copied.result ∷ [] = search rules in
-    made_noted c.args.self.now c.make_place-is_made.new.self c.args.key.now c.copied.result c.args.made.now.items c.push.new.self.items (sym c.has_place.ensures ∙ c.if-has_place.false) is_made c.copied.ensures noted
+    made_noted c.args.self.now c.make_place.new.self c.args.key.now c.copied.result c.args.made.now.items c.push.new.self.items (sym c.has_place.ensures ∙ c.if-has_place.false) c.in-Ok.ensures.1 c.copied.ensures noted

@@ -2,7 +2,7 @@
 use Rattle.std.proofs.Common.{◌≡◌, Some, false, refl, sym, ◌∙◌, inr}
 use Rattle.mt_rules.specs.Rules.{has_rule_place}
 use Rattle.mt_rules.proofs.RulesLemmas.{insert_entry-last, with_new_rule-new}
-use Rattle.mt_rules.proofs.whole.add.Goals as goal
+use Rattle.mt_rules.proofs.member.add.Goals as goal
 
 pub returns-in-Ok-clause-answer : goal.returns-in-Ok-clause-answer
 returns-in-Ok-clause-answer c =

@@ -9,7 +9,7 @@ use Rattle.mt_model.specs.declared.faults.TopologyFault.{TopologyFault}
 use Rattle.mt_model.specs.declared.faults.TopologyFault.TheVariants.{BadDump}
 use Rattle.mt_model.specs.Topology.{TopologyState}
 use Rattle.mt_topology.specs.Dump.{topology_of_text, whole_topology, within_limits}
-use Rattle.mt_topology.proofs.dump.dumps_are_read.Goals as goal
+use Rattle.mt_topology.proofs.examples.dumps_are_read.Goals as goal
 
 by_reading : (text : List ℕ) (answer : Result TopologyState TopologyFault) → IsUtf8 text → option_map_or within_limits (option_and_then whole_topology (read text)) (Err BadDump) ≡ answer
     → topology_of_text text ≡ answer

@@ -3,7 +3,7 @@ use Rattle.std.proofs.Common.{◌≡◌, ◌+◌, drop, length}
 use Rattle.std.specs.List.{flat_map}
 use Rattle.mt_model.specs.Part.{table_rule_keys}
 use Rattle.mt_topology.specs.Part.{lacking_rules}
-use Rattle.mt_topology.proofs.places.has_room_for_rules.Given as goal
+use Rattle.mt_topology.proofs.room.has_room_for_rules.Given as goal
 
 abbrev pub invariant-loop-table : goal.invariant-loop-table
 invariant-loop-table l =

@@ -4,7 +4,7 @@ use Rattle.std.specs.List.{flat_map}
 use Rattle.mt_model.specs.Part.{table_rule_keys}
 use Rattle.mt_topology.specs.Part.{lacking_rules}
 use Rattle.mt_topology.proofs.ReserveLemmas.{lacking_left, no_room}
-use Rattle.mt_topology.proofs.places.has_room_for_rules.Goals as goal
+use Rattle.mt_topology.proofs.room.has_room_for_rules.Goals as goal
 
 pub returns-then-lacking-room : goal.returns-then-lacking-room
 returns-then-lacking-room c =

@@ -5,7 +5,7 @@ ghost use Rattle.std.specs.Map.{keys_of};
 ghost use Rattle.serde_json.specs.View.{view, items_view};
 ghost use Rattle.mt_names.specs.Same.{same_key};
 ghost use Rattle.mt_rules.specs.Read.{IsUnlessMemory, answer_with};
-ghost use Rattle.mt_rules.specs.Whole.{listed, or_shape, rules_in, rules_of, with_new_rule, with_rule_of};
+ghost use Rattle.mt_rules.specs.Member.{listed, or_shape, rules_in, rules_of, with_new_rule, with_rule_of};
 
 use crate::RulesFault;
 use crate::read::rule_of;

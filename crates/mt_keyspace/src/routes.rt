@@ -1,0 +1,74 @@
+//! The routes of keyspaces: the tables that are there, counted, and found by their index. To count them or to find one
+//! takes no memory; it looks at each place, or at each before it.
+ghost use Rattle.std.specs.Prelude.{◌≡◌, ◌≤◌, ◌*◌, length, [], flat_map, slice_get};
+ghost use Rattle.mt_model.specs.Documents.{marked};
+ghost use Rattle.mt_model.specs.Limits.{most_keyspaces, most_tables_in_keyspace};
+ghost use Rattle.mt_model.specs.Part.{table_routes};
+
+use crate::keyspaces::Keyspaces;
+use indexmap::IndexMap;
+use mt_model::Entry;
+use mt_names::{KeyspaceName, TableName};
+
+/// How many tables of a keyspace are there.
+pub(crate) fn table_count(places: &IndexMap<TableName, bool>) -> usize
+    requires { length places.now.entries ≤ most_tables_in_keyspace }
+    ensures value { result ≡ length (marked places.now.entries) }
+    ensures within { result ≤ most_tables_in_keyspace }
+{
+    let mut count = 0;
+    for (_, is_there) in places.iter() {
+        if *is_there {
+            count += 1;
+        }
+    }
+    count
+}
+
+/// The entry of a table of a keyspace that is there, by its index among those.
+pub(crate) fn table_entry(
+    name: &KeyspaceName,
+    places: &IndexMap<TableName, bool>,
+    index: usize,
+) -> Option<Entry>
+    ensures { result ≡ slice_get (table_routes (name.now, record { tables = places.now.entries; denied = [] })) index }
+{
+    let mut before = index;
+    for (table, is_there) in places.iter() {
+        if *is_there {
+            if before == 0 {
+                return Some(Entry::Present(name.copied(), table.copied(), true));
+            }
+            before -= 1;
+        }
+    }
+    None
+}
+
+/// How many tables of all keyspaces are there.
+pub fn route_len(keyspaces: &Keyspaces) -> usize
+    requires { length keyspaces.now.entries ≤ most_keyspaces }
+    ensures value { result ≡ length (flat_map table_routes keyspaces.now.entries) }
+    ensures within { result ≤ most_keyspaces * most_tables_in_keyspace }
+{
+    let mut count = 0;
+    for (_, keyspace) in keyspaces.iter() {
+        count += keyspace.table_count();
+    }
+    count
+}
+
+/// The entry of a table that is there, by its index among those of all keyspaces.
+pub fn route_entry(keyspaces: &Keyspaces, index: usize) -> Option<Entry>
+    ensures { result ≡ slice_get (flat_map table_routes keyspaces.now.entries) index }
+{
+    let mut before = index;
+    for (name, keyspace) in keyspaces.iter() {
+        let count = keyspace.table_count();
+        if before < count {
+            return keyspace.table_entry(name, before);
+        }
+        before -= count;
+    }
+    None
+}

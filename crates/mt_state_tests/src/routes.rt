@@ -1,0 +1,141 @@
+//! Several entries written at once and taken back, and the routes of a topology.
+
+use mt_names::{KeyspaceName, NameFault, RuleKey, RuleTarget, TableName};
+use mt_topology::{Entry, Topology};
+use std::alloc::Global;
+use std::test::Fail;
+
+/// Two keyspaces with three tables, of which one is denied, and two rules.
+const DUMP: &str =
+    "{\"denied\":[\"b.t\"],\"keyspaces\":[{\"name\":\"a\",\"tables\":[\"s\"]},{\"name\":\"b\",\"tables\":[\"t\",\"u\"]}],\"rules\":[{\"from_table\":\"x\",\"to_tables\":[\"b.t\"]},{\"from_table\":\"y@replica\",\"to_tables\":[\"a.s\"]}],\"version\":1}";
+
+/// The same, written over.
+const WRITTEN: &str =
+    "{\"denied\":[],\"keyspaces\":[{\"name\":\"a\",\"tables\":[\"s\"]},{\"name\":\"b\",\"tables\":[\"u\"]}],\"rules\":[{\"from_table\":\"x\",\"to_tables\":[\"a.s\"]},{\"from_table\":\"y@replica\",\"to_tables\":[\"a.s\"]}],\"version\":1}";
+
+fn rule(key: &str, target: &str) -> Result<Entry, NameFault> {
+    Ok(Entry::Rule(RuleKey::parse(key)?, Some(RuleTarget::parse(target)?)))
+}
+
+fn no_rule(key: &str) -> Result<Entry, NameFault> {
+    Ok(Entry::Rule(RuleKey::parse(key)?, None))
+}
+
+fn table(keyspace: &str, table: &str, is_there: bool) -> Result<Entry, NameFault> {
+    Ok(Entry::Present(
+        KeyspaceName::parse(keyspace)?,
+        TableName::parse(table)?,
+        is_there,
+    ))
+}
+
+fn denial(keyspace: &str, table: &str, is_denied: bool) -> Result<Entry, NameFault> {
+    Ok(Entry::Denied(
+        KeyspaceName::parse(keyspace)?,
+        TableName::parse(table)?,
+        is_denied,
+    ))
+}
+
+/// Whether the dump is this.
+fn dumps(alloc: Global, topology: &Topology, want: &str) -> bool {
+    topology.dump(alloc).is_ok_and(|text| text.as_str() == want)
+}
+
+/// Whether the route of an index is this entry.
+fn is_route(topology: &Topology, index: usize, want: &Entry) -> bool {
+    if index < topology.route_len() {
+        return topology.route_entry(index) == *want;
+    }
+    false
+}
+
+/// Whether these are the routes, in this order.
+fn are_routes(topology: &Topology, want: &[Entry]) -> bool {
+    if topology.route_len() != want.len() {
+        return false;
+    }
+    for (index, entry) in want.iter().enumerate() {
+        if !is_route(topology, index, entry) {
+            return false;
+        }
+    }
+    true
+}
+
+/// Writes entries where each has a place.
+fn write_all(topology: &mut Topology, entries: &mut [Entry]) -> bool {
+    let have_places = entries.iter().all(|entry| topology.has_place(&entry.key()));
+    if have_places {
+        topology.write_all(entries);
+    }
+    have_places
+}
+
+/// Entries to be written, one key twice.
+fn changes() -> Result<[Entry; 4], NameFault> {
+    Ok([
+        no_rule("x")?,
+        denial("b", "t", false)?,
+        table("b", "t", false)?,
+        rule("x", "a.s")?,
+    ])
+}
+
+/// What stands before each of them.
+fn befores() -> Result<[Entry; 4], NameFault> {
+    Ok([
+        rule("x", "b.t")?,
+        denial("b", "t", true)?,
+        table("b", "t", true)?,
+        no_rule("x")?,
+    ])
+}
+
+#[test]
+fn entries_are_written_and_taken_back(rt: HostRuntime) -> Result<(), Fail> {
+    let Ok(mut topology) = Topology::load(rt.alloc(), DUMP.as_bytes()) else {
+        return Err(Fail::from("no topology"));
+    };
+    let (mut entries, before) = (changes()?, befores()?);
+    assert!(rt; write_all(&mut topology, &mut entries));
+    assert!(rt; entries == before);
+    assert!(rt; dumps(rt.alloc(), &topology, WRITTEN));
+    entries.reverse();
+    assert!(rt; write_all(&mut topology, &mut entries));
+    assert!(rt; dumps(rt.alloc(), &topology, DUMP));
+    Ok(())
+}
+
+/// The routes of the dump, as it is read.
+fn routes() -> Result<[Entry; 5], NameFault> {
+    Ok([
+        rule("x", "b.t")?,
+        rule("y@replica", "a.s")?,
+        table("a", "s", true)?,
+        table("b", "t", true)?,
+        table("b", "u", true)?,
+    ])
+}
+
+/// Those that are left where it is written over, and `x` has no rule.
+fn fewer_routes() -> Result<[Entry; 3], NameFault> {
+    Ok([
+        rule("y@replica", "a.s")?,
+        table("a", "s", true)?,
+        table("b", "u", true)?,
+    ])
+}
+
+#[test]
+fn routes_are_what_stands(rt: HostRuntime) -> Result<(), Fail> {
+    let Ok(mut topology) = Topology::load(rt.alloc(), DUMP.as_bytes()) else {
+        return Err(Fail::from("no topology"));
+    };
+    let (all, fewer) = (routes()?, fewer_routes()?);
+    assert!(rt; are_routes(&topology, &all));
+    let mut entries = [no_rule("x")?, table("b", "t", false)?];
+    assert!(rt; write_all(&mut topology, &mut entries));
+    assert!(rt; are_routes(&topology, &fewer));
+    Ok(())
+}

@@ -1,0 +1,70 @@
+//! Places for tables and denials at keyspaces by direct calls.
+
+use indexmap::IndexMap;
+use mt_keyspace::{Keyspaces, add_keyspace, reserve_denial, reserve_table};
+use mt_model::TopologyFault;
+use mt_names::{KeyspaceName, NameFault, TableName};
+use std::alloc::Global;
+use std::test::Fail;
+
+/// A place that is made.
+#[derive(Clone, Copy)]
+enum Call {
+    /// For a table.
+    Table,
+    /// For its denial.
+    Denial,
+}
+
+/// How an answer is printed.
+fn printed(answer: Result<(), TopologyFault>) -> &'static str {
+    match answer {
+        Ok(()) => "ok",
+        Err(fault) => fault.as_str(),
+    }
+}
+
+fn answer(
+    keyspaces: &mut Keyspaces,
+    call: Call,
+    keyspace: &str,
+    table: &str,
+) -> Result<&'static str, NameFault> {
+    let (keyspace, table) = (KeyspaceName::parse(keyspace)?, TableName::parse(table)?);
+    Ok(match call {
+        Call::Table => printed(reserve_table(keyspaces, &keyspace, &table)),
+        Call::Denial => printed(reserve_denial(keyspaces, &keyspace, &table)),
+    })
+}
+
+/// The keyspace `k` with so many places for tables, and as many for denials.
+fn filled(alloc: Global, count: u32) -> Result<Keyspaces, Fail> {
+    let mut keyspaces = IndexMap::new(alloc);
+    if add_keyspace(&mut keyspaces, alloc, &KeyspaceName::parse("k")?).is_err() {
+        return Err(Fail::from("no keyspace"));
+    }
+    for number in 0..count {
+        let name = format!(in alloc; "t{number}")?;
+        if answer(&mut keyspaces, Call::Table, "k", name.as_str())? != "ok"
+            || answer(&mut keyspaces, Call::Denial, "k", name.as_str())? != "ok"
+        {
+            return Err(Fail::from("another answer"));
+        }
+    }
+    Ok(keyspaces)
+}
+
+#[test]
+fn places_are_refused_by_their_faults(rt: HostRuntime) -> Result<(), Fail> {
+    let mut keyspaces = filled(rt.alloc(), 256)?;
+    for call in [Call::Table, Call::Denial] {
+        for (keyspace, table, want) in [
+            ("k", "t256", "T5 Full"),
+            ("k", "t7", "ok"),
+            ("j", "t7", "T1 NoKeyspace"),
+        ] {
+            assert_eq!(rt; answer(&mut keyspaces, call, keyspace, table)?, want);
+        }
+    }
+    Ok(())
+}
