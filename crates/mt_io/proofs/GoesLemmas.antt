@@ -1,8 +1,7 @@
 -- Bytes that go out in pieces.
-use Rattle.std.proofs.Common.{◌≡◌, ◌≢◌, ◌∷◌, ℕ, true, false, ◌==◌, List, [], ◌++◌, length, take, drop, refl, sym, ap, subst, ◌∙◌, Result, Ok, Err, append-nil, append_assoc}
+use Rattle.std.proofs.Common.{◌≡◌, ◌≢◌, ◌∷◌, ℕ, false, ◌==◌, List, [], ◌++◌, length, take, drop, refl, sym, ap, ◌∙◌, Result, Ok, Err, append-nil, append_assoc}
 use Rattle.std.proofs.KnownBytes.{Appends-nil, Appends-trans}
-use Rattle.std.proofs.lemmas.Bool.{eqb-true}
-use Rattle.std.proofs.lemmas.List.{nil_from_length, take-append-drop}
+use Rattle.std.proofs.lemmas.List.{take-append-drop}
 use Rattle.std.specs.Io.KnownBytes.{Appends}
 use Rattle.mt_io.specs.declared.fault.ScriptFault.{ScriptFault}
 use Rattle.mt_io.specs.Bytes.{GoesOut, IsCutShort, Known, Writes}
@@ -33,9 +32,7 @@ goes_none a b c all rest (first, went, is) none = (first ++ [], Appends-trans a 
 pub goes_short : (a b : Known) (all rest more : List ℕ) → GoesOut a b all rest → GoesOut a b (all ++ more) (rest ++ more)
 goes_short a b all rest more (written, went, is) = (written, went, ap (λ (t : List ℕ). t ++ more) is ∙ append_assoc written rest more)
 
-pub none_left : (bytes : List ℕ) → (length bytes == 0) ≡ true → bytes ≡ []
-none_left bytes e = nil_from_length bytes (eqb-true (length bytes) 0 e)
-
+-- bytes of which some are left
 pub some_left : (bytes : List ℕ) → (length bytes == 0) ≡ false → bytes ≢ []
 some_left [] e = absurd cc
 some_left (byte ∷ bytes) e = λ none. absurd cc

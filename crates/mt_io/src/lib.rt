@@ -1,4 +1,4 @@
-//! Reading a script whole, and writing its output in pieces. It knows bytes alone: what a script means is not its matter.
+//! Reading a script or a document whole, and writing output in pieces. It knows bytes alone: what they mean is not its matter.
 #![tactic(auto)]
 
 mod fault;

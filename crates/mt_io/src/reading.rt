@@ -1,4 +1,4 @@
-//! Reading a script.
+//! Reading a script, or a document under a script's limits.
 ghost use Rattle.std.specs.Result.{result_map_both};
 ghost use Rattle.mt_io.specs.Bytes.{Reads, ReadsMore};
 
@@ -43,8 +43,9 @@ fn read_more<R: Read>(script: &mut Vec<u8>, reader: &mut R) -> Result<Progress, 
     Ok(Progress::More)
 }
 
-/// Reads to the end, 1,048,576 bytes at most and in at most 2,097,152 reads. A fault leaves no script: what was read is
-/// gone. `TooLong` comes with the read that passes the limit, of at most 16,384 bytes; `Read` and `Memory` at any read.
+/// Reads a script or a document to its end, 1,048,576 bytes at most and in at most 2,097,152 reads. A fault leaves no
+/// script: what was read is gone. `TooLong` comes with the read that passes the limit, of at most 16,384 bytes; `Read` and
+/// `Memory` at any read.
 pub fn read_script<R: Read>(alloc: Global, reader: &mut R) -> Result<Vec<u8>, ScriptFault>
     ensures { Reads (R.remaining reader.old) (R.remaining reader.new) (result_map_both (λ script. script.items) (λ fault. fault) result) }
 {

@@ -1,23 +1,10 @@
 -- A document that was read, and written in its canonical form.
-use Rattle.std.proofs.Common.{◌≡◌, ◌++◌, ℕ, Bool, List, [], Result, Ok, Err, refl, sym, ◌∙◌, subst, append-nil, inl, inr}
-use Rattle.std.proofs.KnownBytes.{Appends-nil}
-use Rattle.std.specs.Io.KnownBytes.{Appends}
+use Rattle.std.proofs.Common.{◌≡◌, ◌++◌, ℕ, Bool, List, [], Result, Ok, Err, sym, subst, inr}
 use Rattle.mt_plain.specs.Output.{line_feed}
 use Rattle.mt_io.specs.declared.fault.ScriptFault.{ScriptFault}
 use Rattle.mt_io.specs.declared.fault.ScriptFault.TheVariants as fault
-use Rattle.mt_io.specs.Bytes.{GoesOut, IsCutShort, Known, Reads, Writes}
+use Rattle.mt_io.specs.Bytes.{IsCutShort, Known, Reads, Writes}
 use Rattle.mt_run.specs.Canon.{WritesCanon, WritesLine}
-
--- all went out
-pub all_out : (held held' : Known) (all : List ℕ) → GoesOut held held' all [] → Appends held held' all
-all_out held held' all (written, went, is) = subst (Appends held held') (sym (is ∙ append-nil written)) went
-
--- a document that isn't read leaves nothing written
-pub unread : (due : List ℕ → List ℕ × Bool) (left left' held : Known) (f : ScriptFault) → Reads left left' (Err f) → WritesCanon due left left' held held (Err f)
-unread due left left' held fault.Memory (input, consumed, most) = (input, consumed, inl most, Appends-nil held)
-unread due left left' held fault.Read (input, consumed, most) = (input, consumed, most, Appends-nil held)
-unread due left left' held fault.Write (input, consumed, impossible) = absurd impossible
-unread due left left' held fault.TooLong (input, consumed, long) = (input, consumed, long, Appends-nil held)
 
 -- one that is read is written, or finds no memory
 pub read_and_written : (due : List ℕ → List ℕ × Bool) (left left' held held' : Known) (text : List ℕ) (result : Result Bool ScriptFault) → Reads left left' (Ok text)

@@ -28,7 +28,7 @@ dump_canon text = canon_of dump_text topology_fault_text (topology_of_text text)
 
 -- the code's word for what becomes of a document; that there was no memory is said of any
 abbrev pub IsCanon : List ℕ × Bool → code.Canon → Type 0
-IsCanon due (canon.Taken form) = due ≡ (string_bytes form, true)
+IsCanon due (canon.Taken text) = due ≡ (string_bytes text, true)
 IsCanon due (canon.Refused refusal) = due ≡ (refused_text refusal.now, false)
 IsCanon due canon.NoMemory = ⊤
 

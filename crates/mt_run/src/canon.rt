@@ -24,8 +24,8 @@ enum Canon {
 }
 
 /// The canonical form of a text of rules.
-fn rules_form(alloc: Global, text: &[u8]) -> Result<String, RulesFault>
-    ensures taken { IfOk result (λ form. rules_canon text.now ≡ (string_bytes form, true)) }
+fn canonical_rules(alloc: Global, text: &[u8]) -> Result<String, RulesFault>
+    ensures taken { IfOk result (λ written. rules_canon text.now ≡ (string_bytes written, true)) }
     ensures refused { IfErr result (λ fault. (fault ≡ RulesFault.Memory) ⊎ (rules_canon text.now ≡ (refused_text (rules_fault_text fault), false))) }
 {
     let rules = RoutingRules::from_json(alloc, text)?;
@@ -36,16 +36,16 @@ fn rules_form(alloc: Global, text: &[u8]) -> Result<String, RulesFault>
 fn rules_canon(alloc: Global, text: &[u8]) -> Canon
     ensures { IsCanon (rules_canon text.now) result }
 {
-    match rules_form(alloc, text) {
-        Ok(form) => Canon::Taken(form),
+    match canonical_rules(alloc, text) {
+        Ok(text) => Canon::Taken(text),
         Err(RulesFault::Memory) => Canon::NoMemory,
         Err(fault) => Canon::Refused(fault.as_str()),
     }
 }
 
 /// The canonical form of a text of a dump.
-fn dump_form(alloc: Global, text: &[u8]) -> Result<String, TopologyFault>
-    ensures taken { IfOk result (λ form. dump_canon text.now ≡ (string_bytes form, true)) }
+fn canonical_dump(alloc: Global, text: &[u8]) -> Result<String, TopologyFault>
+    ensures taken { IfOk result (λ written. dump_canon text.now ≡ (string_bytes written, true)) }
     ensures refused { IfErr result (λ fault. (fault ≡ TopologyFault.Memory) ⊎ (dump_canon text.now ≡ (refused_text (topology_fault_text fault), false))) }
 {
     let topology = Topology::load(alloc, text)?;
@@ -56,8 +56,8 @@ fn dump_form(alloc: Global, text: &[u8]) -> Result<String, TopologyFault>
 fn dump_canon(alloc: Global, text: &[u8]) -> Canon
     ensures { IsCanon (dump_canon text.now) result }
 {
-    match dump_form(alloc, text) {
-        Ok(form) => Canon::Taken(form),
+    match canonical_dump(alloc, text) {
+        Ok(text) => Canon::Taken(text),
         Err(TopologyFault::Memory) => Canon::NoMemory,
         Err(fault) => Canon::Refused(fault.as_str()),
     }
@@ -68,8 +68,8 @@ fn write_canon<W: Write>(writer: &mut W, canon: Canon) -> Result<bool, ScriptFau
     ensures { (due : List ℕ × Bool) → IsCanon due canon → WritesLine due (W.contents writer.old) (W.contents writer.new) result }
 {
     match canon {
-        Canon::Taken(form) => {
-            write_line(writer, b"", form.as_bytes())?;
+        Canon::Taken(text) => {
+            write_line(writer, b"", text.as_bytes())?;
             Ok(true)
         }
         Canon::Refused(refusal) => {

@@ -1,8 +1,8 @@
 -- First what waits, then the document, then its line feed.
-use Rattle.std.proofs.Common.{◌≡◌, ◌++◌, [], subst, ◌∙◌}
+use Rattle.std.proofs.Common.{◌≡◌, ◌++◌, [], ◌∙◌}
 use Rattle.std.proofs.lemmas.Result.{err_from_is_err_and}
 use Rattle.mt_plain.specs.Output.{line_feed}
-use Rattle.mt_io.specs.Bytes.{GoesOut, Writes}
+use Rattle.mt_io.specs.Bytes.{GoesOut}
 use Rattle.mt_io.proofs.GoesLemmas.{cut_before, cut_behind, goes_behind, writes_behind}
 use Rattle.mt_io.proofs.output.put_document.Goals as goal
 

@@ -1,8 +1,7 @@
 -- What went out so far, and what is left.
-use Rattle.std.proofs.Common.{◌≡◌, [], refl, sym, subst, ◌∙◌}
+use Rattle.std.proofs.Common.{◌≡◌, refl, sym, ◌∙◌}
 use Rattle.std.proofs.lemmas.Result.{err_from_is_err_and}
-use Rattle.mt_io.specs.Bytes.{GoesOut}
-use Rattle.mt_io.proofs.GoesLemmas.{goes_more, goes_none, none_left, nothing_out, some_left}
+use Rattle.mt_io.proofs.GoesLemmas.{goes_more, goes_none, nothing_out, some_left}
 use Rattle.mt_io.proofs.output.write_all.Goals as goal
 
 pub loop-init : goal.loop-init

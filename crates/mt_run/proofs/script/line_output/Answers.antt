@@ -1,6 +1,5 @@
 -- What a line adds is what it tells, and what its request adds.
-use Rattle.std.proofs.Common.{None, Some, Ok, Err, refl, ap}
-use Rattle.mt_plain.specs.Output.{line_feed}
+use Rattle.std.proofs.Common.{None, Some, Err, refl, ap}
 use Rattle.mt_script.specs.Requests.{request_from}
 use Rattle.mt_run.proofs.RunLemmas.{line_outputs, line_tells}
 use Rattle.mt_run.proofs.script.line_output.Goals as goal
