@@ -1,6 +1,6 @@
 //! What a command line asks for, and why one is refused.
 
-use crate::MAX_KEYSPACES;
+use crate::MAX_WATCHED;
 use arrayvec::ArrayVec;
 use mt_names::{KeyspaceName, NameFault};
 use std::fmt;
@@ -15,7 +15,7 @@ pub const USAGE: &str =
 pub enum Choice {
     /// To run the script of standard input, with a watcher for each of these keyspaces' primaries beside the one for the
     /// routers. A keyspace that stands twice has two watchers.
-    Run(ArrayVec<KeyspaceName, MAX_KEYSPACES>),
+    Run(ArrayVec<KeyspaceName, MAX_WATCHED>),
     /// To write the canonical form of the rule document of standard input.
     Rules,
     /// To write the canonical form of the topology dump of standard input.
@@ -47,7 +47,7 @@ impl Wrong {
     ghost use Rattle.mt_choice.specs.Texts.{wrong_text};
 
     /// The line for standard error, without its line feed.
-    fn as_str(self) -> &'static str
+    pub fn as_str(self) -> &'static str
         ensures { result.now ≡ wrong_text self }
     {
         match self {

@@ -10,4 +10,4 @@ mod words;
 pub use choice::{Choice, USAGE, Wrong};
 pub use laws::{run_reads_its_keyspaces, run_takes_no_option, worked_command_lines};
 pub use reading::choose;
-pub use words::{MAX_KEYSPACES, keyspaces};
+pub use words::{MAX_WATCHED, keyspaces};

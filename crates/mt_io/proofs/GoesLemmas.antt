@@ -1,11 +1,10 @@
 -- Bytes that go out in pieces.
-use Rattle.std.proofs.Common.{◌≡◌, ℕ, true, ◌==◌, List, [], ◌++◌, length, take, drop, refl, sym, ap, subst, ◌∙◌, Result, Ok, Err, append-nil, append_assoc}
+use Rattle.std.proofs.Common.{◌≡◌, ◌≢◌, ◌∷◌, ℕ, false, ◌==◌, List, [], ◌++◌, length, take, drop, refl, sym, ap, ◌∙◌, Result, Ok, Err, append-nil, append_assoc}
 use Rattle.std.proofs.KnownBytes.{Appends-nil, Appends-trans}
-use Rattle.std.proofs.lemmas.Bool.{eqb-true}
-use Rattle.std.proofs.lemmas.List.{nil_from_length, take-append-drop}
+use Rattle.std.proofs.lemmas.List.{take-append-drop}
 use Rattle.std.specs.Io.KnownBytes.{Appends}
 use Rattle.mt_io.specs.declared.fault.ScriptFault.{ScriptFault}
-use Rattle.mt_io.specs.Bytes.{GoesOut, Known, Writes}
+use Rattle.mt_io.specs.Bytes.{GoesOut, IsCutShort, Known, Writes}
 
 pub nothing_out : (held : Known) (waiting : List ℕ) → GoesOut held held waiting waiting
 nothing_out held waiting = ([], Appends-nil held, refl)
@@ -33,27 +32,30 @@ goes_none a b c all rest (first, went, is) none = (first ++ [], Appends-trans a 
 pub goes_short : (a b : Known) (all rest more : List ℕ) → GoesOut a b all rest → GoesOut a b (all ++ more) (rest ++ more)
 goes_short a b all rest more (written, went, is) = (written, went, ap (λ (t : List ℕ). t ++ more) is ∙ append_assoc written rest more)
 
-pub none_left : (bytes : List ℕ) → (length bytes == 0) ≡ true → bytes ≡ []
-none_left bytes e = nil_from_length bytes (eqb-true (length bytes) 0 e)
+-- bytes of which some are left
+pub some_left : (bytes : List ℕ) → (length bytes == 0) ≡ false → bytes ≢ []
+some_left [] e = absurd cc
+some_left (byte ∷ bytes) e = λ none. absurd cc
 
--- ---- a document behind what waits
+-- ---- bytes behind others
 
-module _ (a b : Known) (waiting text feed : List ℕ) where
-  -- what waits did not all go out
-  pub document_waits : (rest : List ℕ) → GoesOut a b waiting rest → GoesOut a b (waiting ++ text ++ feed) (rest ++ text ++ feed)
-  document_waits rest out = goes_short a b (waiting ++ text) (rest ++ text) feed (goes_short a b waiting rest text out)
+-- what is not empty stays so with more behind it
+not_empty-append : (rest more : List ℕ) → rest ≢ [] → rest ++ more ≢ []
+not_empty-append [] more some = absurd (some refl)
+not_empty-append (byte ∷ bytes) more some = λ none. absurd cc
 
-  module _ (c : Known) (none : List ℕ) (empty : none ≡ []) (out : GoesOut a b waiting none) where
-    both : (rest : List ℕ) → GoesOut b c text rest → GoesOut a c (waiting ++ text) rest
-    both rest more = goes_on a b c waiting none text rest out (subst (λ (n : List ℕ). GoesOut b c (n ++ text) rest) (sym empty) more)
+-- what is cut short stays so with more behind it
+pub cut_before : (a b : Known) (all more : List ℕ) → IsCutShort a b all → IsCutShort a b (all ++ more)
+cut_before a b all more (rest, some, out) = (rest ++ more, not_empty-append rest more some, goes_short a b all rest more out)
 
-    -- the document did not all go out
-    pub document_short : (rest : List ℕ) → GoesOut b c text rest → GoesOut a c (waiting ++ text ++ feed) (rest ++ feed)
-    document_short rest more = goes_short a c (waiting ++ text) rest feed (both rest more)
+module _ (a b c : Known) (first second : List ℕ) (out : GoesOut a b first []) where
+  -- some bytes went out, and then others
+  pub goes_behind : (rest : List ℕ) → GoesOut b c second rest → GoesOut a c (first ++ second) rest
+  goes_behind rest more = goes_on a b c first [] second rest out more
 
-    -- the document went out, and then its line feed waits
-    pub document_out : (d : Known) (waiting' : List ℕ) (result : Result Unit ScriptFault) → GoesOut b c text [] → Writes c d (none ++ feed) waiting' result
-        → Writes a d (waiting ++ text ++ feed) waiting' result
-    document_out d waiting' (Ok done) more last = goes_on a c d (waiting ++ text) [] feed waiting' (both [] more) (subst (λ (n : List ℕ). GoesOut c d (n ++ feed) waiting') empty last)
-    document_out d waiting' (Err f) more (is_write, (rest, last)) =
-        (is_write, (rest, goes_on a c d (waiting ++ text) [] feed rest (both [] more) (subst (λ (n : List ℕ). GoesOut c d (n ++ feed) rest) empty last)))
+  pub cut_behind : IsCutShort b c second → IsCutShort a c (first ++ second)
+  cut_behind (rest, some, more) = (rest, some, goes_behind rest more)
+
+  pub writes_behind : (waiting : List ℕ) (result : Result Unit ScriptFault) → Writes b c second waiting result → Writes a c (first ++ second) waiting result
+  writes_behind waiting (Ok done) more = goes_behind waiting more
+  writes_behind waiting (Err f) (is_write, none, more) = (is_write, none, cut_behind more)

@@ -1,5 +1,5 @@
 -- What reading a script, and writing its output, do to the bytes of a reader and of a writer.
-use Rattle.std.specs.Prelude.{◌≡◌, ℕ, ◌+◌, ◌≤◌, ◌<◌, List, [], ◌++◌, length, take, codes, Option, Result, Ok, Err}
+use Rattle.std.specs.Prelude.{◌≡◌, ◌≢◌, ℕ, ◌+◌, ◌≤◌, ◌<◌, List, [], ◌++◌, length, take, codes, Option, Result, Ok, Err}
 use Rattle.std.specs.Io.KnownBytes.{Appends, Consumes, IsAtEnd, Keeps}
 use Rattle.mt_plain.specs.Output.{MAX_SCRIPT_LENGTH}
 use Rattle.mt_io.specs.declared.reading.Progress.{Progress}
@@ -30,11 +30,11 @@ HasReadMore fault.Read more = more ≡ []
 HasReadMore fault.Write more = ⊥
 HasReadMore fault.TooLong more = ⊥
 
--- one read adds to the script what it gave, which is nothing at the end
+-- one read adds to the script what it gave, which is nothing at the end; a fault leaves the script as it was
 abbrev pub ReadsMore : Known → Known → (old new : List ℕ) → Result Progress ScriptFault → Type 0
 ReadsMore left left' old new (Ok progress.Whole) = (new ≡ old) × Keeps left left' × IsAtEnd left'
 ReadsMore left left' old new (Ok progress.More) = (more : List ℕ) × Consumes left left' more × (length more ≤ longest_piece) × (new ≡ old ++ more)
-ReadsMore left left' old new (Err f) = (more : List ℕ) × Consumes left left' more × HasReadMore f more
+ReadsMore left left' old new (Err f) = (more : List ℕ) × Consumes left left' more × HasReadMore f more × (new ≡ old)
 
 -- how much was read where a script isn't read whole: reading ends with the piece that makes the script too long
 abbrev pub HasRead : ScriptFault → List ℕ → Type 0
@@ -43,10 +43,10 @@ HasRead fault.Read input = length input ≤ MAX_SCRIPT_LENGTH
 HasRead fault.Write input = ⊥
 HasRead fault.TooLong input = (MAX_SCRIPT_LENGTH < length input) × (length input ≤ MAX_SCRIPT_LENGTH + longest_piece)
 
--- the whole script was read; or a part of it
-abbrev pub Reads : Known → Known → (script : List ℕ) → Result Unit ScriptFault → Type 0
-Reads left left' script (Ok done) = Consumes left left' script × IsAtEnd left' × (length script ≤ MAX_SCRIPT_LENGTH)
-Reads left left' script (Err f) = (input : List ℕ) × Consumes left left' input × HasRead f input
+-- the whole script was read; or a part of it, and there is no script
+abbrev pub Reads : Known → Known → Result (List ℕ) ScriptFault → Type 0
+Reads left left' (Ok script) = Consumes left left' script × IsAtEnd left' × (length script ≤ MAX_SCRIPT_LENGTH)
+Reads left left' (Err f) = (input : List ℕ) × Consumes left left' input × HasRead f input
 
 -- ---- writing
 
@@ -59,10 +59,15 @@ abbrev pub WritesSome : Known → Known → (bytes : List ℕ) → Result ℕ Sc
 WritesSome held held' bytes (Ok count) = (count ≤ length bytes) × Appends held held' (take count bytes)
 WritesSome held held' bytes (Err f) = (f ≡ fault.Write) × Appends held held' []
 
--- of all bytes that were to be written so far, those that wait are not written yet; a write fault leaves some others too
+-- of some bytes the first went out, and at least one did not
+abbrev pub IsCutShort : Known → Known → (all : List ℕ) → Type 0
+IsCutShort held held' all = (rest : List ℕ) × (rest ≢ []) × GoesOut held held' all rest
+
+-- of all bytes that were to be written so far, those that wait are not written yet. A write fault cuts them short, and
+-- nothing waits
 abbrev pub Writes : Known → Known → (all waiting : List ℕ) → Result Unit ScriptFault → Type 0
 Writes held held' all waiting (Ok done) = GoesOut held held' all waiting
-Writes held held' all waiting (Err f) = (f ≡ fault.Write) × ((rest : List ℕ) × GoesOut held held' all rest)
+Writes held held' all waiting (Err f) = (f ≡ fault.Write) × (waiting ≡ []) × IsCutShort held held' all
 
 -- a script that was read to its end
 abbrev pub IsWhole : Known → List ℕ → Type 0

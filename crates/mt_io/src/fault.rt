@@ -1,19 +1,20 @@
-//! Why a script ends early.
+//! Why a run over bytes ends early.
 
 use std::fmt;
 use thiserror::Error;
 
-/// Why a script ends before its last line is answered. The topology and the rows are then gone, as after its last line.
+/// Why a run over bytes ends early: that of a script before its last line is answered, or that of a document before its line
+/// is written. The topology and the rows of a script are then gone, as after its last line.
 #[derive(Clone, Copy, Debug, Eq, Error, PartialEq)]
 pub enum ScriptFault {
-    /// No memory was left to read the script, and nothing was written; or none was left for a document, and what was written
-    /// is the answers to the lines before it.
+    /// No memory was left to read the script or the document, and nothing was written; or none was left for a document that a
+    /// line asks for, and what was written is the answers to the lines before it.
     Memory,
-    /// A read failed, or the script didn't come in 2,097,152 reads. Nothing was written.
+    /// A read failed, or the input didn't come in 2,097,152 reads. Nothing was written.
     Read,
-    /// A write failed or took no byte. The beginning of an output was written.
+    /// A write failed or took no byte. The beginning of the output was written, and not all of it.
     Write,
-    /// The script has more than 1,048,576 bytes. Nothing was written.
+    /// The input has more than 1,048,576 bytes. Nothing was written.
     TooLong,
 }
 

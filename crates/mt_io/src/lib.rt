@@ -1,4 +1,4 @@
-//! Reading a script whole, and writing its output in pieces. It knows bytes alone: what a script means is not its matter.
+//! Reading a script or a document whole, and writing output in pieces. It knows bytes alone: what they mean is not its matter.
 #![tactic(auto)]
 
 mod fault;
@@ -6,5 +6,5 @@ mod output;
 mod reading;
 
 pub use fault::ScriptFault;
-pub use output::{ROOM, Waiting, flush, put_document, put_line, write_line};
+pub use output::{ROOM, Waiting, flush, put_document, put_line, write_all, write_line};
 pub use reading::{MAX_READS, MAX_SCRIPT_LENGTH, read_script};

@@ -29,22 +29,25 @@ fn write_some<W: Write>(writer: &mut W, bytes: &[u8]) -> Result<usize, ScriptFau
     }
 }
 
-/// Writes some bytes. After a fault the first of them are written.
-fn write_all<W: Write>(writer: &mut W, bytes: &[u8]) -> Result<(), ScriptFault>
+/// Writes some bytes. After a fault the first of them are written, and not all.
+pub fn write_all<W: Write>(writer: &mut W, bytes: &[u8]) -> Result<(), ScriptFault>
     ensures { Writes (W.contents writer.old) (W.contents writer.new) bytes.now [] result }
 {
     let mut rest = bytes;
     for _ in 0..u64::MAX {
         if rest.is_empty() {
-            return Ok(());
+            break;
         }
         let count = write_some(writer, rest)?;
         rest = rest.split_at(count).1;
     }
+    if rest.is_empty() {
+        return Ok(());
+    }
     Err(ScriptFault::Write)
 }
 
-/// Writes two texts in a line of their own, one behind the other.
+/// Writes two texts in a line of their own, one behind the other. After a fault a beginning of the line is written.
 pub fn write_line<W: Write>(writer: &mut W, first: &[u8], second: &[u8]) -> Result<(), ScriptFault>
     ensures { Writes (W.contents writer.old) (W.contents writer.new) (first.now ++ second.now ++ line_feed) [] result }
 {
@@ -53,14 +56,14 @@ pub fn write_line<W: Write>(writer: &mut W, first: &[u8], second: &[u8]) -> Resu
     write_all(writer, b"\n")
 }
 
-/// Writes all that waits.
+/// Writes all that waits. Nothing waits then, after a fault either: what was not written is given up.
 pub fn flush<W: Write>(waiting: &mut Waiting, writer: &mut W) -> Result<(), ScriptFault>
     ensures writes { Writes (W.contents writer.old) (W.contents writer.new) waiting.old.items waiting.new.items result }
-    ensures empty { OnOk result (waiting.new.items ≡ []) }
+    ensures empty { waiting.new.items ≡ [] }
 {
-    write_all(writer, waiting)?;
+    let end = write_all(writer, waiting);
     waiting.clear();
-    Ok(())
+    end
 }
 
 /// Makes room for a line: where there is none, all that waits is written.
@@ -74,7 +77,7 @@ fn make_room<W: Write>(waiting: &mut Waiting, writer: &mut W) -> Result<(), Scri
     flush(waiting, writer)
 }
 
-/// Adds a line to what waits, and writes what waited where there is no room for it.
+/// Adds a line to what waits, and writes what waited first if there is no room for the line. After a fault nothing waits.
 pub fn put_line<W: Write>(
     waiting: &mut Waiting,
     writer: &mut W,
@@ -88,7 +91,8 @@ pub fn put_line<W: Write>(
     Ok(())
 }
 
-/// Writes what waits, and then a document in a line of its own. The document isn't kept: only its line feed waits.
+/// Writes what waits, and then a document in a line of its own. The document isn't kept: only its line feed waits. After a
+/// fault nothing waits.
 pub fn put_document<W: Write>(
     waiting: &mut Waiting,
     writer: &mut W,

@@ -1,8 +1,9 @@
-//! Reading a script.
-ghost use Rattle.std.specs.Prelude.{◌≡◌, []};
+//! Reading a script, or a document under a script's limits.
+ghost use Rattle.std.specs.Result.{result_map_both};
 ghost use Rattle.mt_io.specs.Bytes.{Reads, ReadsMore};
 
 use crate::fault::ScriptFault;
+use std::alloc::Global;
 use std::io::{ErrorKind, Read};
 
 /// The longest script, in bytes.
@@ -23,7 +24,7 @@ pub enum Progress {
     Whole,
 }
 
-/// Reads once, and adds what was read to the script.
+/// Reads once, and adds what was read to the script. After a fault the script is as it was.
 fn read_more<R: Read>(script: &mut Vec<u8>, reader: &mut R) -> Result<Progress, ScriptFault>
     ensures { ReadsMore (R.remaining reader.old) (R.remaining reader.new) script.old.items script.new.items result }
 {
@@ -42,14 +43,16 @@ fn read_more<R: Read>(script: &mut Vec<u8>, reader: &mut R) -> Result<Progress, 
     Ok(Progress::More)
 }
 
-/// Reads a script to its end.
-pub fn read_script<R: Read>(script: &mut Vec<u8>, reader: &mut R) -> Result<(), ScriptFault>
-    requires { script.old.items ≡ [] }
-    ensures { Reads (R.remaining reader.old) (R.remaining reader.new) script.new.items result }
+/// Reads a script or a document to its end, 1,048,576 bytes at most and in at most 2,097,152 reads. A fault leaves no
+/// script: what was read is gone. `TooLong` comes with the read that passes the limit, of at most 16,384 bytes; `Read` and
+/// `Memory` at any read.
+pub fn read_script<R: Read>(alloc: Global, reader: &mut R) -> Result<Vec<u8>, ScriptFault>
+    ensures { Reads (R.remaining reader.old) (R.remaining reader.new) (result_map_both (λ script. script.items) (λ fault. fault) result) }
 {
+    let mut script = Vec::new(alloc);
     for _ in 0..MAX_READS {
-        match read_more(script, reader)? {
-            Progress::Whole => return Ok(()),
+        match read_more(&mut script, reader)? {
+            Progress::Whole => return Ok(script),
             Progress::More => {
                 if script.len() > MAX_SCRIPT_LENGTH {
                     return Err(ScriptFault::TooLong);

@@ -1,28 +1,22 @@
--- A document that was read, and written again.
-use Rattle.std.proofs.Common.{ℕ, Bool, List, [], Result, Ok, Err, refl, sym, ◌∙◌, subst, append-nil, inl, inr}
-use Rattle.std.proofs.KnownBytes.{Appends-nil}
-use Rattle.std.specs.Io.KnownBytes.{Appends}
+-- A document that was read, and written in its canonical form.
+use Rattle.std.proofs.Common.{◌≡◌, ◌++◌, ℕ, Bool, List, [], Result, Ok, Err, sym, subst, inr}
+use Rattle.mt_plain.specs.Output.{line_feed}
 use Rattle.mt_io.specs.declared.fault.ScriptFault.{ScriptFault}
 use Rattle.mt_io.specs.declared.fault.ScriptFault.TheVariants as fault
-use Rattle.mt_io.specs.Bytes.{GoesOut, Known, Reads}
-use Rattle.mt_run.specs.Canon.{WritesAgain, WritesLine}
-
--- all went out
-pub all_out : (held held' : Known) (all : List ℕ) → GoesOut held held' all [] → Appends held held' all
-all_out held held' all (written, went, is) = subst (Appends held held') (sym (is ∙ append-nil written)) went
-
--- a document that isn't read leaves nothing written
-pub unread : (due : List ℕ → List ℕ × Bool) (left left' held : Known) (text : List ℕ) (f : ScriptFault) → Reads left left' text (Err f) → WritesAgain due left left' held held (Err f)
-unread due left left' held text fault.Memory (input, consumed, most) = (input, consumed, inl most, Appends-nil held)
-unread due left left' held text fault.Read (input, consumed, most) = (input, consumed, most, Appends-nil held)
-unread due left left' held text fault.Write (input, consumed, impossible) = absurd impossible
-unread due left left' held text fault.TooLong (input, consumed, long) = (input, consumed, long, Appends-nil held)
+use Rattle.mt_io.specs.Bytes.{IsCutShort, Known, Reads, Writes}
+use Rattle.mt_run.specs.Canon.{WritesCanon, WritesLine}
 
 -- one that is read is written, or finds no memory
-module _ (due : List ℕ → List ℕ × Bool) (left left' held held' : Known) (text : List ℕ) (read : Reads left left' text (Ok tt)) where
-  pub written_again : (result : Result Bool ScriptFault) → WritesLine (due text) held held' result → WritesAgain due left left' held held' result
-  written_again (Ok is_form) line = (text, read.0, (read.1, read.2), line)
-  written_again (Err f) (is_write, out) = subst (λ g. WritesAgain due left left' held held' (Err g)) (sym is_write) (text, read.0, (read.1, read.2), (refl, out))
+pub read_and_written : (due : List ℕ → List ℕ × Bool) (left left' held held' : Known) (text : List ℕ) (result : Result Bool ScriptFault) → Reads left left' (Ok text)
+    → WritesLine (due text) held held' result → WritesCanon due left left' held held' result
+read_and_written due left left' held held' text (Ok is_taken) read line = (text, read.0, (read.1, read.2), line)
+read_and_written due left left' held held' text (Err fault.Write) read line = (text, read.0, (read.1, read.2), line)
+read_and_written due left left' held held' text (Err fault.Memory) read none = (text, read.0, inr (read.1, read.2), none)
+read_and_written due left left' held held' text (Err fault.Read) read impossible = absurd impossible
+read_and_written due left left' held held' text (Err fault.TooLong) read impossible = absurd impossible
 
-  pub no_memory_again : WritesAgain due left left' held held (Err fault.Memory)
-  no_memory_again = (text, read.0, inr (read.1, read.2), Appends-nil held)
+-- a line that a write fault cuts short
+pub line_failed : (due : List ℕ × Bool) (text : List ℕ) (is_taken : Bool) (held held' : Known) (f : ScriptFault) → due ≡ (text, is_taken) → Writes held held' (text ++ line_feed) [] (Err f)
+    → WritesLine due held held' (Err f)
+line_failed due text is_taken held held' f is (is_write, none, cut) =
+    subst (λ g. WritesLine due held held' (Err g)) (sym is_write) (subst (λ (d : List ℕ × Bool). IsCutShort held held' (d.0 ++ line_feed)) (sym is) cut)

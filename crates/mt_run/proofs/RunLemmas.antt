@@ -1,6 +1,7 @@
 -- Whatever completes the output of the lines that are left completes that of the script.
+use native.Mathlib.Omega.{arith}
 use Rattle.std.proofs.Common.{◌≡◌, ℕ, true, List, [], ◌∷◌, ◌++◌, Option, Some, None, Result, Ok, Err, refl, sym, ap, ◌∙◌, subst, append-nil, append_assoc, inl, inr}
-use Rattle.std.proofs.KnownBytes.{Appends-nil, Appends-trans}
+use Rattle.std.proofs.KnownBytes.{Appends-nil, Appends-trans, Consumes-nil}
 use Rattle.std.specs.Io.KnownBytes.{Appends}
 use Rattle.std.specs.Prelude.{string_bytes}
 use Rattle.std.specs.Str.Lines.{lines}
@@ -11,22 +12,23 @@ use Rattle.mt_model.specs.Documents.{dump_text, rules_text}
 use Rattle.mt_plain.specs.Events.{Event, answer_from}
 use Rattle.mt_plain.specs.Answers.{Answers}
 use Rattle.mt_plain.specs.Next.{next}
-use Rattle.mt_plain.specs.Output.{Adds, Output, Told, asks, drives, line_feed, nothing, output_from, says, told, told_request}
+use Rattle.mt_plain.specs.Output.{Adds, IsOutputBy, Output, Told, asks, drives, line_feed, nothing, output_from, says, told, told_request}
 use Rattle.mt_plain.specs.Output as plain
 use Rattle.mt_plain.specs.Plain.{Plain, opening}
 use Rattle.mt_plain.specs.Script.{Request}
 use Rattle.mt_plain.specs.Script as script
 use Rattle.mt_plain.specs.Serve.{served}
 use Rattle.mt_laws.proofs.OutputLemmas.{output_from-is_written, output_from_memory}
-use Rattle.mt_script.specs.Requests.{reading_so_far}
+use Rattle.mt_script.specs.Requests.{LineMeaning, meaning_of, reading_so_far}
+use Rattle.mt_script.proofs.LineLemmas.{told_by, told-meant}
 use Rattle.mt_io.specs.declared.fault.ScriptFault.{ScriptFault}
 use Rattle.mt_io.specs.declared.fault.ScriptFault.TheVariants as fault
 use Rattle.mt_io.specs.Bytes.{GoesOut, Known, Reads, Writes}
-use Rattle.mt_io.proofs.GoesLemmas.{goes_on, goes_short, nothing_out}
+use Rattle.mt_io.proofs.GoesLemmas.{cut_before, goes_on, nothing_out}
 use Rattle.mt_core.specs.Core.{CoreState, Stands}
-use Rattle.mt_run.specs.declared.script.Reply as answer
-use Rattle.mt_run.specs.declared.script.Reply.TheVariants as reply
-use Rattle.mt_run.specs.Runs.{AsksDocument, Replies, Runs, RunsLine, RunsLines, Tells, bytes_of, is_document}
+use Rattle.mt_run.specs.declared.script.LineOutput as answer
+use Rattle.mt_run.specs.declared.script.LineOutput.TheVariants as output
+use Rattle.mt_run.specs.Runs.{AsksDocument, IsLineOutput, Runs, RunsLine, RunsLines, Tells, bytes_of, is_document}
 
 -- ---- a line
 
@@ -63,31 +65,42 @@ document_says p (script.drive workflow types backward) is = absurd cc
 document_tells : (p : Plain) (line : List ℕ) (core : CoreState) → Stands p core → AsksDocument line → (text : List ℕ) × Tells p (told reading_so_far p line) (Some text) core
 document_tells p line core stands (request, is, same) =
     let words = document_says p request is in
-    (words.0 ++ line_feed, subst (λ t. Tells p t (Some (words.0 ++ line_feed)) core) (sym words.1 ∙ same p) (refl, stands))
+    (words.0 ++ line_feed, subst (λ t. Tells p t (Some (words.0 ++ line_feed)) core) (sym words.1 ∙ told-meant p (reading_so_far line) (Some (Ok request)) same) (refl, stands))
 
--- the reply to the request of a line
-pub line_replies : (p : Plain) (line : List ℕ) (request : Request) (r : answer.Reply) (core : CoreState) → ((q : Plain) → told_request q (Ok request) ≡ told reading_so_far q line)
-    → Replies p (told_request p (Ok request)) (is_document request ≡ true) r core → Replies p (told reading_so_far p line) (AsksDocument line) r core
-line_replies p line request reply.Silent core same is = subst (λ t. Tells p t None core) (same p) is
-line_replies p line request (reply.Line text) core same is = subst (λ t. Tells p t (Some text.items) core) (same p) is
-line_replies p line request (reply.Document text) core same is = subst (λ t. Tells p t (Some (string_bytes text ++ line_feed)) core) (same p) is
-line_replies p line request reply.NoMemory core same (is, stands) = ((request, is, same), stands)
+-- what the request of a line adds is what the line adds
+pub line_outputs : (p : Plain) (line : List ℕ) (request : Request) (r : answer.LineOutput) (core : CoreState) → Some (Ok request) ≡ meaning_of (reading_so_far line)
+    → IsLineOutput p (told_request p (Ok request)) (is_document request ≡ true) r core → IsLineOutput p (told reading_so_far p line) (AsksDocument line) r core
+line_outputs p line request r core same = by r
+  where
+    told-same : told_request p (Ok request) ≡ told reading_so_far p line
+    told-same = told-meant p (reading_so_far line) (Some (Ok request)) same
+
+    by : (r : answer.LineOutput) → IsLineOutput p (told_request p (Ok request)) (is_document request ≡ true) r core → IsLineOutput p (told reading_so_far p line) (AsksDocument line) r core
+    by output.Silent is = subst (λ t. Tells p t None core) told-same is
+    by (output.Line text) is = subst (λ t. Tells p t (Some text.items) core) told-same is
+    by (output.Document text) is = subst (λ t. Tells p t (Some (string_bytes text ++ line_feed)) core) told-same is
+    by output.NoMemory (is, stands) = ((request, is, same), stands)
+
+-- a line of this meaning tells a text, or none
+pub line_tells : (p : Plain) (line : List ℕ) (meaning : LineMeaning) (text : Option (List ℕ)) (core : CoreState) → meaning ≡ meaning_of (reading_so_far line)
+    → Tells p (told_by p meaning) text core → Tells p (told reading_so_far p line) text core
+line_tells p line meaning text core same tells = subst (λ t. Tells p t text core) (told-meant p (reading_so_far line) meaning same) tells
 
 module _ (p : Plain) (line : List ℕ) (core : CoreState) (held held' : Known) (waiting waiting' : List ℕ) where
   -- a text goes behind what waits
   pub line_written : (text : Option (List ℕ)) (result : Result Unit ScriptFault) → Tells p (told reading_so_far p line) text core → Writes held held' (waiting ++ bytes_of text) waiting' result
       → RunsLine p line core held held' waiting waiting' result
   line_written text (Ok done) tells writes = (text, tells, writes)
-  line_written text (Err f) tells (is_write, out) = subst (λ g. RunsLine p line core held held' waiting waiting' (Err g)) (sym is_write) (text, tells, out)
+  line_written text (Err f) tells (is_write, none, out) = subst (λ g. RunsLine p line core held held' waiting waiting' (Err g)) (sym is_write) (text, tells, out)
 
   -- a document finds no memory: what waits goes out, or doesn't
   pub document_wanting : AsksDocument line → GoesOut held held' waiting waiting' → waiting' ≡ [] → RunsLine p line core held held' waiting waiting' (Err fault.Memory)
   document_wanting wants (written, went, all) none = (wants, subst (Appends held held') (sym (all ∙ ap (λ (t : List ℕ). written ++ t) none ∙ append-nil written)) went)
 
-  pub document_unwritten : (f : ScriptFault) → AsksDocument line × Stands p core → (f ≡ fault.Write) × ((rest : List ℕ) × GoesOut held held' waiting rest) → RunsLine p line core held held' waiting waiting' (Err f)
-  document_unwritten f (wants, stands) (is_write, (rest, out)) =
+  pub document_unwritten : (f : ScriptFault) → AsksDocument line × Stands p core → Writes held held' waiting waiting' (Err f) → RunsLine p line core held held' waiting waiting' (Err f)
+  document_unwritten f (wants, stands) (is_write, none, out) =
       let text = document_tells p line core stands wants in
-      subst (λ g. RunsLine p line core held held' waiting waiting' (Err g)) (sym is_write) (Some text.0, text.1, (rest ++ text.0, goes_short held held' waiting rest text.0 out))
+      subst (λ g. RunsLine p line core held held' waiting waiting' (Err g)) (sym is_write) (Some text.0, text.1, cut_before held held' waiting text.0 out)
 
 -- ---- a run so far
 
@@ -128,7 +141,7 @@ module _ (p : Plain) (script rest line after : List ℕ) (core core' : CoreState
   line_failed fault.Write (q, stands, (before, all, done, went, completes)) runs = by (runs q stands)
     where
       by : RunsLine q line core' held' held'' waiting waiting' (Err fault.Write) → RunsLines p script held held'' (Err fault.Write)
-      by (text, tells, (left, writes)) = from (tells_adds q (told reading_so_far q line) text core' tells)
+      by (text, tells, (left, some, writes)) = from (tells_adds q (told reading_so_far q line) text core' tells)
         where
           from : (r : Plain) × Stands r core' × ((Rest : Plain → List ℕ → Type 0) (out : List ℕ) → Rest r out → Adds Answers q (told reading_so_far q line) Rest (bytes_of text ++ out)) → RunsLines p script held held'' (Err fault.Write)
           from (r, stands', adds) =
@@ -137,9 +150,8 @@ module _ (p : Plain) (script rest line after : List ℕ) (core core' : CoreState
               let here : Output Answers reading_so_far p (before ++ line ∷ lines after) ((all ++ bytes_of text) ++ o) =
               subst (λ x. Output Answers reading_so_far p (before ++ line ∷ lines after) x) (sym (append_assoc all (bytes_of text) o)) (completes (line ∷ lines after) (bytes_of text ++ o) added) in (
                 (all ++ bytes_of text) ++ o,
-                left ++ o,
                 subst (λ ls. Output Answers reading_so_far p ls ((all ++ bytes_of text) ++ o)) (sym (done ∙ ap (λ (ls : List (List ℕ)). before ++ ls) first)) here,
-                goes_short held held'' (all ++ bytes_of text) left o (goes_on held held' held'' all waiting (bytes_of text) left went writes),
+                cut_before held held'' (all ++ bytes_of text) o (left, some, goes_on held held' held'' all waiting (bytes_of text) left went writes),
               )
   line_failed fault.Memory (q, stands, (before, all, done, (written, went, is_all), completes)) runs = by (runs q stands)
     where
@@ -162,7 +174,7 @@ module _ (p : Plain) (script rest line after : List ℕ) (core core' : CoreState
 -- ---- the end
 
 pub ends : (p : Plain) (script rest : List ℕ) (core : CoreState) (held held' held'' : Known) (waiting waiting' : List ℕ) (result : Result Unit ScriptFault)
-    → SoFar p script rest core held held' waiting → lines rest ≡ [] → Writes held' held'' waiting waiting' result → (result ≡ Ok tt → waiting' ≡ []) → RunsLines p script held held'' result
+    → SoFar p script rest core held held' waiting → lines rest ≡ [] → Writes held' held'' waiting waiting' result → waiting' ≡ [] → RunsLines p script held held'' result
 ends p script rest core held held' held'' waiting waiting' result (q, stands, (before, all, done, went, completes)) none writes empty = by result writes empty
   where
     nil : Output Answers reading_so_far q [] []
@@ -175,26 +187,30 @@ ends p script rest core held held' held'' waiting waiting' result (q, stands, (b
     flushed : (left : List ℕ) → GoesOut held' held'' waiting left → GoesOut held held'' all left
     flushed left more = subst (λ x. GoesOut held held'' x left) (append-nil all) (goes_on held held' held'' all waiting [] left went (subst (λ x. GoesOut held' held'' x left) (sym (append-nil waiting)) more))
 
-    by : (result : Result Unit ScriptFault) → Writes held' held'' waiting waiting' result → (result ≡ Ok tt → waiting' ≡ []) → RunsLines p script held held'' result
+    by : (result : Result Unit ScriptFault) → Writes held' held'' waiting waiting' result → waiting' ≡ [] → RunsLines p script held held'' result
     by (Ok tt) writes empty =
         let gone = flushed waiting' writes in
-        (gone.0, gone.1, subst (λ o. Output Answers reading_so_far p (lines script) o) (gone.2 ∙ ap (λ (t : List ℕ). gone.0 ++ t) (empty refl) ∙ append-nil gone.0) out)
-    by (Err f) (is_write, (left, writes)) empty = subst (λ g. RunsLines p script held held'' (Err g)) (sym is_write) (all, left, out, flushed left writes)
+        (gone.0, gone.1, subst (λ o. Output Answers reading_so_far p (lines script) o) (gone.2 ∙ ap (λ (t : List ℕ). gone.0 ++ t) empty ∙ append-nil gone.0) out)
+    by (Err f) (is_write, none, (left, some, writes)) empty = subst (λ g. RunsLines p script held held'' (Err g)) (sym is_write) (all, out, (left, some, flushed left writes))
 
 -- ---- the whole run
 
-pub runs_read : (scopes : List Scope) (left left' held : Known) (script : List ℕ) (f : ScriptFault) → Reads left left' script (Err f) → Runs scopes left left' held held (Err f)
-runs_read scopes left left' held script fault.Memory (input, consumed, most) =
+pub runs_read : (scopes : List Scope) (left left' held : Known) (f : ScriptFault) → Reads left left' (Err f) → Runs scopes left left' held held (Err f)
+runs_read scopes left left' held fault.Memory (input, consumed, most) =
     (input, [], consumed, inl (most, refl), Appends-nil held, (plain.output_by reading_so_far scopes input, plain.output_by reading_so_far scopes input, has_output (opening scopes) (lines input), refl))
-runs_read scopes left left' held script fault.Read (input, consumed, most) = (input, [], consumed, most, Appends-nil held, refl)
-runs_read scopes left left' held script fault.Write (input, consumed, impossible) = absurd impossible
-runs_read scopes left left' held script fault.TooLong (input, consumed, long) = (input, [], consumed, long, Appends-nil held, (long.0, refl))
+runs_read scopes left left' held fault.Read (input, consumed, most) = (input, [], consumed, most, Appends-nil held, refl)
+runs_read scopes left left' held fault.Write (input, consumed, impossible) = absurd impossible
+runs_read scopes left left' held fault.TooLong (input, consumed, long) = (input, [], consumed, long, Appends-nil held, (long.0, refl))
 
-pub runs_lines : (scopes : List Scope) (left left' held held' : Known) (script : List ℕ) (result : Result Unit ScriptFault) → Reads left left' script (Ok tt)
+-- a run that finds no memory before it reads
+pub runs_none : (scopes : List Scope) (left held : Known) → Runs scopes left left held held (Err fault.Memory)
+runs_none scopes left held = runs_read scopes left left held fault.Memory ([], Consumes-nil left, omega arith)
+
+pub runs_lines : (scopes : List Scope) (left left' held held' : Known) (script : List ℕ) (result : Result Unit ScriptFault) → Reads left left' (Ok script)
     → RunsLines (opening scopes) script held held' result → Runs scopes left left' held held' result
 runs_lines scopes left left' held held' script (Ok done) read (written, went, is) = (script, written, read.0, (read.1, read.2), went, is)
-runs_lines scopes left left' held held' script (Err fault.Write) read (out, rest, is, (written, went, all)) =
-    (script, written, read.0, (read.1, read.2), went, (out, rest, is, sym all))
+runs_lines scopes left left' held held' script (Err fault.Write) read (out, is, (rest, some, (written, went, all))) =
+    (script, written, read.0, ((read.1, read.2), (rest, some, subst (λ o. IsOutputBy reading_so_far scopes script o) all is)), went, (out, rest, is, sym all))
 runs_lines scopes left left' held held' script (Err fault.Memory) read (written, rest, went, ran, is) =
     (script, written, read.0, inr ((read.1, read.2), ran), went, (written ++ rest, rest, is, refl))
 runs_lines scopes left left' held held' script (Err fault.Read) read impossible = absurd impossible

@@ -1,5 +1,5 @@
 -- What a run of a script does to its reader and its writer.
-use Rattle.std.specs.Prelude.{◌≡◌, ◌⊎◌, ℕ, Bool, true, false, List, [], ◌∷◌, ◌++◌, Option, None, Some, Result, Ok, Err, string_bytes}
+use Rattle.std.specs.Prelude.{◌≡◌, ◌≢◌, ◌⊎◌, ℕ, Bool, true, false, List, [], ◌∷◌, ◌++◌, Option, None, Some, Result, Ok, Err, string_bytes}
 use Rattle.std.specs.Str.Lines.{lines}
 use Rattle.std.specs.Io.KnownBytes.{Appends, Consumes}
 use Rattle.mt_model.specs.declared.entries.Scope.{Scope}
@@ -7,16 +7,16 @@ use Rattle.mt_plain.specs.Events.{Answer}
 use Rattle.mt_plain.specs.Answers.{Answers}
 use Rattle.mt_plain.specs.Next.{next}
 use Rattle.mt_plain.specs.Output as plain
-use Rattle.mt_plain.specs.Output.{IsOutputBy, Leaves, Told, answer_text, asks, drives, Output, line_feed, nothing, says, told, told_request}
+use Rattle.mt_plain.specs.Output.{IsOutputBy, Leaves, Told, answer_text, asks, drives, Output, line_feed, nothing, says, told}
 use Rattle.mt_plain.specs.Plain.{Plain, opening}
 use Rattle.mt_plain.specs.Script.{Request, dump_document, rules_document}
-use Rattle.mt_script.specs.Requests.{reading_so_far}
+use Rattle.mt_script.specs.Requests.{meaning_of, reading_so_far}
 use Rattle.mt_io.specs.declared.fault.ScriptFault.{ScriptFault}
 use Rattle.mt_io.specs.declared.fault.ScriptFault.TheVariants as fault
-use Rattle.mt_io.specs.Bytes.{GoesOut, HasRead, IsWhole, Known}
+use Rattle.mt_io.specs.Bytes.{GoesOut, HasRead, IsCutShort, IsWhole, Known}
 use Rattle.mt_core.specs.Core.{CoreState, Stands}
-use Rattle.mt_run.specs.declared.script.Reply as code
-use Rattle.mt_run.specs.declared.script.Reply.TheVariants as reply
+use Rattle.mt_run.specs.declared.script.LineOutput as code
+use Rattle.mt_run.specs.declared.script.LineOutput.TheVariants as output
 
 -- ---- a line
 
@@ -39,16 +39,16 @@ is_document rules_document = true
 is_document dump_document = true
 is_document other = false
 
--- a line that asks for a document, in whatever state
+-- a line that asks for a document
 abbrev pub AsksDocument : List ℕ → Type 0
-AsksDocument line = (request : Request) × (is_document request ≡ true) × ((p : Plain) → told_request p (Ok request) ≡ told reading_so_far p line)
+AsksDocument line = (request : Request) × (is_document request ≡ true) × (Some (Ok request) ≡ meaning_of (reading_so_far line))
 
--- what replies to something that is told. A document may find no memory, and then nothing changed
-abbrev pub Replies : Plain → Told → (IsDocument : Type 0) → code.Reply → CoreState → Type 0
-Replies p t IsDocument reply.Silent core = Tells p t None core
-Replies p t IsDocument (reply.Line text) core = Tells p t (Some text.items) core
-Replies p t IsDocument (reply.Document text) core = Tells p t (Some (string_bytes text ++ line_feed)) core
-Replies p t IsDocument reply.NoMemory core = IsDocument × Stands p core
+-- what something that is told adds to the output. A document may find no memory, and then nothing changed
+abbrev pub IsLineOutput : Plain → Told → (IsDocument : Type 0) → code.LineOutput → CoreState → Type 0
+IsLineOutput p t IsDocument output.Silent core = Tells p t None core
+IsLineOutput p t IsDocument (output.Line text) core = Tells p t (Some text.items) core
+IsLineOutput p t IsDocument (output.Document text) core = Tells p t (Some (string_bytes text ++ line_feed)) core
+IsLineOutput p t IsDocument output.NoMemory core = IsDocument × Stands p core
 
 -- a line is answered, and its text is written behind what waited. Where a document finds no memory, all that waited is
 -- written, and nothing more
@@ -57,7 +57,7 @@ RunsLine p line core held held' waiting waiting' (Ok done) =
     (text : Option (List ℕ)) × Tells p (told reading_so_far p line) text core × GoesOut held held' (waiting ++ bytes_of text) waiting'
 RunsLine p line core held held' waiting waiting' (Err fault.Memory) = AsksDocument line × Appends held held' waiting
 RunsLine p line core held held' waiting waiting' (Err fault.Write) =
-    (text : Option (List ℕ)) × Tells p (told reading_so_far p line) text core × ((rest : List ℕ) × GoesOut held held' (waiting ++ bytes_of text) rest)
+    (text : Option (List ℕ)) × Tells p (told reading_so_far p line) text core × IsCutShort held held' (waiting ++ bytes_of text)
 RunsLine p line core held held' waiting waiting' (Err fault.Read) = ⊥
 RunsLine p line core held held' waiting waiting' (Err fault.TooLong) = ⊥
 
@@ -67,12 +67,12 @@ RunsToDocument p script written =
     (before : List (List ℕ)) × (line : List ℕ) × (after : List (List ℕ)) × (lines script ≡ before ++ line ∷ after) × AsksDocument line
     × Output Answers reading_so_far p before written
 
--- the answers to the lines of a script, from a state on: an output of them, of which a fault leaves the beginning
+-- the answers to the lines of a script, from a state on: an output of them, which a write fault cuts short
 abbrev pub RunsLines : Plain → (script : List ℕ) → Known → Known → Result Unit ScriptFault → Type 0
 RunsLines p script held held' (Ok done) = (written : List ℕ) × Appends held held' written × Output Answers reading_so_far p (lines script) written
 RunsLines p script held held' (Err fault.Memory) =
     (written : List ℕ) × (rest : List ℕ) × Appends held held' written × RunsToDocument p script written × Output Answers reading_so_far p (lines script) (written ++ rest)
-RunsLines p script held held' (Err fault.Write) = (out : List ℕ) × (rest : List ℕ) × Output Answers reading_so_far p (lines script) out × GoesOut held held' out rest
+RunsLines p script held held' (Err fault.Write) = (out : List ℕ) × Output Answers reading_so_far p (lines script) out × IsCutShort held held' out
 RunsLines p script held held' (Err fault.Read) = ⊥
 RunsLines p script held held' (Err fault.TooLong) = ⊥
 
@@ -84,10 +84,14 @@ fault_of fault.Read = plain.read_fault
 fault_of fault.Write = plain.write_fault
 fault_of fault.TooLong = plain.too_long
 
--- how far a run came that ends early: it read its script where the writer failed; and where memory was wanting, it either
--- read a part and wrote nothing, or read its script and ran it up to a document
+-- a beginning of an output, which lacks some of it
+abbrev pub IsBeginning : List Scope → (input written : List ℕ) → Type 0
+IsBeginning scopes input written = (rest : List ℕ) × (rest ≢ []) × IsOutputBy reading_so_far scopes input (written ++ rest)
+
+-- how far a run came that ends early: it read its script and wrote a beginning of an output where the writer failed; and
+-- where there was no memory, it either read a part and wrote nothing, or read its script and ran it up to a document
 abbrev pub HasRun : List Scope → (left' : Known) → ScriptFault → (input written : List ℕ) → Type 0
-HasRun scopes left' fault.Write input written = IsWhole left' input
+HasRun scopes left' fault.Write input written = IsWhole left' input × IsBeginning scopes input written
 HasRun scopes left' fault.Memory input written =
     (HasRead fault.Memory input × (written ≡ [])) ⊎ (IsWhole left' input × RunsToDocument (opening scopes) input written)
 HasRun scopes left' fault.Read input written = HasRead fault.Read input

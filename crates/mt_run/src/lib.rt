@@ -1,10 +1,13 @@
-//! What the program does with its input: a script is run, or a document is read and written again.
+//! What the program does with its command line and its input: a script is run, or a document is read and written in its
+//! canonical form.
 #![tactic(auto)]
 
 mod canon;
+mod command;
 mod script;
 mod watching;
 
 pub use canon::{canon_dump, canon_rules};
+pub use command::{Status, perform};
 pub use script::run_script;
-pub use watching::scopes_of;
+pub use watching::run_watched;

@@ -5,7 +5,7 @@ ghost use Rattle.mt_plain.specs.Plain.{Plain};
 ghost use Rattle.mt_plain.specs.Script.{read_through, write_through};
 ghost use Rattle.mt_script.specs.Requests.{reading_so_far, request_from};
 ghost use Rattle.mt_core.specs.Core.{Stands};
-ghost use Rattle.mt_run.specs.Runs.{AsksDocument, Replies, Runs, RunsLine, RunsLines, Tells, is_document};
+ghost use Rattle.mt_run.specs.Runs.{AsksDocument, IsLineOutput, Runs, RunsLine, RunsLines, Tells, is_document};
 
 use mt_core::Core;
 use mt_io::{ScriptFault, Waiting, flush, put_document, put_line, read_script};
@@ -38,9 +38,9 @@ fn answer_read(core: &Core, key: &RuleKey, number: u64, tablet_type: TabletType)
     }
 }
 
-/// What replies to a line of a script.
+/// What a line of a script adds to the output.
 #[derive(Debug, Drop)]
-pub enum Reply {
+pub enum LineOutput {
     /// Nothing: the line is silent.
     Silent,
     /// A line, with its line feed.
@@ -51,46 +51,50 @@ pub enum Reply {
     NoMemory,
 }
 
-/// The reply to a request.
-fn reply_to(core: &mut Core, request: Request) -> Reply
+/// What a request adds to the output.
+fn request_output(core: &mut Core, request: Request) -> LineOutput
     ensures { (p : Plain) → Stands p core.old
-        → Replies p (told_request p (Ok (request_from request))) (is_document (request_from request) ≡ true) result core.new }
+        → IsLineOutput p (told_request p (Ok (request_from request))) (is_document (request_from request) ≡ true) result core.new }
 {
     match request {
-        Request::AddKeyspace(keyspace) => Reply::Line(answer_line(&core.add_keyspace(&keyspace))),
+        Request::AddKeyspace(keyspace) => LineOutput::Line(answer_line(&core.add_keyspace(
+            &keyspace,
+        ))),
         Request::AddTable(keyspace, table) => {
-            Reply::Line(answer_line(&core.add_table(&keyspace, &table)))
+            LineOutput::Line(answer_line(&core.add_table(&keyspace, &table)))
         }
-        Request::EditRule(key, target) => Reply::Line(answer_line(&core.edit_rule(&key, target))),
-        Request::Write(key, op) => Reply::Line(answer_write(core, &key, op)),
+        Request::EditRule(key, target) => LineOutput::Line(answer_line(&core.edit_rule(
+            &key, target,
+        ))),
+        Request::Write(key, op) => LineOutput::Line(answer_write(core, &key, op)),
         Request::Read(key, number, tablet_type) => {
-            Reply::Line(answer_read(core, &key, number, tablet_type))
+            LineOutput::Line(answer_read(core, &key, number, tablet_type))
         }
         Request::WriteAt(keyspace, table, op) => {
-            Reply::Line(answer_line(&core.write(&keyspace, &table, op)))
+            LineOutput::Line(answer_line(&core.write(&keyspace, &table, op)))
         }
         Request::ReadAt(keyspace, table, number, tablet_type) => {
-            Reply::Line(answer_line(&core.read(&keyspace, &table, number, tablet_type)))
+            LineOutput::Line(answer_line(&core.read(&keyspace, &table, number, tablet_type)))
         }
         Request::Rules => match core.rules_json() {
-            Ok(text) => Reply::Document(text),
-            Err(_) => Reply::NoMemory,
+            Ok(text) => LineOutput::Document(text),
+            Err(_) => LineOutput::NoMemory,
         },
         Request::Dump => match core.dump() {
-            Ok(text) => Reply::Document(text),
-            Err(_) => Reply::NoMemory,
+            Ok(text) => LineOutput::Document(text),
+            Err(_) => LineOutput::NoMemory,
         },
     }
 }
 
-/// The reply to a line of a script.
-fn reply_to_line(core: &mut Core, line: &[u8]) -> Reply
-    ensures { (p : Plain) → Stands p core.old → Replies p (told reading_so_far p line.now) (AsksDocument line.now) result core.new }
+/// What a line of a script adds to the output.
+fn line_output(core: &mut Core, line: &[u8]) -> LineOutput
+    ensures { (p : Plain) → Stands p core.old → IsLineOutput p (told reading_so_far p line.now) (AsksDocument line.now) result core.new }
 {
     match read_line(line) {
-        Line::Silent => Reply::Silent,
-        Line::Refused(refusal) => Reply::Line(refusal_line(refusal)),
-        Line::Request(request) => reply_to(core, request),
+        Line::Silent => LineOutput::Silent,
+        Line::Refused(refusal) => LineOutput::Line(refusal_line(refusal)),
+        Line::Request(request) => request_output(core, request),
     }
 }
 
@@ -105,11 +109,11 @@ fn run_line<W: Write>(
     ensures { (p : Plain) → Stands p core.old
         → RunsLine p line.now core.new (W.contents writer.old) (W.contents writer.new) waiting.old.items waiting.new.items result }
 {
-    match reply_to_line(core, line) {
-        Reply::Silent => Ok(()),
-        Reply::Line(text) => put_line(waiting, writer, &text),
-        Reply::Document(text) => put_document(waiting, writer, text.as_bytes()),
-        Reply::NoMemory => {
+    match line_output(core, line) {
+        LineOutput::Silent => Ok(()),
+        LineOutput::Line(text) => put_line(waiting, writer, &text),
+        LineOutput::Document(text) => put_document(waiting, writer, text.as_bytes()),
+        LineOutput::NoMemory => {
             flush(waiting, writer)?;
             Err(ScriptFault::Memory)
         }
@@ -142,8 +146,7 @@ pub fn run_script<R: Read, W: Write, A: Asks>(
 ) -> Result<(), ScriptFault>
     ensures { Runs (A.scopes _watchers.now) (R.remaining reader.old) (R.remaining reader.new) (W.contents writer.old) (W.contents writer.new) result }
 {
-    let mut script = Vec::new(alloc);
-    read_script(&mut script, reader)?;
+    let script = read_script(alloc, reader)?;
     let mut core = Core::new(alloc);
     run_lines(&mut core, &script, writer)
 }

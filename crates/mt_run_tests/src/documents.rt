@@ -1,4 +1,4 @@
-//! Documents behind a line, and documents that are read and written again.
+//! Documents behind a line, and documents that are written in their canonical form.
 
 use crate::faults::{NoRoom, reader_of, writer_with};
 use crate::scripts::{Case, answers, prints};
@@ -56,15 +56,15 @@ fn rules_in_a_script(rt: HostRuntime) -> Result<(), Fail> {
     Ok(())
 }
 
-/// Which document is written again.
+/// Which document is read.
 #[derive(Clone, Copy, Eq, PartialEq)]
 enum Kind {
     Rules,
     Dump,
 }
 
-/// Whether a document that is read and written so ends so, and what was written is this.
-fn written_again<R: Read>(
+/// Whether a document that is read ends so, and what was written is this.
+fn writes_canon<R: Read>(
     alloc: Global,
     kind: Kind,
     reader: &mut R,
@@ -80,7 +80,7 @@ fn written_again<R: Read>(
 }
 
 /// Documents, each with whether it is taken, and the line that is written.
-const AGAIN: [(Kind, &str, bool, &str); 4] = [
+const DOCUMENTS: [(Kind, &str, bool, &str); 4] = [
     (
         Kind::Rules,
         "{\"rules\":[{\"fromTable\":\"b\",\"toTables\":[\"k.b\"],\"x\":1},{\"from_table\":\"a@replica\",\"to_tables\":[\"k.a\"]}]}",
@@ -93,11 +93,11 @@ const AGAIN: [(Kind, &str, bool, &str); 4] = [
 ];
 
 #[test]
-fn documents_read_again(rt: HostRuntime) {
-    for (at, (kind, text, is_taken, want)) in AGAIN.iter().enumerate() {
+fn documents_in_canonical_form(rt: HostRuntime) {
+    for (at, (kind, text, is_taken, want)) in DOCUMENTS.iter().enumerate() {
         let mut reader = text.as_bytes();
         assert!(rt;
-            written_again(
+            writes_canon(
                 rt.alloc(),
                 *kind,
                 &mut reader,
@@ -114,7 +114,7 @@ fn dump_read_back(rt: HostRuntime) -> Result<(), Fail> {
     let line = format!(in rt.alloc(); "{TWO}\n")?;
     let mut reader = TWO.as_bytes();
     assert!(rt;
-        written_again(
+        writes_canon(
             rt.alloc(),
             Kind::Dump,
             &mut reader,
@@ -133,7 +133,7 @@ fn longest_document(case: &mut Case) -> Result<(), Fail> {
 
 /// Whether a document is refused as too long, with nothing written.
 fn is_too_long(alloc: Global, kind: Kind, mut text: &[u8]) -> bool {
-    written_again(alloc, kind, &mut text, Err(ScriptFault::TooLong), b"")
+    writes_canon(alloc, kind, &mut text, Err(ScriptFault::TooLong), b"")
 }
 
 #[test]
@@ -141,7 +141,7 @@ fn documents_at_the_limit(rt: HostRuntime) -> Result<(), Fail> {
     let mut case = Case::new(rt.alloc());
     longest_document(&mut case)?;
     let mut reader = case.script();
-    assert!(rt; written_again(rt.alloc(), Kind::Rules, &mut reader, Ok(true), case.want()));
+    assert!(rt; writes_canon(rt.alloc(), Kind::Rules, &mut reader, Ok(true), case.want()));
     case.repeat(b' ', 1)?;
     assert!(rt; is_too_long(rt.alloc(), Kind::Rules, case.script()));
     assert!(rt; is_too_long(rt.alloc(), Kind::Dump, case.script()));
@@ -166,7 +166,7 @@ fn documents_whose_writer_fails(rt: HostRuntime) {
 /// Whether a reader of `{}` that fails in place of one call ends the run, with nothing written.
 fn is_unread(alloc: Global, kind: Kind, interrupts: bool, before_fault: usize) -> bool {
     let mut reader = reader_of(b"{}", interrupts, Some(before_fault));
-    written_again(alloc, kind, &mut reader, Err(ScriptFault::Read), b"")
+    writes_canon(alloc, kind, &mut reader, Err(ScriptFault::Read), b"")
 }
 
 #[test]

@@ -1,6 +1,6 @@
 //! Readers and writers that give or take little, are interrupted, or fail.
 
-use crate::scripts::Case;
+use crate::scripts::{Case, ends};
 use mt_io::ScriptFault;
 use mt_run::run_script;
 use mt_watch::Watchers;
@@ -118,9 +118,7 @@ const OUTPUT: &[u8] = b"ok\nok\nok\nrow v\n{\"rules\":[]}\nnone\n";
 
 /// Whether a script read so ends so, and what was written is this.
 fn reads(alloc: Global, mut reader: Giver<'_>, end: Result<(), ScriptFault>, want: &[u8]) -> bool {
-    let mut written = Vec::new(alloc);
-    let result = run_script(alloc, &mut reader, &mut written, &Watchers::new(alloc));
-    result == end && written.as_slice() == want
+    ends(alloc, &mut reader, end, want)
 }
 
 #[test]

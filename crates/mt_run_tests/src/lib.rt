@@ -1,6 +1,8 @@
-//! Tests of whole scripts and documents, and of readers and writers that fail.
+//! Tests of whole scripts, documents and command lines, and of readers and writers that fail.
 #![tactic(auto)]
 
+#[cfg(test)]
+mod commands;
 #[cfg(test)]
 mod documents;
 #[cfg(test)]

@@ -4,6 +4,7 @@ use mt_io::ScriptFault;
 use mt_run::run_script;
 use mt_watch::Watchers;
 use std::alloc::Global;
+use std::io::Read;
 use std::test::Fail;
 
 /// A script, and what it must print.
@@ -80,16 +81,30 @@ pub fn answers(alloc: Global, lines: &[(&str, &str)]) -> Result<bool, Fail> {
 }
 
 /// Whether a script ends well, having printed a text.
-pub fn prints(alloc: Global, script: &[u8], want: &[u8]) -> bool {
-    ends(alloc, script, Ok(()), want)
+pub fn prints(alloc: Global, mut script: &[u8], want: &[u8]) -> bool {
+    ends(alloc, &mut script, Ok(()), want)
 }
 
-/// Whether a script ends so, having printed a text.
-pub fn ends(alloc: Global, script: &[u8], end: Result<(), ScriptFault>, want: &[u8]) -> bool {
-    let mut reader = script;
+/// Whether a script that a reader gives ends so, having printed a text.
+pub fn ends<R: Read>(
+    alloc: Global,
+    reader: &mut R,
+    end: Result<(), ScriptFault>,
+    want: &[u8],
+) -> bool {
     let mut written = Vec::new(alloc);
-    let result = run_script(alloc, &mut reader, &mut written, &Watchers::new(alloc));
+    let result = run_script(alloc, reader, &mut written, &Watchers::new(alloc));
     result == end && written.as_slice() == want
+}
+
+/// The place of the first script that doesn't print what stands beside it.
+fn first_wrong(alloc: Global, scripts: &[(&[u8], &[u8])]) -> Option<usize> {
+    for (at, (script, want)) in scripts.iter().enumerate() {
+        if !prints(alloc, script, want) {
+            return Some(at);
+        }
+    }
+    None
 }
 
 const GET_WITHOUT_A_RULE: &[u8] = b"keyspace commerce\nkeyspace customer\ntable commerce corder\n\
@@ -114,9 +129,7 @@ const WORKED: [(&[u8], &[u8]); 4] = [
 
 #[test]
 fn worked_rows(rt: HostRuntime) {
-    for (at, (script, want)) in WORKED.iter().enumerate() {
-        assert!(rt; prints(rt.alloc(), script, want), "at {at}");
-    }
+    assert_eq!(rt; first_wrong(rt.alloc(), &WORKED), None);
 }
 
 /// Ends of lines.
@@ -134,9 +147,7 @@ const ENDS: [(&[u8], &[u8]); 9] = [
 
 #[test]
 fn ends_of_lines(rt: HostRuntime) {
-    for (at, (script, want)) in ENDS.iter().enumerate() {
-        assert!(rt; prints(rt.alloc(), script, want), "at {at}");
-    }
+    assert_eq!(rt; first_wrong(rt.alloc(), &ENDS), None);
 }
 
 /// Blanks, comments, and bytes that no line may have.
@@ -156,9 +167,7 @@ const BLANKS: [(&[u8], &[u8]); 5] = [
 
 #[test]
 fn blanks_and_comments(rt: HostRuntime) {
-    for (at, (script, want)) in BLANKS.iter().enumerate() {
-        assert!(rt; prints(rt.alloc(), script, want), "at {at}");
-    }
+    assert_eq!(rt; first_wrong(rt.alloc(), &BLANKS), None);
 }
 
 /// Lines of 4,096 and 4,097 bytes, which end in blanks: with a line feed, with a carriage return before it, and without.
@@ -207,6 +216,7 @@ fn a_script_at_its_limit(rt: HostRuntime) -> Result<(), Fail> {
     assert_eq!(rt; case.len(), 1_048_576);
     assert!(rt; case.holds(rt.alloc()));
     case.repeat(b'#', 1)?;
-    assert!(rt; ends(rt.alloc(), case.script(), Err(ScriptFault::TooLong), b""));
+    let mut too_long = case.script();
+    assert!(rt; ends(rt.alloc(), &mut too_long, Err(ScriptFault::TooLong), b""));
     Ok(())
 }

@@ -3,10 +3,10 @@ use Rattle.std.specs.Prelude.{ℕ, Bool, ◌==◌, ◌||◌, if◌then◌else◌
 use Rattle.mt_names.specs.declared.fault.NameFault.{NameFault}
 use Rattle.mt_names.specs.Faults.{fault_text}
 use Rattle.mt_names.specs.Names.{same_text}
-use Rattle.mt_script.specs.declared.lines.Line.{Line}
 use Rattle.mt_script.specs.declared.lines.Line.TheVariants as line
 use Rattle.mt_script.specs.declared.lines.LineRefusal.{LineRefusal}
 use Rattle.mt_script.specs.declared.lines.LineRefusal.TheVariants as refusal
+use Rattle.mt_script.specs.declared.lines.Line as asked
 use Rattle.mt_script.specs.declared.lines.Request as code
 use Rattle.mt_script.specs.declared.lines.Request.TheVariants as request
 use Rattle.mt_script.specs.declared.commands.RowWork.{RowWork}
@@ -16,9 +16,9 @@ use Rattle.mt_model.specs.declared.rows.Op.{Op}
 use Rattle.mt_model.specs.declared.rows.Op.TheVariants.{Insert, Update, Append, Delete}
 use Rattle.mt_model.specs.Rows.{RowValue}
 use Rattle.mt_plain.specs.Events.{add_keyspace, add_table, edit_rule, read, write}
-use Rattle.mt_plain.specs.Output.{Reading, Told, nothing, says, refused_text, told_request}
-use Rattle.mt_plain.specs.Plain.{Plain}
-use Rattle.mt_plain.specs.Script.{Command, Request, event, write_through, read_through, rules_document, dump_document, is_for_reads, is_row_verb, one_word, read_command, read_line_by, read_number, read_value, two_words}
+use Rattle.mt_plain.specs.Output.{Reading}
+use Rattle.mt_plain.specs.Script.{Command, Request, event, write_through, read_through, rules_document, dump_document, is_for_reads, is_row_verb, one_word, read_command, read_line_by, read_number, read_value, request_of, two_words}
+use Rattle.mt_plain.specs.Script as plain
 
 -- the verbs of the commands that are read up to now
 abbrev pub has_come : List ℕ → Bool
@@ -84,14 +84,32 @@ abbrev pub read_from : Result code.Request NameFault → Result Request NameFaul
 read_from (Ok r) = Ok (request_from r)
 read_from (Err fault) = Err fault
 
+-- ---- lines, with their names read
+
+-- what a line says: nothing, a refusal of the line, or a request
+abbrev pub LineMeaning : Type 0
+LineMeaning = Option (Result Request LineRefusal)
+
+-- what the code's line says
+abbrev pub meaning_from : asked.Line → LineMeaning
+meaning_from line.Silent = None
+meaning_from (line.Refused r) = Some (Err r)
+meaning_from (line.Request r) = Some (Ok (request_from r))
+
+-- a request, or the refusal of the first name in fault
+abbrev pub meaning_of_request : Result Request NameFault → Result Request LineRefusal
+meaning_of_request (Ok r) = Ok r
+meaning_of_request (Err fault) = Err (refusal.Name fault)
+
+-- what the definitions' line says
+abbrev pub meaning_of : plain.Line → LineMeaning
+meaning_of plain.silent = None
+meaning_of plain.bad_line = Some (Err refusal.BadLine)
+meaning_of plain.line_too_long = Some (Err refusal.TooLong)
+meaning_of (plain.command c) = Some (meaning_of_request (request_of c))
+
 -- the refusal of a line as it is printed
 abbrev pub line_refusal_text : LineRefusal → List ℕ
 line_refusal_text refusal.BadLine = codes "X1 BadLine"
 line_refusal_text refusal.TooLong = codes "X2 LineTooLong"
 line_refusal_text (refusal.Name fault) = fault_text fault
-
--- what a line tells in a state
-abbrev pub told_of : Plain → Line → Told
-told_of p line.Silent = nothing
-told_of p (line.Refused r) = says (refused_text (line_refusal_text r))
-told_of p (line.Request r) = told_request p (Ok (request_from r))

@@ -1,10 +1,8 @@
 //! Lines of a script.
 ghost use Rattle.std.specs.Prelude.{◌≡◌, ◌||◌};
 ghost use Rattle.std.specs.List.{list_all};
-ghost use Rattle.mt_plain.specs.Plain.{Plain};
-ghost use Rattle.mt_plain.specs.Output.{told};
 ghost use Rattle.mt_plain.specs.Script.{is_blank, is_readable, is_silent};
-ghost use Rattle.mt_script.specs.Requests.{reading_so_far, told_of};
+ghost use Rattle.mt_script.specs.Requests.{meaning_from, meaning_of, reading_so_far};
 
 use crate::commands::read_command;
 use crate::words::{is_blank, is_visible};
@@ -79,10 +77,10 @@ fn is_readable(line: &[u8]) -> bool
     line.iter().all(|&byte| is_blank(byte) || is_visible(byte))
 }
 
-/// Reads a line: what it asks for in every state. The length is tested before the bytes, these before the words, the
-/// words before the names.
+/// Reads a line: what it asks for, with each name and number as it is written, or its first fault, a bad byte with its
+/// place. The length is tested before the bytes, these before the words, the words before the names.
 pub fn read_line(line: &[u8]) -> Line
-    ensures { (p : Plain) → told_of p result ≡ told reading_so_far p line.now }
+    ensures { meaning_from result ≡ meaning_of (reading_so_far line.now) }
 {
     if is_silent(line) {
         return Line::Silent;

@@ -8,7 +8,7 @@ pub returns-in-Err : goal.returns-in-Err
 returns-in-Err g c = ([], consumes_kept _ _ c.in-Err.ensures.bytes, search rules, sym (append-nil _))
 
 pub returns-in-Err-2 : goal.returns-in-Err-2
-returns-in-Err-2 g c = ([], consumes_kept _ _ c.in-Err-2.ensures.bytes, refl)
+returns-in-Err-2 g c = ([], consumes_kept _ _ c.in-Err-2.ensures.bytes, refl, refl)
 
 pub returns-then-count-eq0 : goal.returns-then-count-eq0
 returns-then-count-eq0 g c =
@@ -20,7 +20,7 @@ returns-then-count-eq0 g c =
     )
 
 pub returns-then-is_err : goal.returns-then-is_err
-returns-then-is_err g c = (take c.in-Ok.count c.read.new.buf, c.in-Ok.ensures.bytes.0, search rules)
+returns-then-is_err g c = (take c.in-Ok.count c.read.new.buf, c.in-Ok.ensures.bytes.0, search rules, search rules)
 
 pub returns : goal.returns
 returns g c = (take c.in-Ok.count c.read.new.buf, c.in-Ok.ensures.bytes.0, search rules, search rules)

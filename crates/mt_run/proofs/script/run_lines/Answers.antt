@@ -25,4 +25,4 @@ loop-line-smaller g c = let first = ap length c.in-Some.ensures in omega (arith,
 pub returns : goal.returns
 returns g c = λ p stands.
     ends p c.args.script.now c.loop-line.rest.now c.loop-line.core _ _ _ c.loop-line.waiting.items c.flush.new.waiting.items c.flush.result
-    (c.loop-line.invariant p stands) c.in_default.ensures c.flush.ensures.writes (λ ok. rw ok at c.flush.ensures.empty)
+    (c.loop-line.invariant p stands) c.in_default.ensures c.flush.ensures.writes c.flush.ensures.empty

@@ -3,7 +3,7 @@ use Rattle.std.proofs.Common.{◌++◌, Some, ap}
 use Rattle.mt_plain.specs.Output.{line_feed}
 use Rattle.mt_plain.specs.Events.{add_keyspace, add_table, edit_rule, read, write}
 use Rattle.mt_run.proofs.RunLemmas.{asks_told}
-use Rattle.mt_run.proofs.script.reply_to.Goals as goal
+use Rattle.mt_run.proofs.script.request_output.Goals as goal
 
 pub returns-in-AddKeyspace : goal.returns-in-AddKeyspace
 returns-in-AddKeyspace c = λ p stands. rw c.in-AddKeyspace.is
