@@ -8,5 +8,5 @@ use Rattle.mt_run.proofs.script.answer_read.Goals as goal
 
 pub returns-in-Ok : goal.returns-in-Ok
 returns-in-Ok c = λ p stands.
-    subst (λ r. Tells p (asked_there r (λ keyspace table. read keyspace table c.args.number c.args.tablet_type)) (Some c.answer_line.result.items) c.args.core.now) (c.in-Ok.ensures p stands)
+    subst (λ r. Tells p (asked_there r (λ keyspace table. read keyspace table c.args.number c.args.tablet_type)) (Some c.answer_line.result.items) c.args.core.now) (c.in-Ok.ensures.served p stands)
     (asks_told p (read c.in-Ok.target.keyspace c.in-Ok.target.table c.args.number c.args.tablet_type) c.read.result c.answer_line.result.items c.args.core.now c.answer_line.ensures (c.read.ensures p stands))

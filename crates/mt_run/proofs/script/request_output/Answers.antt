@@ -26,7 +26,7 @@ returns-in-ReadAt c = λ p stands. rw c.in-ReadAt.is
     (asks_told p (read c.in-ReadAt.keyspace c.in-ReadAt.table c.in-ReadAt.number c.in-ReadAt.tablet_type) c.read.result c.answer_line-in-ReadAt.result.items c.args.core.now c.answer_line-in-ReadAt.ensures (c.read.ensures p stands))
 
 pub returns-in-Ok : goal.returns-in-Ok
-returns-in-Ok c = λ p stands. rw c.in-Rules.is (ap (λ t. Some (t ++ line_feed)) (c.in-Ok.ensures.text p stands), stands)
+returns-in-Ok c = λ p stands. rw c.in-Rules.is (ap (λ t. Some (t ++ line_feed)) (c.in-Ok.ensures.served p stands), stands)
 
 pub returns-in-Ok-dump : goal.returns-in-Ok-dump
-returns-in-Ok-dump c = λ p stands. rw c.in-Dump.is (ap (λ t. Some (t ++ line_feed)) (c.in-Ok-dump.ensures.text p stands), stands)
+returns-in-Ok-dump c = λ p stands. rw c.in-Dump.is (ap (λ t. Some (t ++ line_feed)) (c.in-Ok-dump.ensures.served p stands), stands)

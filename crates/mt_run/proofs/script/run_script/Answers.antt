@@ -17,4 +17,4 @@ returns g c =
     let scopes = g.A.Asks.scopes c.args._watchers.now in
     runs_lines scopes _ _ _ _ c.in_ok-script.script.items c.run_lines.result c.in_ok-script.ensures
     (subst (λ script. RunsLines (opening scopes) script (g.W.Write.contents c.args.writer.now) (g.W.Write.contents c.run_lines.new.writer) c.run_lines.result) c.deref.ensures.value
-    (c.run_lines.ensures (opening scopes) (c.new-core.ensures scopes)))
+    (c.run_lines.ensures (opening scopes) (c.new-core.ensures.stands scopes)))
