@@ -5,6 +5,7 @@ pub mod ChangeLemmas
 pub mod CleanLemmas
 pub mod CompleteLemmas
 pub mod CopyLemmas
+pub mod CountLemmas
 pub mod CourseLemmas
 pub mod DocumentLemmas
 pub mod DriveLemmas
@@ -21,6 +22,7 @@ pub mod IdleLemmas
 pub mod InPlaceLemmas
 pub mod KeepLemmas
 pub mod LevelLemmas
+pub mod LimitLemmas
 pub mod LineLemmas
 pub mod ListLemmas
 pub mod LiveLemmas
@@ -42,6 +44,7 @@ pub mod ReadLemmas
 pub mod RefusalLemmas
 pub mod ReverseLemmas
 pub mod RowWitnessLemmas
+pub mod RuleLimitLemmas
 pub mod RunLemmas
 pub mod ServeLemmas
 pub mod ServedPlacesLemmas

@@ -31,7 +31,8 @@ pub use events::{
 pub use headline::{every_run_keeps_the_headline, the_way_back_and_the_rows_stand_in_every_run};
 pub use parts::{a_moved_table_is_never_writable_in_two, parts_are_apart};
 pub use places::{
-    each_table_has_a_number_of_its_own, only_what_stands_has_a_place, what_is_served_is_a_topology,
+    each_table_has_a_number_of_its_own, no_limit_is_passed, only_what_stands_has_a_place,
+    what_is_served_is_a_topology,
 };
 pub use reached::{
     a_live_workflow_is_found_by_its_part, an_advance_writes_one_log, each_next_state_is_reached,

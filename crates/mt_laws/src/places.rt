@@ -1,7 +1,7 @@
 //! Laws on the states that runs reach: on the places of the topology, the numbers of tables, and what is served.
 ghost use Rattle.std.specs.Prelude.{◌≡◌, ℕ, ◌<◌, ◌≤◌, false, true, List, None, Some, is_some};
 ghost use Rattle.mt_laws.specs.Numbers.{HasNumbers, number_at};
-ghost use Rattle.mt_laws.specs.Places.{HasOnlyWhatStands};
+ghost use Rattle.mt_laws.specs.Places.{HasOnlyWhatStands, IsWithinLimits};
 ghost use Rattle.mt_laws.specs.WayBack.{IsReached};
 ghost use Rattle.mt_model.specs.declared.entries.EntryKey.TheVariants as about;
 ghost use Rattle.mt_model.specs.Topology.{HasDistinctPlaces, has_place, is_present, rule_at};
@@ -40,4 +40,9 @@ pub fn each_table_has_a_number_of_its_own()
 pub fn what_is_served_is_a_topology()
     ensures places { (p : Plain) → IsReached p → HasDistinctPlaces (served p) }
     ensures is_served { (p : Plain) → IsReached p → IsServed p (served p) }
+{}
+
+/// In each state that a run reaches no limit is passed.
+pub fn no_limit_is_passed()
+    ensures { (p : Plain) → IsReached p → IsWithinLimits p }
 {}
