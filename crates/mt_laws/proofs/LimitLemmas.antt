@@ -1,8 +1,8 @@
 -- In each state that a run reaches no limit is passed.
-use Rattle.std.proofs.Common.{◌≡◌, ◌≢◌, ◌⊎◌, inl, inr, ℕ, suc, ◌+◌, ◌≤◌, ◌<◌, Bool, true, false, not, cond, eqb, eqb-true, List, [], ◌∷◌, ◌++◌, map, filter, length, Option, None, Some, is_some, refl, sym, ap, ◌∙◌, subst, arith, leb, ltb, ltb-false, length-append}
+use Rattle.std.proofs.Common.{◌≡◌, ◌≢◌, ◌⊎◌, inl, inr, ℕ, suc, ◌+◌, ◌≤◌, ◌<◌, Bool, true, false, not, cond, eqb, eqb-true, List, [], ◌∷◌, ◌++◌, map, length, Option, None, Some, is_some, refl, sym, ap, ◌∙◌, subst, arith, leb, ltb, ltb-false, length-append}
 use Rattle.std.proofs.lemmas.Bool.{leb-false, true≢false}
 use Rattle.std.proofs.lemmas.List.{length-map}
-use Rattle.std.proofs.lemmas.List.Sums.{sum_by-append, sum_by_push}
+use Rattle.std.proofs.lemmas.List.Sums.{sum_by_push}
 use Rattle.std.specs.List.{fold, sum_by}
 use Rattle.std.specs.Option.{option_map_or}
 use Rattle.std.specs.Prelude.{◌||◌}
@@ -13,10 +13,10 @@ use Rattle.mt_model.specs.declared.entries.Scope.{Scope}
 use Rattle.mt_model.specs.Limits.{most_keyspaces, most_rules, most_tables_in_keyspace}
 use Rattle.mt_model.specs.Topology.{Keyspaces, TopologyState, keyspace_at, with_keyspace_state, with_new_table}
 use Rattle.mt_plain.specs.Answers.{Answers}
-use Rattle.mt_plain.specs.Events.{Event, add_keyspace, add_table, edit_rule, create, advance, begin_switch, begin_reverse, step, undo, cancel, complete, StreamName, Answer, done, row, advanced, shown, refused, exists, full, no_keyspace, no_tables, same_keyspace, workflow_exists, stale, undoing, Way}
+use Rattle.mt_plain.specs.Events.{Event, add_keyspace, add_table, create, advance, begin_switch, begin_reverse, step, undo, cancel, complete, StreamName, Answer, done, row, advanced, shown, refused, exists, full, no_keyspace, no_tables, same_keyspace, workflow_exists, stale, undoing, Way}
 use Rattle.mt_plain.specs.Next.{completed, journal_after, next, next_taken, with_advance, with_completed, with_tables, without_live, without_tables}
 use Rattle.mt_plain.specs.Plain.{Live, Plain, each_once, has_keyspace, live_at, next_step, opening, twelve_keys, write_journal}
-use Rattle.mt_plain.specs.Refuse.{begin_reverse_refusal, begin_switch_refusal, create_is_full, in_workflow, keys_without_rule, most_journal_entries, most_ways, most_workflows, moved_tables_refusal, or_else, own_refusal, refusal_of, refuse_if, rule_count, step_refusal, table_count, watcher_refusal}
+use Rattle.mt_plain.specs.Refuse.{begin_reverse_refusal, begin_switch_refusal, create_is_full, keys_without_rule, most_journal_entries, most_ways, most_workflows, moved_tables_refusal, or_else, own_refusal, refusal_of, refuse_if, rule_count, step_refusal, table_count, watcher_refusal}
 use Rattle.mt_plain.specs.Serve.{has_table}
 use Rattle.mt_laws.specs.Changes.{HasSides}
 use Rattle.mt_laws.specs.WayBack.{IsReached}

@@ -1,10 +1,10 @@
 -- In each state that a run reaches there are no more rule entries than the limit, those of live workflows among them.
-use Rattle.std.proofs.Common.{◌≡◌, ◌≢◌, ◌⊎◌, inl, inr, ℕ, suc, ◌+◌, ◌≤◌, ◌<◌, Bool, true, false, not, cond, List, [], ◌∷◌, ◌++◌, map, filter, length, Option, None, Some, is_some, refl, sym, ap, ◌∙◌, subst, arith, leb, ltb, ltb-false, length-append}
+use Rattle.std.proofs.Common.{◌≡◌, ◌≢◌, ℕ, ◌+◌, ◌≤◌, Bool, true, false, not, cond, List, [], ◌∷◌, ◌++◌, map, filter, length, Option, None, Some, is_some, refl, sym, ap, ◌∙◌, subst, arith, leb, ltb, ltb-false, length-append}
 use Rattle.std.proofs.lemmas.Bool.{leb-false, true≢false}
 use Rattle.std.proofs.lemmas.List.Sums.{sum_by_from, sum_by_push}
 use Rattle.std.proofs.lemmas.Map.{length-set_value}
-use Rattle.std.specs.List.{count_by, flat_map, fold, list_any, sum_by}
-use Rattle.std.specs.Map.{lookup, remove_entry, set_value}
+use Rattle.std.specs.List.{flat_map, fold, sum_by}
+use Rattle.std.specs.Map.{lookup, remove_entry}
 use Rattle.std.specs.Option.{option_map_or}
 use Rattle.mt_names.specs.declared.keys.RuleKey.{RuleKey}
 use Rattle.mt_names.specs.declared.keys.RuleTarget.{RuleTarget}
@@ -13,20 +13,19 @@ use Rattle.mt_names.specs.Same.{same_key}
 use Rattle.mt_names.proofs.EntryLemmas.{lookup-push_elsewhere, lookup-remove_entry_elsewhere, lookup-set_value_elsewhere, same_itself}
 use Rattle.mt_names.proofs.SameLemmas.{same_key_decides, same_text_decides}
 use Rattle.mt_model.specs.declared.entries.EntryKey.TheVariants as about
-use Rattle.mt_model.specs.declared.entries.Scope.{Scope}
 use Rattle.mt_model.specs.Limits.{most_rules, most_tables_in_keyspace}
 use Rattle.mt_model.specs.Topology.{Rules, with_rule, with_rule_place}
 use Rattle.mt_plain.specs.Events.{Event, edit_rule, create, advance, begin_switch, begin_reverse, step, undo, cancel, complete, StreamName, done, advanced, full, rule_owned}
-use Rattle.mt_plain.specs.Next.{next_taken, with_advance, with_completed, without_live}
-use Rattle.mt_plain.specs.Plain.{Live, Plain, each_once, has_part, live_at, opening, part_owner, rule_keys, twelve_keys}
-use Rattle.mt_plain.specs.Refuse.{keys_without_rule, most_workflows, or_else, refusal_of, refuse_if, rule_count, rule_refusal, table_count}
+use Rattle.mt_plain.specs.Next.{next_taken, with_advance, with_completed}
+use Rattle.mt_plain.specs.Plain.{Live, Plain, each_once, has_part, live_at, part_owner, rule_keys, twelve_keys}
+use Rattle.mt_plain.specs.Refuse.{keys_without_rule, most_workflows, refusal_of, refuse_if, rule_count, rule_refusal, table_count}
 use Rattle.mt_laws.specs.Changes.{HasSides}
 use Rattle.mt_laws.specs.WayBack.{IsReached}
 use Rattle.mt_laws.proofs.ChangeLemmas.{live_next, live_taken, lives-advance, sides-next}
 use Rattle.mt_laws.proofs.CountLemmas.{count-flat_map, length-remove, length-removed, sum-filter, sum-map, sum-same}
 use Rattle.mt_laws.proofs.EntryValueLemmas.{lookup-without}
 use Rattle.mt_laws.proofs.LimitLemmas.{create-fits, neither, reached_taken}
-use Rattle.mt_laws.proofs.LiveLemmas.{IsIn, any-in, find_none, find_some, in-filter, text_apart, unique}
+use Rattle.mt_laws.proofs.LiveLemmas.{IsIn, any-in, find_none, find_some, in-filter, unique}
 use Rattle.mt_laws.proofs.PartLemmas.{HasParts, edit_rule-none, moved_from_part}
 use Rattle.mt_laws.proofs.RefusalLemmas.{or_else-none, refuse_if-none}
 use Rattle.mt_laws.proofs.ServeLemmas.{key_in_part}
