@@ -8,7 +8,6 @@ use Rattle.std.specs.Prelude.{◌&&◌, ◌||◌, take}
 use Rattle.mt_names.specs.Names.{same_text}
 use Rattle.mt_names.specs.Same.{same_target}
 use Rattle.mt_names.proofs.SameLemmas.{same_text_decides}
-use Rattle.mt_model.specs.declared.entries.EntryKey.{EntryKey}
 use Rattle.mt_model.specs.Topology.{is_present}
 use Rattle.mt_plain.specs.Events.{Event, advance, StreamName, Answer, advanced}
 use Rattle.mt_plain.specs.Next.{next, with_advance}

@@ -1,9 +1,9 @@
 -- The course of an open way, and the owners before and after it.
 use Rattle.std.proofs.Common.{◌≡◌, ℕ, ◌<◌, Bool, true, false, not, cond, leb, ltb, List, Some, refl, sym, ap, ◌∙◌, arith, ltb-true}
-use Rattle.std.proofs.lemmas.Bool.{and_parts, true≢false}
+use Rattle.std.proofs.lemmas.Bool.{and_parts}
 use Rattle.std.specs.Option.{option_map_or}
 use Rattle.mt_plain.specs.Events.{Way}
-use Rattle.mt_plain.specs.Plain.{Live, Plain, behind_last, changes_primary, first_step, live_at, next_step, owner, stands_done, write_journal}
+use Rattle.mt_plain.specs.Plain.{Live, Plain, behind_last, changes_primary, first_step, live_at, next_step, stands_done, write_journal}
 use Rattle.mt_plain.specs.Refuse.{new_owner, old_owner}
 use Rattle.mt_laws.specs.Reached.{HandsOver, IsOnCourse}
 use Rattle.mt_laws.specs.WayBack.{IsReached}

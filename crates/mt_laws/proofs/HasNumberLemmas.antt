@@ -1,23 +1,24 @@
 -- In each state that a run reaches, a table that is there has a number of its own, and writes have numbers of tables that were made.
-use Rattle.std.proofs.Common.{◌≡◌, ℕ, ◌<◌, ◌≤◌, Bool, true, false, cond, List, Option, None, Some, unwrap_or, refl, sym, ap, ◌∙◌, subst, arith}
-use Rattle.std.proofs.lemmas.Bool.{and_parts, or_right, true≢false}
+use Rattle.std.proofs.Common.{◌≡◌, ◌⊎◌, inl, inr, ℕ, ◌<◌, ◌≤◌, Bool, true, false, cond, List, Option, None, Some, unwrap_or, refl, sym, ap, ◌∙◌, subst, arith}
+use Rattle.std.proofs.lemmas.Bool.{and_parts, or_left, or_right, true≢false}
 use Rattle.std.specs.List.{list_any}
 use Rattle.std.specs.Option.{option_map_or}
 use Rattle.std.specs.Prelude.{◌&&◌}
 use Rattle.mt_names.specs.declared.keys.RuleTarget.{RuleTarget}
 use Rattle.mt_names.specs.Names.{same_text}
 use Rattle.mt_names.specs.Same.{same_target}
-use Rattle.mt_model.specs.declared.entries.Scope.{Scope}
+use Rattle.mt_names.proofs.SameLemmas.{same_text_decides}
 use Rattle.mt_model.specs.Topology.{is_present}
 use Rattle.mt_plain.specs.Answers.{Answers}
 use Rattle.mt_plain.specs.Events.{Event, write, add_table, complete, Answer, done, row, advanced, shown, refused}
 use Rattle.mt_plain.specs.Next.{next, with_completed}
-use Rattle.mt_plain.specs.Plain.{Live, Plain, in_keyspace, is_side, live_at, mover, moves, number_of, opening}
+use Rattle.mt_plain.specs.Plain.{Live, Plain, in_keyspace, is_side, live_at, mover, moves, number_of}
 use Rattle.mt_plain.specs.Serve.{has_table}
 use Rattle.mt_plain.specs.Writes.{client_number, row_after_writes}
 use Rattle.mt_laws.specs.Numbers.{Below, HasNumbers, number_at}
+use Rattle.mt_laws.specs.Places.{AreSidesOfMove}
 use Rattle.mt_laws.specs.WayBack.{IsReached}
-use Rattle.mt_laws.proofs.AllWritesLemmas.{any_some, one_name, reached_next, write_there}
+use Rattle.mt_laws.proofs.AllWritesLemmas.{any_some, one_name, one_table, reached_next, write_there}
 use Rattle.mt_laws.proofs.InPlaceLemmas.{opening_reached}
 use Rattle.mt_laws.proofs.ListLemmas.{OfSome, lookup-of}
 use Rattle.mt_laws.proofs.LiveLemmas.{find_some, unique}
@@ -38,9 +39,17 @@ below_next p has a n at_a = subst (OfSome (λ m. m < p.made)) at_a (lookup-of (�
 
 -- ---- the table by whose number a table that is there is told
 
+-- a side of the workflow that moves it, whose source is this one
+pub record IsAtSide (p : Plain) (keyspace table source : List ℕ) : Type 0 where
+  pub live : Live
+  pub moving : mover p table ≡ Some live
+  pub side : is_side live keyspace ≡ true
+  pub is_source : source ≡ live.source
+
 -- where it stands as if no workflow were live: at the source of its workflow where it lies at a side of that, else at its own keyspace
 pub record Home (p : Plain) (keyspace table : List ℕ) : Type 0 where
   pub at : List ℕ
+  pub where_it_is : (at ≡ keyspace) ⊎ IsAtSide p keyspace table at
   pub there : is_present p.topology.keyspaces at table ≡ true
   pub told : client_number p keyspace table ≡ number_of p at table
 
@@ -67,12 +76,12 @@ module _ (p : Plain) (has : HasParts p) (keyspace table : List ℕ) (here : has_
       by_side : (w : Live) → mover p table ≡ Some w → (t : Bool) → is_side w keyspace ≡ t → Home p keyspace table
       by_side w moving true t =
           let m = find_some (λ v. moves v table) p.lives w moving in
-          record { at = w.source; there = (has.placed w m.0).there table m.1; told = ap number_by moving ∙ ap (λ b. number_of p (cond b w.source keyspace) table) t }
+          record { at = w.source; where_it_is = inr (record { live = w; moving = moving; side = t; is_source = refl }); there = (has.placed w m.0).there table m.1; told = ap number_by moving ∙ ap (λ b. number_of p (cond b w.source keyspace) table) t }
       by_side w moving false t =
-          record { at = keyspace; there = elsewhere w moving t; told = ap number_by moving ∙ ap (λ b. number_of p (cond b w.source keyspace) table) t }
+          record { at = keyspace; where_it_is = inl refl; there = elsewhere w moving t; told = ap number_by moving ∙ ap (λ b. number_of p (cond b w.source keyspace) table) t }
 
       by : (o : Option Live) → mover p table ≡ o → Home p keyspace table
-      by None unmoved = record { at = keyspace; there = there_unmoved p keyspace table unmoved here; told = ap number_by unmoved }
+      by None unmoved = record { at = keyspace; where_it_is = inl refl; there = there_unmoved p keyspace table unmoved here; told = ap number_by unmoved }
       by (Some w) moving = by_side w moving (is_side w keyspace) refl
 
 client_below : (p : Plain) → HasParts p → HasListed p → IsNumbered p → (keyspace table : List ℕ) → has_table p keyspace table ≡ true → client_number p keyspace table < p.made
@@ -131,3 +140,29 @@ next_number_unwritten p reached number key le = unwritten p.writes p.made number
 
 pub reached_client_below : (p : Plain) → IsReached p → (keyspace table : List ℕ) → has_table p keyspace table ≡ true → client_number p keyspace table < p.made
 reached_client_below p reached = client_below p (reached_has_parts p reached) (listed p reached) (reached_is_numbered p reached)
+
+-- ---- tables of one number
+
+source_side : (w : Live) (keyspace : List ℕ) → w.source ≡ keyspace → is_side w keyspace ≡ true
+source_side w keyspace is = or_left (same_text w.source keyspace) (same_text w.target keyspace) ((same_text_decides w.source keyspace).1 is)
+
+one_mover : (p : Plain) (table : List ℕ) (v w : Live) → mover p table ≡ Some v → mover p table ≡ Some w → v ≡ w
+one_mover p table v w e f = let g : Some v ≡ Some w = sym e ∙ f in let h : v ≡ w = cc in h
+
+sides_of_move : (p : Plain) (k keyspace table a b : List ℕ) → (a ≡ k) ⊎ IsAtSide p k table a → (b ≡ keyspace) ⊎ IsAtSide p keyspace table b → a ≡ b → (k ≡ keyspace) ⊎ AreSidesOfMove p table k keyspace
+sides_of_move p k keyspace table a b (inl e) (inl f) same = inl (sym e ∙ same ∙ f)
+sides_of_move p k keyspace table a b (inl e) (inr f) same =
+    inr (record { live = f.live; moving = f.moving; first = source_side f.live k (sym f.is_source ∙ sym same ∙ e); second = f.side })
+sides_of_move p k keyspace table a b (inr e) (inl f) same =
+    inr (record { live = e.live; moving = e.moving; first = e.side; second = source_side e.live keyspace (sym e.is_source ∙ same ∙ f) })
+sides_of_move p k keyspace table a b (inr e) (inr f) same =
+    inr (record { live = e.live; moving = e.moving; first = e.side; second = ap (λ w. is_side w keyspace) (one_mover p table e.live f.live e.moving f.moving) ∙ f.side })
+
+pub told_apart : (p : Plain) → IsReached p → (k t keyspace table : List ℕ) → has_table p k t ≡ true → has_table p keyspace table ≡ true → client_number p k t ≡ client_number p keyspace table
+    → (t ≡ table) × ((k ≡ keyspace) ⊎ AreSidesOfMove p t k keyspace)
+told_apart p reached k t keyspace table here there same =
+    let has = reached_has_parts p reached in
+    let a = home p has k t here in
+    let b = home p has keyspace table there in
+    let one = one_table p reached a.at t b.at table a.there b.there (sym a.told ∙ same ∙ b.told) in
+    (one.1, sides_of_move p k keyspace t a.at b.at a.where_it_is (subst (λ n. (b.at ≡ keyspace) ⊎ IsAtSide p keyspace n b.at) (sym one.1) b.where_it_is) one.0)

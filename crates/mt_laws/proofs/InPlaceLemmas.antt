@@ -1,5 +1,5 @@
 -- Where each live workflow stands in each state that a run reaches, and by what it is found.
-use Rattle.std.proofs.Common.{◌≡◌, ℕ, true, false, List, [], Some, refl, sym, ap, ◌∙◌, subst}
+use Rattle.std.proofs.Common.{◌≡◌, ℕ, true, List, [], Some, refl, subst}
 use Rattle.std.proofs.lemmas.List.Elements.{All-from_recursion}
 use Rattle.std.specs.List.{IsDistinct}
 use Rattle.std.specs.Prelude.{All}
@@ -7,9 +7,8 @@ use Rattle.mt_names.specs.Names.{same_text}
 use Rattle.mt_names.proofs.SameLemmas.{same_text_decides}
 use Rattle.mt_model.specs.declared.entries.EntryKey.{EntryKey}
 use Rattle.mt_model.specs.declared.entries.Scope.{Scope}
-use Rattle.mt_plain.specs.Answers.{Answers, Run, after}
+use Rattle.mt_plain.specs.Answers.{Run, after}
 use Rattle.mt_plain.specs.Events.{Event, Answer}
-use Rattle.mt_plain.specs.Next.{next}
 use Rattle.mt_plain.specs.Plain.{Live, Plain, has_part, live_at, mover, moves, opening, part_owner}
 use Rattle.mt_laws.specs.Reached.{IsInPlace}
 use Rattle.mt_laws.specs.WayBack.{IsReached}

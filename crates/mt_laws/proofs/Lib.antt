@@ -6,6 +6,7 @@ pub mod ChangedLemmas
 pub mod CleanLemmas
 pub mod CompleteLemmas
 pub mod CopyLemmas
+pub mod CountLemmas
 pub mod CourseLemmas
 pub mod DocumentLemmas
 pub mod DriveLemmas
@@ -23,6 +24,7 @@ pub mod IdleLemmas
 pub mod InPlaceLemmas
 pub mod KeepLemmas
 pub mod LevelLemmas
+pub mod LimitLemmas
 pub mod LineLemmas
 pub mod ListLemmas
 pub mod LiveLemmas
@@ -52,6 +54,7 @@ pub mod ReadLemmas
 pub mod RefusalLemmas
 pub mod ReverseLemmas
 pub mod RowWitnessLemmas
+pub mod RuleLimitLemmas
 pub mod RunLemmas
 pub mod SameLemmas
 pub mod ServeLemmas

@@ -111,7 +111,7 @@ add_table-none p keyspace table none =
     let r = or_else-none (refuse_if (not (has_keyspace p keyspace)) no_keyspace) (or_else (refuse_if (has_table p keyspace table) exists) limit) none in
     refuse_if-none (has_table p keyspace table) exists (or_else-none (refuse_if (has_table p keyspace table) exists) limit r.1).0
 
-edit_rule-none : (p : Plain) (key : RuleKey) (target : Option RuleTarget) → refusal_of p (edit_rule key target) ≡ None → part_owner p (about.Rule key) ≡ None
+pub edit_rule-none : (p : Plain) (key : RuleKey) (target : Option RuleTarget) → refusal_of p (edit_rule key target) ≡ None → part_owner p (about.Rule key) ≡ None
 edit_rule-none p key target none =
     none_from (part_owner p (about.Rule key))
     (refuse_if-none (is_some (part_owner p (about.Rule key))) rule_owned (or_else-none (refuse_if (is_some (part_owner p (about.Rule key))) rule_owned) (rule_refusal p key target) none).0)

@@ -1,7 +1,7 @@
 -- In each state that a run reaches, only what stands has a place as if no workflow were live.
-use Rattle.std.proofs.Common.{◌≡◌, ℕ, Bool, true, false, cond, List, [], ◌∷◌, ◌++◌, Option, None, Some, is_some, unwrap_or, refl, sym, ap, ◌∙◌, subst}
+use Rattle.std.proofs.Common.{◌≡◌, ℕ, Bool, true, false, cond, List, [], ◌∷◌, ◌++◌, Option, None, Some, is_some, unwrap_or, refl, sym, ap, subst}
 use Rattle.std.proofs.lemmas.List.Elements.{All-from_recursion}
-use Rattle.std.specs.List.{AllByRecursion, fold}
+use Rattle.std.specs.List.{AllByRecursion}
 use Rattle.std.specs.Map.{lookup, remove_entry, set_value}
 use Rattle.std.specs.Option.{option_map_or}
 use Rattle.std.specs.Prelude.{All}
@@ -12,12 +12,11 @@ use Rattle.mt_names.specs.Same.{DecidesEquality, same_key}
 use Rattle.mt_names.proofs.EntryLemmas.{same_itself}
 use Rattle.mt_names.proofs.SameLemmas.{same_key_decides, same_text_decides}
 use Rattle.mt_model.specs.declared.entries.EntryKey.TheVariants as about
-use Rattle.mt_model.specs.declared.entries.Scope.{Scope}
 use Rattle.mt_model.specs.Topology.{KeyspaceState, Keyspaces, Rules, TopologyState, has_place, is_marked, is_present, keyspace_at, rule_at, with_keyspace_state, with_new_table, with_rule}
 use Rattle.mt_plain.specs.Answers.{Answers}
 use Rattle.mt_plain.specs.Events.{Event, add_keyspace, add_table, edit_rule, advance, complete, Answer, done, row, advanced, shown, refused}
 use Rattle.mt_plain.specs.Next.{completed, next, next_taken, with_completed, with_tables, without_tables}
-use Rattle.mt_plain.specs.Plain.{Live, Plain, live_at, opening, rule_keys}
+use Rattle.mt_plain.specs.Plain.{Live, Plain, live_at, rule_keys}
 use Rattle.mt_laws.specs.Places.{HasOnlyWhatStands}
 use Rattle.mt_laws.specs.WayBack.{IsReached}
 use Rattle.mt_laws.proofs.ListLemmas.{OfSome, append-all, each-all, fold-holds, lookup-of, option_map_or-of, remove_entry-all, set_value-all}

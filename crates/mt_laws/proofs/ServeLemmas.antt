@@ -117,7 +117,7 @@ twelve_keys-of w table moved =
         each-mapped (OfPart w) (λ type. record { keyspace = o; table = table; tablet_type = type }) (None ∷ Some Primary ∷ Some Replica ∷ Some Rdonly ∷ [])
         (λ type. and_from (moves w table) (option_map_or (is_side w) o true) moved side)
 
-key_in_part : (w : Live) (key : RuleKey) → list_any (same_key key) (rule_keys w) ≡ has_part w (about.Rule key)
+pub key_in_part : (w : Live) (key : RuleKey) → list_any (same_key key) (rule_keys w) ≡ has_part w (about.Rule key)
 key_in_part w key = both_ways (list_any (same_key key) (rule_keys w)) (has_part w (about.Rule key)) there back
   where
     of_each : AllByRecursion (OfPart w) (rule_keys w)

@@ -1,5 +1,5 @@
 -- In each state that a run reaches, what is served gives nothing two places, and has the keyspaces of the state.
-use Rattle.std.proofs.Common.{◌≡◌, ◌≢◌, ◌⊎◌, inl, inr, ℕ, ◌<◌, Bool, true, false, cond, List, [], ◌∷◌, ◌++◌, map, filter, length, Option, None, Some, All, AllPairs, is_some, refl, sym, ap, ◌∙◌, subst, arith}
+use Rattle.std.proofs.Common.{◌≡◌, ◌≢◌, ◌⊎◌, inl, inr, ℕ, ◌<◌, Bool, true, false, List, [], ◌∷◌, ◌++◌, map, filter, Option, None, Some, All, AllPairs, is_some, refl, sym, ap, ◌∙◌, subst, arith}
 use Rattle.std.proofs.lemmas.Bool.{true≢false}
 use Rattle.std.proofs.lemmas.List.{get_or-map, length-map, map-append}
 use Rattle.std.proofs.lemmas.List.Elements.{All-from_recursion, filter-append, recursion_from_All}
@@ -11,27 +11,25 @@ use Rattle.std.specs.Map.{keys_of, lookup, remove_entry, set_value}
 use Rattle.std.specs.Option.{option_map_or}
 use Rattle.std.specs.Prelude.{◌||◌}
 use Rattle.mt_names.specs.declared.keys.RuleKey.{RuleKey}
-use Rattle.mt_names.specs.declared.keys.RuleTarget.{RuleTarget}
 use Rattle.mt_names.specs.Names.{same_text}
 use Rattle.mt_names.specs.Same.{DecidesEquality, same_key}
-use Rattle.mt_names.proofs.EntryLemmas.{IsDistinct-remove_entry, IsDistinct-set_value, absent_from_lookup, lookup-remove_entry_elsewhere, lookup-remove_entry_here, none_from, same_itself, same_or_other, same_turned}
+use Rattle.mt_names.proofs.EntryLemmas.{IsDistinct-remove_entry, IsDistinct-set_value, absent_from_lookup, lookup-remove_entry_elsewhere, lookup-remove_entry_here, none_from, same_or_other, same_turned}
 use Rattle.mt_names.proofs.SameLemmas.{same_key_decides, same_text_decides}
 use Rattle.mt_model.specs.declared.entries.EntryKey.{EntryKey}
 use Rattle.mt_model.specs.declared.entries.EntryKey.TheVariants as about
 use Rattle.mt_model.specs.Part.{part_keys, table_part_keys}
-use Rattle.mt_model.specs.Topology.{HasDistinctPlaces, KeyspaceState, Keyspaces, Marks, TopologyState, has_place, is_present, keyspace_at, with_keyspace_state}
+use Rattle.mt_model.specs.Topology.{HasDistinctPlaces, KeyspaceState, Keyspaces, Marks, TopologyState, has_place, keyspace_at, with_keyspace_state}
 use Rattle.mt_model.proofs.PartLemmas.{part_distinct}
 use Rattle.mt_model.proofs.PlaceLemmas.{keyspace_at-stays}
 use Rattle.mt_model.proofs.TopologyLemmas.{denied_distinct, keyspace_at-changed_elsewhere, read_at-unchanged, tables_distinct}
-use Rattle.mt_plain.specs.Plain.{Live, Plain, among, has_keyspace, moves, rule_keys, twelve_keys}
-use Rattle.mt_plain.specs.Serve.{IsServed, denials_over, keyspaces_over, mark_in, rule_in, rules_over, served, served_by, with_part_at, with_workflow}
+use Rattle.mt_plain.specs.Plain.{Live, Plain, among, moves, rule_keys, twelve_keys}
+use Rattle.mt_plain.specs.Serve.{IsServed, denials_over, mark_in, rule_in, served, served_by, with_part_at, with_workflow}
 use Rattle.mt_laws.specs.WayBack.{IsReached}
 use Rattle.mt_laws.proofs.CompleteLemmas.{distinct-removed}
 use Rattle.mt_laws.proofs.InPlaceLemmas.{tables_once}
 use Rattle.mt_laws.proofs.ListLemmas.{set_value-all}
 use Rattle.mt_laws.proofs.LiveLemmas.{Apart, IsApart, IsIn, all_from_in, in_all}
 use Rattle.mt_laws.proofs.NumberedLemmas.{reached_is_numbered}
-use Rattle.mt_laws.proofs.PartLemmas.{HasParts}
 use Rattle.mt_laws.proofs.PlacedLemmas.{denied_places, table_places}
 use Rattle.mt_laws.proofs.ReachLemmas.{reached_has_parts}
 use Rattle.mt_laws.proofs.ReachedLemmas.{reached-serves}

@@ -50,7 +50,8 @@ pub use pending::{
     what_was_not_fed_makes_the_rows_of_the_owner,
 };
 pub use places::{
-    each_table_has_a_number_of_its_own, only_what_stands_has_a_place, what_is_served_is_a_topology,
+    each_table_has_a_number_of_its_own, no_limit_is_passed, only_what_stands_has_a_place,
+    what_is_served_is_a_topology,
 };
 pub use reached::{
     a_live_workflow_is_found_by_its_part, an_advance_writes_one_log, each_next_state_is_reached,

@@ -1,7 +1,7 @@
 //! Laws on the states that runs reach: on the places of the topology, the numbers of tables, and what is served.
-ghost use Rattle.std.specs.Prelude.{◌≡◌, ℕ, ◌<◌, ◌≤◌, false, true, List, None, Some, is_some};
+ghost use Rattle.std.specs.Prelude.{◌≡◌, ◌⊎◌, ℕ, ◌<◌, ◌≤◌, false, true, List, None, Some, is_some};
 ghost use Rattle.mt_laws.specs.Numbers.{HasNumbers, number_at};
-ghost use Rattle.mt_laws.specs.Places.{HasOnlyWhatStands};
+ghost use Rattle.mt_laws.specs.Places.{AreSidesOfMove, HasOnlyWhatStands, IsWithinLimits};
 ghost use Rattle.mt_laws.specs.WayBack.{IsReached};
 ghost use Rattle.mt_model.specs.declared.entries.EntryKey.TheVariants as about;
 ghost use Rattle.mt_model.specs.Topology.{HasDistinctPlaces, has_place, is_present, rule_at};
@@ -24,7 +24,8 @@ pub fn only_what_stands_has_a_place()
 
 /// In each state that a run reaches, whichever workflows are live: a table of the topology as if none were live has a number,
 /// which is no other table's, and only such a table has one; no number, and no write, has the number that the next table will
-/// get, nor one behind it; and a table that is there, moved or not, is told by a number below it.
+/// get, nor one behind it; and a table that is there, moved or not, is told by a number below it, by which no other table is
+/// told but the same one at the other side of its move.
 pub fn each_table_has_a_number_of_its_own()
     ensures numbers { (p : Plain) → IsReached p → HasNumbers p }
     ensures present { (p : Plain) → IsReached p → (keyspace table : List ℕ) (n : ℕ)
@@ -33,6 +34,9 @@ pub fn each_table_has_a_number_of_its_own()
         → row_after_writes p.writes number key ≡ None }
     ensures clients { (p : Plain) → IsReached p → (keyspace table : List ℕ) → has_table p keyspace table ≡ true
         → client_number p keyspace table < p.made }
+    ensures apart { (p : Plain) → IsReached p → (k t keyspace table : List ℕ) → has_table p k t ≡ true
+        → has_table p keyspace table ≡ true → client_number p k t ≡ client_number p keyspace table
+        → (t ≡ table) × ((k ≡ keyspace) ⊎ AreSidesOfMove p t k keyspace) }
 {}
 
 /// In each state that a run reaches, the lists of entries that are served are a topology: they give nothing two places, have
@@ -40,4 +44,9 @@ pub fn each_table_has_a_number_of_its_own()
 pub fn what_is_served_is_a_topology()
     ensures places { (p : Plain) → IsReached p → HasDistinctPlaces (served p) }
     ensures is_served { (p : Plain) → IsReached p → IsServed p (served p) }
+{}
+
+/// In each state that a run reaches no limit is passed.
+pub fn no_limit_is_passed()
+    ensures { (p : Plain) → IsReached p → IsWithinLimits p }
 {}
