@@ -1,6 +1,6 @@
 -- A topology: its keyspaces with their tables and denials, and its routing rules. How a name is looked up in it.
-use Rattle.std.specs.Prelude.{ℕ, Bool, true, false, List, [], ◌∷◌, ◌++◌, map, filter, All, Option, None, Some, is_some, unwrap_or, if◌then◌else◌, Result, Ok, Err}
-use Rattle.std.specs.List.{IsDistinct}
+use Rattle.std.specs.Prelude.{ℕ, Bool, true, false, cond, List, [], ◌∷◌, ◌++◌, map, filter, All, Option, None, Some, is_some, unwrap_or, if◌then◌else◌, Result, Ok, Err}
+use Rattle.std.specs.List.{IsDistinct, flat_map}
 use Rattle.std.specs.Option.{option_map_or, option_or}
 use Rattle.std.specs.Map.{keys_of, lookup, remove_entry, set_value}
 use Rattle.mt_names.specs.declared.keys.RuleKey.{RuleKey}
@@ -196,3 +196,17 @@ unruled keyspaces None table = sole_holder (holders keyspaces table) table
 -- where a name leads for a type ("Routing Rules"). That a rule's target isn't looked up again is this profile's own
 abbrev pub resolution : TopologyState → RuleKey → TabletType → Result RuleTarget TopologyFault
 resolution t key tablet_type = option_map_or Ok (rule_for t.rules key tablet_type) (unruled t.keyspaces key.keyspace key.table)
+
+-- ---- what routers follow
+
+-- whether an entry leads a name somewhere: a rule that stands, or a table that is there ("Routing Rules")
+abbrev pub is_routed : Entry → Bool
+is_routed (entry.Rule key target) = is_some target
+is_routed (entry.Denied keyspace table mark) = false
+is_routed (entry.Present keyspace table mark) = mark
+
+-- the rules that stand, and the tables that are there ("Routing Rules")
+abbrev pub routes_of : TopologyState → List Entry
+routes_of t =
+    flat_map (λ r. cond (is_some r.1) (entry.Rule r.0 r.1 ∷ []) []) t.rules
+    ++ flat_map (λ k. flat_map (λ mark. cond mark.1 (entry.Present k.0 mark.0 true ∷ []) []) k.1.tables) t.keyspaces
