@@ -273,8 +273,8 @@ impl Topology {
     /// `T1 NoKeyspace`, where the source or the target isn't there; then `T5 Full`, where the places that the part lacks
     /// don't all find room, a table that is named twice counted twice: 4,096 rule entries, and at each keyspace 256 tables
     /// and 256 denials; at last `T0 Memory`, which can't come where the part lacks no place. A refusal leaves no place
-    /// behind. It is refused for the denials alone only where the
-    /// places that they lack would pass 256 at the source or at the target.
+    /// behind. For the denials alone it is refused only where the places that they lack would pass 256 at the source or at
+    /// the target.
     pub fn reserve_part(
         &mut self,
         source: &KeyspaceName,
