@@ -1,10 +1,10 @@
 -- Routes: each is an entry that the topology says, each such entry is one, and none has the key of another.
-use Rattle.std.proofs.Common.{◌≡◌, ◌≢◌, ℕ, Bool, true, false, cond, List, [], ◌∷◌, ◌++◌, flat_map, Option, None, Some, is_some, unwrap_or, All, AllPairs, refl, sym, ap, subst, ◌∙◌, zero, suc, arith}
+use Rattle.std.proofs.Common.{◌≡◌, ◌≢◌, ℕ, Contains, Bool, true, false, cond, List, [], ◌∷◌, ◌++◌, flat_map, Option, None, Some, is_some, unwrap_or, All, AllPairs, refl, sym, ap, subst, ◌∙◌, zero, suc, arith}
 use Rattle.std.proofs.lemmas.Bool.{true≢false}
 use Rattle.std.proofs.lemmas.List.Elements.{All-append, All-cons, All-head, All-nil, All-tail}
 use Rattle.std.proofs.lemmas.List.Kept.{AllPairs-cons}
 use Rattle.std.specs.Bool.{Decides}
-use Rattle.std.specs.List.{AllByRecursion, IsAmong, IsDistinct}
+use Rattle.std.specs.List.{AllByRecursion, IsDistinct}
 use Rattle.std.specs.Map.{keys_of, lookup}
 use Rattle.std.specs.Option.{option_map_or}
 use Rattle.mt_names.specs.declared.keys.RuleKey.{RuleKey}
@@ -17,8 +17,8 @@ use Rattle.mt_model.specs.declared.entries.Entry.{Entry}
 use Rattle.mt_model.specs.declared.entries.Entry.TheVariants as entry
 use Rattle.mt_model.specs.declared.entries.EntryKey.{EntryKey}
 use Rattle.mt_model.specs.declared.entries.EntryKey.TheVariants as about
-use Rattle.mt_model.specs.Part.{is_route, routes_of, rule_routes, table_routes}
-use Rattle.mt_model.specs.Topology.{TopologyState, HasDistinctPlaces, Keyspaces, KeyspaceState, Marks, Rules, is_marked, is_present, key_of, keyspace_at, rule_at, value_of}
+use Rattle.mt_model.specs.Part.{rule_routes, table_routes}
+use Rattle.mt_model.specs.Topology.{TopologyState, HasDistinctPlaces, Keyspaces, KeyspaceState, Marks, Rules, is_marked, is_present, is_routed, key_of, keyspace_at, routes_of, rule_at, value_of}
 
 -- ---- where keys are distinct, each entry is found under its key
 
@@ -37,7 +37,7 @@ module _ {K V : Type 0} (same : K → K → Bool) (decides : (a b : K) → Decid
 -- ---- each route is what the topology says
 
 abbrev IsSaid : TopologyState → Entry → Type 0
-IsSaid t e = (is_route e ≡ true) × (value_of t (key_of e) ≡ e)
+IsSaid t e = (is_routed e ≡ true) × (value_of t (key_of e) ≡ e)
 
 rules_said : (t : TopologyState) (rules : Rules) → AllByRecursion (λ r. lookup (same_key r.0) t.rules ≡ Some r.1) rules → All (IsSaid t) (rule_routes rules)
 rules_said t [] found = All-nil (IsSaid t)
@@ -72,59 +72,59 @@ said t distinct =
     All-append (IsSaid t) (rule_routes t.rules) (flat_map table_routes t.keyspaces) (rules_said t t.rules (each_found same_key same_key_decides t.rules distinct.rules))
     (keyspaces_said t t.keyspaces (each_found same_text same_text_decides t.keyspaces distinct.keyspaces) distinct.tables)
 
-pub routes_said : (t : TopologyState) (e : Entry) → HasDistinctPlaces t → IsAmong (routes_of t) e → IsSaid t e
-routes_said t e distinct among = subst (IsSaid t) (sym among.1.1) (said t distinct among.0 e among.1.0)
+pub routes_said : (t : TopologyState) (e : Entry) → HasDistinctPlaces t → Contains (routes_of t) e → IsSaid t e
+routes_said t e distinct among = subst (IsSaid t) among.2 (said t distinct among.0 e among.1)
 
 -- ---- each such entry is a route
 
-among-later : {A : Type 0} (x : A) (xs : List A) (v : A) → IsAmong xs v → IsAmong (x ∷ xs) v
-among-later x xs v (i, (inside, is)) = (suc i, (omega (arith, inside), is))
+among-later : {A : Type 0} (x : A) (xs : List A) (v : A) → Contains xs v → Contains (x ∷ xs) v
+among-later x xs v (i, inside, is) = (suc i, omega (arith, inside), is)
 
-among-front : {A : Type 0} (xs ys : List A) (v : A) → IsAmong xs v → IsAmong (xs ++ ys) v
-among-front [] ys v (i, (inside, is)) = absurd (omega (arith, inside))
-among-front (x ∷ xs) ys v (zero, (inside, is)) = (zero, (omega arith, is))
-among-front (x ∷ xs) ys v (suc i, (inside, is)) = among-later x (xs ++ ys) v (among-front xs ys v (i, (omega (arith, inside), is)))
+among-front : {A : Type 0} (xs ys : List A) (v : A) → Contains xs v → Contains (xs ++ ys) v
+among-front [] ys v (i, inside, is) = absurd (omega (arith, inside))
+among-front (x ∷ xs) ys v (zero, inside, is) = (zero, omega arith, is)
+among-front (x ∷ xs) ys v (suc i, inside, is) = among-later x (xs ++ ys) v (among-front xs ys v (i, omega (arith, inside), is))
 
-among-back : {A : Type 0} (xs ys : List A) (v : A) → IsAmong ys v → IsAmong (xs ++ ys) v
+among-back : {A : Type 0} (xs ys : List A) (v : A) → Contains ys v → Contains (xs ++ ys) v
 among-back [] ys v among = among
 among-back (x ∷ xs) ys v among = among-later x (xs ++ ys) v (among-back xs ys v among)
 
-rule_among : (rules : Rules) (key : RuleKey) (target : RuleTarget) → rule_at rules key ≡ Some target → IsAmong (rule_routes rules) (entry.Rule key (Some target))
+rule_among : (rules : Rules) (key : RuleKey) (target : RuleTarget) → rule_at rules key ≡ Some target → Contains (rule_routes rules) (entry.Rule key (Some target))
 rule_among [] key target is = absurd cc
 rule_among (r ∷ rules) key target is = by (rule_among rules key target) (same_key key r.0) refl is
   where
-    by : (rule_at rules key ≡ Some target → IsAmong (rule_routes rules) (entry.Rule key (Some target))) → (b : Bool) → same_key key r.0 ≡ b → unwrap_or (cond b (Some r.1) (lookup (same_key key) rules)) None ≡ Some target
-        → IsAmong (cond (is_some r.1) (entry.Rule r.0 r.1 ∷ []) [] ++ rule_routes rules) (entry.Rule key (Some target))
+    by : (rule_at rules key ≡ Some target → Contains (rule_routes rules) (entry.Rule key (Some target))) → (b : Bool) → same_key key r.0 ≡ b → unwrap_or (cond b (Some r.1) (lookup (same_key key) rules)) None ≡ Some target
+        → Contains (cond (is_some r.1) (entry.Rule r.0 r.1 ∷ []) [] ++ rule_routes rules) (entry.Rule key (Some target))
     by again true here found =
         let key_is : key ≡ r.0 = (same_key_decides key r.0).0 here in
-        subst (λ o. IsAmong (cond (is_some o) (entry.Rule r.0 o ∷ []) [] ++ rule_routes rules) (entry.Rule key (Some target))) (sym found) (zero, (omega arith, ap (λ k. entry.Rule k (Some target)) key_is))
+        subst (λ o. Contains (cond (is_some o) (entry.Rule r.0 o ∷ []) [] ++ rule_routes rules) (entry.Rule key (Some target))) (sym found) (zero, omega arith, ap (λ k. entry.Rule k (Some target)) (sym key_is))
     by again false other found = among-back (cond (is_some r.1) (entry.Rule r.0 r.1 ∷ []) []) (rule_routes rules) (entry.Rule key (Some target)) (again found)
 
-table_among : (keyspace : List ℕ) (marks : Marks) (table : List ℕ) → is_marked marks table ≡ true → IsAmong (flat_map (λ mark. cond mark.1 (entry.Present keyspace mark.0 true ∷ []) []) marks) (entry.Present keyspace table true)
+table_among : (keyspace : List ℕ) (marks : Marks) (table : List ℕ) → is_marked marks table ≡ true → Contains (flat_map (λ mark. cond mark.1 (entry.Present keyspace mark.0 true ∷ []) []) marks) (entry.Present keyspace table true)
 table_among keyspace [] table is = absurd (true≢false (sym is))
 table_among keyspace (m ∷ marks) table is = by (table_among keyspace marks table) (same_text table m.0) refl is
   where
-    by : (is_marked marks table ≡ true → IsAmong (flat_map (λ mark. cond mark.1 (entry.Present keyspace mark.0 true ∷ []) []) marks) (entry.Present keyspace table true))
+    by : (is_marked marks table ≡ true → Contains (flat_map (λ mark. cond mark.1 (entry.Present keyspace mark.0 true ∷ []) []) marks) (entry.Present keyspace table true))
         → (b : Bool) → same_text table m.0 ≡ b → unwrap_or (cond b (Some m.1) (lookup (same_text table) marks)) false ≡ true
-        → IsAmong (cond m.1 (entry.Present keyspace m.0 true ∷ []) [] ++ flat_map (λ mark. cond mark.1 (entry.Present keyspace mark.0 true ∷ []) []) marks) (entry.Present keyspace table true)
+        → Contains (cond m.1 (entry.Present keyspace m.0 true ∷ []) [] ++ flat_map (λ mark. cond mark.1 (entry.Present keyspace mark.0 true ∷ []) []) marks) (entry.Present keyspace table true)
     by again true here found =
         let rest : List Entry = flat_map (λ mark. cond mark.1 (entry.Present keyspace mark.0 true ∷ []) []) marks in
         let table_is : table ≡ m.0 = (same_text_decides table m.0).0 here in
-        subst (λ b. IsAmong (cond b (entry.Present keyspace m.0 true ∷ []) [] ++ rest) (entry.Present keyspace table true)) (sym found) (zero, (omega arith, ap (λ n. entry.Present keyspace n true) table_is))
+        subst (λ b. Contains (cond b (entry.Present keyspace m.0 true ∷ []) [] ++ rest) (entry.Present keyspace table true)) (sym found) (zero, omega arith, ap (λ n. entry.Present keyspace n true) (sym table_is))
     by again false other found =
         let rest : List Entry = flat_map (λ mark. cond mark.1 (entry.Present keyspace mark.0 true ∷ []) []) marks in
         among-back (cond m.1 (entry.Present keyspace m.0 true ∷ []) []) rest (entry.Present keyspace table true) (again found)
 
-keyspace_among : (keyspaces : Keyspaces) (keyspace table : List ℕ) → is_present keyspaces keyspace table ≡ true → IsAmong (flat_map table_routes keyspaces) (entry.Present keyspace table true)
+keyspace_among : (keyspaces : Keyspaces) (keyspace table : List ℕ) → is_present keyspaces keyspace table ≡ true → Contains (flat_map table_routes keyspaces) (entry.Present keyspace table true)
 keyspace_among [] keyspace table is = absurd (true≢false (sym is))
 keyspace_among (k ∷ keyspaces) keyspace table is = by (keyspace_among keyspaces keyspace table) (same_text keyspace k.0) refl is
   where
-    by : (is_present keyspaces keyspace table ≡ true → IsAmong (flat_map table_routes keyspaces) (entry.Present keyspace table true))
+    by : (is_present keyspaces keyspace table ≡ true → Contains (flat_map table_routes keyspaces) (entry.Present keyspace table true))
         → (b : Bool) → same_text keyspace k.0 ≡ b → option_map_or (λ s. is_marked s.tables table) (cond b (Some k.1) (keyspace_at keyspaces keyspace)) false ≡ true
-        → IsAmong (table_routes k ++ flat_map table_routes keyspaces) (entry.Present keyspace table true)
+        → Contains (table_routes k ++ flat_map table_routes keyspaces) (entry.Present keyspace table true)
     by again true here found =
         let name_is : keyspace ≡ k.0 = (same_text_decides keyspace k.0).0 here in
-        subst (λ n. IsAmong (table_routes k ++ flat_map table_routes keyspaces) (entry.Present n table true)) (sym name_is)
+        subst (λ n. Contains (table_routes k ++ flat_map table_routes keyspaces) (entry.Present n table true)) (sym name_is)
         (among-front (table_routes k) (flat_map table_routes keyspaces) (entry.Present k.0 table true) (table_among k.0 k.1.tables table found))
     by again false other found = among-back (table_routes k) (flat_map table_routes keyspaces) (entry.Present keyspace table true) (again found)
 
@@ -139,7 +139,7 @@ mark_in (entry.Rule key target) = false
 mark_in (entry.Denied keyspace table mark) = mark
 mark_in (entry.Present keyspace table mark) = mark
 
-pub said_is_route : (t : TopologyState) (e : Entry) → IsSaid t e → IsAmong (routes_of t) e
+pub said_is_route : (t : TopologyState) (e : Entry) → IsSaid t e → Contains (routes_of t) e
 unfolding rule_in mark_in
 said_is_route t (entry.Rule key None) (route, is) = absurd (true≢false (sym route))
 said_is_route t (entry.Rule key (Some target)) (route, is) = among-front (rule_routes t.rules) (flat_map table_routes t.keyspaces) (entry.Rule key (Some target)) (rule_among t.rules key target (ap rule_in is))

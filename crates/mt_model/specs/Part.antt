@@ -1,5 +1,5 @@
 -- The part of a topology that a workflow moves, places for it, and writes that are taken back.
-use Rattle.std.specs.Prelude.{◌≡◌, ℕ, Bool, true, false, cond, List, [], ◌∷◌, ◌++◌, map, fold, Option, None, Some, is_some}
+use Rattle.std.specs.Prelude.{◌≡◌, ℕ, true, cond, List, [], ◌∷◌, ◌++◌, map, fold, Option, None, Some, is_some}
 use Rattle.std.specs.List.{flat_map}
 use Rattle.mt_names.specs.declared.keys.RuleKey.{RuleKey}
 use Rattle.mt_names.specs.declared.types.TabletType.TheVariants.{Primary, Replica, Rdonly}
@@ -74,7 +74,7 @@ pub record IsSameTopology (one other : TopologyState) : Type 0 where
   pub keyspaces : (name : List ℕ) → is_some (keyspace_at one.keyspaces name) ≡ is_some (keyspace_at other.keyspaces name)
   pub values : (key : EntryKey) → value_of one key ≡ value_of other key
 
--- ---- routes
+-- ---- the two kinds of routes, of which `routes_of` of Topology is made
 
 -- the rules that stand, in the order of their places ("Routing Rules")
 abbrev pub rule_routes : Rules → List Entry
@@ -83,13 +83,3 @@ rule_routes rules = flat_map (λ r. cond (is_some r.1) (entry.Rule r.0 r.1 ∷ [
 -- the tables of a keyspace that are there, in the order of their places (this profile's own)
 abbrev pub table_routes : List ℕ × KeyspaceState → List Entry
 table_routes k = flat_map (λ mark. cond mark.1 (entry.Present k.0 mark.0 true ∷ []) []) k.1.tables
-
--- by what names are looked up: the rules that stand, and the tables that are there ("Routing Rules")
-abbrev pub routes_of : TopologyState → List Entry
-routes_of t = rule_routes t.rules ++ flat_map table_routes t.keyspaces
-
--- the entry says a rule, or a table that is there: a denial is no route (this profile's own)
-abbrev pub is_route : Entry → Bool
-is_route (entry.Rule key target) = is_some target
-is_route (entry.Denied keyspace table mark) = false
-is_route (entry.Present keyspace table mark) = mark

@@ -1,8 +1,7 @@
 //! The part of a topology that a workflow moves.
-ghost use Rattle.std.specs.Prelude.{◌≡◌, ◌≢◌, ◌↔◌, ℕ, true, Bool, List, All, AllPairs, reverse, is_some, option_copied};
-ghost use Rattle.std.specs.List.{IsAmong};
-ghost use Rattle.mt_model.specs.Part.{IsSameTopology, befores, is_route, part_keys, routes_of, table_part_keys, table_rule_keys, with_entries, with_places, without_places};
-ghost use Rattle.mt_model.specs.Topology.{HasDistinctPlaces, TopologyState, has_place, key_of, keyspace_at, resolution, value_of, with_entry};
+ghost use Rattle.std.specs.Prelude.{◌≡◌, ◌≢◌, ◌↔◌, ℕ, true, Bool, List, All, AllPairs, Contains, reverse, is_some, option_copied};
+ghost use Rattle.mt_model.specs.Part.{IsSameTopology, befores, part_keys, table_part_keys, table_rule_keys, with_entries, with_places, without_places};
+ghost use Rattle.mt_model.specs.Topology.{HasDistinctPlaces, TopologyState, has_place, is_routed, key_of, keyspace_at, resolution, routes_of, value_of, with_entry};
 
 use crate::{Entry, EntryKey};
 use mt_names::{KeyspaceName, RuleKey, TableName, TabletType};
@@ -116,6 +115,6 @@ pub fn denials_change_no_look_up()
 /// topology gives it; no key stands twice among them.
 pub fn routes_are_what_stands()
     ensures each { (t : TopologyState) (e : Entry) → HasDistinctPlaces t
-        → IsAmong (routes_of t) e ↔ ((is_route e ≡ true) × (value_of t (key_of e) ≡ e)) }
+        → Contains (routes_of t) e ↔ ((is_routed e ≡ true) × (value_of t (key_of e) ≡ e)) }
     ensures once { (t : TopologyState) → HasDistinctPlaces t → AllPairs (λ a b. key_of a ≢ key_of b) (routes_of t) }
 {}

@@ -1,8 +1,8 @@
 //! The topology as one value.
 ghost use Rattle.std.specs.Prelude.{◌≡◌, ◌<◌, ◌≤◌, true, All, Some, IsTrue, IfOk, IfErr, length, reverse, slice_get, string_bytes};
 ghost use Rattle.mt_model.specs.Limits.{most_keyspaces};
-ghost use Rattle.mt_model.specs.Topology.{HasDistinctPlaces, empty_topology, has_place, key_of, resolution, value_of, with_entry, with_keyspace, with_keyspace_state, with_rule, with_table, without_table_place};
-ghost use Rattle.mt_model.specs.Part.{befores, part_keys, routes_of, table_part_keys, with_entries, with_place, with_places, without_place, without_places};
+ghost use Rattle.mt_model.specs.Topology.{HasDistinctPlaces, empty_topology, has_place, key_of, resolution, routes_of, value_of, with_entry, with_keyspace, with_keyspace_state, with_rule, with_table, without_table_place};
+ghost use Rattle.mt_model.specs.Part.{befores, part_keys, table_part_keys, with_entries, with_place, with_places, without_place, without_places};
 ghost use Rattle.mt_topology.specs.Part.{lacks_a_place, place_grows, place_refusal, reserve_refusal};
 ghost use Rattle.mt_keyspace.specs.Load.{IsUnlessMemory};
 ghost use Rattle.mt_topology.specs.Dump.{topology_of_text};
@@ -273,8 +273,8 @@ impl Topology {
     /// `T1 NoKeyspace`, where the source or the target isn't there; then `T5 Full`, where the places that the part lacks
     /// don't all find room, a table that is named twice counted twice: 4,096 rule entries, and at each keyspace 256 tables
     /// and 256 denials; at last `T0 Memory`, which can't come where the part lacks no place. A refusal leaves no place
-    /// behind. It is refused for the denials alone only where the
-    /// places that they lack would pass 256 at the source or at the target.
+    /// behind. For the denials alone it is refused only where the places that they lack would pass 256 at the source or at
+    /// the target.
     pub fn reserve_part(
         &mut self,
         source: &KeyspaceName,

@@ -1,6 +1,6 @@
 -- There is one of that index.
 use Rattle.std.proofs.Common.{ap, is_some, slice_get, ◌∙◌}
-use Rattle.mt_model.specs.Part.{routes_of}
+use Rattle.mt_model.specs.Topology.{routes_of}
 use Rattle.mt_keyspace.proofs.RouteLemmas.{slice_get-inside}
 use Rattle.mt_topology.proofs.topology.Topology.route_entry.Goals as goal
 
