@@ -5,19 +5,23 @@ use Rattle.std.proofs.lemmas.List.{take-append-le, take_at}
 use Rattle.std.proofs.lemmas.Map.Steps.{set_value_same}
 use Rattle.std.proofs.lemmas.Option.{slice_get_within}
 use Rattle.std.specs.List.{IsDistinct}
+use Rattle.std.specs.List.Sorted.{IsStrictlySortedBy}
 use Rattle.std.specs.Map.{keys_of, set_value}
+use Rattle.std.specs.Bool.{⊤}
 use Rattle.std.specs.Option.{option_map, option_map_or}
-use Rattle.mt_names.proofs.EntryLemmas.{IsDistinct-push, IsDistinct-set_value, lookup-push_elsewhere, lookup-push_here, lookup-set_value_elsewhere, lookup-set_value_here}
+use Rattle.std.specs.Result.{IsOkAnd, MatchResult, is_ok}
+use Rattle.mt_names.proofs.EntryLemmas.{IsDistinct-push, IsDistinct-remove_entry, IsDistinct-set_value, lookup-push_elsewhere, lookup-push_here, lookup-remove_entry_elsewhere, lookup-remove_entry_here, lookup-set_value_elsewhere, lookup-set_value_here, remove_entry-push}
 use Rattle.mt_names.proofs.SameLemmas.{same_text_decides}
 use Rattle.mt_names.specs.Names.{same_text}
 use Rattle.mt_model.specs.declared.faults.PrimaryFault.{PrimaryFault}
-use Rattle.mt_model.specs.declared.faults.PrimaryFault.TheVariants.{Memory}
+use Rattle.mt_model.specs.declared.faults.PrimaryFault.TheVariants.{Denied, LogFull, Memory}
 use Rattle.mt_model.specs.declared.rows.Op.{Op}
 use Rattle.mt_model.specs.declared.rows.RowChange.{RowChange}
-use Rattle.mt_model.specs.Rows.{op_key, row_since, row_with}
+use Rattle.mt_model.specs.Rows.{Row, op_key, row_since, row_with}
 use Rattle.mt_primary.specs.Primary.{IsInKeyOrder, IsPrimary, PrimaryState, TableState, is_denied_at, made_at, new_table, row_at, row_in, table_at}
 use Rattle.mt_primary.specs.Tables.{ChangesRow, IsRowPut, LoggedTable, changed_row}
-use Rattle.mt_primary.specs.Writes.{IsTableMade, IsWritten, Writes, written_row}
+use Rattle.mt_primary.specs.declared.table.RowEdit.TheVariants.{Put, Write}
+use Rattle.mt_primary.specs.Writes.{IsPut, IsWritten, Puts, Writes, has_room, unless_full, with_new_table, without_table, written_row}
 use Rattle.mt_primary.proofs.LogLemmas.{row_since-end, row_since-push, row_with-here, row_with-other_key, row_with-other_table, slice_get_push}
 
 -- ---- each table by itself
@@ -78,6 +82,12 @@ logged-push log change name old new was made ordered rows before = record {
 
     latest : (i : ℕ) (entry : RowChange) → i ≡ length log → entry ≡ change → entry.table ≡ name → entry.before ≡ row_since (take i (log ++ change ∷ [])) old.made name entry.key
     latest i entry end last of = rw (last, take_at log (change ∷ []) i (sym end)) (before (rw last at of) ∙ was.rows change.key)
+
+-- an answer without its position
+pub map_answer : (P : ℕ → ⊤ → Type 0) (r : Result ℕ PrimaryFault) (s : Result ⊤ PrimaryFault) → MatchResult r (λ position. IsOkAnd s (P position)) (λ fault. s ≡ Err fault) → MatchResult r (λ position. is_ok s ≡ true) (λ fault. s ≡ Err fault)
+map_answer P (Ok position) (Ok done) h = refl
+map_answer P (Ok position) (Err fault) h = absurd h
+map_answer P (Err fault) s h = h
 
 -- ---- a row that changes
 
@@ -163,9 +173,15 @@ module _ (old : PrimaryState) (name : List ℕ) (table put : TableState) (found 
     others_stay : (log : List RowChange) (other : List ℕ) (k : ℕ) → ¬ ((other ≡ name) × (k ≡ key)) → row_at (with_table log) other k ≡ row_at old other k
     others_stay log other k apart = read_stays (λ (o : Option TableState). option_map_or (λ t. row_in t k) o None) log other (λ at. is_put.others k (λ h. apart (sym at, h)))
 
-  -- the tests of a write are those of the change of its table
-  written-changed : (op : Op) → written_row old name op ≡ changed_row (record { table = table; log = old.log }) op
-  written-changed op = rw found refl
+    -- a row of this table is put
+    IsPut-changed : (after : Row) → row_in put key ≡ after → IsPut old (record { table = name; key = key; after = after }) (with_table (old.log ++ change ∷ []))
+    IsPut-changed after left = record {
+      row = row_at-here (old.log ++ change ∷ []) key ∙ left;
+      others = others_stay (old.log ++ change ∷ []);
+      made = made_stays (old.log ++ change ∷ []);
+      denied = denied_stays (old.log ++ change ∷ []);
+      log = rw (row_at-old key, left) refl;
+    }
 
   -- a change that leaves the table and the log leaves the primary
   unchanged : (log : List RowChange) → (let new : LoggedTable = record { table = put; log = log } in new ≡ record { table = table; log = old.log }) → with_table log ≡ old
@@ -175,10 +191,14 @@ module _ (old : PrimaryState) (name : List ℕ) (table put : TableState) (found 
       let tables : set_value (same_text name) old.tables put ≡ old.tables = ap (set_value (same_text name) old.tables) is_table ∙ set_value_same (same_text name) old.tables table found in
       rw (tables, is_log) refl
 
-  -- a change of the table is a write, and what holds of every primary holds behind it
-  pub change_is_write : (op : Op) (log : List RowChange) (r : Result ℕ PrimaryFault) → IsPrimary old → ChangesRow (record { table = table; log = old.log }) name op r (record { table = put; log = log })
+  -- the tests of a write are those of the change of its table, where the own list lacks it
+  written-changed : (op : Op) → table.denied ≡ false → written_row old name op ≡ changed_row (record { table = table; log = old.log }) (Write op)
+  written-changed op allowed = rw (found, allowed) refl
+
+  -- a change of the table by an operation is a write, and what holds of every primary holds behind it
+  pub change_is_write : (op : Op) (log : List RowChange) (r : Result ℕ PrimaryFault) → table.denied ≡ false → IsPrimary old → ChangesRow (record { table = table; log = old.log }) name (Write op) r (record { table = put; log = log })
       → IsPrimary (with_table log) × Writes old name op r (with_table log)
-  change_is_write op log (Ok position) is h = by log h.log h.position
+  change_is_write op log (Ok position) allowed is h = by log h.log h.position
     where
       key : ℕ
       key = op_key op
@@ -187,57 +207,125 @@ module _ (old : PrimaryState) (name : List ℕ) (table put : TableState) (found 
       by l is_l at = (
         rw is_l (IsPrimary-changed key is h.put),
         record {
-          row = written-changed op ∙ h.row ∙ ap Ok (sym (row_at-here l key));
-          others = others_stay key is h.put l;
-          made = made_stays key is h.put l;
-          denied = denied_stays key is h.put l;
-          log = rw (row_at-here l key, row_at-old key) is_l;
+          row = written-changed op allowed ∙ h.row ∙ ap Ok (sym (row_at-here l key));
+          put = rw is_l (IsPut-changed key is h.put (row_at (with_table (old.log ++ change key is h.put ∷ [])) name key) (sym (row_at-here (old.log ++ change key is h.put ∷ []) key)));
           position = at;
         },
       )
-  change_is_write op log (Err Memory) is h =
-      let same = unchanged log h.1 in (subst IsPrimary (sym same) is, ((h.0.0, written-changed op ∙ h.0.1), same))
-  change_is_write op log (Err fault) is h =
-      let same = unchanged log h.1 in (subst IsPrimary (sym same) is, (written-changed op ∙ h.0, same))
+  change_is_write op log (Err Memory) allowed is h =
+      let same = unchanged log h.1 in (subst IsPrimary (sym same) is, ((h.0.0, written-changed op allowed ∙ h.0.1), same))
+  change_is_write op log (Err fault) allowed is h =
+      let same = unchanged log h.1 in (subst IsPrimary (sym same) is, (written-changed op allowed ∙ h.0, same))
+
+  -- a row that is put where the log has room
+  put_where_room : (row after : Row) → unless_full old.log row ≡ Ok after → (has_room old.log ≡ true) × (after ≡ row)
+  put_where_room row after e = by (has_room old.log) refl
+    where
+      by : (b : Bool) → has_room old.log ≡ b → (has_room old.log ≡ true) × (after ≡ row)
+      by true room = (room, let h = rw room at e in cc)
+      by false full = absurd (let h = rw full at e in cc)
+
+  put_where_full : (row : Row) (fault : PrimaryFault) → unless_full old.log row ≡ Err fault → (fault ≡ LogFull) × (has_room old.log ≡ false)
+  put_where_full row fault e = by (has_room old.log) refl
+    where
+      by : (b : Bool) → has_room old.log ≡ b → (fault ≡ LogFull) × (has_room old.log ≡ false)
+      by true room = absurd (let h = rw room at e in cc)
+      by false full = (let h = rw full at e in cc, full)
+
+  -- what refuses a write of a denied table
+  pub denied_write : (op : Op) → table.denied ≡ true → written_row old name op ≡ Err Denied
+  denied_write op is = rw (found, is) refl
+
+  -- a change of the table by a put is one of the primary, whose answer leaves out the position
+  pub change_is_put : (key : ℕ) (after : Row) (log : List RowChange) (r : Result ℕ PrimaryFault) (s : Result ⊤ PrimaryFault) → MatchResult r (λ position. is_ok s ≡ true) (λ fault. s ≡ Err fault) → IsPrimary old
+      → ChangesRow (record { table = table; log = old.log }) name (Put key after) r (record { table = put; log = log })
+      → IsPrimary (with_table log) × Puts old (record { table = name; key = key; after = after }) s (with_table log)
+  change_is_put key after log (Ok position) (Ok done) is_s is h =
+      let left = put_where_room after (row_in put key) h.row in
+      rw h.log (IsPrimary-changed key is h.put, (left.0, IsPut-changed key is h.put after left.1))
+  change_is_put key after log (Ok position) (Err fault) is_s is h = absurd (true≢false (sym is_s))
+  change_is_put key after log (Err fault) s is_s is h = rw is_s (by fault h)
+    where
+      full : (fault : PrimaryFault) → (changed_row (record { table = table; log = old.log }) (Put key after) ≡ Err fault) × (let new : LoggedTable = record { table = put; log = log } in new ≡ record { table = table; log = old.log })
+          → IsPrimary (with_table log) × ((fault ≡ LogFull) × (has_room old.log ≡ false) × (with_table log ≡ old))
+      full fault h =
+          let same = unchanged log h.1 in
+          let refused = put_where_full after fault h.0 in
+          (subst IsPrimary (sym same) is, (refused.0, refused.1, same))
+
+      by : (fault : PrimaryFault) → ChangesRow (record { table = table; log = old.log }) name (Put key after) (Err fault) (record { table = put; log = log })
+          → IsPrimary (with_table log) × Puts old (record { table = name; key = key; after = after }) (Err fault) (with_table log)
+      by Memory h = let same = unchanged log h.1 in (subst IsPrimary (sym same) is, ((put_where_room after h.0.0 h.0.1).0, same))
+      by fault h = full fault h
+
+-- the same table in its place
+pub same_table : (old : PrimaryState) (name : List ℕ) (table : TableState) (found : table_at old name ≡ Some table) → with_table old name table table found old.log ≡ old
+same_table old name table found = unchanged old name table table found old.log refl
 
 -- ---- a table that is made
 
+in_order-new : (made : ℕ) → IsInKeyOrder (new_table made)
+unfolding IsStrictlySortedBy
+in_order-new made = tt
+
+pub made_elsewhere : (old : PrimaryState) (name other : List ℕ) → other ≢ name → table_at (with_new_table old name) other ≡ table_at old other
+made_elsewhere old name other apart = lookup-push_elsewhere same_text same_text_decides old.tables name other (new_table (length old.log)) (λ h. apart (sym h))
+
 -- a new table is what an entry from here on leads to
-logged-new : (log : List RowChange) (name : List ℕ) → IsInKeyOrder (new_table (length log)) → IsLogged log name (new_table (length log))
-logged-new log name ordered = record {
-  ordered = ordered;
+logged-new : (log : List RowChange) (name : List ℕ) → IsLogged log name (new_table (length log))
+logged-new log name = record {
+  ordered = in_order-new (length log);
   made = omega arith;
   rows = λ key. sym (row_since-end log name key);
   befores = λ i change within at of. let below : i < length log = slice_get_within log i change at in absurd (omega arith);
 }
 
 module _ (old : PrimaryState) (name : List ℕ) (absent : table_at old name ≡ None) where
-  -- the primary with the table
-  abbrev pub with_new_table : PrimaryState
-  with_new_table = record { tables = old.tables ++ (name, new_table (length old.log)) ∷ []; log = old.log }
-
-  made_here : table_at with_new_table name ≡ Some (new_table (length old.log))
+  pub made_here : table_at (with_new_table old name) name ≡ Some (new_table (length old.log))
   made_here = lookup-push_here same_text same_text_decides old.tables name (new_table (length old.log)) absent
 
-  made_elsewhere : (other : List ℕ) → other ≢ name → table_at with_new_table other ≡ table_at old other
-  made_elsewhere other apart = lookup-push_elsewhere same_text same_text_decides old.tables name other (new_table (length old.log)) (λ h. apart (sym h))
-
-  pub IsTableMade-new : IsTableMade old name with_new_table
-  IsTableMade-new = record { table = made_here; others = made_elsewhere; log = refl }
-
-  pub IsPrimary-new_table : IsPrimary old → IsInKeyOrder (new_table (length old.log)) → IsPrimary with_new_table
-  IsPrimary-new_table is ordered =
-      primary_from with_new_table (IsDistinct-push same_text same_text_decides old.tables name (new_table (length old.log)) absent is.distinct) each
+  pub IsPrimary-new_table : IsPrimary old → IsPrimary (with_new_table old name)
+  IsPrimary-new_table is =
+      primary_from (with_new_table old name) (IsDistinct-push same_text same_text_decides old.tables name (new_table (length old.log)) absent is.distinct) each
     where
-      each : (other : List ℕ) (t : TableState) → table_at with_new_table other ≡ Some t → IsLogged old.log other t
+      each : (other : List ℕ) (t : TableState) → table_at (with_new_table old name) other ≡ Some t → IsLogged old.log other t
       each other t at = by (same_text name other) refl
         where
           by : (b : Bool) → same_text name other ≡ b → IsLogged old.log other t
           by true same =
               let is_name : name ≡ other = (same_text_decides name other).0 same in
-              let both : Some (new_table (length old.log)) ≡ Some t = sym made_here ∙ ap (table_at with_new_table) is_name ∙ at in
+              let both : Some (new_table (length old.log)) ≡ Some t = sym made_here ∙ ap (table_at (with_new_table old name)) is_name ∙ at in
               let is_t : new_table (length old.log) ≡ t = cc in
-              rw (sym is_t) (logged-new old.log other ordered)
+              rw (sym is_t) (logged-new old.log other)
           by false same =
               let apart : other ≢ name = λ h. true≢false (sym ((same_text_decides name other).1 (sym h)) ∙ same) in
-              logged old other t is (sym (made_elsewhere other apart) ∙ at)
+              logged old other t is (sym (made_elsewhere old name other apart) ∙ at)
+
+-- ---- a table that is dropped
+
+pub dropped_elsewhere : (old : PrimaryState) (name other : List ℕ) → other ≢ name → table_at (without_table old name) other ≡ table_at old other
+dropped_elsewhere old name other apart = lookup-remove_entry_elsewhere same_text same_text_decides old.tables name other (λ h. apart (sym h))
+
+pub dropped_here : (old : PrimaryState) (name : List ℕ) → IsPrimary old → table_at (without_table old name) name ≡ None
+dropped_here old name is = lookup-remove_entry_here same_text same_text_decides old.tables name is.distinct
+
+-- a table made, and dropped at once
+pub made_and_dropped : (p : PrimaryState) (name : List ℕ) → table_at p name ≡ None → without_table (with_new_table p name) name ≡ p
+made_and_dropped p name absent =
+    let with_tables : List (List ℕ × TableState) → PrimaryState = λ tables. record p { tables = tables } in
+    ap with_tables (remove_entry-push same_text same_text_decides p.tables name (new_table (length p.log)) absent)
+
+pub IsPrimary-dropped : (old : PrimaryState) (name : List ℕ) → IsPrimary old → IsPrimary (without_table old name)
+IsPrimary-dropped old name is = primary_from (without_table old name) (IsDistinct-remove_entry same_text same_text_decides (same_text name) old.tables is.distinct) each
+  where
+    each : (other : List ℕ) (t : TableState) → table_at (without_table old name) other ≡ Some t → IsLogged old.log other t
+    each other t at = by (same_text name other) refl
+      where
+        by : (b : Bool) → same_text name other ≡ b → IsLogged old.log other t
+        by true same =
+            let is_name : name ≡ other = (same_text_decides name other).0 same in
+            let none : table_at (without_table old name) other ≡ None = subst (λ x. table_at (without_table old name) x ≡ None) is_name (dropped_here old name is) in
+            absurd (let both = sym none ∙ at in cc)
+        by false same =
+            let apart : other ≢ name = λ h. true≢false (sym ((same_text_decides name other).1 (sym h)) ∙ same) in
+            logged old other t is (sym (dropped_elsewhere old name other apart) ∙ at)

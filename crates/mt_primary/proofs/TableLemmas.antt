@@ -1,17 +1,23 @@
 -- What a map's clause on an insert or a removal says of a table's rows.
-use Rattle.std.proofs.Common.{◌≡◌, ℕ, cond, eqb, List, [], ◌∷◌, None, Some, Result, Ok, refl, sym, ap, subst, ◌∙◌}
+use Rattle.std.proofs.Common.{◌≡◌, ℕ, ◌&&◌, Bool, true, false, not, cond, eqb, nat_lt, List, [], ◌∷◌, filter, Option, None, Some, Result, Ok, refl, sym, ap, subst, ◌∙◌}
 use Rattle.std.proofs.lemmas.Bool.{eq-eqb, ne_eqb}
 use Rattle.std.specs.Bool.{⊤}
 use Rattle.std.specs.BTreeMap.{is_at}
+use Rattle.std.specs.BTreeMap.Range.{entries_between}
 use Rattle.std.specs.Cmp.{unsigned_tied}
+use Rattle.std.specs.List.{find}
+use Rattle.std.specs.declared.cmp.Ordering.TheVariants.{Equal, Greater, Less}
+use Rattle.std.specs.declared.ops.Bound.{Bound}
+use Rattle.std.specs.declared.ops.Bound.TheVariants.{Excluded, Unbounded}
 use Rattle.std.specs.Map.{lookup}
-use Rattle.std.specs.Ordering.{nat_cmp}
+use Rattle.std.specs.Ordering.{is_lt, nat_cmp}
 use Rattle.mt_model.specs.declared.faults.PrimaryFault.{PrimaryFault}
-use Rattle.mt_model.specs.declared.rows.Op.{Op}
 use Rattle.mt_model.specs.declared.rows.RowChange.{RowChange}
-use Rattle.mt_model.specs.Rows.{Row, op_key}
+use Rattle.mt_model.specs.Rows.{Row, RowValue}
+use Rattle.mt_primary.specs.declared.table.RowEdit.{RowEdit}
 use Rattle.mt_primary.specs.Primary.{IsInKeyOrder, TableState, row_in}
-use Rattle.mt_primary.specs.Tables.{IsChangeMade, IsRowPut, row_with_room}
+use Rattle.mt_primary.specs.Reads.{is_above, next_row_in}
+use Rattle.mt_primary.specs.Tables.{IsChangeMade, IsRowPut, edit_key, row_with_room, start_above}
 
 -- a look-up by the keys' order is one by their equality
 pub lookup-nat_cmp : {X : Type 0} (key : ℕ) (es : List (ℕ × X)) → lookup (is_at (nat_cmp key)) es ≡ lookup (eqb key) es
@@ -34,7 +40,7 @@ row_put old new key row updates made denied ordered = record {
         let e : lookup (is_at (nat_cmp q)) new.rows ≡ cond (is_at (nat_cmp key) q) row (lookup (is_at (nat_cmp q)) old.rows) = updates q in
         rw (lookup-nat_cmp q new.rows, lookup-nat_cmp q old.rows, unsigned_tied key q) at e
 
--- ---- an operation on a row
+-- ---- an edit of a row
 
 -- an entry by its fields
 entry_is : (change : RowChange) (table : List ℕ) (key : ℕ) (before : Row) → change.table ≡ table → change.key ≡ key → change.before ≡ before
@@ -42,15 +48,64 @@ entry_is : (change : RowChange) (table : List ℕ) (key : ℕ) (before : Row) �
 entry_is change table key before is_table is_key is_before = rw (← is_table, ← is_key, ← is_before) refl
 
 -- an entry that tells of a row set or taken away
-pub change_made : (old new : TableState) (name : List ℕ) (op : Op) (room : Result ⊤ PrimaryFault) (change : RowChange)
-    → change.table ≡ name → change.key ≡ op_key op → change.before ≡ row_in old (op_key op) → row_with_room op change.before room ≡ Ok change.after → IsRowPut old (op_key op) change.after new
-    → IsChangeMade old name op room change new
-change_made old new name op room change table key before row put = record {
-  row = subst (λ stood. row_with_room op stood room ≡ Ok change.after) before row;
+pub change_made : (old new : TableState) (name : List ℕ) (edit : RowEdit) (room : Result ⊤ PrimaryFault) (change : RowChange)
+    → change.table ≡ name → change.key ≡ edit_key edit → change.before ≡ row_in old (edit_key edit) → row_with_room edit change.before room ≡ Ok change.after → IsRowPut old (edit_key edit) change.after new
+    → IsChangeMade old name edit room change new
+change_made old new name edit room change table key before row put = record {
+  row = subst (λ stood. row_with_room edit stood room ≡ Ok change.after) before row;
   put = put;
-  entry = entry_is change name (op_key op) (row_in old (op_key op)) table key before;
+  entry = entry_is change name (edit_key edit) (row_in old (edit_key edit)) table key before;
 }
 
 -- a row that isn't there is taken away
 pub row_put-same : (old : TableState) (key : ℕ) → row_in old key ≡ None → IsInKeyOrder old → IsRowPut old key None old
 row_put-same old key absent ordered = record { here = absent; others = λ other apart. refl; made = refl; denied = refl; ordered = ordered }
+
+-- ---- the rows above a key
+
+is_lt-nat_cmp : (a b : ℕ) → is_lt (nat_cmp a b) ≡ nat_lt a b
+is_lt-nat_cmp a b = by (nat_lt a b) (eqb a b)
+  where
+    by : (less same : Bool) → is_lt (cond less Less (cond same Equal Greater)) ≡ less
+    by true same = refl
+    by false true = refl
+    by false false = refl
+
+-- those of a map between these bounds
+pub above-rows : (last : Option ℕ) (rows : List (ℕ × RowValue)) → entries_between nat_cmp (start_above last) Unbounded rows ≡ filter (λ row. is_above last row.0) rows
+above-rows None [] = refl
+above-rows None (row ∷ rows) = ap (λ l. row ∷ l) (above-rows None rows)
+above-rows (Some key) [] = refl
+above-rows (Some key) (row ∷ rows) = by (above-rows (Some key) rows) (nat_lt key row.0) (is_lt-nat_cmp key row.0)
+  where
+    by : entries_between nat_cmp (Excluded key) Unbounded rows ≡ filter (λ row. nat_lt key row.0) rows → (t : Bool) → is_lt (nat_cmp key row.0) ≡ t
+        → cond (is_lt (nat_cmp key row.0) && not false) (row ∷ entries_between nat_cmp (Excluded key) Unbounded rows) (entries_between nat_cmp (Excluded key) Unbounded rows) ≡ cond t (row ∷ filter (λ row. nat_lt key row.0) rows) (filter (λ row. nat_lt key row.0) rows)
+    by again true t = rw t (ap (λ l. row ∷ l) again)
+    by again false t = rw t again
+
+-- the first of those that meet a test
+find-first : {X : Type 0} (test : X → Bool) (xs : List X) (x : X) (rest : List X) → filter test xs ≡ x ∷ rest → find test xs ≡ Some x
+find-first test [] x rest e = absurd cc
+find-first test (y ∷ xs) x rest e = by (find-first test xs x rest) (test y) refl
+  where
+    by : (filter test xs ≡ x ∷ rest → find test xs ≡ Some x) → (t : Bool) → test y ≡ t → find test (y ∷ xs) ≡ Some x
+    by again true t = let h = rw t at e in rw t (let same : y ≡ x = cc in ap Some same)
+    by again false t = rw t (again (rw t at e))
+
+find-none : {X : Type 0} (test : X → Bool) (xs : List X) → filter test xs ≡ [] → find test xs ≡ None
+find-none test [] e = refl
+find-none test (y ∷ xs) e = by (find-none test xs) (test y) refl
+  where
+    by : (filter test xs ≡ [] → find test xs ≡ None) → (t : Bool) → test y ≡ t → find test (y ∷ xs) ≡ None
+    by again true t = absurd (let h = rw t at e in cc)
+    by again false t = rw t (again (rw t at e))
+
+module _ (table : TableState) (last : Option ℕ) (start : Bound ℕ) (range : List (ℕ × RowValue)) (is_start : start ≡ start_above last) (between : range ≡ entries_between nat_cmp start Unbounded table.rows) where
+  ranged : range ≡ filter (λ row. is_above last row.0) table.rows
+  ranged = between ∙ ap (λ s. entries_between nat_cmp s Unbounded table.rows) is_start ∙ above-rows last table.rows
+
+  pub next_row-first : (row : ℕ × RowValue) (rest : List (ℕ × RowValue)) → range ≡ row ∷ rest → Some row ≡ next_row_in table last
+  next_row-first row rest is = sym (find-first (λ r. is_above last r.0) table.rows row rest (sym ranged ∙ is))
+
+  pub next_row-none : range ≡ [] → None ≡ next_row_in table last
+  next_row-none is = sym (find-none (λ r. is_above last r.0) table.rows (sym ranged ∙ is))

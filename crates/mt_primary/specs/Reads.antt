@@ -1,11 +1,16 @@
--- What a read answers.
-use Rattle.std.specs.Prelude.{ℕ, Bool, false, List, if◌then◌else◌, Result, Ok, Err}
+-- What a read of a row answers, and what a stream reads: the log from a position on, and a table's rows in the order of their keys.
+use Rattle.std.specs.Prelude.{ℕ, Bool, true, false, List, drop, slice_get, if◌then◌else◌, nat_lt, Option, None, Some, Result, Ok, Err}
+use Rattle.std.specs.List.{find}
+use Rattle.std.specs.Option.{option_map_or}
 use Rattle.mt_names.specs.declared.types.TabletType.{TabletType}
 use Rattle.mt_names.specs.declared.types.TabletType.TheVariants as of_type
 use Rattle.mt_model.specs.declared.faults.PrimaryFault.{PrimaryFault}
 use Rattle.mt_model.specs.declared.faults.PrimaryFault.TheVariants.{NoTable, Denied}
-use Rattle.mt_model.specs.Rows.{Row}
-use Rattle.mt_primary.specs.Primary.{PrimaryState, has_table, is_denied_at, row_at}
+use Rattle.mt_model.specs.declared.rows.RowChange.{RowChange}
+use Rattle.mt_model.specs.Rows.{Row, RowValue}
+use Rattle.mt_primary.specs.Primary.{PrimaryState, TableState, has_table, is_denied_at, row_at, table_at}
+
+-- ---- a row
 
 -- what of the own list concerns a read: it refuses those of type primary, and no others
 abbrev pub refuses_type : Bool → TabletType → Bool
@@ -17,3 +22,28 @@ abbrev pub read_row : PrimaryState → List ℕ → ℕ → TabletType → Resul
 read_row p name key tablet_type =
     if has_table p name then (if refuses_type (is_denied_at p name) tablet_type then Err Denied else Ok (row_at p name key))
     else Err NoTable
+
+-- ---- the log
+
+-- the entry at a position, if the log has one there
+abbrev pub entry_at : PrimaryState → ℕ → Option RowChange
+entry_at p position = slice_get p.log position
+
+-- the entries from a position on
+abbrev pub entries_from : PrimaryState → ℕ → List RowChange
+entries_from p position = drop position p.log
+
+-- ---- the rows of a table, one after the other
+
+-- whether a key lies above another one, if one is given
+abbrev pub is_above : Option ℕ → ℕ → Bool
+is_above None key = true
+is_above (Some last) key = nat_lt last key
+
+-- the first row of a table, or the first above a key
+abbrev pub next_row_in : TableState → Option ℕ → Option (ℕ × RowValue)
+next_row_in table last = find (λ row. is_above last row.0) table.rows
+
+-- of a table by its name; one that isn't there has none
+abbrev pub next_row : PrimaryState → List ℕ → Option ℕ → Option (ℕ × RowValue)
+next_row p name last = option_map_or (λ table. next_row_in table last) (table_at p name) None

@@ -2,11 +2,13 @@
 #![tactic(auto)]
 
 mod before;
+mod change_laws;
 mod laws;
 mod primary;
 mod table;
 
 pub use before::Before;
+pub use change_laws::{a_table_is_dropped, a_table_is_made};
 pub use laws::{
     a_notice_tells_what_its_change_tells, a_refresh_concerns_named_tables, a_refresh_is_taken_back,
     denials_change_nothing_else,

@@ -1,13 +1,14 @@
 //! A primary.
-ghost use Rattle.std.specs.Prelude.{◌≡◌, ◌≤◌, false, None, length};
+ghost use Rattle.std.specs.Prelude.{◌≡◌, ◌≤◌, true, false, None, length};
+ghost use Rattle.std.specs.Option.{option_copied};
 ghost use Rattle.mt_names.specs.Tables.{most_tables};
 ghost use Rattle.mt_primary.specs.Denials.{AreDenialsSet, marks_of, told_by_mark, told_by_marks, told_by_refresh};
 ghost use Rattle.mt_primary.specs.Primary.{empty_primary, has_table, is_denied_at, IsPrimary};
-ghost use Rattle.mt_primary.specs.Reads.{read_row};
-ghost use Rattle.mt_primary.specs.Writes.{Creates, Writes};
+ghost use Rattle.mt_primary.specs.Reads.{entry_at, next_row, read_row};
+ghost use Rattle.mt_primary.specs.Writes.{Creates, Puts, Writes, put_of, without_table};
 
 use crate::before::{Before, Mark};
-use crate::table::{Table, change_row};
+use crate::table::{RowEdit, Table, edit_row};
 use arrayvec::ArrayVec;
 use indexmap::IndexMap;
 use mt_model::{Entry, Op, PrimaryFault, RowChange};
@@ -45,23 +46,33 @@ impl Primary {
         }
     }
 
-    /// How many entries the log has. Each row is what the log leaves since its table was made.
+    /// What holds of every primary, for the proofs of callers: a table has one place and its rows in the order of their
+    /// keys, each row is what the log leaves since its table was made, and each entry since then has the row that stood
+    /// before it. It does nothing.
+    pub fn what_holds(&self)
+        ensures { IsPrimary self.now }
+    {
+        let _log = &self.log;
+    }
+
+    /// How many entries the log has, which is the position behind its last one. It takes no memory. (Vitess: the
+    /// position of a primary's binary log)
     pub fn position(&self) -> Position
-        ensures value { result ≡ length self.now.log }
-        ensures primary { IsPrimary self.now }
+        ensures { result ≡ length self.now.log }
     {
         self.log.len() as u64
     }
 
-    /// Whether there is such a table.
+    /// Whether there is such a table. It takes no memory.
     pub fn has_table(&self, table: &TableName) -> bool
         ensures { result ≡ has_table self.now table.now }
     {
         self.tables.contains_key(table)
     }
 
-    /// Makes a table without rows, which begins at this position of the log, and its place on the own list, where it
-    /// is not denied. It is refused with `P0 Memory` alone.
+    /// Makes a table without rows behind the others, which begins at this position of the log, and its place on the own
+    /// list, where it is not denied. All else stays. It is refused with `P0 Memory` alone, and then changes nothing.
+    /// (Vitess: CREATE TABLE on a primary tablet)
     pub fn create_table(&mut self, table: &TableName) -> Result<(), PrimaryFault>
         requires absent { has_table self.old table.now ≡ false }
         ensures { Creates self.old table.now result self.new }
@@ -74,6 +85,15 @@ impl Primary {
         }
     }
 
+    /// Drops a table with its rows and its denial. The others stay in their order, and the log stays. A table that isn't
+    /// there leaves all as it is. It takes no memory. (Vitess: DROP TABLE on a primary tablet, as Complete does at the
+    /// source, and Cancel at the target)
+    pub fn drop_table(&mut self, table: &TableName)
+        ensures { self.new ≡ without_table self.old table.now }
+    {
+        self.tables.shift_remove(table);
+    }
+
     /// Does an operation on a row of a table, and answers the position behind its entry in the log. The first of
     /// these that holds is answered: `P1 NoTable`, `P2 Denied`, `P3 RowExists` or `P4 NoRow`, `P5 TooLong`,
     /// `P6 LogFull`, `P0 Memory`.
@@ -81,8 +101,32 @@ impl Primary {
         ensures { Writes self.old table.now op result self.new }
     {
         match self.tables.get_mut(table) {
-            Some(rows) => change_row(rows, &mut self.log, table, op),
+            Some(rows) => {
+                if rows.is_denied() {
+                    return Err(PrimaryFault::Denied);
+                }
+                edit_row(rows, &mut self.log, table, RowEdit::Write(op))
+            }
             None => Err(PrimaryFault::NoTable),
+        }
+    }
+
+    /// A stream's write: sets the row of the change's table and key to the one after it, or takes it away if there is
+    /// none, whatever stands here, and enters the change into the log, with the row that stood here before it. The
+    /// change's own row before counts for nothing. The own list isn't asked: it is for clients. The first of these that
+    /// holds is answered, and then nothing changed: `P6 LogFull`, `P0 Memory`. (Vitess: a VReplication stream, whose
+    /// writes are not refused by the denied tables, and are in the binary log of the primary they go to)
+    pub fn apply_change(&mut self, change: &RowChange) -> Result<(), PrimaryFault>
+        requires there { has_table self.old change.now.table ≡ true }
+        ensures { Puts self.old (put_of change.now) result self.new }
+    {
+        let after = change.after.as_ref().map(|value| copied_value(value));
+        match self.tables.get_mut(&change.table) {
+            Some(rows) => {
+                let edit = RowEdit::Put(change.key, after);
+                edit_row(rows, &mut self.log, &change.table, edit).map(|_| ())
+            }
+            None => unreachable!(),
         }
     }
 
@@ -103,6 +147,23 @@ impl Primary {
             }
             Some(rows) => Ok(rows.row(key).map(|value| copied_value(value))),
         }
+    }
+
+    /// The entry of the log at a position, which counts from 0; none from the primary's own position on. It takes no
+    /// memory. (Vitess: a stream reads the source's binary log from its position on)
+    pub fn entry(&self, position: Position) -> Option<&RowChange>
+        ensures { option_copied result ≡ entry_at self.now position }
+    {
+        self.log.get(position as usize)
+    }
+
+    /// The first row of a table in the order of the keys, or the first above a key; none where there is none, or no such
+    /// table. The own list isn't asked. It takes no memory. (Vitess: the copy phase of a stream, which reads the rows of
+    /// a table in primary key order, behind the last key that was copied)
+    pub fn row_after(&self, table: &TableName, key: Option<u64>) -> Option<(u64, Value)>
+        ensures { result ≡ next_row self.now table.now key }
+    {
+        self.tables.get(table)?.row_after(key)
     }
 
     /// Whether the own list has a table.

@@ -3,8 +3,9 @@ ghost use Rattle.std.specs.Prelude.{◌≡◌, ◌<◌, OnOk};
 ghost use Rattle.std.specs.Option.{option_copied};
 ghost use Rattle.std.specs.Vec.{vec_len, vec_capacity};
 ghost use Rattle.mt_model.specs.Rows.{appended, op_row};
-ghost use Rattle.mt_primary.specs.Primary.{new_table, row_in, IsInKeyOrder};
-ghost use Rattle.mt_primary.specs.Tables.{ChangesRow, MakesChange, TellsRoom, row_with_room};
+ghost use Rattle.mt_primary.specs.Primary.{new_table, row_in};
+ghost use Rattle.mt_primary.specs.Reads.{next_row_in};
+ghost use Rattle.mt_primary.specs.Tables.{ChangesRow, MakesChange, TellsRoom, edit_key, edited_row, row_with_room, start_above};
 
 use mt_model::{MAX_LOG, Op, PrimaryFault, RowChange};
 use mt_names::{Position, TableName, Value, copied_value};
@@ -12,6 +13,7 @@ use std::alloc::Global;
 use std::collections::BTreeMap;
 use std::collections::btree_map::Entry;
 use std::marker::Model;
+use std::ops::Bound;
 
 /// A table: its rows by their keys, the position of the log at which it was made, and whether the primary's own list
 /// has it.
@@ -32,11 +34,31 @@ impl Model for Table {
     ghost invariant = { λ t. IsInKeyOrder (record { made = t.made; denied = t.denied; rows = t.rows.entries }) };
 }
 
+/// An edit of one row.
+#[derive(Drop)]
+pub enum RowEdit {
+    /// A client's operation, which the row that stands there may refuse.
+    Write(Op),
+    /// A row that is set under a key, or taken away if there is none, whatever stands there.
+    Put(u64, Option<Value>),
+}
+
+impl RowEdit {
+    /// The key of the row.
+    fn key(&self) -> u64
+        ensures { result ≡ edit_key self.now }
+    {
+        match self {
+            RowEdit::Write(op) => op.key(),
+            RowEdit::Put(key, _) => *key,
+        }
+    }
+}
+
 impl Table {
     /// A table without rows, which is not denied.
     pub fn new(alloc: Global, made: Position) -> Self
-        ensures value { result ≡ new_table made }
-        ensures ordered { IsInKeyOrder result }
+        ensures { result ≡ new_table made }
     {
         Table {
             made,
@@ -54,8 +76,7 @@ impl Table {
 
     /// Denies it or not.
     pub fn set_denied(&mut self, denied: bool)
-        ensures value { self.new ≡ record self.old { denied = denied } }
-        ensures ordered { IsInKeyOrder self.new }
+        ensures { self.new ≡ record self.old { denied = denied } }
     {
         self.denied = denied;
     }
@@ -67,21 +88,28 @@ impl Table {
         self.rows.get(&key)
     }
 
-    /// Does an operation on its row, and answers the log's entry of it. The tests come in this order: `P3 RowExists`
-    /// or `P4 NoRow`, `P5 TooLong`, what the log's room is refused for, and last `P0 Memory`. The row's place is
-    /// looked for once.
+    /// The first row in the order of the keys, or the first above a key.
+    pub fn row_after(&self, key: Option<u64>) -> Option<(u64, Value)>
+        ensures { result ≡ next_row_in self.now key }
+    {
+        let (key, value) = self.rows.range((above(key), Bound::Unbounded)).next()?;
+        Some((*key, copied_value(value)))
+    }
+
+    /// Edits a row, and answers the log's entry of it. The tests come in this order: what refuses the edit of the row,
+    /// what the log's room is refused for, and last `P0 Memory`. The row's place is looked for once.
     fn change(
         &mut self,
         name: &TableName,
-        op: Op,
+        edit: RowEdit,
         room: Result<(), PrimaryFault>,
     ) -> Result<RowChange, PrimaryFault>
-        ensures { MakesChange self.old name.now op room result self.new }
+        ensures { MakesChange self.old name.now edit room result self.new }
     {
-        let key = op.key();
+        let key = edit.key();
         let (before, after) = match self.rows.entry(key) {
             Ok(Entry::Occupied(mut place)) => {
-                let after = row_left(op, Some(place.get()), room)?;
+                let after = row_left(edit, Some(place.get()), room)?;
                 let before = match &after {
                     Some(value) => place.insert(copied_value(value)),
                     None => place.remove(),
@@ -89,14 +117,14 @@ impl Table {
                 (Some(before), after)
             }
             Ok(Entry::Vacant(place)) => {
-                let after = row_left(op, None, room)?;
+                let after = row_left(edit, None, room)?;
                 if let Some(value) = &after {
                     place.insert(copied_value(value));
                 }
                 (None, after)
             }
             Err(_) => {
-                row_left(op, None, room)?;
+                row_left(edit, None, room)?;
                 return Err(PrimaryFault::Memory);
             }
         };
@@ -106,6 +134,16 @@ impl Table {
             before,
             after,
         })
+    }
+}
+
+/// Where the keys above one begin, or all of them.
+fn above(key: Option<u64>) -> Bound<u64>
+    ensures { result ≡ start_above key }
+{
+    match key {
+        Some(key) => Bound::Excluded(key),
+        None => Bound::Unbounded,
     }
 }
 
@@ -133,15 +171,25 @@ fn row_made(op: Op, row: Option<&Value>) -> Result<Option<Value>, PrimaryFault>
     }
 }
 
-/// The row that an operation leaves where the log has room, or what refuses it first.
+/// The row that an edit makes of a row, or why it is refused.
+fn row_edited(edit: RowEdit, row: Option<&Value>) -> Result<Option<Value>, PrimaryFault>
+    ensures { result ≡ edited_row edit (option_copied row.entry) }
+{
+    match edit {
+        RowEdit::Write(op) => row_made(op, row),
+        RowEdit::Put(_, after) => Ok(after),
+    }
+}
+
+/// The row that an edit leaves where the log has room, or what refuses it first.
 fn row_left(
-    op: Op,
+    edit: RowEdit,
     row: Option<&Value>,
     room: Result<(), PrimaryFault>,
 ) -> Result<Option<Value>, PrimaryFault>
-    ensures { result ≡ row_with_room op (option_copied row.entry) room }
+    ensures { result ≡ row_with_room edit (option_copied row.entry) room }
 {
-    let row = row_made(op, row)?;
+    let row = row_edited(edit, row)?;
     room?;
     Ok(row)
 }
@@ -158,21 +206,19 @@ fn make_room(log: &mut Vec<RowChange>) -> Result<(), PrimaryFault>
     log.reserve(1).map_err(|_| PrimaryFault::Memory)
 }
 
-/// Does the operation on its row, and enters the change into the log. The tests come in this order: `P2 Denied`,
-/// `P3 RowExists` or `P4 NoRow`, `P5 TooLong`, `P6 LogFull`, and last `P0 Memory`.
-pub fn change_row(
+/// Edits a row, enters the change into the log, and answers the position behind its entry. The own list isn't asked. The
+/// tests come in this order: what refuses the edit of the row (`P3 RowExists` or `P4 NoRow`, `P5 TooLong`), `P6 LogFull`,
+/// and last `P0 Memory`.
+pub fn edit_row(
     table: &mut Table,
     log: &mut Vec<RowChange>,
     name: &TableName,
-    op: Op,
+    edit: RowEdit,
 ) -> Result<Position, PrimaryFault>
-    ensures { ChangesRow (record { table = table.old; log = log.old.items }) name.now op result (record { table = table.new; log = log.new.items }) }
+    ensures { ChangesRow (record { table = table.old; log = log.old.items }) name.now edit result (record { table = table.new; log = log.new.items }) }
 {
-    if table.is_denied() {
-        return Err(PrimaryFault::Denied);
-    }
     let room = make_room(log);
-    let change = table.change(name, op, room)?;
+    let change = table.change(name, edit, room)?;
     log.push_reserved(change);
     Ok(log.len() as u64)
 }

@@ -1,10 +1,10 @@
 -- A new table is added at the end.
-use Rattle.std.proofs.Common.{◌≡◌, None, ◌++◌, ◌∷◌, [], length, ap, subst, ◌∙◌, rules}
+use Rattle.std.proofs.Common.{◌≡◌, None, ◌++◌, ◌∷◌, [], length, refl, ap, ◌∙◌, rules}
 use Rattle.indexmap.proofs.CallerLemmas.{insert_entry-new}
 use Rattle.mt_names.proofs.EntryLemmas.{none_from}
 use Rattle.mt_names.specs.Names.{same_text}
-use Rattle.mt_primary.specs.Primary.{IsInKeyOrder, PrimaryState, new_table, table_at}
-use Rattle.mt_primary.proofs.PrimaryLemmas.{IsPrimary-new_table, IsTableMade-new}
+use Rattle.mt_primary.specs.Primary.{PrimaryState, new_table, table_at}
+use Rattle.mt_primary.proofs.PrimaryLemmas.{IsPrimary-new_table}
 use Rattle.mt_primary.proofs.primary.Primary.create_table.Goals as goal
 
 abbrev before : goal.Joined-insert-2 → PrimaryState
@@ -16,7 +16,7 @@ absent c = none_from (table_at (before c) c.args.table.now) (rw (← c.self.view
 made : (c : goal.Joined-insert-2) → c.new.result ≡ new_table (length (before c).log)
 made c =
     let position : c.len-made.result ≡ length (before c).log = search rules in
-    c.new.ensures.value ∙ ap new_table position
+    c.new.ensures ∙ ap new_table position
 
 added : (c : goal.Joined-insert-2) → c.insert.new.self.entries ≡ (before c).tables ++ (c.args.table.now, new_table (length (before c).log)) ∷ []
 added c =
@@ -24,8 +24,7 @@ added c =
     ∙ rw (c.copied.ensures, made c) (insert_entry-new same_text c.self.inside.tables c.args.table.now (new_table (length (before c).log)) (absent c))
 
 pub invariant_of-self : goal.invariant_of-self
-invariant_of-self c =
-    rw (added c) (IsPrimary-new_table (before c) c.args.table.now (absent c) c.self.invariant (subst IsInKeyOrder (made c) c.new.ensures.ordered))
+invariant_of-self c = rw (added c) (IsPrimary-new_table (before c) c.args.table.now (absent c) c.self.invariant)
 
 pub returns-in-Ok : goal.returns-in-Ok
-returns-in-Ok c = rw (← c.self.view_is) (rw (added c) (IsTableMade-new (before c) c.args.table.now (absent c)))
+returns-in-Ok c = rw (← c.self.view_is) (rw (added c) refl)

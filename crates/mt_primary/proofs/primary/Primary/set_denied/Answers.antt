@@ -12,7 +12,7 @@ pub invariant_of-self : goal.invariant_of-self
 invariant_of-self c =
     elim c.match-get_mut.branch [
       | in-Some w ↦
-          rw (w.self-inside-is, (c.get_mut.follows.holds w.set_denied.new.self).0, w.set_denied.ensures.value)
+          rw (w.self-inside-is, (c.get_mut.follows.holds w.set_denied.new.self).0, w.set_denied.ensures)
           (IsPrimary-mark (before c) c.args.table.now w.in-Some.rows.now c.args.denied (sym w.in-Some.ensures.value) c.self.invariant)
       | in_default w ↦ search rules
     ]
@@ -21,7 +21,7 @@ pub returns : goal.returns
 returns c =
     elim c.match-get_mut.branch [
       | in-Some w ↦
-          rw (← c.self.view_is, w.self-inside-is) (rw ((c.get_mut.follows.holds w.set_denied.new.self).0, w.set_denied.ensures.value)
+          rw (← c.self.view_is, w.self-inside-is) (rw ((c.get_mut.follows.holds w.set_denied.new.self).0, w.set_denied.ensures)
           (denials-one (before c) c.args.table.now w.in-Some.rows.now c.args.denied (sym w.in-Some.ensures.value)))
       | in_default w ↦ rw (← c.self.view_is, w.self-inside-is, c.get_mut.follows.holds-at-none) (denials-absent (before c) c.args.table.now c.args.denied (sym w.in_default.ensures.value))
     ]
