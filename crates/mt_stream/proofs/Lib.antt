@@ -1,0 +1,6 @@
+pub mod CopyLemmas
+pub mod ListLemmas
+pub mod PlaceLemmas
+pub mod PutLemmas
+pub mod ReadLemmas
+pub mod LeftLemmas

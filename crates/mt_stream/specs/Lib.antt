@@ -1,0 +1,6 @@
+pub mod Advance
+pub mod Faults
+pub mod Follows
+pub mod Loops
+pub mod Puts
+pub mod Streams

@@ -1,0 +1,83 @@
+//! Copying rows: each is the first one behind the last one copied.
+ghost use Rattle.std.specs.Prelude.{◌≡◌, ◌≢◌, ℕ, true, List, AllPairs};
+ghost use Rattle.mt_plain.specs.Plain.{among};
+ghost use Rattle.mt_primary.specs.Primary.{has_table};
+ghost use Rattle.mt_stream.specs.Loops.{CopiesRows, IsFirstLeft, first_behind};
+ghost use Rattle.mt_stream.specs.Streams.{IsPlaced, copied_from};
+
+use crate::fault::StreamFault;
+use crate::following::put_row;
+use crate::stream::CopiedRange;
+use mt_names::TableName;
+use mt_primary::{Primary, RowChange};
+
+/// A row that is left to copy: the place of its table among those named, and the change that puts it.
+#[derive(Drop)]
+pub struct LeftRow {
+    pub place: usize,
+    pub change: RowChange,
+}
+
+/// Where the rows left begin: the place of a table, and the key that was copied last in it.
+fn first_behind(tables: &[TableName], range: CopiedRange) -> (usize, Option<u64>)
+    ensures { result ≡ first_behind tables.now range }
+{
+    match range {
+        CopiedRange::NotBegun => (0, None),
+        CopiedRange::UpTo(place, key) => (place, Some(key)),
+        CopiedRange::Ended => (tables.len(), None),
+    }
+}
+
+/// The first row that is left to copy, if there is one.
+fn first_left(tables: &[TableName], range: CopiedRange, source: &Primary) -> Option<LeftRow>
+    requires distinct { AllPairs ◌≢◌ tables.now }
+    requires placed { IsPlaced tables.now range }
+    ensures { IsFirstLeft source.now tables.now (copied_from tables.now range) result }
+{
+    source.what_holds();
+    let (start, mut behind) = first_behind(tables, range);
+    for place in start..tables.len() {
+        if let Some((key, value)) = source.row_after(&tables[place], behind) {
+            let table = tables[place].copied();
+            let change = RowChange {
+                table,
+                key,
+                before: None,
+                after: Some(value),
+            };
+            return Some(LeftRow { place, change });
+        }
+        behind = None;
+    }
+    None
+}
+
+/// Copies up to so many rows, and answers how many; the range is then as far, and has ended if none was left. A row that
+/// is refused ends it; at the first one that is answered, and then nothing changed.
+pub fn copy_rows(
+    tables: &[TableName],
+    range: &mut CopiedRange,
+    source: &Primary,
+    sink: &mut Primary,
+    max: u16,
+) -> Result<u16, StreamFault>
+    requires distinct { AllPairs ◌≢◌ tables.now }
+    requires placed { IsPlaced tables.now range.old }
+    requires there { (table : List ℕ) → among tables.now table ≡ true → has_table sink.old table ≡ true }
+    ensures placed { IsPlaced tables.now range.new }
+    ensures copies { CopiesRows tables.now (copied_from tables.now range.old) source.now sink.old max result (copied_from tables.now range.new) sink.new }
+{
+    for copied in 0..max {
+        let Some(row) = first_left(tables, *range, source) else {
+            *range = CopiedRange::Ended;
+            return Ok(copied);
+        };
+        match put_row(sink, &row.change) {
+            Ok(()) => *range = CopiedRange::UpTo(row.place, row.change.key),
+            Err(_) if copied > 0 => return Ok(copied),
+            Err(fault) => return Err(fault),
+        }
+    }
+    Ok(max)
+}

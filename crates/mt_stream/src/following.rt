@@ -1,0 +1,118 @@
+//! Reading the source's log: the entries past a position are written at the sink, or passed over.
+ghost use Rattle.std.specs.Prelude.{◌≡◌, ◌≢◌, ℕ, ◌≤◌, true, List, AllPairs, length};
+ghost use Rattle.std.specs.List.{list_any};
+ghost use Rattle.mt_plain.specs.Plain.{among};
+ghost use Rattle.mt_plain.specs.Writes.{place_of};
+ghost use Rattle.mt_primary.specs.Primary.{has_table};
+ghost use Rattle.mt_primary.specs.Reads.{entries_from};
+ghost use Rattle.mt_primary.specs.Writes.{put_of};
+ghost use Rattle.mt_stream.specs.Advance.{is_written};
+ghost use Rattle.mt_stream.specs.Loops.{FollowsEntry, PutsRow, ReadsEntries};
+ghost use Rattle.mt_stream.specs.Streams.{IsPlaced, copied_from};
+
+use crate::fault::StreamFault;
+use crate::stream::CopiedRange;
+use mt_names::{Position, TableName};
+use mt_primary::{Primary, PrimaryFault, RowChange};
+
+/// Whether an entry from a position on is about one of these tables.
+pub fn names_any(tables: &[TableName], position: Position, source: &Primary) -> bool
+    ensures { result ≡ list_any (λ change. among tables.now change.table) (entries_from source.now position) }
+{
+    for at in position..source.position() {
+        if let Some(change) = source.entry(at) {
+            if tables.contains(&change.table) {
+                return true;
+            }
+        }
+    }
+    false
+}
+
+/// The place of a table among those named; behind them all if it isn't named.
+fn place_of(tables: &[TableName], table: &TableName) -> usize
+    ensures { result ≡ place_of tables.now table.now }
+{
+    for (place, named) in tables.iter().enumerate() {
+        if named == table {
+            return place;
+        }
+    }
+    tables.len()
+}
+
+/// Whether an entry is written at the sink: its row is of one of the tables, and in the copied range.
+fn is_written(tables: &[TableName], range: CopiedRange, change: &RowChange) -> bool
+    requires distinct { AllPairs ◌≢◌ tables.now }
+    requires placed { IsPlaced tables.now range }
+    ensures { result ≡ is_written tables.now (copied_from tables.now range) change.now }
+{
+    let place = place_of(tables, &change.table);
+    match range {
+        CopiedRange::NotBegun => false,
+        CopiedRange::UpTo(last, key) => place < last || place == last && change.key <= key,
+        CopiedRange::Ended => place < tables.len(),
+    }
+}
+
+/// Puts a change's row at the sink: `S4 LogFull`, then `S0 Memory`, and then nothing changed.
+pub fn put_row(sink: &mut Primary, change: &RowChange) -> Result<(), StreamFault>
+    requires there { has_table sink.old change.now.table ≡ true }
+    ensures { PutsRow sink.old (put_of change.now) result sink.new }
+{
+    match sink.apply_change(change) {
+        Ok(()) => Ok(()),
+        Err(PrimaryFault::LogFull) => Err(StreamFault::LogFull),
+        Err(_) => Err(StreamFault::Memory),
+    }
+}
+
+/// Writes an entry at the sink, or passes over it, and answers whether it was written.
+fn follow_entry(
+    tables: &[TableName],
+    range: CopiedRange,
+    change: &RowChange,
+    sink: &mut Primary,
+) -> Result<bool, StreamFault>
+    requires distinct { AllPairs ◌≢◌ tables.now }
+    requires placed { IsPlaced tables.now range }
+    requires there { (table : List ℕ) → among tables.now table ≡ true → has_table sink.old table ≡ true }
+    ensures { FollowsEntry tables.now (copied_from tables.now range) change.now sink.old result sink.new }
+{
+    if !is_written(tables, range, change) {
+        return Ok(false);
+    }
+    put_row(sink, change)?;
+    Ok(true)
+}
+
+/// Reads up to so many entries from a position on, and answers how many. A change that is refused ends it; at the first
+/// one that is answered, and then nothing changed.
+pub fn read_entries(
+    tables: &[TableName],
+    range: CopiedRange,
+    position: Position,
+    source: &Primary,
+    sink: &mut Primary,
+    max: u16,
+) -> Result<u16, StreamFault>
+    requires distinct { AllPairs ◌≢◌ tables.now }
+    requires placed { IsPlaced tables.now range }
+    requires within { position ≤ length source.now.log }
+    requires there { (table : List ℕ) → among tables.now table ≡ true → has_table sink.old table ≡ true }
+    ensures { ReadsEntries tables.now (copied_from tables.now range) (entries_from source.now position) sink.old max result sink.new }
+{
+    let _end = source.position();
+    let mut written = false;
+    for read in 0..max {
+        let Some(change) = source.entry(position + u64::from(read)) else {
+            return Ok(read);
+        };
+        match follow_entry(tables, range, change, sink) {
+            Ok(more) => written = written || more,
+            Err(_) if written => return Ok(read),
+            Err(fault) => return Err(fault),
+        }
+    }
+    Ok(max)
+}

@@ -1,0 +1,10 @@
+//! Streams: copying the rows of some tables from one primary to another, and following the log of the first from then on.
+#![tactic(auto)]
+
+mod copying;
+mod fault;
+mod following;
+mod stream;
+
+pub use fault::StreamFault;
+pub use stream::{Advanced, Stream, StreamState};
