@@ -17,7 +17,7 @@ use Rattle.mt_stream.proofs.ListLemmas.{drop_from, take_next}
 use Rattle.mt_stream.proofs.PutLemmas.{no_puts, puts-push, room-none, room-put, room-some}
 
 -- the first entry from a place on
-get_at : {X : Type 0} (xs : List X) (i : ℕ) (x : X) (rest : List X) → drop i xs ≡ x ∷ rest → slice_get xs i ≡ Some x
+pub get_at : {X : Type 0} (xs : List X) (i : ℕ) (x : X) (rest : List X) → drop i xs ≡ x ∷ rest → slice_get xs i ≡ Some x
 get_at [] zero x rest e = absurd cc
 get_at [] (suc i) x rest e = absurd cc
 get_at (y ∷ xs) zero x rest e = let same : y ≡ x = cc in ap Some same

@@ -78,7 +78,7 @@ apart_from xs x y out in_xs same = true≢false (sym in_xs ∙ ap (among xs) (sy
 left-by : (p : PrimaryState) (table : List ℕ) (f g : ℕ → Bool) → ((key : ℕ) → f key ≡ g key) → map (row_copied table) (filter (λ row. f row.0) (rows_of p table)) ≡ map (row_copied table) (filter (λ row. g row.0) (rows_of p table))
 left-by p table f g agree = ap (map (row_copied table)) (filter-agree (λ row. f row.0) (λ row. g row.0) (rows_of p table) (λ row. agree row.0))
 
-left-up_to : (p : PrimaryState) (ts : List (List ℕ)) (last : List ℕ) (key : ℕ) → Distinct ts
+pub left-up_to : (p : PrimaryState) (ts : List (List ℕ)) (last : List ℕ) (key : ℕ) → Distinct ts
     → flat_map (left_in p ts (up_to last key)) ts ≡ rows_from p (drop (place_of ts last) ts) (Some key)
 left-up_to p [] last key distinct = refl
 left-up_to p (x ∷ xs) last key distinct = by (left-up_to p xs last key distinct.1) (same_text x last) refl
@@ -178,7 +178,7 @@ all-pass-self : (key : ℕ) (rs : List (ℕ × RowValue)) → AllAbove key rs �
 all-pass-self key [] all = refl
 all-pass-self key (r ∷ rs) all = rw all.0 (ap (λ l. r ∷ l) (all-pass-self key rs all.1))
 
-found-above : (behind : Option ℕ) (key : ℕ) (rs : List (ℕ × RowValue)) (row : ℕ × RowValue) → AllAbove key rs → find (λ r. is_above behind r.0) rs ≡ Some row → nat_lt key row.0 ≡ true
+pub found-above : (behind : Option ℕ) (key : ℕ) (rs : List (ℕ × RowValue)) (row : ℕ × RowValue) → AllAbove key rs → find (λ r. is_above behind r.0) rs ≡ Some row → nat_lt key row.0 ≡ true
 found-above behind key [] row all e = absurd cc
 found-above behind key (r ∷ rs) row all e = by (found-above behind key rs row all.1) (is_above behind r.0) refl
   where

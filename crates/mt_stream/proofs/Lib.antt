@@ -1,4 +1,5 @@
 pub mod CopyLemmas
+pub mod FollowLemmas
 pub mod ListLemmas
 pub mod PlaceLemmas
 pub mod PutLemmas

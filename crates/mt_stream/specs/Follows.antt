@@ -1,5 +1,6 @@
 -- What a stream's sink has of its source.
-use Rattle.std.specs.Prelude.{◌≡◌, ℕ, ◌≤◌, true, if◌then◌else◌, List, find, None, Some}
+use Rattle.std.specs.Prelude.{◌≡◌, ℕ, ◌≤◌, true, if◌then◌else◌, List, Some, None}
+use Rattle.std.specs.List.{find}
 use Rattle.std.specs.Option.{option_map_or}
 use Rattle.mt_model.specs.Rows.{Row, is_change_of}
 use Rattle.mt_plain.specs.Plain.{among}
@@ -14,9 +15,9 @@ abbrev pub row_at_position : PrimaryState → ℕ → List ℕ → ℕ → Row
 row_at_position p position table key =
     option_map_or (λ change. change.before) (find (is_change_of table key) (entries_from p position)) (row_at p table key)
 
--- each table of the stream was made at the source no later than at its position, and in each the sink has the rows of the copied range
+-- each table of the stream was made at the source no later than at its position, and of each the sink has the rows of the copied range
 -- as they were at the source at that position, and no others
 pub record FollowsSource (s : StreamValue) (source sink : PrimaryState) : Type 0 where
-  pub made : (table : List ℕ) (made : ℕ) → among s.tables table ≡ true → made_at source table ≡ Some made → made ≤ s.position
+  pub made : (table : List ℕ) → among s.tables table ≡ true → (made : ℕ) × ((made_at source table ≡ Some made) × (made ≤ s.position))
   pub rows : (table : List ℕ) (key : ℕ) → among s.tables table ≡ true
       → row_at sink table key ≡ (if in_range s.tables s.copied table key then row_at_position source s.position table key else None)

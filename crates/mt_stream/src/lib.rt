@@ -4,7 +4,9 @@
 mod copying;
 mod fault;
 mod following;
+mod laws;
 mod stream;
 
 pub use fault::StreamFault;
+pub use laws::the_copied_range_follows_the_source;
 pub use stream::{Advanced, Stream, StreamState};
