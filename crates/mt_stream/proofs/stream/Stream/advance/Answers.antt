@@ -1,4 +1,4 @@
--- What is advanced follows.
+-- What an advance did, by the other clause, keeps the copied range as the source has it: the law of advances on values.
 use Rattle.std.proofs.Common.{◌≢◌, AllPairs, arith, subst}
 use Rattle.std.proofs.lemmas.Grind.{common_steps}
 use Rattle.mt_stream.proofs.FollowLemmas.{follows-advanced}
