@@ -209,7 +209,7 @@ any-other_table table u key (row ∷ rows) apart =
     let other : same_text table u ≡ false = same-apart table u (λ e. true≢false (sym (ap (same_text u) e ∙ same-self u) ∙ apart)) in
     rw other (any-other_table table u key rows apart)
 
-row_at-lookup : (p : PrimaryState) (table : List ℕ) (key : ℕ) → row_at p table key ≡ lookup (eqb key) (rows_of p table)
+pub row_at-lookup : (p : PrimaryState) (table : List ℕ) (key : ℕ) → row_at p table key ≡ lookup (eqb key) (rows_of p table)
 row_at-lookup p table key = by (table_at p table)
   where
     by : (o : Option TableState) → option_map_or (λ t. lookup (eqb key) t.rows) o None ≡ lookup (eqb key) (option_map_or (λ t. t.rows) o [])

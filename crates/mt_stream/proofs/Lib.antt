@@ -5,3 +5,4 @@ pub mod PlaceLemmas
 pub mod PutLemmas
 pub mod ReadLemmas
 pub mod LeftLemmas
+pub mod UncopiedLemmas

@@ -1,8 +1,11 @@
 //! What follows from how a stream advances.
-ghost use Rattle.std.specs.Prelude.{◌≢◌, ℕ, AllPairs};
+ghost use Rattle.std.specs.Prelude.{◌≡◌, ◌≢◌, ℕ, AllPairs};
+ghost use Rattle.mt_plain.specs.Plain.{Live, Plain};
+ghost use Rattle.mt_plain.specs.Slots.{uncopied};
 ghost use Rattle.mt_primary.specs.Primary.{IsPrimary, PrimaryState};
-ghost use Rattle.mt_stream.specs.Advance.{IsAdvanced};
+ghost use Rattle.mt_stream.specs.Advance.{IsAdvanced, places, rows_left};
 ghost use Rattle.mt_stream.specs.Follows.{FollowsSource};
+ghost use Rattle.mt_stream.specs.Sources.{HasClientRows};
 ghost use Rattle.mt_stream.specs.Streams.{StreamValue};
 
 use crate::stream::Advanced;
@@ -13,4 +16,12 @@ pub fn the_copied_range_follows_the_source()
     ensures { (old new : StreamValue) (source sink new_sink : PrimaryState) (at_most : ℕ) (answer : Advanced)
         → IsPrimary source → AllPairs ◌≢◌ old.tables
         → IsAdvanced old source sink at_most answer new new_sink → FollowsSource old source sink → FollowsSource new source new_sink }
+{}
+
+/// If a primary has, of the tables of a live workflow, the rows that the clients' acknowledged writes leave, then the rows
+/// that a stream of these tables, with the workflow's copied range, still has to copy from it are those that the
+/// definitions have not copied, in their order.
+pub fn the_rows_left_are_the_uncopied_rows()
+    ensures { (p : Plain) (w : Live) (source : PrimaryState) → IsPrimary source → HasClientRows p w source
+        → places (rows_left source w.tables w.copied) ≡ uncopied p w }
 {}

@@ -8,5 +8,5 @@ mod laws;
 mod stream;
 
 pub use fault::StreamFault;
-pub use laws::the_copied_range_follows_the_source;
+pub use laws::{the_copied_range_follows_the_source, the_rows_left_are_the_uncopied_rows};
 pub use stream::{Advanced, Stream, StreamState};

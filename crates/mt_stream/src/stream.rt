@@ -4,6 +4,7 @@ ghost use Rattle.mt_plain.specs.Events.{running, stopped, frozen};
 ghost use Rattle.mt_plain.specs.Plain.{not_begun, ended, among};
 ghost use Rattle.mt_primary.specs.Primary.{has_table};
 ghost use Rattle.mt_stream.specs.Advance.{Advances, refusal_before};
+ghost use Rattle.mt_stream.specs.Follows.{FollowsSource};
 ghost use Rattle.mt_stream.specs.Streams.{has_ended, is_level, state_from};
 
 use crate::copying::copy_rows;
@@ -167,8 +168,11 @@ impl Stream {
     /// The first of these that holds is answered, and then stream and sink are as they were: `S2 Stopped` or
     /// `S3 Frozen`; `S1 Stale` with the stream's position, if that is another one; `S4 LogFull` and `S0 Memory` of the
     /// first change. A later change that is refused ends the advance, which answers what it did. Nothing but an advance
-    /// takes memory, and that at the sink. (Vitess: a VReplication stream, which copies in primary key order, and
-    /// between applies from the source's binary log what concerns the rows already copied)
+    /// takes memory, and that at the sink.
+    ///
+    /// A sink that has, of the stream's tables, the rows of the copied range as they were at the source at the stream's
+    /// position, and no others, has them so behind the advance too. (Vitess: a VReplication stream, which copies in
+    /// primary key order, and between applies from the source's binary log what concerns the rows already copied)
     pub fn advance(
         &mut self,
         source: &Primary,
@@ -180,7 +184,9 @@ impl Stream {
         requires there { (table : List ℕ) → among self.old.tables table ≡ true → has_table sink.old table ≡ true }
         ensures advances { Advances self.old source.now sink.old at max result self.new sink.new }
         ensures within { self.new.position ≤ length source.now.log }
+        ensures follows { FollowsSource self.old source.now sink.old → FollowsSource self.new source.now sink.new }
     {
+        source.what_holds();
         if let Some(fault) = self.refusal(at) {
             return Err(fault);
         }
