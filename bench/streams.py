@@ -9,20 +9,22 @@ copies them to the sink, the client updates each, and the stream follows these e
 and updates without an advance are measured too; the difference is the stream's. Each is run five times, and the least processor time
 counts, that of the system included. Each run also looks that the stream is level at the end, and how many entries the sink's log has.
 """
+import os
 import pathlib
 import resource
 import subprocess
 import sys
 
-SIZES = (("a_quarter", 250_000), ("a_half", 500_000), ("a_million", 1_000_000))
+SIZES = (250_000, 500_000, 1_000_000)
 
 
-def seconds(program, test):
-    """The least processor time of five runs of a test."""
+def seconds(program, test, rows):
+    """The least processor time of five runs of a test with so many rows."""
     times = []
+    variables = dict(os.environ, MT_ROWS=str(rows))
     for _ in range(5):
         before = resource.getrusage(resource.RUSAGE_CHILDREN)
-        subprocess.run([program, f"sizes::{test}"], stdout=subprocess.DEVNULL, check=True)
+        subprocess.run([program, f"sizes::{test}"], stdout=subprocess.DEVNULL, env=variables, check=True)
         after = resource.getrusage(resource.RUSAGE_CHILDREN)
         times.append(after.ru_utime + after.ru_stime - before.ru_utime - before.ru_stime)
     return min(times)
@@ -31,8 +33,8 @@ def seconds(program, test):
 def main():
     top = pathlib.Path(__file__).resolve().parent.parent
     program = sys.argv[1] if len(sys.argv) > 1 else str(top / "crates/mt_stream_tests/out/mt_stream_tests_tests")
-    for name, rows in SIZES:
-        written, streamed = seconds(program, f"{name}_is_written"), seconds(program, f"{name}_is_streamed")
+    for rows in SIZES:
+        written, streamed = seconds(program, "many_rows_are_written", rows), seconds(program, "many_rows_are_streamed", rows)
         took = streamed - written
         print(
             f"{rows} rows copied and {rows} entries followed: {took * 1000:.0f} ms, {took / (2 * rows) * 1e9:.0f} ns for each;"

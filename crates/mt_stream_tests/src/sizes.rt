@@ -1,7 +1,9 @@
-//! Streams of many rows, which the gate proves and doesn't run: `bench/streams.py` measures how long each takes.
+//! Streams of many rows: `bench/streams.py` says how many, and measures how long they take.
 
 use crate::pair::{Pair, Step, primary_with};
 use std::alloc::Global;
+use std::env;
+use std::env::VarError;
 use std::test::Fail;
 
 /// How many rows or entries one advance takes at most.
@@ -68,44 +70,23 @@ fn is_streamed(alloc: Global, rows: u64) -> Result<bool, Fail> {
     )
 }
 
+/// How many rows there are: the number in the variable `MT_ROWS`, or 2,500 if it isn't set.
+fn row_count(rt: &HostRuntime) -> Result<u64, Fail> {
+    match env::var(rt, "MT_ROWS") {
+        Ok(text) => Ok(text.as_str().parse::<u64>()?),
+        Err(VarError::NotPresent) => Ok(2500),
+        Err(_) => Err(Fail::from("no number of rows")),
+    }
+}
+
 #[test]
-#[ignore]
-fn a_quarter_is_written(rt: HostRuntime) -> Result<(), Fail> {
-    assert!(rt; is_written(rt.alloc(), 250_000)?);
+fn many_rows_are_written(rt: HostRuntime) -> Result<(), Fail> {
+    assert!(rt; is_written(rt.alloc(), row_count(&rt)?)?);
     Ok(())
 }
 
 #[test]
-#[ignore]
-fn a_half_is_written(rt: HostRuntime) -> Result<(), Fail> {
-    assert!(rt; is_written(rt.alloc(), 500_000)?);
-    Ok(())
-}
-
-#[test]
-#[ignore]
-fn a_million_is_written(rt: HostRuntime) -> Result<(), Fail> {
-    assert!(rt; is_written(rt.alloc(), 1_000_000)?);
-    Ok(())
-}
-
-#[test]
-#[ignore]
-fn a_quarter_is_streamed(rt: HostRuntime) -> Result<(), Fail> {
-    assert!(rt; is_streamed(rt.alloc(), 250_000)?);
-    Ok(())
-}
-
-#[test]
-#[ignore]
-fn a_half_is_streamed(rt: HostRuntime) -> Result<(), Fail> {
-    assert!(rt; is_streamed(rt.alloc(), 500_000)?);
-    Ok(())
-}
-
-#[test]
-#[ignore]
-fn a_million_is_streamed(rt: HostRuntime) -> Result<(), Fail> {
-    assert!(rt; is_streamed(rt.alloc(), 1_000_000)?);
+fn many_rows_are_streamed(rt: HostRuntime) -> Result<(), Fail> {
+    assert!(rt; is_streamed(rt.alloc(), row_count(&rt)?)?);
     Ok(())
 }
