@@ -36,7 +36,7 @@ pub enum Step<'a> {
 }
 
 /// A value of these bytes, at most 64.
-pub fn value(bytes: &[u8]) -> Value {
+fn value(bytes: &[u8]) -> Value {
     let mut value = Value::new();
     let _fits = value.try_extend_from_slice(bytes);
     value
@@ -92,7 +92,7 @@ impl Pair {
     }
 
     /// How the stream answers an advance; nothing if its position isn't in the source's log, or the sink lacks a table.
-    pub fn advance(&mut self, at: Position, max: u16) -> Option<Result<Advanced, StreamFault>> {
+    fn advance(&mut self, at: Position, max: u16) -> Option<Result<Advanced, StreamFault>> {
         let is_within = self.stream.position() <= self.source.position();
         if is_within && has_tables(&self.sink, &self.tables) {
             return Some(self.stream.advance(&self.source, &mut self.sink, at, max));
