@@ -21,10 +21,10 @@ use Rattle.mt_plain.specs.Slots.{log_length}
 use Rattle.mt_laws.specs.Changes.{HasSides}
 use Rattle.mt_laws.specs.Effects.{entry_stepped, entry_undone, last_step, list_stepped, list_undone}
 use Rattle.mt_laws.proofs.ChangeLemmas.{sides-live_stepped, sides-undone}
-use Rattle.mt_laws.proofs.ListLemmas.{cond-ap, cond-either, cond-holds}
+use Rattle.mt_laws.proofs.ListLemmas.{cond-ap, cond-either}
 use Rattle.mt_laws.proofs.PlainWords.{changes_reads, types_by_way}
 use Rattle.mt_laws.proofs.TrafficLemmas.{serve-same}
-use Rattle.mt_laws.proofs.WayStepLemmas.{closes, fewer, first_step-le, more, now_done, same_done, switched-way_stepped, was_done, way-stepped, way-undone}
+use Rattle.mt_laws.proofs.WayStepLemmas.{closes, fewer, first_step-le, more, same_done, switched-way_stepped, was_done, way-stepped, way-undone}
 
 -- ---- sets of types that are alike as far as a step is concerned
 

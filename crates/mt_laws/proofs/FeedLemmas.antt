@@ -11,7 +11,7 @@ use Rattle.mt_laws.specs.Lines.{KnowsSome, line_feeds, writing_lines}
 use Rattle.mt_laws.proofs.CleanLemmas.{CleanEvent, IsClean, next-clean}
 use Rattle.mt_laws.proofs.DocumentLemmas.{answers-no_feed}
 use Rattle.mt_laws.proofs.DriveLemmas.{Ended, drive_ended, ended_text-no_feed}
-use Rattle.mt_laws.proofs.LineLemmas.{Begins, Tells, told_line-tells}
+use Rattle.mt_laws.proofs.LineLemmas.{Tells, told_line-tells}
 use Rattle.mt_laws.proofs.TextLemmas.{line_feeds-line}
 use Rattle.mt_laws.proofs.WordLemmas.{read_line-speaks}
 

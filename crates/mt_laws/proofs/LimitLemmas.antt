@@ -1,5 +1,5 @@
 -- In each state that a run reaches no limit is passed.
-use Rattle.std.proofs.Common.{◌≡◌, ◌≢◌, ◌⊎◌, inl, inr, ℕ, suc, ◌+◌, ◌≤◌, ◌<◌, Bool, true, false, not, cond, eqb, eqb-true, List, [], ◌∷◌, ◌++◌, map, length, Option, None, Some, is_some, refl, sym, ap, ◌∙◌, subst, arith, leb, ltb, ltb-false, length-append}
+use Rattle.std.proofs.Common.{◌≡◌, ◌≢◌, ◌⊎◌, inl, inr, ℕ, suc, ◌+◌, ◌≤◌, ◌<◌, Bool, true, false, not, cond, eqb, eqb-true, List, [], ◌∷◌, ◌++◌, map, length, Option, None, Some, refl, sym, ap, ◌∙◌, subst, arith, leb, ltb, ltb-false, length-append}
 use Rattle.std.proofs.lemmas.Bool.{leb-false, true≢false}
 use Rattle.std.proofs.lemmas.List.{length-map}
 use Rattle.std.proofs.lemmas.List.Sums.{sum_by_push}
@@ -13,10 +13,10 @@ use Rattle.mt_model.specs.declared.entries.Scope.{Scope}
 use Rattle.mt_model.specs.Limits.{most_keyspaces, most_rules, most_tables_in_keyspace}
 use Rattle.mt_model.specs.Topology.{Keyspaces, TopologyState, keyspace_at, with_keyspace_state, with_new_table}
 use Rattle.mt_plain.specs.Answers.{Answers}
-use Rattle.mt_plain.specs.Events.{Event, add_keyspace, add_table, create, advance, begin_switch, begin_reverse, step, undo, cancel, complete, StreamName, Answer, done, row, advanced, shown, refused, exists, full, no_keyspace, no_tables, same_keyspace, workflow_exists, stale, undoing, Way}
+use Rattle.mt_plain.specs.Events.{Event, add_keyspace, add_table, create, advance, begin_switch, begin_reverse, step, undo, cancel, complete, StreamName, Answer, done, row, advanced, shown, refused, exists, full, no_keyspace, stale, undoing, Way}
 use Rattle.mt_plain.specs.Next.{completed, journal_after, next, next_taken, with_advance, with_completed, with_tables, without_live, without_tables}
 use Rattle.mt_plain.specs.Plain.{Live, Plain, each_once, has_keyspace, live_at, next_step, opening, twelve_keys, write_journal}
-use Rattle.mt_plain.specs.Refuse.{begin_reverse_refusal, begin_switch_refusal, create_is_full, keys_without_rule, most_journal_entries, most_ways, most_workflows, moved_tables_refusal, or_else, own_refusal, refusal_of, refuse_if, rule_count, step_refusal, table_count, watcher_refusal}
+use Rattle.mt_plain.specs.Refuse.{begin_reverse_refusal, begin_switch_refusal, keys_without_rule, most_journal_entries, most_ways, most_workflows, or_else, own_refusal, refusal_of, refuse_if, rule_count, step_refusal, table_count}
 use Rattle.mt_plain.specs.Serve.{has_table}
 use Rattle.mt_laws.specs.Changes.{HasSides}
 use Rattle.mt_laws.specs.WayBack.{IsReached}
@@ -24,7 +24,7 @@ use Rattle.mt_laws.proofs.ChangeLemmas.{live_next, live_taken, lives-advance, si
 use Rattle.mt_laws.proofs.CountLemmas.{fold-passing, length-changed, length-kept, new_table-count, sum-filter, sum-map, sum-without, tables-changed, tables-elsewhere, tables-kept, tables-pushed, tables_in, with_tables-count, without_tables-count}
 use Rattle.mt_laws.proofs.LiveLemmas.{IsIn, find_some, text_differs}
 use Rattle.mt_laws.proofs.PartLemmas.{HasParts}
-use Rattle.mt_laws.proofs.ReachLemmas.{reached_keeps}
+use Rattle.mt_laws.proofs.ReachLemmas.{create-none, reached_keeps}
 use Rattle.mt_laws.proofs.RefusalLemmas.{at_rest-none, in_workflow-none, on_way-none, or_else-none, refuse_if-none}
 
 -- ---- what each event that is taken keeps, and an advance
@@ -42,26 +42,6 @@ module _ (Q : Plain → Type 0) (first : (scopes : List Scope) → Q (opening sc
 
   pub reached_taken : (p : Plain) → IsReached p → Q p
   reached_taken = reached_keeps Q first keeps
-
--- where a Create is not refused, no limit is passed by it
-pub create-fits : (p : Plain) (name source target : List ℕ) (tables : List (List ℕ)) → refusal_of p (create name source target tables) ≡ None → create_is_full p source target (each_once tables) ≡ false
-create-fits p name source target tables none =
-    let once = each_once tables in
-    let h7 = refuse_if (create_is_full p source target once) full in
-    let h6 = or_else (watcher_refusal p target) h7 in
-    let h5 = or_else (moved_tables_refusal p source target once) h6 in
-    let h4 = or_else (refuse_if (not (has_keyspace p target)) no_keyspace) h5 in
-    let h3 = or_else (refuse_if (not (has_keyspace p source)) no_keyspace) h4 in
-    let h2 = or_else (refuse_if (same_text source target) same_keyspace) h3 in
-    let h1 = or_else (refuse_if (eqb (length once) 0) no_tables) h2 in
-    let r0 = or_else-none (refuse_if (is_some (live_at p name)) workflow_exists) h1 none in
-    let r1 = or_else-none (refuse_if (eqb (length once) 0) no_tables) h2 r0.1 in
-    let r2 = or_else-none (refuse_if (same_text source target) same_keyspace) h3 r1.1 in
-    let r3 = or_else-none (refuse_if (not (has_keyspace p source)) no_keyspace) h4 r2.1 in
-    let r4 = or_else-none (refuse_if (not (has_keyspace p target)) no_keyspace) h5 r3.1 in
-    let r5 = or_else-none (moved_tables_refusal p source target once) h6 r4.1 in
-    let r6 = or_else-none (watcher_refusal p target) h7 r5.1 in
-    refuse_if-none (create_is_full p source target once) full r6.1
 
 -- neither of three tests holds
 pub neither : (a b c : Bool) → (a || b || c) ≡ false → (a ≡ false) × (b ≡ false) × (c ≡ false)
@@ -113,7 +93,7 @@ workflows-without name lives fits = let a = length-kept (λ w. not (same_text w.
 
 workflows-taken : (p : Plain) (event : Event) → HasParts p → refusal_of p event ≡ None → WorkflowsFit p → WorkflowsFit (next_taken p event)
 workflows-taken p (create name source target tables) has none fits =
-    let tests = neither (leb most_workflows (length p.lives)) (ltb most_tables_in_keyspace (table_count p target + length (each_once tables))) (ltb most_rules (fold (λ n table. n + keys_without_rule p.topology.rules (twelve_keys source target table)) (rule_count p) (each_once tables))) (create-fits p name source target tables none) in
+    let tests = neither (leb most_workflows (length p.lives)) (ltb most_tables_in_keyspace (table_count p target + length (each_once tables))) (ltb most_rules (fold (λ n table. n + keys_without_rule p.topology.rules (twelve_keys source target table)) (rule_count p) (each_once tables))) (create-none p name source target tables none).room in
     let below = leb-false most_workflows (length p.lives) tests.0 in
     subst (λ n. n ≤ most_workflows) (sym (length-append p.lives _)) (omega arith)
 workflows-taken p (begin_switch workflow types) has none fits = workflows-mapped (live_taken p (begin_switch workflow types)) p.lives fits
@@ -258,7 +238,7 @@ created-fits p name source target tables w is_target is_tables none fits keyspac
   where
     limit : table_count p target + length (each_once tables) ≤ 256
     limit =
-        let tests = neither (leb most_workflows (length p.lives)) (ltb most_tables_in_keyspace (table_count p target + length (each_once tables))) (ltb most_rules (fold (λ n table. n + keys_without_rule p.topology.rules (twelve_keys source target table)) (rule_count p) (each_once tables))) (create-fits p name source target tables none) in
+        let tests = neither (leb most_workflows (length p.lives)) (ltb most_tables_in_keyspace (table_count p target + length (each_once tables))) (ltb most_rules (fold (λ n table. n + keys_without_rule p.topology.rules (twelve_keys source target table)) (rule_count p) (each_once tables))) (create-none p name source target tables none).room in
         ltb-false most_tables_in_keyspace (table_count p target + length (each_once tables)) tests.1
 
     more : moved_to keyspace (p.lives ++ w ∷ []) ≡ moved_to keyspace p.lives + cond (same_text target keyspace) (length (each_once tables)) 0

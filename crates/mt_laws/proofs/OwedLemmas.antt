@@ -1,5 +1,5 @@
 -- What is owed to the live workflows: an undo and a Cancel take from it, and no event adds more than one.
-use Rattle.std.proofs.Common.{◌≡◌, ◌≢◌, inl, inr, ℕ, suc, ◌+◌, ◌-◌, ◌*◌, ◌≤◌, max, Bool, true, false, not, cond, eqb, leb, ltb, fold, is_some, length, List, [], ◌∷◌, map, filter, Option, None, Some, refl, sym, ap, ◌∙◌, subst, arith, length-append}
+use Rattle.std.proofs.Common.{◌≡◌, ◌≢◌, inl, inr, ℕ, suc, ◌+◌, ◌-◌, ◌*◌, ◌≤◌, max, Bool, true, false, not, cond, eqb, leb, ltb, fold, length, List, [], ◌∷◌, map, filter, Option, None, Some, refl, sym, ap, ◌∙◌, subst, arith, length-append}
 use Rattle.std.proofs.lemmas.Bool.{true≢false, and_from, le-leb, leb-false, lt-ltb}
 use Rattle.std.proofs.lemmas.List.{length-map}
 use Rattle.std.proofs.lemmas.List.Sums.{sum_by-cons, sum_by_push}
@@ -9,10 +9,10 @@ use Rattle.mt_names.specs.Names.{same_text}
 use Rattle.mt_names.proofs.SameLemmas.{same_text_decides}
 use Rattle.mt_model.specs.Limits.{most_rules, most_tables_in_keyspace}
 use Rattle.mt_plain.specs.Answers.{Answers}
-use Rattle.mt_plain.specs.Events.{Event, create, begin_switch, begin_reverse, step, undo, cancel, Answer, done, full, no_keyspace, no_tables, same_keyspace, workflow_exists, Way}
+use Rattle.mt_plain.specs.Events.{Event, create, begin_switch, begin_reverse, step, undo, cancel, Answer, done, Way}
 use Rattle.mt_plain.specs.Next.{live_stepped, live_undone, next, types_and, types_without, with_way_to}
-use Rattle.mt_plain.specs.Plain.{Live, Plain, each_once, first_step, has_keyspace, live_at, stands_done, twelve_keys, write_journal}
-use Rattle.mt_plain.specs.Refuse.{cancel_refusal, create_is_full, keys_without_rule, most_workflows, moved_tables_refusal, or_else, owed, owed_by, refusal_of, refuse_if, rule_count, table_count, undo_refusal, watcher_refusal}
+use Rattle.mt_plain.specs.Plain.{Live, Plain, each_once, first_step, live_at, stands_done, twelve_keys, write_journal}
+use Rattle.mt_plain.specs.Refuse.{cancel_refusal, keys_without_rule, most_workflows, owed, owed_by, refusal_of, rule_count, table_count, undo_refusal}
 use Rattle.mt_laws.specs.Changes.{ChangesWay, IsOf}
 use Rattle.mt_laws.specs.WayBack.{IsReached}
 use Rattle.mt_laws.proofs.ChangeLemmas.{LivesAfter, ended, live_next, lives_after, made, made_live, mapped}
@@ -20,8 +20,8 @@ use Rattle.mt_laws.proofs.KeepLemmas.{Keeps, next_has}
 use Rattle.mt_laws.proofs.LiveLemmas.{Apart, IsApart, IsIn, find_none, find_some, in_all}
 use Rattle.mt_laws.proofs.ListLemmas.{cond-either}
 use Rattle.mt_laws.proofs.PartLemmas.{HasParts}
-use Rattle.mt_laws.proofs.ReachLemmas.{live_by_name, reached_has_parts, reached_holds, taken_or_same}
-use Rattle.mt_laws.proofs.RefusalLemmas.{in_workflow-none, or_else-none, refuse_if-none}
+use Rattle.mt_laws.proofs.ReachLemmas.{create-none, live_by_name, reached_has_parts, reached_holds, taken_or_same}
+use Rattle.mt_laws.proofs.RefusalLemmas.{in_workflow-none}
 use Rattle.mt_laws.proofs.StepUndoneLemmas.{at_way_undone, undo_way}
 use Rattle.mt_laws.proofs.UntouchedLemmas.{next_elsewhere, same_traffic, traffic-advanced}
 use Rattle.mt_laws.proofs.WayLemmas.{undo_before_journal}
@@ -269,21 +269,7 @@ filter_few keep (x ∷ xs) = by (keep x) (filter_few keep xs)
 create_finds_room : (p : Plain) (name source target : List ℕ) (tables : List (List ℕ)) → refusal_of p (create name source target tables) ≡ None → suc (length p.lives) ≤ most_workflows
 create_finds_room p name source target tables none =
     let once = each_once tables in
-    let h7 = refuse_if (create_is_full p source target once) full in
-    let h6 = or_else (watcher_refusal p target) h7 in
-    let h5 = or_else (moved_tables_refusal p source target once) h6 in
-    let h4 = or_else (refuse_if (not (has_keyspace p target)) no_keyspace) h5 in
-    let h3 = or_else (refuse_if (not (has_keyspace p source)) no_keyspace) h4 in
-    let h2 = or_else (refuse_if (same_text source target) same_keyspace) h3 in
-    let h1 = or_else (refuse_if (eqb (length once) 0) no_tables) h2 in
-    let r0 = or_else-none (refuse_if (is_some (live_at p name)) workflow_exists) h1 none in
-    let r1 = or_else-none (refuse_if (eqb (length once) 0) no_tables) h2 r0.1 in
-    let r2 = or_else-none (refuse_if (same_text source target) same_keyspace) h3 r1.1 in
-    let r3 = or_else-none (refuse_if (not (has_keyspace p source)) no_keyspace) h4 r2.1 in
-    let r4 = or_else-none (refuse_if (not (has_keyspace p target)) no_keyspace) h5 r3.1 in
-    let r5 = or_else-none (moved_tables_refusal p source target once) h6 r4.1 in
-    let r6 = or_else-none (watcher_refusal p target) h7 r5.1 in
-    let room = refuse_if-none (create_is_full p source target once) full r6.1 in
+    let room = (create-none p name source target tables none).room in
     below (length p.lives)
     (first_of_three (leb most_workflows (length p.lives)) (ltb most_tables_in_keyspace (table_count p target + length once))
     (ltb most_rules (fold (λ n table. n + keys_without_rule p.topology.rules (twelve_keys source target table)) (rule_count p) once)) room)

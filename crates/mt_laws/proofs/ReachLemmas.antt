@@ -36,6 +36,8 @@ pub record IsNew (p : Plain) (name source target : List ℕ) (tables : List (Lis
   pub sides : same_text source target ≡ false
   pub source_there : has_keyspace p source ≡ true
   pub target_there : has_keyspace p target ≡ true
+  -- and no limit is passed by it
+  pub room : create_is_full p source target tables ≡ false
   pub each : (table : List ℕ) → IsIn table tables → (has_table p source table ≡ true) × (mover p table ≡ None) × (has_table p target table ≡ false)
 
 each_new : (p : Plain) (source target table : List ℕ) → moved_table_refusal p source target table ≡ None → (has_table p source table ≡ true) × (mover p table ≡ None) × (has_table p target table ≡ false)
@@ -65,11 +67,13 @@ create-none p name source target tables none =
     let r3 = or_else-none (refuse_if (not (has_keyspace p source)) no_keyspace) h4 r2.1 in
     let r4 = or_else-none (refuse_if (not (has_keyspace p target)) no_keyspace) h5 r3.1 in
     let r5 = or_else-none (moved_tables_refusal p source target once) h6 r4.1 in
+    let r6 = or_else-none (watcher_refusal p target) h7 r5.1 in
     record {
       unnamed = none_from (live_at p name) (refuse_if-none (is_some (live_at p name)) workflow_exists r0.0);
       sides = refuse_if-none (same_text source target) same_keyspace r2.0;
       source_there = not-false (has_keyspace p source) (refuse_if-none (not (has_keyspace p source)) no_keyspace r3.0);
       target_there = not-false (has_keyspace p target) (refuse_if-none (not (has_keyspace p target)) no_keyspace r4.0);
+      room = refuse_if-none (create_is_full p source target once) full r6.1;
       each = λ table is. each_new p source target table ((fold_or_else-none (moved_table_refusal p source target) once None r5.0).1 table is);
     }
 

@@ -24,7 +24,8 @@ use Rattle.mt_laws.specs.WayBack.{IsReached}
 use Rattle.mt_laws.proofs.ChangeLemmas.{live_next, live_taken, lives-advance, sides-next}
 use Rattle.mt_laws.proofs.CountLemmas.{count-flat_map, length-remove, length-removed, sum-filter, sum-map, sum-same}
 use Rattle.mt_laws.proofs.EntryValueLemmas.{lookup-without}
-use Rattle.mt_laws.proofs.LimitLemmas.{create-fits, neither, reached_taken}
+use Rattle.mt_laws.proofs.LimitLemmas.{neither, reached_taken}
+use Rattle.mt_laws.proofs.ReachLemmas.{create-none}
 use Rattle.mt_laws.proofs.LiveLemmas.{IsIn, any-in, find_none, find_some, in-filter, unique}
 use Rattle.mt_laws.proofs.PartLemmas.{HasParts, edit_rule-none, moved_from_part}
 use Rattle.mt_laws.proofs.RefusalLemmas.{or_else-none, refuse_if-none}
@@ -125,7 +126,7 @@ edited-fits p key (Some target) none fits = by (is_some (lookup (same_key key) p
 created-fits : (p : Plain) (name source target : List ℕ) (tables : List (List ℕ)) (w : Live) → w.source ≡ source → w.target ≡ target → w.tables ≡ each_once tables → refusal_of p (create name source target tables) ≡ None
     → entries_in p.topology.rules (p.lives ++ w ∷ []) ≤ 4096
 created-fits p name source target tables w is_source is_target is_tables none =
-    let tests = neither (leb most_workflows (length p.lives)) (ltb most_tables_in_keyspace (table_count p target + length (each_once tables))) (ltb most_rules (fold (λ n table. n + keys_without_rule p.topology.rules (twelve_keys source target table)) (rule_count p) (each_once tables))) (create-fits p name source target tables none) in
+    let tests = neither (leb most_workflows (length p.lives)) (ltb most_tables_in_keyspace (table_count p target + length (each_once tables))) (ltb most_rules (fold (λ n table. n + keys_without_rule p.topology.rules (twelve_keys source target table)) (rule_count p) (each_once tables))) (create-none p name source target tables none).room in
     let limit = ltb-false most_rules (fold (λ n table. n + keys_without_rule p.topology.rules (twelve_keys source target table)) (rule_count p) (each_once tables)) tests.2 in
     let folded = sum_by_from (λ table. keys_without_rule p.topology.rules (twelve_keys source target table)) (rule_count p) (each_once tables) in
     let counted = count-flat_map (λ key. not (is_some (lookup (same_key key) p.topology.rules))) (twelve_keys source target) (each_once tables) in

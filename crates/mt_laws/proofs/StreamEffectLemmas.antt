@@ -1,9 +1,9 @@
 -- What a step and an undo change of a workflow's streams.
-use Rattle.std.proofs.Common.{◌≡◌, ◌≢◌, ℕ, suc, ◌+◌, ◌-◌, ◌<◌, ◌≤◌, Bool, true, false, not, cond, eqb, List, Option, None, Some, option_map, refl, sym, ap, ◌∙◌, subst, arith, eqb-true}
+use Rattle.std.proofs.Common.{◌≡◌, ◌≢◌, ℕ, suc, ◌-◌, ◌<◌, ◌≤◌, Bool, true, false, not, cond, eqb, Option, None, Some, option_map, refl, sym, ap, ◌∙◌, arith, eqb-true}
 use Rattle.std.proofs.lemmas.Bool.{true≢false, eq-eqb, false_from_ne_true}
 use Rattle.std.specs.Option.{option_map_or}
 use Rattle.mt_names.specs.declared.types.TypeSet.{TypeSet}
-use Rattle.mt_plain.specs.Events.{StreamName, forward, back, StreamState, running, stopped, frozen, Slot, Way}
+use Rattle.mt_plain.specs.Events.{StreamName, forward, back, running, stopped, frozen, Slot, Way}
 use Rattle.mt_plain.specs.Next.{live_stepped, live_undone, with_fresh_stream}
 use Rattle.mt_plain.specs.Plain.{Live, Plain, before_way, behind_last, changes_primary, create_back, differ, freeze_old, next_step, stands_done, start_back, stop_feeding, write_journal}
 use Rattle.mt_plain.specs.Refuse.{new_owner}
