@@ -94,7 +94,7 @@ AsksFor words meaning = (refusals_of words ≡ []) × (meaning_of words ≡ mean
 abbrev pub Takes : List Text → Result Choice Wrong → Type 0
 Takes words answer = (refusals_of words ≡ []) × Says (meaning_of words) answer
 
--- the answer to the words of a command line, of which the first is the program's own; want of memory aside
+-- the answer to the words of a command line, of which the first is the program's own; out of memory aside
 abbrev pub Chooses : List Text → Result Choice Wrong → Type 0
 Chooses words (Ok (choice.Help text)) = IsAmong DisplayHelp (refusals_of words)
 Chooses words (Ok other) = Takes words (Ok other)

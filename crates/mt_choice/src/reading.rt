@@ -77,7 +77,7 @@ fn unmatched(alloc: Global, error: &Error) -> Result<Choice, Wrong>
 }
 
 /// Reads the words of a command line, of which the first is the program's own name, as `std::env::args` gives them.
-/// `Wrong::Memory` is answered for want of memory alone; the words are only lent, and nothing else is touched.
+/// `Wrong::Memory` is answered only if no memory is left; the words are only lent, and nothing else is touched.
 pub fn choose<'a, S: AsStr>(alloc: Global, words: &'a [S]) -> Result<Choice, Wrong>
     ensures { Chooses (map S.text words.entry.now) result }
 {

@@ -102,7 +102,7 @@ has_too_many_tables k = nat_lt most_tables_in_keyspace (length k.1.tables)
 
 -- ---- what a reading step answers
 
--- an answer is this one, want of memory aside
+-- an answer is this one, out of memory aside
 abbrev pub IsUnlessMemory : {A : Type 0} → Result A TopologyFault → Result A TopologyFault → Type 0
 IsUnlessMemory answer due = (answer ≡ Err Memory) ⊎ (answer ≡ due)
 

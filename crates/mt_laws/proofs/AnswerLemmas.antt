@@ -36,7 +36,7 @@ answer_from_answers p event answer a other = a.1 ∙ sym (ap (λ o. answer_or o 
 
 -- ---- one answer at least
 
--- no condition refuses for want of memory, nor by a watcher
+-- no condition refuses for lack of memory, nor by a watcher
 abbrev IsOwn : Refusal → Type 0
 IsOwn memory = ⊥
 IsOwn (watcher_refused index) = ⊥

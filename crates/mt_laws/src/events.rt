@@ -16,7 +16,7 @@ pub fn refused_events_change_nothing()
     ensures { (p : Plain) (event : Event) (refusal : Refusal) → next p event (refused refusal) ≡ p }
 {}
 
-/// Free answers aside, which are want of memory, a watcher's refusal and an advance that is cut short, an event gets one
+/// Free answers aside, which are out of memory, a watcher's refusal and an advance that is cut short, an event gets one
 /// answer at most, and that is `answer_of`; each event gets it.
 pub fn answers_are_determined()
     ensures one_at_most { (p : Plain) (event : Event) (answer : Answer) → Answers p event answer

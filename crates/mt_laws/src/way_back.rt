@@ -13,7 +13,7 @@ ghost use Rattle.mt_plain.specs.Plain.{Live, Plain, changed_types, each_once, li
 ghost use Rattle.mt_plain.specs.Serve.{served_entry};
 
 /// Before the journal an undo with the right number is done, and so is a cancel where nothing is switched and no way is
-/// open: no other answer can come, want of memory and a watcher's refusal included.
+/// open: no other answer can come, out of memory and a watcher's refusal included.
 pub fn a_way_back_is_open_before_the_journal()
     ensures undo { (p : Plain) (name : List ℕ) (w : Live) (way : Way) → live_at p name ≡ Some w → w.way ≡ Some way
         → stands_done way write_journal ≡ false → (answer : Answer) → Answers p (undo name way.done) answer ↔ (answer ≡ done) }

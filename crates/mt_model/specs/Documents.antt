@@ -39,11 +39,11 @@ quoted text = 34 ∷ text ++ 34 ∷ []
 abbrev pub member : (name value : List ℕ) → List ℕ
 member name value = quoted name ++ codes ":" ++ value
 
--- a list, its items parted by commas
+-- a list, its items separated by commas
 abbrev pub array : List (List ℕ) → List ℕ
 array items = codes "[" ++ join_with_byte comma items ++ codes "]"
 
--- an object, its members parted by commas
+-- an object, its members separated by commas
 abbrev pub object : List (List ℕ) → List ℕ
 object members = codes "{" ++ join_with_byte comma members ++ codes "}"
 

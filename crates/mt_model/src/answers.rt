@@ -14,7 +14,7 @@ pub enum Reply {
 }
 
 /// Why an event is refused. Each refusal comes exactly where its condition holds and none before it in the event's
-/// order does; want of memory comes last.
+/// order does; out of memory comes last.
 #[derive(Clone, Copy, Debug, Eq, Error, PartialEq)]
 pub enum Refusal {
     /// No memory was left.

@@ -9,7 +9,7 @@ use Rattle.mt_names.specs.Tables.{names_of, read_table_list, read_tables_after, 
 use Rattle.mt_names.specs.Names.{dash, same_text}
 use Rattle.arrayvec.specs.ArrayVec.{ArrayVec}
 
--- the words of a text, parted by commas
+-- the words of a text, separated by commas
 abbrev pub words_of : List ℕ → List (List ℕ)
 words_of text = slice_split (λ byte. eqb byte comma) text
 

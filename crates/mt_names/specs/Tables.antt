@@ -19,7 +19,7 @@ pub record IsTableList (names : List (List ℕ)) : Type 0 where
   pub distinct : AllPairs ◌≢◌ names
   pub few : length names ≤ most_tables
 
--- `-` for no table, else the names, parted by commas
+-- `-` for no table, else the names, separated by commas
 abbrev pub table_list_text : List (List ℕ) → List ℕ
 table_list_text [] = dash ∷ []
 table_list_text (name ∷ names) = join_with_byte comma (name ∷ names)

@@ -56,7 +56,7 @@ every_type = Primary ∷ Replica ∷ Rdonly ∷ []
 abbrev pub members : TypeSet → List TabletType
 members set = filter (has set) every_type
 
--- the types' texts, parted by commas
+-- the types' texts, separated by commas
 abbrev pub list_text : List TabletType → List ℕ
 list_text types = join_with_byte comma (map type_text types)
 
@@ -74,7 +74,7 @@ written (type ∷ types) = list_text (type ∷ types)
 abbrev pub type_set_text : TypeSet → List ℕ
 type_set_text set = written (members set)
 
--- `all`, `-`, or at least one type's text, parted by commas, in any order and none twice
+-- `all`, `-`, or at least one type's text, separated by commas, in any order and none twice
 pub data IsTypeSetText (bytes : List ℕ) : Type 0 where
   all : bytes ≡ codes "all" → IsTypeSetText bytes
   none : bytes ≡ codes "-" → IsTypeSetText bytes

@@ -31,7 +31,7 @@ fn add_table(
     Ok(())
 }
 
-/// Reads a list of tables: `-` is the empty list, else names are parted by commas. The first fault from left to
+/// Reads a list of tables: `-` is the empty list, else names are separated by commas. The first fault from left to
 /// right is answered: of each name its own, then `N7 TooMany` of a 17th, then `N4 Repeated`.
 pub fn table_list(text: &str) -> Result<ArrayVec<TableName, MAX_TABLES>, NameFault>
     ensures value { names_of result ≡ read_table_list text.now }

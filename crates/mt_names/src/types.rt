@@ -150,7 +150,7 @@ impl TypeSet {
         !(self.primary || self.replica || self.rdonly)
     }
 
-    /// Reads a set: `all`, `-` for none, or types parted by commas in any order, of which none stands twice.
+    /// Reads a set: `all`, `-` for none, or types separated by commas in any order, of which none stands twice.
     /// Else the fault is `N1 Empty` for an empty text, or that of the first word in fault, which is
     /// `N6 BadType` where it is no type and `N4 Repeated` where it stood before.
     pub fn parse(text: &str) -> Result<Self, NameFault>
@@ -183,7 +183,7 @@ impl TypeSet {
     }
 }
 
-/// The set of the types whose texts stand here parted by commas.
+/// The set of the types whose texts stand here separated by commas.
 fn parse_words(text: &str) -> Result<TypeSet, NameFault>
     ensures { result ≡ read_words (slice_split (λ b. b == comma) text.now) }
 {

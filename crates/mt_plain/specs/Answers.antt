@@ -67,7 +67,7 @@ Answers p event (refused refusal) = Refuses p event refusal
 Answers p event (advanced events rows) = (refusal_of p event ≡ None) × ((advanced events rows ≡ reply_of p event) ⊎ IsCut p event events rows)
 Answers p event answer = (refusal_of p event ≡ None) × (answer ≡ reply_of p event)
 
--- the one answer where nothing is free: no want of memory, no watcher that refuses
+-- the one answer where nothing is free: memory enough, and no watcher that refuses
 abbrev pub answer_or : Option Refusal → Answer → Answer
 answer_or None reply = reply
 answer_or (Some refusal) reply = refused refusal

@@ -44,7 +44,7 @@ abbrev pub row_text : Row → List ℕ
 row_text None = codes "none"
 row_text (Some value) = codes "row " ++ value.items
 
--- words parted by spaces
+-- words separated by spaces
 abbrev pub spaced : List ℕ → List ℕ → List ℕ
 spaced first others = first ++ codes " " ++ others
 
@@ -143,7 +143,7 @@ told reading p line = told_line p (reading line)
 abbrev pub watchers_of : List (List ℕ) → List Scope
 watchers_of keyspaces = scope.Routes ∷ map scope.Primary keyspaces
 
--- ---- the output, as a relation: want of memory, a watcher's refusal and a cut advance are free
+-- ---- the output, as a relation: out of memory, a watcher's refusal and a cut advance are free
 
 -- what the rest of a script may be, from the state in which it begins
 abbrev pub Rest : Type 1

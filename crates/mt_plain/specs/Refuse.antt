@@ -260,7 +260,7 @@ complete_refusal w = at_rest w (refuse_if (not (w.switched.primary && w.switched
 
 -- ---- all events
 
--- the first refusal of an event, want of memory and a watcher's refusal aside
+-- the first refusal of an event, out of memory and a watcher's refusal aside
 abbrev pub refusal_of : Plain → Event → Option Refusal
 refusal_of p (write keyspace table op) = write_refusal p keyspace table op
 refusal_of p (read keyspace table key tablet_type) = read_refusal p keyspace table tablet_type
@@ -299,7 +299,7 @@ abbrev pub may_refuse : Plain → Event → (index : ℕ) → Bool
 may_refuse p event index =
     option_map_or (λ keyspace. option_map_or (is_of_primary keyspace) (slice_get p.scopes index) false) (asked_keyspace p event) false
 
--- the events that may grow something, and so may want memory: of a rule by hand a new one alone, of an advance one that writes something
+-- the events that may grow something, and so may run out of memory: of a rule by hand a new one alone, of an advance one that writes something
 abbrev pub may_grow : Plain → Event → Bool
 may_grow p (read keyspace table key tablet_type) = false
 may_grow p (edit_rule key None) = false

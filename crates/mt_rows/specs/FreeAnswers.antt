@@ -1,4 +1,4 @@
--- Want of memory, a watcher's refusal and a cut advance: of each where it may stand, and where it may not.
+-- Out of memory, a watcher's refusal and a cut advance: of each where it may stand, and where it may not.
 use Rattle.std.specs.Prelude.{[], ◌∷◌, codes, None, Some}
 use Rattle.mt_names.specs.Types.{all_types}
 use Rattle.mt_model.specs.declared.rows.Op.TheVariants.{Insert, Delete}

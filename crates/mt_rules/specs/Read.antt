@@ -110,7 +110,7 @@ value_of_text text = if is_utf8 text then read text else None
 abbrev pub rules_of_text : List ℕ → Result Rules RulesFault
 rules_of_text text = option_map_or rules_of_value (value_of_text text) (Err NotJson)
 
--- an answer is this one, want of memory aside
+-- an answer is this one, out of memory aside
 abbrev pub IsUnlessMemory : {A : Type 0} → Result A RulesFault → Result A RulesFault → Type 0
 IsUnlessMemory answer due = (answer ≡ Err Memory) ⊎ (answer ≡ due)
 

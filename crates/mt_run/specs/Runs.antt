@@ -33,7 +33,7 @@ abbrev pub bytes_of : Option (List ℕ) → List ℕ
 bytes_of None = []
 bytes_of (Some text) = text
 
--- a request for a document. It alone may end a run for want of memory
+-- a request for a document. It alone may end a run for lack of memory
 abbrev pub is_document : Request → Bool
 is_document rules_document = true
 is_document dump_document = true

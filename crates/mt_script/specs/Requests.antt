@@ -26,7 +26,7 @@ has_come verb =
     same_text verb (codes "keyspace") || same_text verb (codes "table") || same_text verb (codes "rule") || same_text verb (codes "rules")
     || same_text verb (codes "dump") || same_text verb (codes "at") || is_row_verb verb
 
--- the command of some words, of which the first is its verb; a command that hasn't come yet is a bad line
+-- the command of some words, of which the first is its verb; a command that isn't implemented is a bad line
 abbrev pub command_so_far : List (List ℕ) → Option Command
 command_so_far [] = None
 command_so_far (verb ∷ words) = if has_come verb then read_command verb words else None

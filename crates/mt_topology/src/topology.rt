@@ -291,7 +291,7 @@ impl Topology {
         if !self.lacks_a_place(source, target, tables) {
             return Ok(());
         }
-        // There is room, so a place that can't be made wants memory.
+        // There is room, so a place that can't be made is out of memory.
         let mut made = Vec::new(self.alloc);
         if self.make_part(source, target, tables, &mut made) {
             return Ok(());
