@@ -1,0 +1,4 @@
+pub mod CreateLemmas
+pub mod KeptLemmas
+pub mod OnceLemmas
+pub mod PartLemmas

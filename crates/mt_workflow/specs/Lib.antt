@@ -1,0 +1,4 @@
+pub mod Builds
+pub mod Creates
+pub mod Faults
+pub mod Workflows

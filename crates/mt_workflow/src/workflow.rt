@@ -1,0 +1,330 @@
+//! A workflow.
+ghost use Rattle.std.specs.Prelude.{◌≡◌, ◌≢◌, ℕ, ◌<◌, ◌≤◌, true, if◌then◌else◌, Some, AllPairs, IfOk, IfErr, length, option_copied, option_map, slice_get};
+ghost use Rattle.mt_names.specs.Tables.{most_tables};
+ghost use Rattle.mt_model.specs.Topology.{rule_at};
+ghost use Rattle.mt_plain.specs.Plain.{each_once, in_keyspace, is_side};
+ghost use Rattle.mt_plain.specs.Serve.{is_denied_at, owned_before, serve_plain, serve_rule, step_of_entry};
+ghost use Rattle.mt_plain.specs.Slots.{written_side};
+ghost use Rattle.mt_workflow.specs.Workflows.{IsWorkflow, feeding, keys_of_part, live_of, new_workflow, rules_only, slot_of, stream_name, wanted, way_from, with_slot};
+
+use crate::building::{each_once, kept_rules, table_list};
+use crate::fault::WorkflowFault;
+use crate::way::{Slot, Way};
+use arrayvec::ArrayVec;
+use indexmap::{IndexMap, IndexSet};
+use mt_model::{Entry, EntryKey, table_part_keys};
+use mt_names::{
+    KeyspaceName, MAX_TABLES, Position, RuleKey, RuleTarget, TableName, TabletType, TypeSet,
+    WorkflowName,
+};
+use mt_stream::Stream;
+use mt_topology::Topology;
+use std::alloc::Global;
+use std::marker::Model;
+use std::mem;
+
+/// How many keys each table adds to a part.
+const KEYS_OF_TABLE: usize = 15;
+
+/// A workflow: it moves some tables from its source to its target. It keeps the rule that each rule key of its part had
+/// before Create, so that Cancel can give that back, and its streams. It owns neither the topology nor a primary.
+/// (Vitess: a workflow of MoveTables with its reverse workflow)
+#[derive(Drop)]
+pub struct Workflow {
+    name: WorkflowName,
+    source: KeyspaceName,
+    target: KeyspaceName,
+    tables: IndexSet<TableName>,
+    switched: TypeSet,
+    way: Option<Way>,
+    kept: IndexMap<RuleKey, Option<RuleTarget>>,
+    forward: Option<Stream>,
+    back: Option<Stream>,
+}
+
+impl Model for Workflow {
+    ghost use Rattle.std.specs.Prelude.{option_map};
+    ghost use Rattle.mt_workflow.specs.Workflows.{IsWorkflow, WorkflowState, way_from};
+
+    ghost Value = { WorkflowState };
+
+    ghost view = { λ w. record { name = w.name; source = w.source; target = w.target; tables = w.tables.keys; switched = w.switched; way = option_map way_from w.way; kept = w.kept.entries; forward = w.forward; back = w.back } };
+
+    ghost invariant = { λ w. IsWorkflow w.source w.target w.tables.keys };
+}
+
+impl Workflow {
+    /// A new workflow of some tables, each of which counts once, in the order in which they are first named; at most 16 may
+    /// be named, and the sides must be two. Nothing is switched and no way is open. It keeps the rule that the topology has
+    /// at each rule key of its part, or that there is none. Its forward stream has copied nothing, runs, and reads the
+    /// source's log from this position on; there is no back stream. `W0 Memory`. It alone takes memory, and it asks
+    /// nothing of the topology: see `may_create`. (Vitess: Create of MoveTables)
+    pub fn new(
+        alloc: Global,
+        name: &WorkflowName,
+        source: &KeyspaceName,
+        target: &KeyspaceName,
+        tables: &[TableName],
+        topology: &Topology,
+        position: Position,
+    ) -> Result<Self, WorkflowFault>
+        requires apart { source.now ≢ target.now }
+        requires few { length tables.now ≤ most_tables }
+        ensures value { IfOk result (λ w. w ≡ new_workflow topology.now.rules name.now source.now target.now (each_once tables.now) position) }
+        ensures memory { IfErr result (λ fault. fault ≡ WorkflowFault.Memory) }
+    {
+        let tables = each_once(alloc, tables)?;
+        let kept = kept_rules(alloc, source, target, tables.as_slice(), topology.rules())?;
+        let stream = Stream::new_copy(table_list(tables.as_slice()), position);
+        Ok(Workflow {
+            name: name.copied(),
+            source: source.copied(),
+            target: target.copied(),
+            tables,
+            switched: TypeSet::NONE,
+            way: None,
+            kept,
+            forward: Some(stream),
+            back: None,
+        })
+    }
+
+    /// What is true of every workflow, for a caller's proof: no table is named twice, there are at most 16, and the sides
+    /// are two. It does nothing.
+    pub fn facts(&self)
+        ensures { IsWorkflow self.now.source self.now.target self.now.tables }
+    {
+        let _tables = &self.tables;
+    }
+
+    /// Its name.
+    pub fn name(&self) -> &WorkflowName
+        ensures { result.now ≡ self.now.name }
+    {
+        &self.name
+    }
+
+    /// The keyspace that its tables move from.
+    pub fn source(&self) -> &KeyspaceName
+        ensures { result.now ≡ self.now.source }
+    {
+        &self.source
+    }
+
+    /// The keyspace that they move to.
+    pub fn target(&self) -> &KeyspaceName
+        ensures { result.now ≡ self.now.target }
+    {
+        &self.target
+    }
+
+    /// Its tables, each once, in the order in which they were first named.
+    pub fn tables(&self) -> &[TableName]
+        ensures { result.now ≡ self.now.tables }
+    {
+        self.tables.as_slice()
+    }
+
+    /// The same tables as a list of its own, as a stream takes it. It takes no memory.
+    pub fn table_list(&self) -> ArrayVec<TableName, MAX_TABLES>
+        ensures tables { result.items ≡ self.now.tables }
+        ensures distinct { AllPairs ◌≢◌ self.now.tables }
+    {
+        table_list(self.tables.as_slice())
+    }
+
+    /// The tablet types whose traffic is switched. (Vitess: SwitchTraffic)
+    pub fn switched(&self) -> TypeSet
+        ensures { result ≡ self.now.switched }
+    {
+        self.switched
+    }
+
+    /// The way that is open, if one is. (Vitess: SwitchTraffic, ReverseTraffic)
+    pub fn way(&self) -> Option<Way>
+        ensures { option_map way_from result ≡ self.now.way }
+    {
+        self.way
+    }
+
+    /// How many keys its part has: 15 for each table.
+    #[tactic(auto, using(crate::proofs::PartLemmas::length_part))]
+    pub fn part_len(&self) -> usize
+        ensures { result ≡ length (keys_of_part self.now) }
+    {
+        self.tables.len() * KEYS_OF_TABLE
+    }
+
+    /// A key of its part by its index: table by table, and of each its twelve rule keys, its denial at the source and at the
+    /// target, and its presence at the target. It takes no memory, and looks at the keys of one table alone.
+    pub fn part_key(&self, index: usize) -> EntryKey
+        requires { index < length (keys_of_part self.now) }
+        ensures { Some result ≡ slice_get (keys_of_part self.now) index }
+    {
+        let table = &self.tables.as_slice()[index / KEYS_OF_TABLE];
+        table_part_keys(&self.source, &self.target, table)[index % KEYS_OF_TABLE].copied()
+    }
+
+    /// What an entry of its part is to say once these types are switched. Of an entry of another part the answer means
+    /// nothing. It takes no memory. (Vitess: how traffic is switched)
+    pub fn wanted(&self, key: &EntryKey, types: TypeSet) -> Entry
+        ensures { result ≡ wanted self.now types key.now }
+    {
+        match key {
+            EntryKey::Rule(key) => Entry::Rule(key.copied(), self.wanted_rule(key, types)),
+            EntryKey::Denied(keyspace, table) => Entry::Denied(
+                keyspace.copied(),
+                table.copied(),
+                self.is_denied_at(keyspace, types),
+            ),
+            EntryKey::Present(keyspace, table) => {
+                Entry::Present(keyspace.copied(), table.copied(), true)
+            }
+        }
+    }
+
+    /// Whether a side is to refuse its tables once these types are switched: the one that is not the owner.
+    fn is_denied_at(&self, keyspace: &KeyspaceName, types: TypeSet) -> bool
+        ensures { result ≡ is_denied_at (live_of self.now) types keyspace.now }
+    {
+        if &self.source == keyspace {
+            types.primary
+        } else {
+            !types.primary
+        }
+    }
+
+    /// The rule of a key of its part once these types are switched.
+    fn wanted_rule(&self, key: &RuleKey, types: TypeSet) -> Option<RuleTarget>
+        ensures { result ≡ serve_rule (rules_only self.now.kept) (live_of self.now) types key.now key.now.tablet_type }
+    {
+        match key.tablet_type {
+            None => self.wanted_plain(key, types),
+            Some(TabletType::Primary) => None,
+            Some(TabletType::Replica) => Some(self.at_target_if(types.replica, key)),
+            Some(TabletType::Rdonly) => Some(self.at_target_if(types.rdonly, key)),
+        }
+    }
+
+    /// The same of a key for all types.
+    fn wanted_plain(&self, key: &RuleKey, types: TypeSet) -> Option<RuleTarget>
+        ensures { result ≡ serve_plain (rules_only self.now.kept) (live_of self.now) types key.now key.now.keyspace }
+    {
+        match &key.keyspace {
+            None => Some(self.at_target_if(types.primary, key)),
+            Some(keyspace) if &self.source == keyspace => {
+                if types.primary {
+                    return Some(self.at_target_if(true, key));
+                }
+                self.kept(key).map(RuleTarget::copied)
+            }
+            Some(_) if types.primary => None,
+            Some(_) => Some(self.at_target_if(false, key)),
+        }
+    }
+
+    /// A key's table at the target, or at the source.
+    fn at_target_if(&self, is_at_target: bool, key: &RuleKey) -> RuleTarget
+        ensures { result ≡ in_keyspace (if is_at_target then self.now.target else self.now.source) key.now.table }
+    {
+        let keyspace = if is_at_target {
+            &self.target
+        } else {
+            &self.source
+        };
+        RuleTarget {
+            keyspace: keyspace.copied(),
+            table: key.table.copied(),
+        }
+    }
+
+    /// The rule that a key had before Create, if it is a rule key of its part and had one. It takes no memory. (Vitess:
+    /// Routing Rules)
+    pub fn kept(&self, key: &RuleKey) -> Option<&RuleTarget>
+        ensures { option_copied result ≡ rule_at self.now.kept key.now }
+    {
+        self.kept.get(key)?.as_ref()
+    }
+
+    /// The number of the step of a way with which an entry of its part changes: 0 the reads, 1 the denial of the tables at
+    /// the old owner, 7 their release at the new owner, 9 the plain rules. It takes no memory. (Vitess: how traffic is
+    /// switched)
+    pub fn step_of(&self, key: &EntryKey) -> u8
+        ensures { result ≡ step_of_entry (live_of self.now) key.now }
+    {
+        match key {
+            EntryKey::Rule(key) => match key.tablet_type {
+                None => 9,
+                Some(TabletType::Primary) => 9,
+                Some(_) => 0,
+            },
+            EntryKey::Denied(keyspace, _) => { if self.owned_before(keyspace) { 1 } else { 7 } }
+            EntryKey::Present(_, _) => 0,
+        }
+    }
+
+    /// Whether a keyspace owned the tables before the way that is open, or owns them where none is.
+    pub fn owned_before(&self, keyspace: &KeyspaceName) -> bool
+        ensures { result ≡ owned_before (live_of self.now) keyspace.now }
+    {
+        let types = match &self.way {
+            Some(way) => way.before,
+            None => self.switched,
+        };
+        let owner = if types.primary {
+            &self.target
+        } else {
+            &self.source
+        };
+        owner == keyspace
+    }
+
+    /// Which of its streams writes at a side: the back stream at the source, the forward stream at the target.
+    pub fn feeding(&self, side: &KeyspaceName) -> Slot
+        ensures value { stream_name result ≡ feeding self.now side.now }
+        ensures writes { is_side (live_of self.now) side.now ≡ true → written_side (live_of self.now) (stream_name result) ≡ side.now }
+    {
+        if &self.source == side {
+            Slot::Back
+        } else {
+            Slot::Forward
+        }
+    }
+
+    /// Its forward stream or its back stream, if it has that.
+    pub fn slot(&self, slot: Slot) -> Option<&Stream>
+        ensures { option_copied result ≡ slot_of self.now (stream_name slot) }
+    {
+        match slot {
+            Slot::Forward => self.forward.as_ref(),
+            Slot::Back => self.back.as_ref(),
+        }
+    }
+
+    /// Puts a stream there, or none, and answers what stood there. It takes no memory.
+    pub fn put_slot(&mut self, slot: Slot, stream: Option<Stream>) -> Option<Stream>
+        ensures before { result ≡ slot_of self.old (stream_name slot) }
+        ensures after { self.new ≡ with_slot self.old (stream_name slot) stream }
+    {
+        match slot {
+            Slot::Forward => mem::replace(&mut self.forward, stream),
+            Slot::Back => mem::replace(&mut self.back, stream),
+        }
+    }
+
+    /// Says which types are switched, and answers which were. It takes no memory.
+    pub fn set_switched(&mut self, types: TypeSet) -> TypeSet
+        ensures before { result ≡ self.old.switched }
+        ensures after { self.new ≡ record self.old { switched = types } }
+    {
+        mem::replace(&mut self.switched, types)
+    }
+
+    /// Says which way is open, or that none is, and answers what stood there. It takes no memory.
+    pub fn set_way(&mut self, way: Option<Way>) -> Option<Way>
+        ensures before { option_map way_from result ≡ self.old.way }
+        ensures after { self.new ≡ record self.old { way = option_map way_from way } }
+    {
+        mem::replace(&mut self.way, way)
+    }
+}
