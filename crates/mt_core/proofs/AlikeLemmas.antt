@@ -1,11 +1,11 @@
 -- Topologies that say the same and have places for the same keys: what the limits count is the same, and stays so.
-use Rattle.std.proofs.Common.{◌≡◌, ◌≢◌, ℕ, Bool, true, false, not, cond, List, [], ◌∷◌, ◌++◌, length, Option, None, Some, refl, sym, ap, ◌∙◌, subst, is_some, ◌⊎◌, inl, inr, ⊎_elim}
+use Rattle.std.proofs.Common.{◌≡◌, ◌≢◌, ℕ, Bool, true, false, cond, List, [], ◌∷◌, ◌++◌, length, Option, None, Some, refl, sym, ap, ◌∙◌, subst, is_some, ◌⊎◌, inl, inr, ⊎_elim}
 use Rattle.std.proofs.lemmas.Map.Made.{is_some-lookup, length-from_same_keys}
 use Rattle.std.proofs.lemmas.List.{length-map}
 use Rattle.std.specs.Bool.{Decides}
 use Rattle.std.specs.Cmp.{IsEquivalence}
 use Rattle.std.specs.List.{IsDistinct}
-use Rattle.std.specs.Map.{keys_of, lookup, remove_entry, set_value}
+use Rattle.std.specs.Map.{keys_of, lookup, remove_entry}
 use Rattle.std.specs.Option.{option_map_or}
 use Rattle.std.specs.Prelude.{◌&&◌}
 use Rattle.mt_names.specs.declared.keys.RuleKey.{RuleKey}
@@ -19,7 +19,7 @@ use Rattle.mt_model.specs.declared.entries.Entry.TheVariants as entry
 use Rattle.mt_model.specs.declared.entries.EntryKey.{EntryKey}
 use Rattle.mt_model.specs.declared.entries.EntryKey.TheVariants as about
 use Rattle.mt_model.specs.Part.{IsSameTopology}
-use Rattle.mt_model.specs.Topology.{HasDistinctPlaces, KeyspaceState, Keyspaces, Marks, Rules, TopologyState, has_place, is_present, keyspace_at, rule_at, value_of, with_keyspace, with_mark_place, with_new_table, with_rule, with_rule_place, with_table}
+use Rattle.mt_model.specs.Topology.{HasDistinctPlaces, KeyspaceState, Rules, TopologyState, has_place, is_present, keyspace_at, rule_at, value_of, with_keyspace, with_mark_place, with_new_table, with_rule, with_rule_place, with_table}
 use Rattle.mt_model.proofs.DistinctLemmas.{distinct-rules, distinct-with_keyspace, distinct-with_rule, distinct-with_table}
 use Rattle.mt_model.proofs.PlaceLemmas.{keyspace_at-stays}
 use Rattle.mt_model.proofs.TopologyLemmas.{keyspace_at-changed_elsewhere, keyspace_at-changed_here, read_at-unchanged, rule_at-with_rule_elsewhere, rule_at-with_rule_here, tables_distinct, value_of-with_keyspace, value_of-with_table_elsewhere, value_of-with_table_here}
@@ -75,7 +75,7 @@ push_any same (e ∷ es) n k v = by (push_any same es n k v) (same k e.0)
 
 -- ---- counts
 
-equivalence : {K : Type 0} (same : K → K → Bool) → ((a b : K) → Decides (same a b) (a ≡ b)) → IsEquivalence same
+pub equivalence : {K : Type 0} (same : K → K → Bool) → ((a b : K) → Decides (same a b) (a ≡ b)) → IsEquivalence same
 equivalence same decides = record {
   refl = same_itself same decides;
   symm = same_turned same decides;

@@ -4,6 +4,7 @@ pub mod CoreLemmas
 pub mod LimitLemmas
 pub mod MadeLemmas
 pub mod RefusalLemmas
+pub mod RoomLemmas
 pub mod SayLemmas
 pub mod StepLemmas
 pub mod WriteLemmas

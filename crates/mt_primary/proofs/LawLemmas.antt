@@ -1,49 +1,52 @@
 -- What follows from how denials are set, refreshed and given back.
 use Rattle.std.proofs.Common.{◌≡◌, ℕ, ◌||◌, Bool, true, false, List, [], ◌∷◌, map, fold, Option, Some, None, is_some, unwrap_or, if◌then◌else◌, refl, sym, ap, ◌∙◌}
-use Rattle.std.specs.Option.{option_map, option_map_or}
+use Rattle.std.specs.Option.{option_map, option_map_or, option_or}
 use Rattle.mt_names.proofs.SameLemmas.{same_text_decides}
 use Rattle.mt_names.specs.Names.{same_text}
 use Rattle.mt_model.specs.declared.entries.Entry.{Entry}
 use Rattle.mt_model.specs.declared.entries.Entry.TheVariants as entry
 use Rattle.mt_model.specs.declared.entries.Scope.TheVariants as scope
 use Rattle.mt_watch.specs.Notices.{notice_of}
-use Rattle.mt_primary.specs.Denials.{AreDenialsSet, is_named, marks_of, told_by_entry, told_by_mark, told_by_marks, told_by_notice, told_by_refresh, with_told}
-use Rattle.mt_primary.specs.Primary.{PrimaryState, TableState, has_table, is_denied_at, made_at, row_at, row_in, table_at}
-use Rattle.mt_primary.proofs.DenialLemmas.{told_none}
+use Rattle.mt_primary.specs.Denials.{AreDenialsSet, is_named, marks_of, told_by_entry, told_by_mark, told_by_marks, told_by_notice, told_by_refresh, with_denials, with_told}
+use Rattle.mt_primary.specs.Primary.{IsPrimary, PrimaryState, TableState, has_table, is_denied_at, made_at, row_at, row_in, table_at}
+use Rattle.mt_primary.proofs.DenialLemmas.{denials-kept, denials-table, denials-then, told_none}
 
 -- ---- what is set
 
 module _ (old new : PrimaryState) (told : List ℕ → Option Bool) (set : AreDenialsSet old told new) (name : List ℕ) where
+  by_name : table_at new name ≡ option_map (with_told (told name)) (table_at old name)
+  by_name = denials-table old new told set name
+
   pub set-tables : has_table new name ≡ has_table old name
-  set-tables = ap is_some (set.table name) ∙ by (table_at old name)
+  set-tables = ap is_some (by_name) ∙ by (table_at old name)
     where
       by : (o : Option TableState) → is_some (option_map (with_told (told name)) o) ≡ is_some o
       by None = refl
       by (Some table) = refl
 
   pub set-made : made_at new name ≡ made_at old name
-  set-made = ap (option_map (λ (t : TableState). t.made)) (set.table name) ∙ by (table_at old name)
+  set-made = ap (option_map (λ (t : TableState). t.made)) (by_name) ∙ by (table_at old name)
     where
       by : (o : Option TableState) → option_map (λ (t : TableState). t.made) (option_map (with_told (told name)) o) ≡ option_map (λ t. t.made) o
       by None = refl
       by (Some table) = refl
 
   pub set-rows : (key : ℕ) → row_at new name key ≡ row_at old name key
-  set-rows key = ap (λ (o : Option TableState). option_map_or (λ t. row_in t key) o None) (set.table name) ∙ by (table_at old name)
+  set-rows key = ap (λ (o : Option TableState). option_map_or (λ t. row_in t key) o None) (by_name) ∙ by (table_at old name)
     where
       by : (o : Option TableState) → option_map_or (λ t. row_in t key) (option_map (with_told (told name)) o) None ≡ option_map_or (λ t. row_in t key) o None
       by None = refl
       by (Some table) = refl
 
   pub set-denied : has_table old name ≡ true → is_denied_at new name ≡ unwrap_or (told name) (is_denied_at old name)
-  set-denied there = ap (λ (o : Option TableState). option_map_or (λ t. t.denied) o false) (set.table name) ∙ by (table_at old name) there
+  set-denied there = ap (λ (o : Option TableState). option_map_or (λ t. t.denied) o false) (by_name) ∙ by (table_at old name) there
     where
       by : (o : Option TableState) → is_some o ≡ true → option_map_or (λ (t : TableState). t.denied) (option_map (with_told (told name)) o) false ≡ unwrap_or (told name) (option_map_or (λ t. t.denied) o false)
       by None there = absurd cc
       by (Some table) there = refl
 
   pub set-none : told name ≡ None → table_at new name ≡ table_at old name
-  set-none none = set.table name ∙ ap (λ t. option_map (with_told t) (table_at old name)) none ∙ told_none (table_at old name)
+  set-none none = by_name ∙ ap (λ t. option_map (with_told t) (table_at old name)) none ∙ told_none (table_at old name)
 
 -- ---- a refresh
 
@@ -83,18 +86,27 @@ module _ (before now back : PrimaryState) (tables : List (List ℕ)) (set : AreD
   pub back-others : is_named tables name ≡ false → table_at back name ≡ table_at now name
   back-others unnamed = set-none now back (told_by_marks (marks_of before tables)) set name (marks-others before tables name unnamed)
 
-  pub back-at_once : (keyspace : List ℕ) (notice : List Entry) → AreDenialsSet before (told_by_refresh keyspace notice tables) now → table_at back name ≡ table_at before name
-  back-at_once keyspace notice taken = by (is_named tables name) refl
-    where
-      at_table : (o : Option TableState) → table_at before name ≡ o → is_named tables name ≡ true → table_at back name ≡ table_at before name
-      at_table None at named = set.table name ∙ ap (option_map (with_told (told_by_marks (marks_of before tables) name))) (taken.table name) ∙ rw at refl
-      at_table (Some table) at named =
-          set.table name ∙ ap (option_map (with_told (told_by_marks (marks_of before tables) name))) (taken.table name) ∙ ap (λ t. option_map (with_told t) (option_map (with_told (told_by_refresh keyspace notice tables name)) (table_at before name))) (marks-named before tables name named)
-          ∙ rw at refl
+-- what is given back at once to a primary leaves it as it was
+pub back-at_once : (p : PrimaryState) (keyspace : List ℕ) (notice : List Entry) (tables : List (List ℕ)) → IsPrimary p
+    → with_denials (told_by_marks (marks_of p tables)) (with_denials (told_by_refresh keyspace notice tables) p) ≡ p
+back-at_once p keyspace notice tables is =
+    denials-then p now (with_denials back now) refreshed back both refl refl (λ name. refl) ∙ denials-kept p both is (λ name table found. by name table found (is_named tables name) refl)
+  where
+    refreshed : List ℕ → Option Bool
+    refreshed = told_by_refresh keyspace notice tables
 
-      by : (b : Bool) → is_named tables name ≡ b → table_at back name ≡ table_at before name
-      by false unnamed = back-others unnamed ∙ refresh-others before now keyspace notice tables taken name unnamed
-      by true named = at_table (table_at before name) refl named
+    back : List ℕ → Option Bool
+    back = told_by_marks (marks_of p tables)
+
+    both : List ℕ → Option Bool
+    both name = option_or (back name) (refreshed name)
+
+    now : PrimaryState
+    now = with_denials refreshed p
+
+    by : (name : List ℕ) (table : TableState) → table_at p name ≡ Some table → (b : Bool) → is_named tables name ≡ b → with_told (both name) table ≡ table
+    by name table found true named = rw (marks-named p tables name named, found) refl
+    by name table found false unnamed = rw (marks-others p tables name unnamed, unnamed) refl
 
 -- ---- what a notice tells
 

@@ -1,12 +1,11 @@
 -- A primary's own denied list: what a refresh makes of it, and how that is taken back.
 use Rattle.std.specs.Prelude.{◌≡◌, ℕ, Bool, ◌&&◌, List, map, fold, if◌then◌else◌, Option, None, Some, unwrap_or}
 use Rattle.std.specs.List.{list_any}
-use Rattle.std.specs.Option.{option_map}
 use Rattle.mt_names.specs.Names.{same_text}
 use Rattle.mt_model.specs.declared.entries.Entry.{Entry}
 use Rattle.mt_model.specs.declared.entries.Entry.TheVariants as entry
 use Rattle.mt_model.specs.Topology.{Marks}
-use Rattle.mt_primary.specs.Primary.{PrimaryState, TableState, is_denied_at, table_at}
+use Rattle.mt_primary.specs.Primary.{PrimaryState, TableState, is_denied_at}
 
 -- ---- what is told of a table, if anything is
 
@@ -45,7 +44,9 @@ marks_of p tables = map (λ name. (name, is_denied_at p name)) tables
 abbrev pub with_told : Option Bool → TableState → TableState
 with_told told table = record table { denied = unwrap_or told table.denied }
 
--- each table is denied or not as is told of it; all else is as it was
-pub record AreDenialsSet (old : PrimaryState) (told : List ℕ → Option Bool) (new : PrimaryState) : Type 0 where
-  pub table : (name : List ℕ) → table_at new name ≡ option_map (with_told (told name)) (table_at old name)
-  pub log : new.log ≡ old.log
+-- each table in its place is denied or not as is told of it; all else is as it was
+abbrev pub with_denials : (List ℕ → Option Bool) → PrimaryState → PrimaryState
+with_denials told p = record p { tables = map (λ t. (t.0, with_told (told t.0) t.1)) p.tables }
+
+abbrev pub AreDenialsSet : PrimaryState → (List ℕ → Option Bool) → PrimaryState → Type 0
+AreDenialsSet old told new = new ≡ with_denials told old

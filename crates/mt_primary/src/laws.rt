@@ -1,14 +1,16 @@
 //! What follows from how denials are set, refreshed and given back.
-ghost use Rattle.std.specs.Prelude.{◌≡◌, ℕ, Bool, true, false, List, Option, None, Some, map, unwrap_or, if◌then◌else◌};
+ghost use Rattle.std.specs.Prelude.{◌≡◌, ℕ, Bool, true, false, List, Option, None, Some, map, option_map, unwrap_or, if◌then◌else◌};
 ghost use Rattle.mt_watch.specs.Notices.{notice_of};
-ghost use Rattle.mt_primary.specs.Denials.{AreDenialsSet, is_named, marks_of, told_by_marks, told_by_notice, told_by_refresh};
-ghost use Rattle.mt_primary.specs.Primary.{PrimaryState, has_table, is_denied_at, made_at, row_at, table_at};
+ghost use Rattle.mt_primary.specs.Denials.{AreDenialsSet, is_named, marks_of, told_by_marks, told_by_notice, told_by_refresh, with_denials, with_told};
+ghost use Rattle.mt_primary.specs.Primary.{IsPrimary, PrimaryState, has_table, is_denied_at, made_at, row_at, table_at};
 
 use mt_watch::{Entry, Scope};
 
 /// To set denials changes no table's presence, the position at which it was made, and no row; a table that is there is
 /// denied as is told of it, or as before.
 pub fn denials_change_nothing_else()
+    ensures by_name { (old new : PrimaryState) (told : List ℕ → Option Bool) → AreDenialsSet old told new
+        → (name : List ℕ) → table_at new name ≡ option_map (with_told (told name)) (table_at old name) }
     ensures tables { (old new : PrimaryState) (told : List ℕ → Option Bool) → AreDenialsSet old told new
         → (name : List ℕ) → has_table new name ≡ has_table old name }
     ensures made { (old new : PrimaryState) (told : List ℕ → Option Bool) → AreDenialsSet old told new
@@ -40,10 +42,8 @@ pub fn a_refresh_is_taken_back()
     ensures others { (before now back : PrimaryState) (tables : List (List ℕ))
         → AreDenialsSet now (told_by_marks (marks_of before tables)) back
         → (name : List ℕ) → is_named tables name ≡ false → table_at back name ≡ table_at now name }
-    ensures at_once { (before now back : PrimaryState) (keyspace : List ℕ) (notice : List Entry) (tables : List (List ℕ))
-        → AreDenialsSet before (told_by_refresh keyspace notice tables) now
-        → AreDenialsSet now (told_by_marks (marks_of before tables)) back
-        → (name : List ℕ) → table_at back name ≡ table_at before name }
+    ensures at_once { (p : PrimaryState) (keyspace : List ℕ) (notice : List Entry) (tables : List (List ℕ)) → IsPrimary p
+        → with_denials (told_by_marks (marks_of p tables)) (with_denials (told_by_refresh keyspace notice tables) p) ≡ p }
 {}
 
 /// The notice of a change for a keyspace's primary says of its denials what the change says; and a change that has a

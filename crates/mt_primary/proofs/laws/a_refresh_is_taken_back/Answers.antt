@@ -8,4 +8,4 @@ pub returns-clause-others : goal.returns-clause-others
 returns-clause-others c = back-others
 
 pub returns-clause-at_once : goal.returns-clause-at_once
-returns-clause-at_once c before now back keyspace notice tables taken set name = back-at_once before now back tables set name keyspace notice taken
+returns-clause-at_once c = back-at_once

@@ -1,5 +1,9 @@
+use Rattle.mt_primary.proofs.DenialLemmas.{denials-table}
 use Rattle.mt_primary.proofs.LawLemmas.{set-denied, set-made, set-rows, set-tables}
 use Rattle.mt_primary.proofs.laws.denials_change_nothing_else.Goals as goal
+
+pub returns-clause-by_name : goal.returns-clause-by_name
+returns-clause-by_name c = denials-table
 
 pub returns-clause-tables : goal.returns-clause-tables
 returns-clause-tables c = set-tables

@@ -22,6 +22,6 @@ returns c =
     elim c.match-get_mut.branch [
       | in-Some w ↦
           rw (← c.self.view_is, w.self-inside-is) (rw ((c.get_mut.follows.holds w.set_denied.new.self).0, w.set_denied.ensures)
-          (denials-one (before c) c.args.table.now w.in-Some.rows.now c.args.denied (sym w.in-Some.ensures.value)))
+          (denials-one (before c) c.args.table.now w.in-Some.rows.now c.args.denied (sym w.in-Some.ensures.value) c.self.invariant.distinct))
       | in_default w ↦ rw (← c.self.view_is, w.self-inside-is, c.get_mut.follows.holds-at-none) (denials-absent (before c) c.args.table.now c.args.denied (sym w.in_default.ensures.value))
     ]

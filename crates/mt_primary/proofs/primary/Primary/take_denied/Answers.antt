@@ -1,9 +1,19 @@
 -- Each entry is taken over or passed over.
-use Rattle.std.proofs.Common.{◌≡◌, true, false, refl, sym, ◌∙◌}
+use Rattle.std.proofs.Common.{◌≡◌, true, false, [], refl, sym, subst, ◌∙◌}
+use Rattle.std.proofs.lemmas.List.{take_all}
 use Rattle.mt_names.specs.Names.{same_text}
-use Rattle.mt_primary.proofs.DenialLemmas.{passed-other, refresh-passed, refresh-taken}
+use Rattle.mt_primary.specs.Denials.{AreDenialsSet, told_by_refresh}
+use Rattle.mt_primary.proofs.DenialLemmas.{denials-same, told_by_none, passed-other, refresh-passed, refresh-taken}
 use Rattle.mt_primary.proofs.primary.Primary.take_denied.Goals.{in-Denied+then-eq+then-contains, in-Denied+else-eq, else-eq-via-then-eq+else-contains, else-eq-via-else-eq, in_default}
 use Rattle.mt_primary.proofs.primary.Primary.take_denied.Goals as goal
+
+pub loop-entry-init : goal.loop-entry-init
+loop-entry-init c = denials-same c.args.self.now (told_by_refresh c.args.keyspace.now [] c.args.tables.now) (λ name. told_by_none c.args.keyspace.now c.args.tables.now name)
+
+pub returns-clause-taken : goal.returns-clause-taken
+returns-clause-taken c =
+    subst (λ notice. AreDenialsSet c.args.self.now (told_by_refresh c.args.keyspace.now notice c.args.tables.now) c.loop-entry.self)
+    (take_all c.loop-entry.entry-index c.as_slice-entry-items.result.now c.loop-entry-test.false ∙ c.as_slice-entry-items.ensures) c.loop-entry.invariant
 
 pub loop-entry-preserved : goal.loop-entry-preserved
 loop-entry-preserved c =
