@@ -40,12 +40,12 @@ kept-more rules now new source target tables i table keys inside is all before a
 
 -- ---- no rule key stands twice
 
-abbrev is_rule : EntryKey → Bool
+abbrev pub is_rule : EntryKey → Bool
 is_rule (about.Rule key) = true
 is_rule (about.Denied keyspace table) = false
 is_rule (about.Present keyspace table) = false
 
-rules-of_part : (source target : List ℕ) (tables : List (List ℕ)) → filter is_rule (part_keys source target tables) ≡ map about.Rule (keys_of_rules source target tables)
+pub rules-of_part : (source target : List ℕ) (tables : List (List ℕ)) → filter is_rule (part_keys source target tables) ≡ map about.Rule (keys_of_rules source target tables)
 rules-of_part source target [] = refl
 rules-of_part source target (table ∷ tables) = ap (λ l. map about.Rule (table_rule_keys source target table) ++ l) (rules-of_part source target tables)
 

@@ -1,4 +1,6 @@
 pub mod CreateLemmas
 pub mod KeptLemmas
+pub mod MemberLemmas
 pub mod OnceLemmas
 pub mod PartLemmas
+pub mod StoodLemmas

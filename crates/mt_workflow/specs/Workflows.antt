@@ -1,5 +1,5 @@
 -- A workflow: what it keeps, how the definitions know it, and what its part is to say.
-use Rattle.std.specs.Prelude.{◌≢◌, ℕ, ◌≤◌, List, [], map, flat_map, length, AllPairs, if◌then◌else◌, Option, None, Some}
+use Rattle.std.specs.Prelude.{◌≡◌, true, ◌≢◌, ℕ, ◌≤◌, List, [], map, flat_map, length, AllPairs, if◌then◌else◌, Option, None, Some}
 use Rattle.mt_names.specs.declared.keys.RuleKey.{RuleKey}
 use Rattle.mt_names.specs.declared.types.TypeSet.{TypeSet}
 use Rattle.mt_names.specs.Names.{same_text}
@@ -8,9 +8,9 @@ use Rattle.mt_names.specs.Types.{no_types}
 use Rattle.mt_model.specs.declared.entries.Entry.{Entry}
 use Rattle.mt_model.specs.declared.entries.EntryKey.{EntryKey}
 use Rattle.mt_model.specs.Part.{part_keys, table_rule_keys}
-use Rattle.mt_model.specs.Topology.{Rules, TopologyState, rule_at}
+use Rattle.mt_model.specs.Topology.{Rules, TopologyState, rule_at, value_of}
 use Rattle.mt_plain.specs.Events.{StreamName, forward, back, running, Way}
-use Rattle.mt_plain.specs.Plain.{Live, not_begun}
+use Rattle.mt_plain.specs.Plain.{Live, has_part, not_begun}
 use Rattle.mt_plain.specs.Serve.{serve}
 use Rattle.mt_stream.specs.Streams.{StreamValue}
 use Rattle.mt_workflow.specs.declared.way.Slot as code
@@ -86,6 +86,10 @@ keys_of_rules source target tables = flat_map (table_rule_keys source target) ta
 -- each of them with the rule that stands there (Routing Rules)
 abbrev pub kept_of : Rules → (source target : List ℕ) → List (List ℕ) → Rules
 kept_of rules source target tables = map (λ key. (key, rule_at rules key)) (keys_of_rules source target tables)
+
+-- what a workflow keeps is what a topology says at each entry of its part (this profile's own)
+abbrev pub IsKept : TopologyState → WorkflowState → Type 0
+IsKept u w = (key : EntryKey) → has_part (live_of w) key ≡ true → value_of (rules_only w.kept) key ≡ value_of u key
 
 -- ---- streams
 

@@ -4,10 +4,12 @@
 mod building;
 mod creating;
 mod fault;
+mod laws;
 mod way;
 mod workflow;
 
 pub use creating::may_create;
 pub use fault::WorkflowFault;
+pub use laws::{the_part_is_its_keys, what_is_kept_is_what_stood};
 pub use way::{Slot, Way};
 pub use workflow::Workflow;
