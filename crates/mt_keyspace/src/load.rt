@@ -206,7 +206,7 @@ pub fn is_too_large(drafts: &Drafts) -> bool
 
 /// Puts a keyspace under its name.
 fn put_keyspace(
-    keyspaces: &mut Keyspaces,
+    keyspaces: &mut IndexMap<KeyspaceName, Keyspace>,
     name: KeyspaceName,
     keyspace: Keyspace,
 ) -> Result<(), TopologyFault>
@@ -219,13 +219,13 @@ fn put_keyspace(
     }
 }
 
-/// The keyspaces, none of which has too many tables.
+/// The keyspaces, of which there are not too many, none with too many tables. `T0 Memory`.
 pub fn settled(alloc: Global, drafts: Drafts) -> Result<Keyspaces, TopologyFault>
     requires distinct { IsDistinct same_text (keys_of drafts.entries) }
-    requires few { list_any has_too_many_tables drafts.entries ≡ false }
-    ensures value { IfOk result (λ keyspaces. keyspaces.entries ≡ drafts.entries) }
+    requires few { length drafts.entries ≤ most_keyspaces }
+    requires few_tables { list_any has_too_many_tables drafts.entries ≡ false }
+    ensures value { IfOk result (λ keyspaces. keyspaces ≡ drafts.entries) }
     ensures memory { IfErr result (λ fault. fault ≡ TopologyFault.Memory) }
-    ensures places { OnOk result (HasDistinctPlaces (record { rules = []; keyspaces = drafts.entries })) }
 {
     let mut keyspaces = IndexMap::new(alloc);
     'drafts: for (name, draft) in drafts.into_iter() {
@@ -233,5 +233,5 @@ pub fn settled(alloc: Global, drafts: Drafts) -> Result<Keyspaces, TopologyFault
         let keyspace = draft.settled(alloc)?;
         put_keyspace(&mut keyspaces, name, keyspace)?;
     }
-    Ok(keyspaces)
+    Ok(Keyspaces::from_places(keyspaces))
 }

@@ -1,7 +1,6 @@
 pub mod BackLemmas
 pub mod DumpLemmas
 pub mod EditLemmas
-pub mod InvariantLemmas
 pub mod LoadLemmas
 pub mod OnceLemmas
 pub mod OrderLemmas

