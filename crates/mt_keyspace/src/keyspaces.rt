@@ -1,6 +1,6 @@
 //! The keyspaces of a topology: what is read, written, edited and reserved at them.
-ghost use Rattle.std.specs.Prelude.{◌≡◌, ◌++◌, ◌∷◌, ◌≤◌, ◌*◌, [], true, length, false, Some, is_some, flat_map, map, option_copied, slice_get, IfOk, OnOk};
-ghost use Rattle.std.specs.List.{AllByRecursion, cons_option};
+ghost use Rattle.std.specs.Prelude.{◌≡◌, ◌++◌, ◌∷◌, ◌≤◌, ◌*◌, [], true, length, false, is_some, flat_map, map, option_copied, slice_get, IfOk, OnOk};
+ghost use Rattle.std.specs.List.{AllByRecursion};
 ghost use Rattle.std.specs.Map.{lookup};
 ghost use Rattle.std.specs.Option.{option_map_or};
 ghost use Rattle.serde_json.specs.Data.{array};

@@ -1,14 +1,11 @@
 //! Reading the keyspaces of a dump.
-ghost use Rattle.std.specs.Prelude.{◌≡◌, ◌≤◌, ◌||◌, [], false, nat_lt, length, codes, option_map, option_and_then, Ok, Err, IfOk, IfErr, IfSome, OnOk};
+ghost use Rattle.std.specs.Prelude.{◌≡◌, ◌≤◌, ◌||◌, [], false, nat_lt, length, option_map, IfOk, IfErr, OnOk};
 ghost use Rattle.std.specs.List.{IsDistinct, list_any};
 ghost use Rattle.std.specs.Map.{keys_of};
-ghost use Rattle.std.specs.Option.{option_map_or};
 ghost use Rattle.indexmap.specs.IndexMap.{insert_entry};
-ghost use Rattle.serde_json.specs.Find.{as_number, get};
 ghost use Rattle.serde_json.specs.View.{view, items_view};
 ghost use Rattle.mt_names.specs.Names.{same_text};
 ghost use Rattle.mt_model.specs.Limits.{most_keyspaces};
-ghost use Rattle.mt_model.specs.Topology.{HasDistinctPlaces};
 ghost use Rattle.mt_keyspace.specs.Load.{IsUnlessMemory, answer_with, denials_of, has_too_many_tables, keyspaces_in, keyspaces_of, list_of, listed, name_of, or_bad_dump, state_of, table_of, tables_of, with_denial, with_denial_of, with_keyspace_of, with_new_keyspace, with_table_of};
 
 use crate::draft::Draft;

@@ -1,14 +1,12 @@
 //! Writing the keyspaces of a dump.
-ghost use Rattle.std.specs.Prelude.{◌≡◌, ◌++◌, [], List, ℕ, map, flat_map, IfOk, OnOk};
+ghost use Rattle.std.specs.Prelude.{◌≡◌, ◌++◌, [], List, ℕ, IfOk, OnOk};
 ghost use Rattle.std.specs.List.{AllByRecursion, IsDistinct};
 ghost use Rattle.std.specs.Map.{keys_of};
 ghost use Rattle.serde_json.specs.Data.{put, string};
 ghost use Rattle.serde_json.specs.View.{view, members_view};
 ghost use Rattle.mt_names.specs.Names.{IsTableName, same_text};
-ghost use Rattle.mt_names.specs.Keys.{target_text};
-ghost use Rattle.mt_model.specs.Topology.{HasDistinctPlaces, Marks};
-ghost use Rattle.mt_keyspace.specs.Values.{Gathers, IsDenialText, IsNamedKeyspace, IsSortedList, Sorts, by_name, by_themselves, keyspace_value, texts_value};
-ghost use Rattle.mt_model.specs.Documents.{denied_text, denied_texts, keyspaces_in_order, marked, sorted_texts, tables_in_order};
+ghost use Rattle.mt_keyspace.specs.Values.{Gathers, IsDenialText, IsNamedKeyspace, IsSortedList, keyspace_value, texts_value};
+ghost use Rattle.mt_model.specs.Documents.{denied_text, denied_texts, keyspaces_in_order, marked, sorted_texts};
 ghost use Rattle.mt_keyspace.specs.Written.{denied_in_order};
 
 use crate::keyspace::Keyspace;

@@ -2,7 +2,7 @@
 ghost use Rattle.std.specs.Prelude.{◌≡◌, ◌<◌, ◌≤◌, true, All, Some, IsTrue, IfOk, IfErr, length, reverse, slice_get, string_bytes};
 ghost use Rattle.mt_model.specs.Limits.{most_keyspaces};
 ghost use Rattle.mt_model.specs.Topology.{HasDistinctPlaces, empty_topology, has_place, key_of, resolution, routes_of, value_of, with_entry, with_keyspace, with_keyspace_state, with_rule, with_table, without_table_place};
-ghost use Rattle.mt_model.specs.Part.{befores, part_keys, table_part_keys, with_entries, with_place, with_places, without_place, without_places};
+ghost use Rattle.mt_model.specs.Part.{befores, part_keys, with_entries, with_place, with_places, without_place, without_places};
 ghost use Rattle.mt_topology.specs.Part.{lacks_a_place, place_grows, place_refusal, reserve_refusal};
 ghost use Rattle.mt_keyspace.specs.Load.{IsUnlessMemory};
 ghost use Rattle.mt_topology.specs.Dump.{topology_of_text};

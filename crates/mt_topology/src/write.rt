@@ -1,19 +1,11 @@
 //! Writing a dump.
-ghost use Rattle.std.specs.Prelude.{◌≤◌, length, ◌≡◌, ◌++◌, [], List, ℕ, map, flat_map, IfOk, OnOk, string_bytes};
-ghost use Rattle.std.specs.List.{AllByRecursion, IsDistinct};
-ghost use Rattle.std.specs.Map.{keys_of};
-ghost use Rattle.serde_json.specs.Data.{array, put, string};
-ghost use Rattle.serde_json.specs.View.{view, items_of, members_view};
-ghost use Rattle.mt_names.specs.Names.{IsTableName, same_text};
-ghost use Rattle.mt_names.specs.Keys.{target_text};
-ghost use Rattle.mt_model.specs.Limits.{most_keyspaces, most_rules};
-ghost use Rattle.mt_model.specs.Topology.{HasDistinctPlaces, Marks};
+ghost use Rattle.std.specs.Prelude.{◌≤◌, length, ◌≡◌, IfOk, OnOk, string_bytes};
+ghost use Rattle.serde_json.specs.View.{view};
+ghost use Rattle.mt_model.specs.Limits.{most_rules};
 ghost use Rattle.mt_rules.specs.Values.{IsWellSorted, rules_value};
-ghost use Rattle.mt_keyspace.specs.Values.{Gathers, IsDenialText, IsNamedKeyspace, IsSortedList, Sorts, by_name, by_themselves, keyspace_value, texts_value};
 ghost use Rattle.mt_topology.specs.Says.{HasDeniedTables, Says};
 ghost use Rattle.mt_topology.specs.Values.{IsNamedTopology, dump_value, parts_value};
-ghost use Rattle.mt_model.specs.Documents.{denied_text, denied_texts, dump_text, keyspaces_in_order, marked, sorted_texts, tables_in_order};
-ghost use Rattle.mt_keyspace.specs.Written.{denied_in_order};
+ghost use Rattle.mt_model.specs.Documents.{dump_text};
 
 use mt_keyspace::Keyspaces;
 use mt_rules::RoutingRules;

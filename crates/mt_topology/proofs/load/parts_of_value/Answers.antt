@@ -1,12 +1,7 @@
 -- The limits are looked at last.
-use Rattle.std.proofs.Common.{◌≡◌, [], inr, true, false, Ok, Some, ap, subst, sym, option_map, option_and_then, codes, ◌∙◌}
-use Rattle.std.specs.List.{IsDistinct}
-use Rattle.std.specs.Map.{keys_of}
+use Rattle.std.proofs.Common.{◌≡◌, inr, true, false, Ok, Some, ap, subst, sym, option_map, option_and_then, codes, ◌∙◌}
 use Rattle.serde_json.specs.Find.{as_number, get}
 use Rattle.serde_json.specs.View.{view}
-use Rattle.mt_names.specs.Same.{same_key}
-use Rattle.mt_model.specs.Topology.{HasDistinctPlaces, TopologyState}
-use Rattle.mt_model.proofs.DistinctLemmas.{distinct-rules}
 use Rattle.mt_rules.specs.Member.{rules_in}
 use Rattle.mt_keyspace.specs.Load.{IsUnlessMemory, or_bad_dump}
 use Rattle.mt_topology.specs.Dump.{is_one, unless_many}

@@ -13,7 +13,7 @@ use Rattle.mt_topology.proofs.SaysLemmas.{dump_says}
 use Rattle.mt_topology.proofs.write.text_of_parts.Goals as goal
 
 -- no name and no key has two places
-all_distinct : (c : goal.After-facts-2) → HasDistinctPlaces (record { rules = c.args.rules.now; keyspaces = c.args.keyspaces.now })
+all_distinct : (c : goal.Joined-document) → HasDistinctPlaces (record { rules = c.args.rules.now; keyspaces = c.args.keyspaces.now })
 all_distinct c = distinct-rules _ c.args.rules.now c.facts.ensures.distinct c.facts-2.ensures.distinct
 
 pub returns-clause-text : goal.returns-clause-text
