@@ -5,5 +5,6 @@ pub mod LoadLemmas
 pub mod OnceLemmas
 pub mod OrderLemmas
 pub mod ReserveLemmas
+pub mod RoomLemmas
 pub mod SaysLemmas
 pub mod WriteLemmas

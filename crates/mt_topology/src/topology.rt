@@ -1,9 +1,9 @@
 //! The topology as one value.
-ghost use Rattle.std.specs.Prelude.{◌≡◌, ◌<◌, ◌≤◌, true, All, Some, IsTrue, IfOk, IfErr, length, reverse, slice_get, string_bytes};
+ghost use Rattle.std.specs.Prelude.{◌≡◌, ◌<◌, ◌≤◌, true, All, None, Some, IfOk, IfErr, OnOk, length, reverse, slice_get, string_bytes};
 ghost use Rattle.mt_model.specs.Limits.{most_keyspaces};
 ghost use Rattle.mt_model.specs.Topology.{HasDistinctPlaces, empty_topology, has_place, key_of, resolution, routes_of, value_of, with_entry, with_keyspace, with_keyspace_state, with_rule, with_table, without_table_place};
 ghost use Rattle.mt_model.specs.Part.{befores, part_keys, with_entries, with_place, with_places, without_place, without_places};
-ghost use Rattle.mt_topology.specs.Part.{lacks_a_place, place_grows, place_refusal, reserve_refusal};
+ghost use Rattle.mt_topology.specs.Part.{lacks_a_place, place_grows, place_refusal, places_refusal, reserve_refusal};
 ghost use Rattle.mt_keyspace.specs.Load.{IsUnlessMemory};
 ghost use Rattle.mt_topology.specs.Dump.{topology_of_text};
 ghost use Rattle.mt_topology.specs.Says.{HasDeniedTables, Says};
@@ -283,13 +283,12 @@ impl Topology {
         if !self.lacks_a_place(source, target, tables) {
             return Ok(());
         }
-        // There is room, so a place that can't be made is out of memory.
         let mut made = Vec::new(self.alloc);
-        if self.make_part(source, target, tables, &mut made) {
-            return Ok(());
+        let answer = self.make_part(source, target, tables, &mut made);
+        if answer.is_err() {
+            self.take_back(&made);
         }
-        self.take_back(&made);
-        Err(TopologyFault::Memory)
+        answer
     }
 
     /// Drops the places of a workflow's part that hold no rule, no denial and no table. No value is changed. It takes no
@@ -336,54 +335,60 @@ impl Topology {
         false
     }
 
-    /// Makes the places of a part, and notes those that it made; it stops at one that can't be made.
+    /// Makes the places of a part, for which there is room, and notes those that it made. It stops at `T0 Memory`.
     fn make_part(
         &mut self,
         source: &KeyspaceName,
         target: &KeyspaceName,
         tables: &[TableName],
         made: &mut Vec<EntryKey>,
-    ) -> bool
-        ensures all { IsTrue result → self.new ≡ with_places self.old (part_keys source.now target.now tables.now) }
+    ) -> Result<(), TopologyFault>
+        requires { places_refusal self.old (part_keys source.now target.now tables.now) ≡ None }
+        ensures all { OnOk result (self.new ≡ with_places self.old (part_keys source.now target.now tables.now)) }
+        ensures memory { IfErr result (λ fault. fault ≡ TopologyFault.Memory) }
         ensures back { without_places self.new (reverse made.new.items) ≡ without_places self.old (reverse made.old.items) }
     {
         for table in tables {
-            if !self.make_places(&table_part_keys(source, target, table), made) {
-                return false;
-            }
+            self.make_places(&table_part_keys(source, target, table), made)?;
         }
-        true
+        Ok(())
     }
 
-    /// Makes the places of some keys, and notes those that it made; it stops at one that can't be made.
-    fn make_places(&mut self, keys: &[EntryKey], made: &mut Vec<EntryKey>) -> bool
-        ensures all { IsTrue result → self.new ≡ with_places self.old keys.now }
+    /// Makes the places of some keys, for which there is room, and notes those that it made. It stops at `T0 Memory`.
+    fn make_places(
+        &mut self,
+        keys: &[EntryKey],
+        made: &mut Vec<EntryKey>,
+    ) -> Result<(), TopologyFault>
+        requires { places_refusal self.old keys.now ≡ None }
+        ensures all { OnOk result (self.new ≡ with_places self.old keys.now) }
+        ensures memory { IfErr result (λ fault. fault ≡ TopologyFault.Memory) }
         ensures back { without_places self.new (reverse made.new.items) ≡ without_places self.old (reverse made.old.items) }
     {
         for key in keys {
-            if !self.make_noted(key, made) {
-                return false;
-            }
+            self.make_noted(key, made)?;
         }
-        true
+        Ok(())
     }
 
-    /// Makes the place of a key that lacks it, and notes the key.
-    fn make_noted(&mut self, key: &EntryKey, made: &mut Vec<EntryKey>) -> bool
-        ensures all { IsTrue result → self.new ≡ with_place self.old key.now }
+    /// Makes the place of a key that lacks it, for which there is room, and notes the key. `T0 Memory`.
+    fn make_noted(&mut self, key: &EntryKey, made: &mut Vec<EntryKey>) -> Result<(), TopologyFault>
+        requires { place_refusal self.old key.now ≡ None }
+        ensures all { OnOk result (self.new ≡ with_place self.old key.now) }
+        ensures memory { IfErr result (λ fault. fault ≡ TopologyFault.Memory) }
         ensures back { without_places self.new (reverse made.new.items) ≡ without_places self.old (reverse made.old.items) }
     {
         if self.has_place(key) {
-            return true;
+            return Ok(());
         }
         if made.push(key.copied()).is_err() {
-            return false;
+            return Err(TopologyFault::Memory);
         }
         match self.make_place(key) {
-            Ok(()) => true,
-            Err(_) => {
+            Ok(()) => Ok(()),
+            Err(fault) => {
                 made.pop();
-                false
+                Err(fault)
             }
         }
     }
