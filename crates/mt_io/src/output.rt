@@ -10,8 +10,8 @@ use std::io::{ErrorKind, Write};
 /// How many bytes of output wait at most.
 pub const ROOM: usize = 8192;
 
-/// The longest line of output, in bytes.
-const LONGEST_LINE: usize = 69;
+/// The longest line of output, in bytes: `row `, a value of 64 bytes, and the line feed.
+pub const LONGEST_LINE: usize = 69;
 
 /// Output that is still to be written.
 pub type Waiting = ArrayVec<u8, ROOM>;
@@ -69,7 +69,7 @@ pub fn flush<W: Write>(waiting: &mut Waiting, writer: &mut W) -> Result<(), Scri
 /// Makes room for a line: where there is none, all that waits is written.
 fn make_room<W: Write>(waiting: &mut Waiting, writer: &mut W) -> Result<(), ScriptFault>
     ensures writes { Writes (W.contents writer.old) (W.contents writer.new) waiting.old.items waiting.new.items result }
-    ensures room { OnOk result (length waiting.new.items + 69 ≤ ROOM) }
+    ensures room { OnOk result (length waiting.new.items + LONGEST_LINE ≤ ROOM) }
 {
     if waiting.remaining_capacity() >= LONGEST_LINE {
         return Ok(());
@@ -83,7 +83,7 @@ pub fn put_line<W: Write>(
     writer: &mut W,
     line: &[u8],
 ) -> Result<(), ScriptFault>
-    requires { length line.now ≤ 69 }
+    requires { length line.now ≤ LONGEST_LINE }
     ensures { Writes (W.contents writer.old) (W.contents writer.new) (waiting.old.items ++ line.now) waiting.new.items result }
 {
     make_room(waiting, writer)?;

@@ -1,7 +1,9 @@
 -- Edits by hand: one of a part is one of the whole; a table more in a keyspace, a keyspace more.
 use Rattle.std.proofs.Common.{◌≡◌, ℕ, Bool, false, ◌==◌, List, [], ◌∷◌, ◌++◌, length, Option, None, Some, is_some, Result, Ok, Err, refl, sym, ap, subst, ◌∙◌}
+use Rattle.std.proofs.lemmas.Bool.{true≢false}
 use Rattle.std.proofs.lemmas.Map.Steps.{set_value_same}
 use Rattle.std.specs.Map.{set_value}
+use Rattle.std.specs.Result.{OnOk, is_err}
 use Rattle.std.specs.Option.{option_map_or}
 use Rattle.indexmap.proofs.CallerLemmas.{insert_entry-new}
 use Rattle.indexmap.specs.IndexMap.{IndexMap, insert_entry}
@@ -45,3 +47,8 @@ keyspace_taken keyspaces name absent room = rw (absent, room) refl
 pub keyspace_pushed : {S : Type 0} (m : IndexMap (List ℕ) KeyspaceState S) (name copy : List ℕ) (state blank : KeyspaceState) → copy ≡ name → state ≡ blank → is_some (keyspace_at m.entries name) ≡ false → insert_entry same_text m.entries copy state ≡ m.entries ++ (name, blank) ∷ []
 keyspace_pushed m name copy state blank copied new absent =
     ap (λ n. insert_entry same_text m.entries n state) copied ∙ ap (insert_entry same_text m.entries name) new ∙ insert_entry-new same_text m name blank (none_from (keyspace_at m.entries name) absent)
+
+-- what an `Ok` tells
+pub on_ok : {T E P : Type 0} (r : Result T E) → is_err r ≡ false → OnOk r P → P
+on_ok (Ok x) e p = p
+on_ok (Err x) e p = absurd (true≢false e)

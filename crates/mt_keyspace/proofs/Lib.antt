@@ -1,5 +1,6 @@
 pub mod EditLemmas
 pub mod GatherLemmas
+pub mod InvariantLemmas
 pub mod KeyspaceLemmas
 pub mod LoadLemmas
 pub mod RouteLemmas

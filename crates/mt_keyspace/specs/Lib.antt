@@ -1,4 +1,5 @@
 pub mod Edits
+pub mod Keyspaces
 pub mod Load
 pub mod Room
 pub mod Values

@@ -1,206 +1,294 @@
 //! The keyspaces of a topology: what is read, written, edited and reserved at them.
-ghost use Rattle.std.specs.Prelude.{◌≡◌, ◌++◌, ◌∷◌, [], true, length, false, Some, is_some, option_copied};
-ghost use Rattle.std.specs.List.{cons_option};
+ghost use Rattle.std.specs.Prelude.{◌≡◌, ◌++◌, ◌∷◌, ◌≤◌, ◌*◌, [], true, length, false, is_some, flat_map, map, option_copied, slice_get, IfOk, OnOk};
+ghost use Rattle.std.specs.List.{AllByRecursion};
 ghost use Rattle.std.specs.Map.{lookup};
 ghost use Rattle.std.specs.Option.{option_map_or};
+ghost use Rattle.serde_json.specs.Data.{array};
+ghost use Rattle.serde_json.specs.View.{view, items_of};
 ghost use Rattle.mt_names.specs.Names.{same_text};
+ghost use Rattle.mt_model.specs.Documents.{keyspaces_in_order};
+ghost use Rattle.mt_model.specs.Limits.{most_keyspaces, most_tables_in_keyspace};
+ghost use Rattle.mt_model.specs.Part.{table_routes};
 ghost use Rattle.mt_model.specs.Topology.{holders, is_denied, is_present, keyspace_at, sole_holder, with_denied_mark, with_denied_place, with_keyspace_state, with_new_table, with_table_mark, with_table_place, without_denied_place, without_table_place};
 ghost use Rattle.mt_keyspace.specs.Edits.{Edits, add_keyspace_refusal, add_table_grows, add_table_refusal, denied_place_grows, denied_place_refusal, table_place_grows, table_place_refusal};
+ghost use Rattle.mt_keyspace.specs.Keyspaces.{AreKeyspaces};
+ghost use Rattle.mt_keyspace.specs.Values.{IsDenialText, IsNamedKeyspace, keyspace_value, texts_value};
+ghost use Rattle.mt_keyspace.specs.Written.{denied_in_order};
 
 use crate::keyspace::Keyspace;
+use crate::write::{denials_by_text, keyspaces_by_name};
 use indexmap::IndexMap;
-use mt_model::{MAX_KEYSPACES, TopologyFault};
+use mt_model::{Entry, MAX_KEYSPACES, TopologyFault};
 use mt_names::{KeyspaceName, RuleTarget, TableName};
-use std::alloc::Global;
+use mt_rules::list_of_values;
+use serde_json::Value;
+use std::alloc::{AllocError, Global};
+use std::marker::Model;
 
-/// Keyspaces by their names.
-pub type Keyspaces = IndexMap<KeyspaceName, Keyspace>;
-
-/// Whether a keyspace has a table.
-pub fn is_present(keyspaces: &Keyspaces, keyspace: &KeyspaceName, table: &TableName) -> bool
-    ensures { result ≡ is_present keyspaces.now.entries keyspace.now table.now }
-{
-    match keyspaces.get(keyspace) {
-        Some(keyspace) => keyspace.is_present(table),
-        None => false,
-    }
+/// The keyspaces of a topology by their names, 32 at most.
+#[derive(Drop)]
+pub struct Keyspaces {
+    places: IndexMap<KeyspaceName, Keyspace>,
 }
 
-/// Whether a keyspace's primary is to refuse a table.
-pub fn is_denied(keyspaces: &Keyspaces, keyspace: &KeyspaceName, table: &TableName) -> bool
-    ensures { result ≡ is_denied keyspaces.now.entries keyspace.now table.now }
-{
-    match keyspaces.get(keyspace) {
-        Some(keyspace) => keyspace.is_denied(table),
-        None => false,
-    }
+impl Model for Keyspaces {
+    ghost use Rattle.mt_model.specs.Topology as model;
+    ghost use Rattle.mt_keyspace.specs.Keyspaces.{AreKeyspaces};
+
+    ghost Value = { model.Keyspaces };
+
+    ghost view = { λ keyspaces. keyspaces.places.entries };
+
+    ghost invariant = { λ keyspaces. AreKeyspaces keyspaces.places.entries };
 }
 
-/// Whether a denial of a table has a place in a keyspace.
-pub fn has_denied_place(keyspaces: &Keyspaces, keyspace: &KeyspaceName, table: &TableName) -> bool
-    ensures { result ≡ option_map_or (λ state. is_some (lookup (same_text table.now) state.denied)) (keyspace_at keyspaces.now.entries keyspace.now) false }
-{
-    match keyspaces.get(keyspace) {
-        Some(keyspace) => keyspace.has_denied_place(table),
-        None => false,
-    }
-}
-
-/// Whether a table has a place in a keyspace.
-pub fn has_place(keyspaces: &Keyspaces, keyspace: &KeyspaceName, table: &TableName) -> bool
-    ensures { result ≡ option_map_or (λ state. is_some (lookup (same_text table.now) state.tables)) (keyspace_at keyspaces.now.entries keyspace.now) false }
-{
-    match keyspaces.get(keyspace) {
-        Some(keyspace) => keyspace.has_place(table),
-        None => false,
-    }
-}
-
-/// Says of a table that has a place whether it is there, and answers what was said before. It takes no memory.
-pub fn set_present(
-    keyspaces: &mut Keyspaces,
-    keyspace: &KeyspaceName,
-    table: &TableName,
-    mark: bool,
-) -> bool
-    requires { option_map_or (λ state. is_some (lookup (same_text table.now) state.tables)) (keyspace_at keyspaces.old.entries keyspace.now) false ≡ true }
-    ensures before { result ≡ is_present keyspaces.old.entries keyspace.now table.now }
-    ensures after { keyspaces.new.entries ≡ with_keyspace_state (with_table_mark table.now mark) keyspaces.old.entries keyspace.now }
-    ensures len { length keyspaces.new.entries ≡ length keyspaces.old.entries }
-{
-    match keyspaces.get_mut(keyspace) {
-        Some(keyspace) => keyspace.set_present(table, mark),
-        None => false,
-    }
-}
-
-/// Says of a table whose denial has a place whether it is denied, and answers what was said before. It takes no memory.
-pub fn set_denied(
-    keyspaces: &mut Keyspaces,
-    keyspace: &KeyspaceName,
-    table: &TableName,
-    mark: bool,
-) -> bool
-    requires { option_map_or (λ state. is_some (lookup (same_text table.now) state.denied)) (keyspace_at keyspaces.old.entries keyspace.now) false ≡ true }
-    ensures before { result ≡ is_denied keyspaces.old.entries keyspace.now table.now }
-    ensures after { keyspaces.new.entries ≡ with_keyspace_state (with_denied_mark table.now mark) keyspaces.old.entries keyspace.now }
-    ensures len { length keyspaces.new.entries ≡ length keyspaces.old.entries }
-{
-    match keyspaces.get_mut(keyspace) {
-        Some(keyspace) => keyspace.set_denied(table, mark),
-        None => false,
-    }
-}
-
-/// The table of the one keyspace that has it.
-pub fn sole_holder(keyspaces: &Keyspaces, table: &TableName) -> Result<RuleTarget, TopologyFault>
-    ensures { result ≡ sole_holder (holders keyspaces.now.entries table.now) table.now }
-{
-    let mut holder = None;
-    for (name, keyspace) in keyspaces.iter() {
-        if keyspace.is_present(table) {
-            if holder.is_some() {
-                return Err(TopologyFault::Ambiguous);
-            }
-            holder = Some(name);
+impl Keyspaces {
+    /// No keyspace.
+    pub fn new(alloc: Global) -> Self
+        ensures { result ≡ [] }
+    {
+        Keyspaces {
+            places: IndexMap::new(alloc),
         }
     }
-    match holder {
-        None => Err(TopologyFault::NoTable),
-        Some(keyspace) => Ok(RuleTarget {
-            keyspace: keyspace.copied(),
-            table: table.copied(),
-        }),
-    }
-}
 
-/// Adds a keyspace without tables.
-pub fn add_keyspace(
-    keyspaces: &mut Keyspaces,
-    alloc: Global,
-    name: &KeyspaceName,
-) -> Result<(), TopologyFault>
-    ensures { Edits keyspaces.old.entries (add_keyspace_refusal keyspaces.old.entries name.now) true
-        (keyspaces.old.entries ++ (name.now, record { tables = []; denied = [] }) ∷ []) result keyspaces.new.entries }
-{
-    if keyspaces.contains_key(name) {
-        return Err(TopologyFault::Exists);
+    /// These keyspaces.
+    pub(crate) fn from_places(places: IndexMap<KeyspaceName, Keyspace>) -> Self
+        requires { AreKeyspaces places.entries }
+        ensures { result ≡ places.entries }
+    {
+        Keyspaces { places }
     }
-    if keyspaces.len() == MAX_KEYSPACES {
-        return Err(TopologyFault::Full);
-    }
-    match keyspaces.insert(name.copied(), Keyspace::new(alloc)) {
-        Ok(_) => Ok(()),
-        Err(_) => Err(TopologyFault::Memory),
-    }
-}
 
-/// Adds a table to a keyspace.
-pub fn add_table(
-    keyspaces: &mut Keyspaces,
-    keyspace: &KeyspaceName,
-    table: &TableName,
-) -> Result<(), TopologyFault>
-    ensures edits { Edits keyspaces.old.entries (add_table_refusal keyspaces.old.entries keyspace.now table.now) (add_table_grows keyspaces.old.entries keyspace.now table.now)
-        (with_keyspace_state (with_new_table table.now) keyspaces.old.entries keyspace.now) result keyspaces.new.entries }
-    ensures len { length keyspaces.new.entries ≡ length keyspaces.old.entries }
-{
-    match keyspaces.get_mut(keyspace) {
-        Some(keyspace) => keyspace.add_table(table),
-        None => Err(TopologyFault::NoKeyspace),
+    /// What is true of all keyspaces, for a caller's proof: no name has two places, neither a keyspace's nor a table's nor a
+    /// denial's, and there are at most 32 keyspaces. It does nothing.
+    pub fn facts(&self)
+        ensures { AreKeyspaces self.now }
+    {
+        let _places = &self.places;
     }
-}
 
-/// Makes a place for a table in a keyspace. Where the table has one nothing changes. `T1 NoKeyspace`, `T5 Full` at a 257th
-/// place of the keyspace, `T0 Memory`; each leaves all as it was.
-pub fn reserve_table(
-    keyspaces: &mut Keyspaces,
-    keyspace: &KeyspaceName,
-    table: &TableName,
-) -> Result<(), TopologyFault>
-    ensures edits { Edits keyspaces.old.entries (table_place_refusal keyspaces.old.entries keyspace.now table.now) (table_place_grows keyspaces.old.entries keyspace.now table.now)
-        (with_keyspace_state (with_table_place table.now) keyspaces.old.entries keyspace.now) result keyspaces.new.entries }
-    ensures len { length keyspaces.new.entries ≡ length keyspaces.old.entries }
-{
-    match keyspaces.get_mut(keyspace) {
-        Some(keyspace) => keyspace.reserve_table(table),
-        None => Err(TopologyFault::NoKeyspace),
+    /// The keyspace of a name. It takes no memory.
+    pub fn get(&self, name: &KeyspaceName) -> Option<&Keyspace>
+        ensures { option_copied result ≡ keyspace_at self.now name.now }
+    {
+        self.places.get(name)
     }
-}
 
-/// Makes a place for the denial of a table in a keyspace. Where the denial has one nothing changes. `T1 NoKeyspace`,
-/// `T5 Full` at a 257th place of the keyspace, `T0 Memory`; each leaves all as it was.
-pub fn reserve_denial(
-    keyspaces: &mut Keyspaces,
-    keyspace: &KeyspaceName,
-    table: &TableName,
-) -> Result<(), TopologyFault>
-    ensures edits { Edits keyspaces.old.entries (denied_place_refusal keyspaces.old.entries keyspace.now table.now) (denied_place_grows keyspaces.old.entries keyspace.now table.now)
-        (with_keyspace_state (with_denied_place table.now) keyspaces.old.entries keyspace.now) result keyspaces.new.entries }
-    ensures len { length keyspaces.new.entries ≡ length keyspaces.old.entries }
-{
-    match keyspaces.get_mut(keyspace) {
-        Some(keyspace) => keyspace.reserve_denial(table),
-        None => Err(TopologyFault::NoKeyspace),
+    /// Whether a keyspace has a table.
+    pub fn is_present(&self, keyspace: &KeyspaceName, table: &TableName) -> bool
+        ensures { result ≡ is_present self.now keyspace.now table.now }
+    {
+        match self.places.get(keyspace) {
+            Some(keyspace) => keyspace.is_present(table),
+            None => false,
+        }
     }
-}
 
-/// Drops the place of a table that isn't there.
-pub fn release_table(keyspaces: &mut Keyspaces, keyspace: &KeyspaceName, table: &TableName)
-    ensures places { keyspaces.new.entries ≡ with_keyspace_state (without_table_place table.now) keyspaces.old.entries keyspace.now }
-    ensures len { length keyspaces.new.entries ≡ length keyspaces.old.entries }
-{
-    if let Some(keyspace) = keyspaces.get_mut(keyspace) {
+    /// Whether a keyspace's primary is to refuse a table.
+    pub fn is_denied(&self, keyspace: &KeyspaceName, table: &TableName) -> bool
+        ensures { result ≡ is_denied self.now keyspace.now table.now }
+    {
+        match self.places.get(keyspace) {
+            Some(keyspace) => keyspace.is_denied(table),
+            None => false,
+        }
+    }
+
+    /// Whether a denial of a table has a place in a keyspace.
+    pub fn has_denied_place(&self, keyspace: &KeyspaceName, table: &TableName) -> bool
+        ensures { result ≡ option_map_or (λ state. is_some (lookup (same_text table.now) state.denied)) (keyspace_at self.now keyspace.now) false }
+    {
+        match self.places.get(keyspace) {
+            Some(keyspace) => keyspace.has_denied_place(table),
+            None => false,
+        }
+    }
+
+    /// Whether a table has a place in a keyspace.
+    pub fn has_place(&self, keyspace: &KeyspaceName, table: &TableName) -> bool
+        ensures { result ≡ option_map_or (λ state. is_some (lookup (same_text table.now) state.tables)) (keyspace_at self.now keyspace.now) false }
+    {
+        match self.places.get(keyspace) {
+            Some(keyspace) => keyspace.has_place(table),
+            None => false,
+        }
+    }
+
+    /// Says of a table that has a place whether it is there, and answers what was said before. It takes no memory.
+    pub fn set_present(&mut self, keyspace: &KeyspaceName, table: &TableName, mark: bool) -> bool
+        requires { option_map_or (λ state. is_some (lookup (same_text table.now) state.tables)) (keyspace_at self.old keyspace.now) false ≡ true }
+        ensures before { result ≡ is_present self.old keyspace.now table.now }
+        ensures after { self.new ≡ with_keyspace_state (with_table_mark table.now mark) self.old keyspace.now }
+    {
+        let Some(keyspace) = self.places.get_mut(keyspace) else {
+            return false;
+        };
+        keyspace.set_present(table, mark)
+    }
+
+    /// Says of a table whose denial has a place whether it is denied, and answers what was said before. It takes no memory.
+    pub fn set_denied(&mut self, keyspace: &KeyspaceName, table: &TableName, mark: bool) -> bool
+        requires { option_map_or (λ state. is_some (lookup (same_text table.now) state.denied)) (keyspace_at self.old keyspace.now) false ≡ true }
+        ensures before { result ≡ is_denied self.old keyspace.now table.now }
+        ensures after { self.new ≡ with_keyspace_state (with_denied_mark table.now mark) self.old keyspace.now }
+    {
+        let Some(keyspace) = self.places.get_mut(keyspace) else {
+            return false;
+        };
+        keyspace.set_denied(table, mark)
+    }
+
+    /// The table of the one keyspace that has it.
+    pub fn sole_holder(&self, table: &TableName) -> Result<RuleTarget, TopologyFault>
+        ensures { result ≡ sole_holder (holders self.now table.now) table.now }
+    {
+        let mut holder = None;
+        for (name, keyspace) in self.places.iter() {
+            if keyspace.is_present(table) {
+                if holder.is_some() {
+                    return Err(TopologyFault::Ambiguous);
+                }
+                holder = Some(name);
+            }
+        }
+        match holder {
+            None => Err(TopologyFault::NoTable),
+            Some(keyspace) => Ok(RuleTarget {
+                keyspace: keyspace.copied(),
+                table: table.copied(),
+            }),
+        }
+    }
+
+    /// Adds a keyspace without tables. `T4 Exists`, `T5 Full` at a 33rd, `T0 Memory`.
+    pub fn add_keyspace(&mut self, alloc: Global, name: &KeyspaceName) -> Result<(), TopologyFault>
+        ensures { Edits self.old (add_keyspace_refusal self.old name.now) true
+            (self.old ++ (name.now, record { tables = []; denied = [] }) ∷ []) result self.new }
+    {
+        if self.places.contains_key(name) {
+            return Err(TopologyFault::Exists);
+        }
+        if self.places.len() == MAX_KEYSPACES {
+            return Err(TopologyFault::Full);
+        }
+        let keyspace = Keyspace::new(alloc);
+        if self.places.insert(name.copied(), keyspace).is_err() {
+            return Err(TopologyFault::Memory);
+        }
+        Ok(())
+    }
+
+    /// Adds a table to a keyspace. `T1 NoKeyspace`, `T4 Exists`, `T5 Full` at a 257th place of the keyspace, `T0 Memory`.
+    pub fn add_table(
+        &mut self,
+        keyspace: &KeyspaceName,
+        table: &TableName,
+    ) -> Result<(), TopologyFault>
+        ensures { Edits self.old (add_table_refusal self.old keyspace.now table.now) (add_table_grows self.old keyspace.now table.now)
+            (with_keyspace_state (with_new_table table.now) self.old keyspace.now) result self.new }
+    {
+        let Some(keyspace) = self.places.get_mut(keyspace) else {
+            return Err(TopologyFault::NoKeyspace);
+        };
+        keyspace.add_table(table)
+    }
+
+    /// Makes a place for a table in a keyspace. Where the table has one nothing changes. `T1 NoKeyspace`, `T5 Full` at a 257th
+    /// place of the keyspace, `T0 Memory`; each leaves all as it was.
+    pub fn reserve_table(
+        &mut self,
+        keyspace: &KeyspaceName,
+        table: &TableName,
+    ) -> Result<(), TopologyFault>
+        ensures { Edits self.old (table_place_refusal self.old keyspace.now table.now) (table_place_grows self.old keyspace.now table.now)
+            (with_keyspace_state (with_table_place table.now) self.old keyspace.now) result self.new }
+    {
+        let Some(keyspace) = self.places.get_mut(keyspace) else {
+            return Err(TopologyFault::NoKeyspace);
+        };
+        keyspace.reserve_table(table)
+    }
+
+    /// Makes a place for the denial of a table in a keyspace. Where the denial has one nothing changes. `T1 NoKeyspace`,
+    /// `T5 Full` at a 257th place of the keyspace, `T0 Memory`; each leaves all as it was.
+    pub fn reserve_denial(
+        &mut self,
+        keyspace: &KeyspaceName,
+        table: &TableName,
+    ) -> Result<(), TopologyFault>
+        ensures { Edits self.old (denied_place_refusal self.old keyspace.now table.now) (denied_place_grows self.old keyspace.now table.now)
+            (with_keyspace_state (with_denied_place table.now) self.old keyspace.now) result self.new }
+    {
+        let Some(keyspace) = self.places.get_mut(keyspace) else {
+            return Err(TopologyFault::NoKeyspace);
+        };
+        keyspace.reserve_denial(table)
+    }
+
+    /// Drops the place of a table that isn't there.
+    pub fn release_table(&mut self, keyspace: &KeyspaceName, table: &TableName)
+        ensures { self.new ≡ with_keyspace_state (without_table_place table.now) self.old keyspace.now }
+    {
+        let Some(keyspace) = self.places.get_mut(keyspace) else {
+            return;
+        };
         keyspace.release_table(table);
     }
-}
 
-/// Drops the place of a denial that isn't there.
-pub fn release_denial(keyspaces: &mut Keyspaces, keyspace: &KeyspaceName, table: &TableName)
-    ensures places { keyspaces.new.entries ≡ with_keyspace_state (without_denied_place table.now) keyspaces.old.entries keyspace.now }
-    ensures len { length keyspaces.new.entries ≡ length keyspaces.old.entries }
-{
-    if let Some(keyspace) = keyspaces.get_mut(keyspace) {
+    /// Drops the place of a denial that isn't there.
+    pub fn release_denial(&mut self, keyspace: &KeyspaceName, table: &TableName)
+        ensures { self.new ≡ with_keyspace_state (without_denied_place table.now) self.old keyspace.now }
+    {
+        let Some(keyspace) = self.places.get_mut(keyspace) else {
+            return;
+        };
         keyspace.release_denial(table);
+    }
+
+    /// How many tables of all keyspaces are there. It takes no memory; it looks at each place.
+    pub fn route_len(&self) -> usize
+        ensures value { result ≡ length (flat_map table_routes self.now) }
+        ensures within { result ≤ most_keyspaces * most_tables_in_keyspace }
+    {
+        let mut count = 0;
+        for (_, keyspace) in self.places.iter() {
+            count += keyspace.table_count();
+        }
+        count
+    }
+
+    /// The entry of a table that is there, by its index among those of all keyspaces. It takes no memory; it looks at each
+    /// place before it.
+    pub fn route_entry(&self, index: usize) -> Option<Entry>
+        ensures { result ≡ slice_get (flat_map table_routes self.now) index }
+    {
+        let mut before = index;
+        for (name, keyspace) in self.places.iter() {
+            let count = keyspace.table_count();
+            if before < count {
+                return keyspace.table_entry(name, before);
+            }
+            before -= count;
+        }
+        None
+    }
+
+    /// The keyspaces with their tables, as the value of a list in the order of their names.
+    pub fn to_value(&self, alloc: Global) -> Result<Value, AllocError>
+        ensures value { IfOk result (λ list. view list ≡ array (items_of (map keyspace_value (keyspaces_in_order (record { rules = []; keyspaces = self.now }))))) }
+        ensures named { OnOk result (AllByRecursion IsNamedKeyspace (keyspaces_in_order (record { rules = []; keyspaces = self.now }))) }
+    {
+        let values = keyspaces_by_name(alloc, &self.places)?;
+        list_of_values(alloc, values)
+    }
+
+    /// The texts of all denials, as the value of a list in their order.
+    pub fn denials_to_value(&self, alloc: Global) -> Result<Value, AllocError>
+        ensures value { IfOk result (λ list. view list ≡ texts_value (denied_in_order (record { rules = []; keyspaces = self.now }))) }
+        ensures named { OnOk result (AllByRecursion IsDenialText (denied_in_order (record { rules = []; keyspaces = self.now }))) }
+    {
+        let values = denials_by_text(alloc, &self.places)?;
+        list_of_values(alloc, values)
     }
 }

@@ -1,14 +1,11 @@
 //! Reading the keyspaces of a dump.
-ghost use Rattle.std.specs.Prelude.{◌≡◌, ◌≤◌, ◌||◌, [], false, nat_lt, length, codes, option_map, option_and_then, Ok, Err, IfOk, IfErr, IfSome, OnOk};
+ghost use Rattle.std.specs.Prelude.{◌≡◌, ◌≤◌, ◌||◌, [], false, nat_lt, length, option_map, IfOk, IfErr, OnOk};
 ghost use Rattle.std.specs.List.{IsDistinct, list_any};
 ghost use Rattle.std.specs.Map.{keys_of};
-ghost use Rattle.std.specs.Option.{option_map_or};
 ghost use Rattle.indexmap.specs.IndexMap.{insert_entry};
-ghost use Rattle.serde_json.specs.Find.{as_number, get};
 ghost use Rattle.serde_json.specs.View.{view, items_view};
 ghost use Rattle.mt_names.specs.Names.{same_text};
 ghost use Rattle.mt_model.specs.Limits.{most_keyspaces};
-ghost use Rattle.mt_model.specs.Topology.{HasDistinctPlaces};
 ghost use Rattle.mt_keyspace.specs.Load.{IsUnlessMemory, answer_with, denials_of, has_too_many_tables, keyspaces_in, keyspaces_of, list_of, listed, name_of, or_bad_dump, state_of, table_of, tables_of, with_denial, with_denial_of, with_keyspace_of, with_new_keyspace, with_table_of};
 
 use crate::draft::Draft;
@@ -206,7 +203,7 @@ pub fn is_too_large(drafts: &Drafts) -> bool
 
 /// Puts a keyspace under its name.
 fn put_keyspace(
-    keyspaces: &mut Keyspaces,
+    keyspaces: &mut IndexMap<KeyspaceName, Keyspace>,
     name: KeyspaceName,
     keyspace: Keyspace,
 ) -> Result<(), TopologyFault>
@@ -219,13 +216,13 @@ fn put_keyspace(
     }
 }
 
-/// The keyspaces, none of which has too many tables.
+/// The keyspaces, of which there are not too many, none with too many tables. `T0 Memory`.
 pub fn settled(alloc: Global, drafts: Drafts) -> Result<Keyspaces, TopologyFault>
     requires distinct { IsDistinct same_text (keys_of drafts.entries) }
-    requires few { list_any has_too_many_tables drafts.entries ≡ false }
-    ensures value { IfOk result (λ keyspaces. keyspaces.entries ≡ drafts.entries) }
+    requires few { length drafts.entries ≤ most_keyspaces }
+    requires few_tables { list_any has_too_many_tables drafts.entries ≡ false }
+    ensures value { IfOk result (λ keyspaces. keyspaces ≡ drafts.entries) }
     ensures memory { IfErr result (λ fault. fault ≡ TopologyFault.Memory) }
-    ensures places { OnOk result (HasDistinctPlaces (record { rules = []; keyspaces = drafts.entries })) }
 {
     let mut keyspaces = IndexMap::new(alloc);
     'drafts: for (name, draft) in drafts.into_iter() {
@@ -233,5 +230,5 @@ pub fn settled(alloc: Global, drafts: Drafts) -> Result<Keyspaces, TopologyFault
         let keyspace = draft.settled(alloc)?;
         put_keyspace(&mut keyspaces, name, keyspace)?;
     }
-    Ok(keyspaces)
+    Ok(Keyspaces::from_places(keyspaces))
 }

@@ -1,11 +1,10 @@
-//! The routes of keyspaces: the tables that are there, counted, and found by their index. To count them or to find one
+//! The routes of a keyspace: the tables that are there, counted, and found by their index. To count them or to find one
 //! takes no memory; it looks at each place, or at each before it.
-ghost use Rattle.std.specs.Prelude.{◌≡◌, ◌≤◌, ◌*◌, length, [], flat_map, slice_get};
+ghost use Rattle.std.specs.Prelude.{◌≡◌, ◌≤◌, length, [], slice_get};
 ghost use Rattle.mt_model.specs.Documents.{marked};
-ghost use Rattle.mt_model.specs.Limits.{most_keyspaces, most_tables_in_keyspace};
+ghost use Rattle.mt_model.specs.Limits.{most_tables_in_keyspace};
 ghost use Rattle.mt_model.specs.Part.{table_routes};
 
-use crate::keyspaces::Keyspaces;
 use indexmap::IndexMap;
 use mt_model::Entry;
 use mt_names::{KeyspaceName, TableName};
@@ -41,34 +40,6 @@ pub(crate) fn table_entry(
             }
             before -= 1;
         }
-    }
-    None
-}
-
-/// How many tables of all keyspaces are there.
-pub fn route_len(keyspaces: &Keyspaces) -> usize
-    requires { length keyspaces.now.entries ≤ most_keyspaces }
-    ensures value { result ≡ length (flat_map table_routes keyspaces.now.entries) }
-    ensures within { result ≤ most_keyspaces * most_tables_in_keyspace }
-{
-    let mut count = 0;
-    for (_, keyspace) in keyspaces.iter() {
-        count += keyspace.table_count();
-    }
-    count
-}
-
-/// The entry of a table that is there, by its index among those of all keyspaces.
-pub fn route_entry(keyspaces: &Keyspaces, index: usize) -> Option<Entry>
-    ensures { result ≡ slice_get (flat_map table_routes keyspaces.now.entries) index }
-{
-    let mut before = index;
-    for (name, keyspace) in keyspaces.iter() {
-        let count = keyspace.table_count();
-        if before < count {
-            return keyspace.table_entry(name, before);
-        }
-        before -= count;
     }
     None
 }

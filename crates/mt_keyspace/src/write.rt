@@ -1,18 +1,15 @@
 //! Writing the keyspaces of a dump.
-ghost use Rattle.std.specs.Prelude.{◌≡◌, ◌++◌, [], List, ℕ, map, flat_map, IfOk, OnOk};
+ghost use Rattle.std.specs.Prelude.{◌≡◌, ◌++◌, [], List, ℕ, IfOk, OnOk};
 ghost use Rattle.std.specs.List.{AllByRecursion, IsDistinct};
 ghost use Rattle.std.specs.Map.{keys_of};
-ghost use Rattle.serde_json.specs.Data.{array, put, string};
-ghost use Rattle.serde_json.specs.View.{view, items_of, members_view};
+ghost use Rattle.serde_json.specs.Data.{put, string};
+ghost use Rattle.serde_json.specs.View.{view, members_view};
 ghost use Rattle.mt_names.specs.Names.{IsTableName, same_text};
-ghost use Rattle.mt_names.specs.Keys.{target_text};
-ghost use Rattle.mt_model.specs.Topology.{HasDistinctPlaces, Marks};
-ghost use Rattle.mt_keyspace.specs.Values.{Gathers, IsDenialText, IsNamedKeyspace, IsSortedList, Sorts, by_name, by_themselves, keyspace_value, texts_value};
-ghost use Rattle.mt_model.specs.Documents.{denied_text, denied_texts, keyspaces_in_order, marked, sorted_texts, tables_in_order};
+ghost use Rattle.mt_keyspace.specs.Values.{Gathers, IsDenialText, IsNamedKeyspace, IsSortedList, keyspace_value, texts_value};
+ghost use Rattle.mt_model.specs.Documents.{denied_text, denied_texts, keyspaces_in_order, marked, sorted_texts};
 ghost use Rattle.mt_keyspace.specs.Written.{denied_in_order};
 
 use crate::keyspace::Keyspace;
-use crate::keyspaces::Keyspaces;
 use indexmap::IndexMap;
 use mt_names::{KeyspaceName, RuleTarget, TableName};
 use mt_rules::list_of_values;
@@ -87,7 +84,10 @@ fn put_keyspace(
 }
 
 /// The keyspaces under their names.
-fn keyspaces_by_name(alloc: Global, keyspaces: &Keyspaces) -> Result<Map<String, Value>, AllocError>
+pub(crate) fn keyspaces_by_name(
+    alloc: Global,
+    keyspaces: &IndexMap<KeyspaceName, Keyspace>,
+) -> Result<Map<String, Value>, AllocError>
     requires { IsDistinct same_text (keys_of keyspaces.now.entries) }
     ensures { IfOk result (λ values. IsSortedList keyspace_value IsNamedKeyspace (members_view values.entries)
         (keyspaces_in_order (record { rules = []; keyspaces = keyspaces.now.entries }))) }
@@ -136,7 +136,10 @@ fn put_denials(
 }
 
 /// The texts of all denials, each under itself.
-fn denials_by_text(alloc: Global, keyspaces: &Keyspaces) -> Result<Map<String, Value>, AllocError>
+pub(crate) fn denials_by_text(
+    alloc: Global,
+    keyspaces: &IndexMap<KeyspaceName, Keyspace>,
+) -> Result<Map<String, Value>, AllocError>
     ensures { IfOk result (λ values. IsSortedList string IsDenialText (members_view values.entries)
         (denied_in_order (record { rules = []; keyspaces = keyspaces.now.entries }))) }
 {
@@ -145,23 +148,4 @@ fn denials_by_text(alloc: Global, keyspaces: &Keyspaces) -> Result<Map<String, V
         put_denials(alloc, &mut values, name, keyspace)?;
     }
     Ok(values)
-}
-
-/// The texts of all denials, in their order.
-pub fn value_of_denials(alloc: Global, keyspaces: &Keyspaces) -> Result<Value, AllocError>
-    ensures value { IfOk result (λ list. view list ≡ texts_value (denied_in_order (record { rules = []; keyspaces = keyspaces.now.entries }))) }
-    ensures named { OnOk result (AllByRecursion IsDenialText (denied_in_order (record { rules = []; keyspaces = keyspaces.now.entries }))) }
-{
-    let values = denials_by_text(alloc, keyspaces)?;
-    list_of_values(alloc, values)
-}
-
-/// The keyspaces with their tables, in the order of their names.
-pub fn value_of_keyspaces(alloc: Global, keyspaces: &Keyspaces) -> Result<Value, AllocError>
-    requires { IsDistinct same_text (keys_of keyspaces.now.entries) }
-    ensures value { IfOk result (λ list. view list ≡ array (items_of (map keyspace_value (keyspaces_in_order (record { rules = []; keyspaces = keyspaces.now.entries }))))) }
-    ensures named { OnOk result (AllByRecursion IsNamedKeyspace (keyspaces_in_order (record { rules = []; keyspaces = keyspaces.now.entries }))) }
-{
-    let values = keyspaces_by_name(alloc, keyspaces)?;
-    list_of_values(alloc, values)
 }

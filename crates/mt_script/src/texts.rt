@@ -7,17 +7,15 @@ ghost use Rattle.mt_script.specs.Requests.{line_refusal_text};
 
 use crate::lines::LineRefusal;
 use arrayvec::ArrayVec;
+use mt_io::LONGEST_LINE;
 use mt_model::{Refusal, Reply, TopologyFault};
 
-/// The longest line of an answer, in bytes: `row `, a value of 64 bytes, and the line feed.
-const MAX_TEXT: usize = 69;
-
 /// The text of a line of output, with its line feed.
-pub type LineText = ArrayVec<u8, MAX_TEXT>;
+pub type LineText = ArrayVec<u8, LONGEST_LINE>;
 
 /// A line of the two texts, one behind the other.
 fn line_of(first: &[u8], second: &[u8]) -> LineText
-    requires { length first.now + length second.now < MAX_TEXT }
+    requires { length first.now + length second.now < LONGEST_LINE }
     ensures { result.items ≡ first.now ++ second.now ++ line_feed }
 {
     let mut line = LineText::new();

@@ -1,7 +1,6 @@
 //! Places for tables and denials at keyspaces by direct calls.
 
-use indexmap::IndexMap;
-use mt_keyspace::{Keyspaces, add_keyspace, reserve_denial, reserve_table};
+use mt_keyspace::Keyspaces;
 use mt_model::TopologyFault;
 use mt_names::{KeyspaceName, NameFault, TableName};
 use std::alloc::Global;
@@ -32,15 +31,18 @@ fn answer(
 ) -> Result<&'static str, NameFault> {
     let (keyspace, table) = (KeyspaceName::parse(keyspace)?, TableName::parse(table)?);
     Ok(match call {
-        Call::Table => printed(reserve_table(keyspaces, &keyspace, &table)),
-        Call::Denial => printed(reserve_denial(keyspaces, &keyspace, &table)),
+        Call::Table => printed(keyspaces.reserve_table(&keyspace, &table)),
+        Call::Denial => printed(keyspaces.reserve_denial(&keyspace, &table)),
     })
 }
 
 /// The keyspace `k` with so many places for tables, and as many for denials.
 fn filled(alloc: Global, count: u32) -> Result<Keyspaces, Fail> {
-    let mut keyspaces = IndexMap::new(alloc);
-    if add_keyspace(&mut keyspaces, alloc, &KeyspaceName::parse("k")?).is_err() {
+    let mut keyspaces = Keyspaces::new(alloc);
+    if keyspaces
+        .add_keyspace(alloc, &KeyspaceName::parse("k")?)
+        .is_err()
+    {
         return Err(Fail::from("no keyspace"));
     }
     for number in 0..count {

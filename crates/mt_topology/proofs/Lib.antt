@@ -1,10 +1,10 @@
 pub mod BackLemmas
 pub mod DumpLemmas
 pub mod EditLemmas
-pub mod InvariantLemmas
 pub mod LoadLemmas
 pub mod OnceLemmas
 pub mod OrderLemmas
 pub mod ReserveLemmas
+pub mod RoomLemmas
 pub mod SaysLemmas
 pub mod WriteLemmas

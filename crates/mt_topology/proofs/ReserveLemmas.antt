@@ -110,10 +110,15 @@ pub part-more : (f : TopologyState → EntryKey → TopologyState) (t now new : 
 part-more f t now new source target tables i table keys inside is all before after =
     after ∙ ap (λ u. fold f u keys) before ∙ sym (fold-append f t (part_keys source target (take i tables)) keys) ∙ ap (fold f t) (sym (part_keys-more source target tables i table keys inside is all))
 
+pub part_keys-left : (source target : List ℕ) (tables : List (List ℕ)) (i : ℕ) (table : List ℕ) (keys : List EntryKey) → i < length tables → table ≡ slice_index_or tables i table → keys ≡ table_part_keys source target table
+    → part_keys source target (drop i tables) ≡ keys ++ part_keys source target (drop (i + 1) tables)
+part_keys-left source target tables i table keys inside is all =
+    ap (part_keys source target) (drop_more tables i table inside)
+    ∙ ap (λ u. table_part_keys source target u ++ part_keys source target (drop (i + 1) tables)) (sym is)
+    ∙ ap (λ k. k ++ part_keys source target (drop (i + 1) tables)) (sym all)
+
 pub lacks-left : (t : TopologyState) (source target : List ℕ) (tables : List (List ℕ)) (i : ℕ) (table : List ℕ) (keys : List EntryKey) → i < length tables → table ≡ slice_index_or tables i table → keys ≡ table_part_keys source target table
     → lacks_a_place t (part_keys source target (drop i tables)) ≡ (lacks_a_place t keys || lacks_a_place t (part_keys source target (drop (i + 1) tables)))
 lacks-left t source target tables i table keys inside is all =
-    ap (λ l. lacks_a_place t (part_keys source target l)) (drop_more tables i table inside)
-    ∙ ap (λ u. lacks_a_place t (table_part_keys source target u ++ part_keys source target (drop (i + 1) tables))) (sym is)
-    ∙ ap (λ k. lacks_a_place t (k ++ part_keys source target (drop (i + 1) tables))) (sym all)
+    ap (lacks_a_place t) (part_keys-left source target tables i table keys inside is all)
     ∙ list_any-append (λ key. not (has_place t key)) keys (part_keys source target (drop (i + 1) tables))

@@ -2,13 +2,12 @@
 use Rattle.std.specs.Prelude.{ℕ, ◌==◌, ◌||◌, nat_lt, Bool, false, if◌then◌else◌, List, length, codes, Option, None, Some, option_map, option_and_then, Result, Ok, Err}
 use Rattle.std.specs.List.{list_any}
 use Rattle.std.specs.Option.{option_map_or}
-use Rattle.indexmap.specs.IndexMap.{IndexMap}
 use Rattle.serde_json.specs.Data.{Data, Num, unsigned, negative, float}
 use Rattle.serde_json.specs.Find.{get, as_number}
 use Rattle.mt_model.specs.declared.faults.TopologyFault.{TopologyFault}
 use Rattle.mt_model.specs.declared.faults.TopologyFault.TheVariants.{Full, BadDump}
 use Rattle.mt_model.specs.Limits.{most_keyspaces, most_rules}
-use Rattle.mt_model.specs.Topology.{KeyspaceState, Rules, TopologyState}
+use Rattle.mt_model.specs.Topology.{Keyspaces, Rules, TopologyState}
 use Rattle.mt_rules.specs.Read.{value_of_text}
 use Rattle.mt_rules.specs.Member.{rules_in}
 use Rattle.mt_keyspace.specs.Load.{has_too_many_tables, keyspaces_in}
@@ -43,8 +42,8 @@ topology_of_text text = option_map_or within_limits (option_and_then whole_topol
 -- ---- what a reading step answers
 
 -- rules and keyspaces as one, or a fault
-abbrev pub joined : {S : Type 0} → Result (Rules × IndexMap (List ℕ) KeyspaceState S) TopologyFault → Result TopologyState TopologyFault
-joined (Ok parts) = Ok (record { rules = parts.0; keyspaces = parts.1.entries })
+abbrev pub joined : Result (Rules × Keyspaces) TopologyFault → Result TopologyState TopologyFault
+joined (Ok parts) = Ok (record { rules = parts.0; keyspaces = parts.1 })
 joined (Err fault) = Err fault
 
 -- rules, unless there are more than there may be

@@ -1,8 +1,8 @@
 -- When the part of a workflow is reserved: what its places lack, and when it is refused.
-use Rattle.std.specs.Prelude.{ℕ, ◌+◌, ◌&&◌, not, nat_lt, Bool, List, length, filter, if◌then◌else◌, Option, None, Some, is_some}
+use Rattle.std.specs.Prelude.{ℕ, ◌+◌, ◌&&◌, not, nat_lt, Bool, List, [], ◌∷◌, length, filter, if◌then◌else◌, Option, None, Some, is_some}
 use Rattle.std.specs.List.{flat_map, list_any}
 use Rattle.std.specs.Map.{lookup}
-use Rattle.std.specs.Option.{option_map_or}
+use Rattle.std.specs.Option.{option_map_or, option_or}
 use Rattle.mt_names.specs.declared.keys.RuleKey.{RuleKey}
 use Rattle.mt_names.specs.Same.{same_key}
 use Rattle.mt_model.specs.declared.entries.EntryKey.{EntryKey}
@@ -10,7 +10,7 @@ use Rattle.mt_model.specs.declared.entries.EntryKey.TheVariants as about
 use Rattle.mt_model.specs.declared.faults.TopologyFault.{TopologyFault}
 use Rattle.mt_model.specs.declared.faults.TopologyFault.TheVariants.{NoKeyspace, Full}
 use Rattle.mt_model.specs.Limits.{most_rules}
-use Rattle.mt_model.specs.Part.{table_rule_keys}
+use Rattle.mt_model.specs.Part.{table_rule_keys, with_place}
 use Rattle.mt_model.specs.Topology.{TopologyState, KeyspaceState, Rules, has_place, keyspace_at}
 use Rattle.mt_keyspace.specs.Edits.{denied_place_grows, denied_place_refusal, table_place_grows, table_place_refusal}
 use Rattle.mt_keyspace.specs.Room.{has_mark_room}
@@ -51,3 +51,8 @@ abbrev pub place_grows : TopologyState → EntryKey → Bool
 place_grows t (about.Rule key) = lacks_rule_place t.rules key
 place_grows t (about.Denied keyspace table) = denied_place_grows t.keyspaces keyspace table
 place_grows t (about.Present keyspace table) = table_place_grows t.keyspaces keyspace table
+
+-- why the first of some keys that gets no place doesn't, each place made before the next (this profile's own)
+abbrev pub places_refusal : TopologyState → List EntryKey → Option TopologyFault
+places_refusal t [] = None
+places_refusal t (key ∷ keys) = option_or (place_refusal t key) (places_refusal (with_place t key) keys)

@@ -1,18 +1,10 @@
 //! Reading a dump.
-ghost use Rattle.std.specs.Prelude.{◌≡◌, ◌≤◌, ◌||◌, [], false, nat_lt, length, codes, option_map, option_and_then, Ok, Err, IfOk, IfErr, IfSome, OnOk};
-ghost use Rattle.std.specs.List.{IsDistinct, list_any};
-ghost use Rattle.std.specs.Map.{keys_of};
+ghost use Rattle.std.specs.Prelude.{◌≡◌, codes, option_map, option_and_then, Err};
 ghost use Rattle.std.specs.Option.{option_map_or};
-ghost use Rattle.indexmap.specs.IndexMap.{insert_entry};
 ghost use Rattle.serde_json.specs.Find.{as_number, get};
-ghost use Rattle.serde_json.specs.View.{view, items_view};
-ghost use Rattle.mt_names.specs.Names.{same_text};
-ghost use Rattle.mt_names.specs.Same.{same_key};
-ghost use Rattle.mt_model.specs.Limits.{most_keyspaces};
-ghost use Rattle.mt_model.specs.Topology.{HasDistinctPlaces};
-ghost use Rattle.mt_rules.specs.Read.{value_of_text};
+ghost use Rattle.serde_json.specs.View.{view};
 ghost use Rattle.mt_rules.specs.Member.{rules_in};
-ghost use Rattle.mt_keyspace.specs.Load.{IsUnlessMemory, answer_with, denials_of, has_too_many_tables, keyspaces_in, keyspaces_of, list_of, listed, name_of, or_bad_dump, state_of, table_of, tables_of, with_denial, with_denial_of, with_keyspace_of, with_new_keyspace, with_table_of};
+ghost use Rattle.mt_keyspace.specs.Load.{IsUnlessMemory, or_bad_dump};
 ghost use Rattle.mt_topology.specs.Dump.{is_one, joined, topology_of_text, unless_many, whole_topology, within_limits};
 
 use mt_keyspace::{Keyspaces, drafts_in, is_too_large, settled};
@@ -45,9 +37,7 @@ fn parts_of_value(
     alloc: Global,
     document: &Value,
 ) -> Result<(RoutingRules, Keyspaces), TopologyFault>
-    ensures answer { IsUnlessMemory (joined result) (option_map_or within_limits (whole_topology (view document.now)) (Err TopologyFault.BadDump)) }
-    ensures places { IfOk result (λ parts. HasDistinctPlaces (record { rules = parts.0; keyspaces = parts.1.entries })) }
-    ensures few { IfOk result (λ parts. length parts.1.entries ≤ most_keyspaces) }
+    ensures { IsUnlessMemory (joined result) (option_map_or within_limits (whole_topology (view document.now)) (Err TopologyFault.BadDump)) }
 {
     if !is_version_one(document) {
         return Err(TopologyFault::BadDump);
@@ -57,7 +47,6 @@ fn parts_of_value(
     let Some(rules) = rules else {
         return Err(TopologyFault::Full);
     };
-    rules.facts();
     if is_too_large(&drafts) {
         return Err(TopologyFault::Full);
     }
@@ -67,9 +56,7 @@ fn parts_of_value(
 
 /// The rules and the keyspaces that a text tells.
 pub fn parts_of_text(alloc: Global, text: &[u8]) -> Result<(RoutingRules, Keyspaces), TopologyFault>
-    ensures answer { IsUnlessMemory (joined result) (topology_of_text text.now) }
-    ensures places { IfOk result (λ parts. HasDistinctPlaces (record { rules = parts.0; keyspaces = parts.1.entries })) }
-    ensures few { IfOk result (λ parts. length parts.1.entries ≤ most_keyspaces) }
+    ensures { IsUnlessMemory (joined result) (topology_of_text text.now) }
 {
     match mt_rules::value_of_text(alloc, text) {
         Ok(document) => parts_of_value(alloc, &document),

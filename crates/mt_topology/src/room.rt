@@ -17,7 +17,7 @@ pub fn refusal(
     target: &KeyspaceName,
     tables: &[TableName],
 ) -> Option<TopologyFault>
-    ensures { result ≡ reserve_refusal (record { rules = rules.now; keyspaces = keyspaces.now.entries }) source.now target.now tables.now }
+    ensures { result ≡ reserve_refusal (record { rules = rules.now; keyspaces = keyspaces.now }) source.now target.now tables.now }
 {
     let Some(at_source) = keyspaces.get(source) else {
         return Some(TopologyFault::NoKeyspace);

@@ -1,9 +1,9 @@
 //! The topology as one value.
-ghost use Rattle.std.specs.Prelude.{◌≡◌, ◌<◌, ◌≤◌, true, All, Some, IsTrue, IfOk, IfErr, length, reverse, slice_get, string_bytes};
+ghost use Rattle.std.specs.Prelude.{◌≡◌, ◌<◌, ◌≤◌, true, All, None, Some, IfOk, IfErr, OnOk, length, reverse, slice_get, string_bytes};
 ghost use Rattle.mt_model.specs.Limits.{most_keyspaces};
 ghost use Rattle.mt_model.specs.Topology.{HasDistinctPlaces, empty_topology, has_place, key_of, resolution, routes_of, value_of, with_entry, with_keyspace, with_keyspace_state, with_rule, with_table, without_table_place};
-ghost use Rattle.mt_model.specs.Part.{befores, part_keys, table_part_keys, with_entries, with_place, with_places, without_place, without_places};
-ghost use Rattle.mt_topology.specs.Part.{lacks_a_place, place_grows, place_refusal, reserve_refusal};
+ghost use Rattle.mt_model.specs.Part.{befores, part_keys, with_entries, with_place, with_places, without_place, without_places};
+ghost use Rattle.mt_topology.specs.Part.{lacks_a_place, place_grows, place_refusal, places_refusal, reserve_refusal};
 ghost use Rattle.mt_keyspace.specs.Load.{IsUnlessMemory};
 ghost use Rattle.mt_topology.specs.Dump.{topology_of_text};
 ghost use Rattle.mt_topology.specs.Says.{HasDeniedTables, Says};
@@ -13,12 +13,7 @@ ghost use Rattle.mt_topology.specs.Edits.{edit_rule_grows, edit_rule_refusal};
 
 use crate::rules::{put_rule, reserve_rule, rule_for, take_rule};
 use crate::{load, room, routes, write};
-use indexmap::IndexMap;
-use mt_keyspace::{
-    Keyspaces, add_keyspace, add_table, has_denied_place, has_place, is_denied, is_present,
-    release_denial, release_table, reserve_denial, reserve_table, set_denied, set_present,
-    sole_holder,
-};
+use mt_keyspace::Keyspaces;
 use mt_model::{Entry, EntryKey, TopologyFault, table_part_keys};
 use mt_names::{KeyspaceName, RuleKey, RuleTarget, TableName, TabletType};
 use mt_rules::RoutingRules;
@@ -35,15 +30,11 @@ pub struct Topology {
 }
 
 impl Model for Topology {
-    ghost use Rattle.std.specs.Prelude.{◌≤◌, length};
-    ghost use Rattle.mt_model.specs.Limits.{most_keyspaces};
-    ghost use Rattle.mt_model.specs.Topology.{TopologyState, HasDistinctPlaces};
+    ghost use Rattle.mt_model.specs.Topology.{TopologyState};
 
     ghost Value = { TopologyState };
 
-    ghost view = { λ topology. record { rules = topology.rules; keyspaces = topology.keyspaces.entries } };
-
-    ghost invariant = { λ topology. HasDistinctPlaces (record { rules = topology.rules; keyspaces = topology.keyspaces.entries }) × (length topology.keyspaces.entries ≤ most_keyspaces) };
+    ghost view = { λ topology. record { rules = topology.rules; keyspaces = topology.keyspaces } };
 }
 
 impl Topology {
@@ -54,7 +45,7 @@ impl Topology {
         Topology {
             alloc,
             rules: RoutingRules::new(alloc),
-            keyspaces: IndexMap::new(alloc),
+            keyspaces: Keyspaces::new(alloc),
         }
     }
 
@@ -104,7 +95,8 @@ impl Topology {
         ensures distinct { HasDistinctPlaces self.now }
         ensures few { length self.now.keyspaces ≤ most_keyspaces }
     {
-        let _keyspaces = &self.keyspaces;
+        self.rules.facts();
+        self.keyspaces.facts();
     }
 
     /// How many routes there are: the rules that stand, and the tables that are there. A denial is none, nor is a place
@@ -136,12 +128,12 @@ impl Topology {
             EntryKey::Denied(keyspace, table) => Entry::Denied(
                 keyspace.copied(),
                 table.copied(),
-                is_denied(&self.keyspaces, keyspace, table),
+                self.keyspaces.is_denied(keyspace, table),
             ),
             EntryKey::Present(keyspace, table) => Entry::Present(
                 keyspace.copied(),
                 table.copied(),
-                is_present(&self.keyspaces, keyspace, table),
+                self.keyspaces.is_present(keyspace, table),
             ),
         }
     }
@@ -152,8 +144,8 @@ impl Topology {
     {
         match key {
             EntryKey::Rule(key) => self.rules.has_place(key),
-            EntryKey::Denied(keyspace, table) => has_denied_place(&self.keyspaces, keyspace, table),
-            EntryKey::Present(keyspace, table) => has_place(&self.keyspaces, keyspace, table),
+            EntryKey::Denied(keyspace, table) => self.keyspaces.has_denied_place(keyspace, table),
+            EntryKey::Present(keyspace, table) => self.keyspaces.has_place(keyspace, table),
         }
     }
 
@@ -169,11 +161,11 @@ impl Topology {
                 Entry::Rule(key, before)
             }
             Entry::Denied(keyspace, table, mark) => {
-                let before = set_denied(&mut self.keyspaces, &keyspace, &table, mark);
+                let before = self.keyspaces.set_denied(&keyspace, &table, mark);
                 Entry::Denied(keyspace, table, before)
             }
             Entry::Present(keyspace, table, mark) => {
-                let before = set_present(&mut self.keyspaces, &keyspace, &table, mark);
+                let before = self.keyspaces.set_present(&keyspace, &table, mark);
                 Entry::Present(keyspace, table, before)
             }
         }
@@ -219,7 +211,7 @@ impl Topology {
                 keyspace: keyspace.copied(),
                 table: key.table.copied(),
             }),
-            None => sole_holder(&self.keyspaces, &key.table),
+            None => self.keyspaces.sole_holder(&key.table),
         }
     }
 
@@ -227,7 +219,7 @@ impl Topology {
     pub fn add_keyspace(&mut self, name: &KeyspaceName) -> Result<(), TopologyFault>
         ensures { Edits self.old (add_keyspace_refusal self.old.keyspaces name.now) true (with_keyspace self.old name.now) result self.new }
     {
-        add_keyspace(&mut self.keyspaces, self.alloc, name)
+        self.keyspaces.add_keyspace(self.alloc, name)
     }
 
     /// Adds a table to a keyspace. `T1 NoKeyspace`, `T4 Exists`, `T5 Full` at a 257th place of the keyspace, `T0 Memory`.
@@ -239,14 +231,14 @@ impl Topology {
         ensures { Edits self.old (add_table_refusal self.old.keyspaces keyspace.now table.now) (add_table_grows self.old.keyspaces keyspace.now table.now)
             (with_table self.old keyspace.now table.now) result self.new }
     {
-        add_table(&mut self.keyspaces, keyspace, table)
+        self.keyspaces.add_table(keyspace, table)
     }
 
     /// Drops the place of a table that isn't there. Where the table is there nothing changes. It takes no memory.
     pub fn release_table(&mut self, keyspace: &KeyspaceName, table: &TableName)
         ensures { self.new ≡ record self.old { keyspaces = with_keyspace_state (without_table_place table.now) self.old.keyspaces keyspace.now } }
     {
-        release_table(&mut self.keyspaces, keyspace, table);
+        self.keyspaces.release_table(keyspace, table);
     }
 
     /// Sets the rule of a key, or takes it away with its place. `T5 Full` at a 4,097th place, `T0 Memory`. To change a
@@ -291,13 +283,12 @@ impl Topology {
         if !self.lacks_a_place(source, target, tables) {
             return Ok(());
         }
-        // There is room, so a place that can't be made is out of memory.
         let mut made = Vec::new(self.alloc);
-        if self.make_part(source, target, tables, &mut made) {
-            return Ok(());
+        let answer = self.make_part(source, target, tables, &mut made);
+        if answer.is_err() {
+            self.take_back(&made);
         }
-        self.take_back(&made);
-        Err(TopologyFault::Memory)
+        answer
     }
 
     /// Drops the places of a workflow's part that hold no rule, no denial and no table. No value is changed. It takes no
@@ -344,54 +335,60 @@ impl Topology {
         false
     }
 
-    /// Makes the places of a part, and notes those that it made; it stops at one that can't be made.
+    /// Makes the places of a part, for which there is room, and notes those that it made. It stops at `T0 Memory`.
     fn make_part(
         &mut self,
         source: &KeyspaceName,
         target: &KeyspaceName,
         tables: &[TableName],
         made: &mut Vec<EntryKey>,
-    ) -> bool
-        ensures all { IsTrue result → self.new ≡ with_places self.old (part_keys source.now target.now tables.now) }
+    ) -> Result<(), TopologyFault>
+        requires { places_refusal self.old (part_keys source.now target.now tables.now) ≡ None }
+        ensures all { OnOk result (self.new ≡ with_places self.old (part_keys source.now target.now tables.now)) }
+        ensures memory { IfErr result (λ fault. fault ≡ TopologyFault.Memory) }
         ensures back { without_places self.new (reverse made.new.items) ≡ without_places self.old (reverse made.old.items) }
     {
         for table in tables {
-            if !self.make_places(&table_part_keys(source, target, table), made) {
-                return false;
-            }
+            self.make_places(&table_part_keys(source, target, table), made)?;
         }
-        true
+        Ok(())
     }
 
-    /// Makes the places of some keys, and notes those that it made; it stops at one that can't be made.
-    fn make_places(&mut self, keys: &[EntryKey], made: &mut Vec<EntryKey>) -> bool
-        ensures all { IsTrue result → self.new ≡ with_places self.old keys.now }
+    /// Makes the places of some keys, for which there is room, and notes those that it made. It stops at `T0 Memory`.
+    fn make_places(
+        &mut self,
+        keys: &[EntryKey],
+        made: &mut Vec<EntryKey>,
+    ) -> Result<(), TopologyFault>
+        requires { places_refusal self.old keys.now ≡ None }
+        ensures all { OnOk result (self.new ≡ with_places self.old keys.now) }
+        ensures memory { IfErr result (λ fault. fault ≡ TopologyFault.Memory) }
         ensures back { without_places self.new (reverse made.new.items) ≡ without_places self.old (reverse made.old.items) }
     {
         for key in keys {
-            if !self.make_noted(key, made) {
-                return false;
-            }
+            self.make_noted(key, made)?;
         }
-        true
+        Ok(())
     }
 
-    /// Makes the place of a key that lacks it, and notes the key.
-    fn make_noted(&mut self, key: &EntryKey, made: &mut Vec<EntryKey>) -> bool
-        ensures all { IsTrue result → self.new ≡ with_place self.old key.now }
+    /// Makes the place of a key that lacks it, for which there is room, and notes the key. `T0 Memory`.
+    fn make_noted(&mut self, key: &EntryKey, made: &mut Vec<EntryKey>) -> Result<(), TopologyFault>
+        requires { place_refusal self.old key.now ≡ None }
+        ensures all { OnOk result (self.new ≡ with_place self.old key.now) }
+        ensures memory { IfErr result (λ fault. fault ≡ TopologyFault.Memory) }
         ensures back { without_places self.new (reverse made.new.items) ≡ without_places self.old (reverse made.old.items) }
     {
         if self.has_place(key) {
-            return true;
+            return Ok(());
         }
         if made.push(key.copied()).is_err() {
-            return false;
+            return Err(TopologyFault::Memory);
         }
         match self.make_place(key) {
-            Ok(()) => true,
-            Err(_) => {
+            Ok(()) => Ok(()),
+            Err(fault) => {
                 made.pop();
-                false
+                Err(fault)
             }
         }
     }
@@ -402,12 +399,8 @@ impl Topology {
     {
         match key {
             EntryKey::Rule(key) => reserve_rule(&mut self.rules, key),
-            EntryKey::Denied(keyspace, table) => {
-                reserve_denial(&mut self.keyspaces, keyspace, table)
-            }
-            EntryKey::Present(keyspace, table) => {
-                reserve_table(&mut self.keyspaces, keyspace, table)
-            }
+            EntryKey::Denied(keyspace, table) => self.keyspaces.reserve_denial(keyspace, table),
+            EntryKey::Present(keyspace, table) => self.keyspaces.reserve_table(keyspace, table),
         }
     }
 
@@ -436,10 +429,10 @@ impl Topology {
         match key {
             EntryKey::Rule(key) => self.rules.release_key(key),
             EntryKey::Denied(keyspace, table) => {
-                release_denial(&mut self.keyspaces, keyspace, table);
+                self.keyspaces.release_denial(keyspace, table);
             }
             EntryKey::Present(keyspace, table) => {
-                release_table(&mut self.keyspaces, keyspace, table);
+                self.keyspaces.release_table(keyspace, table);
             }
         }
     }

@@ -1,21 +1,13 @@
 //! Writing a dump.
-ghost use Rattle.std.specs.Prelude.{◌≤◌, length, ◌≡◌, ◌++◌, [], List, ℕ, map, flat_map, IfOk, OnOk, string_bytes};
-ghost use Rattle.std.specs.List.{AllByRecursion, IsDistinct};
-ghost use Rattle.std.specs.Map.{keys_of};
-ghost use Rattle.serde_json.specs.Data.{array, put, string};
-ghost use Rattle.serde_json.specs.View.{view, items_of, members_view};
-ghost use Rattle.mt_names.specs.Names.{IsTableName, same_text};
-ghost use Rattle.mt_names.specs.Keys.{target_text};
-ghost use Rattle.mt_model.specs.Limits.{most_keyspaces, most_rules};
-ghost use Rattle.mt_model.specs.Topology.{HasDistinctPlaces, Marks};
+ghost use Rattle.std.specs.Prelude.{◌≤◌, length, ◌≡◌, IfOk, OnOk, string_bytes};
+ghost use Rattle.serde_json.specs.View.{view};
+ghost use Rattle.mt_model.specs.Limits.{most_rules};
 ghost use Rattle.mt_rules.specs.Values.{IsWellSorted, rules_value};
-ghost use Rattle.mt_keyspace.specs.Values.{Gathers, IsDenialText, IsNamedKeyspace, IsSortedList, Sorts, by_name, by_themselves, keyspace_value, texts_value};
 ghost use Rattle.mt_topology.specs.Says.{HasDeniedTables, Says};
 ghost use Rattle.mt_topology.specs.Values.{IsNamedTopology, dump_value, parts_value};
-ghost use Rattle.mt_model.specs.Documents.{denied_text, denied_texts, dump_text, keyspaces_in_order, marked, sorted_texts, tables_in_order};
-ghost use Rattle.mt_keyspace.specs.Written.{denied_in_order};
+ghost use Rattle.mt_model.specs.Documents.{dump_text};
 
-use mt_keyspace::{Keyspaces, value_of_denials, value_of_keyspaces};
+use mt_keyspace::Keyspaces;
 use mt_rules::RoutingRules;
 use serde_json::{Value, json};
 use std::alloc::{AllocError, Global};
@@ -51,12 +43,11 @@ fn value_of_parts(
     rules: &RoutingRules,
     keyspaces: &Keyspaces,
 ) -> Result<Value, AllocError>
-    requires { IsDistinct same_text (keys_of keyspaces.now.entries) }
-    ensures value { IfOk result (λ document. view document ≡ dump_value (record { rules = rules.now; keyspaces = keyspaces.now.entries })) }
-    ensures named { OnOk result (IsNamedTopology (record { rules = rules.now; keyspaces = keyspaces.now.entries })) }
+    ensures value { IfOk result (λ document. view document ≡ dump_value (record { rules = rules.now; keyspaces = keyspaces.now })) }
+    ensures named { OnOk result (IsNamedTopology (record { rules = rules.now; keyspaces = keyspaces.now })) }
 {
-    let denied = value_of_denials(alloc, keyspaces)?;
-    let listed = value_of_keyspaces(alloc, keyspaces)?;
+    let denied = keyspaces.denials_to_value(alloc)?;
+    let listed = keyspaces.to_value(alloc)?;
     let ruled = value_of_rules(alloc, rules)?;
     document_of(alloc, denied, listed, ruled)
 }
@@ -67,12 +58,12 @@ pub fn text_of_parts(
     rules: &RoutingRules,
     keyspaces: &Keyspaces,
 ) -> Result<String, AllocError>
-    requires distinct { HasDistinctPlaces (record { rules = rules.now; keyspaces = keyspaces.now.entries }) }
-    requires few { length keyspaces.now.entries ≤ most_keyspaces }
-    ensures text { IfOk result (λ text. string_bytes text ≡ dump_text (record { rules = rules.now; keyspaces = keyspaces.now.entries })) }
-    ensures says { IfOk result (λ text. HasDeniedTables (record { rules = rules.now; keyspaces = keyspaces.now.entries })
-        → Says (string_bytes text) (record { rules = rules.now; keyspaces = keyspaces.now.entries })) }
+    ensures text { IfOk result (λ text. string_bytes text ≡ dump_text (record { rules = rules.now; keyspaces = keyspaces.now })) }
+    ensures says { IfOk result (λ text. HasDeniedTables (record { rules = rules.now; keyspaces = keyspaces.now })
+        → Says (string_bytes text) (record { rules = rules.now; keyspaces = keyspaces.now })) }
 {
+    rules.facts();
+    keyspaces.facts();
     let document = value_of_parts(alloc, rules, keyspaces)?;
     document.to_string(alloc)
 }

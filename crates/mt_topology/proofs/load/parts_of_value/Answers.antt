@@ -1,20 +1,15 @@
 -- The limits are looked at last.
-use Rattle.std.proofs.Common.{◌≡◌, [], inr, true, false, Ok, Some, ap, subst, sym, option_map, option_and_then, codes, ◌∙◌}
-use Rattle.std.specs.List.{IsDistinct}
-use Rattle.std.specs.Map.{keys_of}
+use Rattle.std.proofs.Common.{◌≡◌, inr, true, false, Ok, Some, ap, subst, sym, option_map, option_and_then, codes, ◌∙◌}
 use Rattle.serde_json.specs.Find.{as_number, get}
 use Rattle.serde_json.specs.View.{view}
-use Rattle.mt_names.specs.Same.{same_key}
-use Rattle.mt_model.specs.Topology.{HasDistinctPlaces, TopologyState}
-use Rattle.mt_model.proofs.DistinctLemmas.{distinct-rules}
 use Rattle.mt_rules.specs.Member.{rules_in}
 use Rattle.mt_keyspace.specs.Load.{IsUnlessMemory, or_bad_dump}
 use Rattle.mt_topology.specs.Dump.{is_one, unless_many}
 use Rattle.mt_topology.proofs.LoadLemmas.{limits_looked_at}
 use Rattle.mt_topology.proofs.load.parts_of_value.Goals as goal
 
-pub returns-then-is_too_large-clause-answer : goal.returns-then-is_too_large-clause-answer
-returns-then-is_too_large-clause-answer c =
+pub returns-then-is_too_large : goal.returns-then-is_too_large
+returns-then-is_too_large c =
     let d = view c.args.document.now in
     let one : is_one (option_and_then as_number (get (codes "version") d)) ≡ true = sym c.is_version_one.ensures ∙ c.if-not-is_version_one.false in
     let read : IsUnlessMemory (Ok (Some c.in-Some.rules)) (or_bad_dump (option_map unless_many (rules_in (get (codes "rules") d)))) =
@@ -22,8 +17,8 @@ returns-then-is_too_large-clause-answer c =
     (subst (λ o. IsUnlessMemory (Ok o) (or_bad_dump (option_map unless_many (rules_in (option_map (λ v. view v.now) c.get.result))))) c.in-Some.is c.in_ok-rules.ensures) in
     inr (limits_looked_at d c.in-Some.rules c.in_ok-drafts.drafts.entries one read c.in_ok-drafts.ensures.answer true (sym c.is_too_large.ensures ∙ c.if-is_too_large.true))
 
-pub returns-clause-answer : goal.returns-clause-answer
-returns-clause-answer c =
+pub returns : goal.returns
+returns c =
     let d = view c.args.document.now in
     let one : is_one (option_and_then as_number (get (codes "version") d)) ≡ true = sym c.is_version_one.ensures ∙ c.if-not-is_version_one.false in
     let read : IsUnlessMemory (Ok (Some c.in-Some.rules)) (or_bad_dump (option_map unless_many (rules_in (get (codes "rules") d)))) =
@@ -31,10 +26,3 @@ returns-clause-answer c =
     (subst (λ o. IsUnlessMemory (Ok o) (or_bad_dump (option_map unless_many (rules_in (option_map (λ v. view v.now) c.get.result))))) c.in-Some.is c.in_ok-rules.ensures) in
     inr (ap (λ keyspaces. Ok (record { rules = c.in-Some.rules; keyspaces = keyspaces })) c.in_ok-keyspaces.ensures.value
     ∙ limits_looked_at d c.in-Some.rules c.in_ok-drafts.drafts.entries one read c.in_ok-drafts.ensures.answer false (sym c.is_too_large.ensures ∙ c.if-is_too_large.false))
-
-pub returns-clause-places : goal.returns-clause-places
-returns-clause-places c =
-    let keyspaces = c.in_ok-drafts.drafts.entries in
-    let empty : TopologyState = record { rules = []; keyspaces = keyspaces } in
-    let distinct : IsDistinct same_key (keys_of c.in-Some.rules) = c.facts.ensures.distinct in
-    subst (λ ks. HasDistinctPlaces (record { rules = c.in-Some.rules; keyspaces = ks })) (sym c.in_ok-keyspaces.ensures.value) (distinct-rules empty c.in-Some.rules distinct c.in_ok-keyspaces.ensures.places)

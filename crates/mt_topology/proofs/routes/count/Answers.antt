@@ -5,5 +5,5 @@ use Rattle.mt_topology.proofs.routes.count.Goals as goal
 
 pub returns : goal.returns
 returns c =
-    let both = length-append (rule_routes c.args.rules.now) (flat_map table_routes c.args.keyspaces.now.entries) in
+    let both = length-append (rule_routes c.args.rules.now) (flat_map table_routes c.args.keyspaces.now) in
     omega (arith, both, c.rule_count.ensures.value, c.route_len.ensures.value)

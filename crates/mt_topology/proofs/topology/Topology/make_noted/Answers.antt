@@ -4,7 +4,7 @@ use Rattle.mt_topology.proofs.ReserveLemmas.{made_noted, with_place-there}
 use Rattle.mt_topology.proofs.topology.Topology.make_noted.Goals as goal
 
 pub returns-then-has_place-clause-all : goal.returns-then-has_place-clause-all
-returns-then-has_place-clause-all c = λ made. sym (with_place-there c.args.self.now c.args.key.now (sym c.has_place.ensures ∙ c.if-has_place.true))
+returns-then-has_place-clause-all c = sym (with_place-there c.args.self.now c.args.key.now (sym c.has_place.ensures ∙ c.if-has_place.true))
 
 pub returns-in-Ok-clause-back : goal.returns-in-Ok-clause-back
 returns-in-Ok-clause-back c =
