@@ -1,6 +1,7 @@
 pub mod AlikeLemmas
 pub mod CommandLemmas
 pub mod CoreLemmas
+pub mod CountedLemmas
 pub mod LimitLemmas
 pub mod MadeLemmas
 pub mod RefusalLemmas

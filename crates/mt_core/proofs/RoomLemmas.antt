@@ -104,13 +104,13 @@ kept-more f g (x ∷ xs) each = by (kept-more f g xs each) (f x) refl (g x) refl
 
 -- ---- the tables of a keyspace
 
-abbrev marked_names : Marks → List (List ℕ)
+abbrev pub marked_names : Marks → List (List ℕ)
 marked_names marks = map (λ (mark : List ℕ × Bool). mark.0) (filter (λ mark. mark.1) marks)
 
-abbrev names_in : Option KeyspaceState → List (List ℕ)
+abbrev pub names_in : Option KeyspaceState → List (List ℕ)
 names_in o = option_map_or (λ (s : KeyspaceState). marked_names s.tables) o []
 
-abbrev moved_to : List ℕ → Live → List (List ℕ)
+abbrev pub moved_to : List ℕ → Live → List (List ℕ)
 moved_to keyspace w = cond (same_text w.target keyspace) w.tables []
 
 -- those made there and those moved there
@@ -145,28 +145,32 @@ marked-named (m ∷ marks) name is = by (marked-named marks name) m.1 refl (same
     by again false mark true t = absurd (true≢false (sym (rw (t, mark) at is)))
     by again false mark false t = rw mark (again (rw t at is))
 
-among-named : (names : List (List ℕ)) (name : List ℕ) → list_any (same_text name) names ≡ among names name
+pub among-named : (names : List (List ℕ)) (name : List ℕ) → list_any (same_text name) names ≡ among names name
 among-named [] name = refl
 among-named (n ∷ ns) name = ap (λ t. t || list_any (same_text name) ns) (same_turned same_text same_text_decides name n) ∙ ap (λ t. same_text n name || t) (among-named ns name)
 
-moved-named : (keyspace name : List ℕ) (lives : List Live) → list_any (same_text name) (flat_map (moved_to keyspace) lives) ≡ list_any (λ w. moves w name && same_text w.target keyspace) lives
+-- the tables that a workflow moves to a keyspace
+pub moved_to-named : (keyspace name : List ℕ) (w : Live) → list_any (same_text name) (moved_to keyspace w) ≡ (moves w name && same_text w.target keyspace)
+moved_to-named keyspace name w = by (same_text w.target keyspace)
+  where
+    and_true : (b : Bool) → b ≡ (b && true)
+    and_true true = refl
+    and_true false = refl
+
+    and_false : (b : Bool) → false ≡ (b && false)
+    and_false true = refl
+    and_false false = refl
+
+    by : (t : Bool) → list_any (same_text name) (cond t w.tables []) ≡ (moves w name && t)
+    by true = among-named w.tables name ∙ and_true (moves w name)
+    by false = and_false (moves w name)
+
+pub moved-named : (keyspace name : List ℕ) (lives : List Live) → list_any (same_text name) (flat_map (moved_to keyspace) lives) ≡ list_any (λ w. moves w name && same_text w.target keyspace) lives
 moved-named keyspace name [] = refl
 moved-named keyspace name (w ∷ ws) =
     list_any-append (same_text name) (moved_to keyspace w) (flat_map (moved_to keyspace) ws)
-    ∙ ap (λ t. t || list_any (same_text name) (flat_map (moved_to keyspace) ws)) (by (same_text w.target keyspace))
+    ∙ ap (λ t. t || list_any (same_text name) (flat_map (moved_to keyspace) ws)) (moved_to-named keyspace name w)
     ∙ ap (λ t. (moves w name && same_text w.target keyspace) || t) (moved-named keyspace name ws)
-  where
-    by : (t : Bool) → list_any (same_text name) (cond t w.tables []) ≡ (moves w name && t)
-    by true = among-named w.tables name ∙ at (moves w name)
-      where
-        at : (b : Bool) → b ≡ (b && true)
-        at true = refl
-        at false = refl
-    by false = at (moves w name)
-      where
-        at : (b : Bool) → false ≡ (b && false)
-        at true = refl
-        at false = refl
 
 has-named : (p : Plain) (keyspace name : List ℕ) → has_table p keyspace name ≡ true → list_any (same_text name) (names_at p keyspace) ≡ true
 has-named p keyspace name has =
@@ -234,10 +238,10 @@ module _ (p : Plain) (t : TopologyState) (reached : IsReached p) (places : HasPl
           rw (any-in (λ v. moves v table && same_text v.target keyspace) p.lives w here.0 here.1) refl
 
 module _ (p : Plain) (t : TopologyState) (reached : IsReached p) (served : IsServed p t) (places : HasPlacesOf p t) (keyspace : List ℕ) (state : KeyspaceState) (found : keyspace_at t.keyspaces keyspace ≡ Some state) where
-  denied-named : (table : List ℕ) → list_any (same_text table) (keys_of state.denied) ≡ has_place t (about.Denied keyspace table)
+  pub denied-named : (table : List ℕ) → list_any (same_text table) (keys_of state.denied) ≡ has_place t (about.Denied keyspace table)
   denied-named table = sym (is_some-lookup (same_text table) state.denied) ∙ sym (ap (λ (o : Option KeyspaceState). option_map_or (λ s. is_some (lookup (same_text table) s.denied)) o false) found)
 
-  tables-named : (table : List ℕ) → list_any (same_text table) (keys_of state.tables) ≡ has_place t (about.Present keyspace table)
+  pub tables-named : (table : List ℕ) → list_any (same_text table) (keys_of state.tables) ≡ has_place t (about.Present keyspace table)
   tables-named table = sym (is_some-lookup (same_text table) state.tables) ∙ sym (ap (λ (o : Option KeyspaceState). option_map_or (λ s. is_some (lookup (same_text table) s.tables)) o false) found)
 
   -- there are at most as many of either as the limit counts
@@ -290,10 +294,10 @@ module _ (p : Plain) (t : TopologyState) (reached : IsReached p) (served : IsSer
 
 -- ---- rules
 
-abbrev lacks_rule : Plain → RuleKey → Bool
+abbrev pub lacks_rule : Plain → RuleKey → Bool
 lacks_rule p key = not (is_some (lookup (same_key key) p.topology.rules))
 
-abbrev keys_lacking : Plain → Live → List RuleKey
+abbrev pub keys_lacking : Plain → Live → List RuleKey
 keys_lacking p w = filter (lacks_rule p) (rule_keys w)
 
 -- the keys that have a rule, and those of live workflows that have none
@@ -307,7 +311,7 @@ rules-counted p =
     ∙ ap (λ n. length p.topology.rules + n) (length-flat_map (keys_lacking p) p.lives ∙ sum-same (λ w. length (keys_lacking p w)) (λ w. keys_without_rule p.topology.rules (rule_keys w)) p.lives (λ w is. length-filter (lacks_rule p) (rule_keys w)))
     ∙ sym (sum_by_from (λ w. keys_without_rule p.topology.rules (rule_keys w)) (length p.topology.rules) p.lives)
 
-lacking-named : (p : Plain) (w : Live) (key : RuleKey) → list_any (same_key key) (keys_lacking p w) ≡ (has_part w (about.Rule key) && lacks_rule p key)
+pub lacking-named : (p : Plain) (w : Live) (key : RuleKey) → list_any (same_key key) (keys_lacking p w) ≡ (has_part w (about.Rule key) && lacks_rule p key)
 lacking-named p w key =
     is_member-filter (equivalence same_key same_key_decides) (lacks_rule p) key (λ x e. ap (lacks_rule p) ((same_key_decides key x).0 e)) (rule_keys w)
     ∙ ap (λ b. b && lacks_rule p key) (key_in_part w key)

@@ -10,17 +10,17 @@ ghost use Rattle.mt_plain.specs.Serve.{IsServed, has_table};
 ghost use Rattle.mt_topology.specs.Part.{reserve_refusal};
 
 /// A topology that says what a reached state serves, with places for what stands and for the parts of the live workflows,
-/// whichever these are: it has no more places for rules than the limit counts, and a keyspace no more for tables; and a
-/// denied place is one of a table that the keyspace has, so that there are no more of them either.
+/// whichever these are: it has as many places for rules as the limit counts, and a keyspace as many for tables; and a denied
+/// place is one of a table that the keyspace has, so that there are no more of them than of tables.
 pub fn places_are_what_the_limits_count()
     ensures rules { (p : Plain) (t : TopologyState) → IsReached p → IsServed p t → HasPlacesOf p t
-        → length t.rules ≤ rule_count p }
+        → length t.rules ≡ rule_count p }
     ensures tables { (p : Plain) (t : TopologyState) → IsReached p → IsServed p t → HasPlacesOf p t
         → (keyspace : List ℕ) (state : KeyspaceState) → keyspace_at t.keyspaces keyspace ≡ Some state
-        → length state.tables ≤ table_count p keyspace }
+        → length state.tables ≡ table_count p keyspace }
     ensures denied { (p : Plain) (t : TopologyState) → IsReached p → IsServed p t → HasPlacesOf p t
         → (keyspace : List ℕ) (state : KeyspaceState) → keyspace_at t.keyspaces keyspace ≡ Some state
-        → length state.denied ≤ table_count p keyspace }
+        → length state.denied ≤ length state.tables }
     ensures denied_is_there { (p : Plain) (t : TopologyState) → IsReached p → IsServed p t → HasPlacesOf p t
         → (keyspace table : List ℕ) → has_place t (about.Denied keyspace table) ≡ true → has_table p keyspace table ≡ true }
 {}
