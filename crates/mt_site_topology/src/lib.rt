@@ -1,0 +1,13 @@
+//! Laws on a topology that stands for a state of the definitions: each event leaves one that stands for the next state,
+//! whatever workflows are live.
+#![tactic(auto)]
+
+mod creating;
+mod entries;
+mod rows;
+mod ways;
+
+pub use creating::{cancel_writes_what_was_kept, create_writes_the_part};
+pub use entries::entries_are_written_each_at_its_key;
+pub use rows::what_changes_no_entry_leaves_the_topology;
+pub use ways::{a_way_that_begins_leaves_the_topology, steps_and_undos_write_what_is_theirs};
