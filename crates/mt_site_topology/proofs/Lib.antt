@@ -1,6 +1,8 @@
+pub mod BackLemmas
 pub mod BeginLemmas
 pub mod CancelLemmas
 pub mod CreateLemmas
+pub mod HandLemmas
 pub mod KeyLemmas
 pub mod PartLemmas
 pub mod PlaceLemmas
