@@ -1,7 +1,9 @@
 pub mod BackLemmas
 pub mod BeginLemmas
 pub mod CancelLemmas
+pub mod CompleteLemmas
 pub mod CreateLemmas
+pub mod EndLemmas
 pub mod HandLemmas
 pub mod KeyLemmas
 pub mod PartLemmas

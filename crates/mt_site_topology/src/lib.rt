@@ -3,12 +3,14 @@
 #![tactic(auto)]
 
 mod by_hand;
+mod completing;
 mod creating;
 mod entries;
 mod rows;
 mod ways;
 
 pub use by_hand::edits_by_hand_are_made_in_the_topology;
+pub use completing::complete_writes_the_end;
 pub use creating::{
     a_create_taken_back_leaves_the_topology, cancel_writes_what_was_kept, create_writes_the_part,
 };
