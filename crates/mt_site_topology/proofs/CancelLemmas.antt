@@ -52,11 +52,11 @@ gone name (w ∷ ws) = by (gone name ws) (same_text w.name name) refl
 module _ (p q : Plain) (name : List ℕ) (w : Live) (live : live_at p name ≡ Some w) (lives : q.lives ≡ without_live name p.lives)
     (named : w.name ≡ name) (owned : IsOwned p) (found : IsFound p) (owned_next : IsOwned q) (found_next : IsFound q)
     (elsewhere : (other : List ℕ) → (name ≢ other) → live_at q other ≡ live_at p other) where
-  none_named : live_at q name ≡ None
+  pub none_named : live_at q name ≡ None
   none_named = ap (find (λ v. same_text v.name name)) lives ∙ gone name p.lives
 
   -- who owns an entry now, owned it before, and has another name
-  was_owner : (key : EntryKey) (v : Live) → part_owner q key ≡ Some v → part_owner p key ≡ Some v
+  pub was_owner : (key : EntryKey) (v : Live) → part_owner q key ≡ Some v → part_owner p key ≡ Some v
   was_owner key v owns =
       let (part, at) = found_next key v owns in
       owned v.name v (sym (elsewhere v.name (λ e. by (live_at q name) none_named (ap (live_at q) e ∙ at))) ∙ at) key part

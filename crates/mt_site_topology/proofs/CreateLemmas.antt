@@ -66,7 +66,7 @@ module _ (p : Plain) (w : Live) where
       (in_place : IsInPlace p.topology w) (allowed : (keyspace table : List ℕ) → is_denied p.topology.keyspaces keyspace table ≡ false)
       (rests : w.way ≡ None) (none : w.switched ≡ no_types) (stands : TopologyStands p t) where
     -- no other workflow has an entry of its part
-    free : (key : EntryKey) → has_part w key ≡ true → part_owner p key ≡ None
+    pub free : (key : EntryKey) → has_part w key ≡ true → part_owner p key ≡ None
     free key part = by (part_owner p key) refl
       where
         by : (o : Option Live) → part_owner p key ≡ o → part_owner p key ≡ None

@@ -1,10 +1,10 @@
 -- The keys of a part are those that lie in it, by the test of keys.
 use Rattle.std.proofs.Common.{rules, ◌≡◌, cond, ℕ, zero, suc, ◌<◌, Bool, true, false, ◌&&◌, ◌||◌, List, [], ◌∷◌, ◌++◌, All, Contains, length, map, slice_index_or, Option, None, Some, refl, ap, sym, subst, arith, ◌∙◌}
-use Rattle.std.specs.List.{filter, flat_map}
+use Rattle.std.specs.List.{filter, flat_map, list_any}
 use Rattle.std.proofs.Math.Bool.{and-false}
 use Rattle.std.specs.Cmp.{both_ways}
 use Rattle.std.proofs.lemmas.Bool.{true≢false, or_left, or_right}
-use Rattle.mt_names.specs.Same.{DecidesEquality}
+use Rattle.mt_names.specs.Same.{DecidesEquality, same_key}
 use Rattle.std.specs.Option.{option_map_or}
 use Rattle.std.proofs.Math.ListN.{get_or-map}
 use Rattle.std.proofs.lemmas.List.{length-map}
@@ -13,11 +13,11 @@ use Rattle.mt_names.specs.declared.keys.RuleKey.{RuleKey}
 use Rattle.mt_names.specs.declared.types.TabletType.{TabletType}
 use Rattle.mt_names.specs.declared.types.TabletType.TheVariants.{Primary, Replica, Rdonly}
 use Rattle.mt_names.specs.Names.{same_text}
-use Rattle.mt_names.proofs.SameLemmas.{same_text_decides}
+use Rattle.mt_names.proofs.SameLemmas.{same_key_decides, same_text_decides}
 use Rattle.mt_model.specs.declared.entries.EntryKey.{EntryKey}
 use Rattle.mt_model.specs.declared.entries.EntryKey.TheVariants as about
 use Rattle.mt_model.specs.Part.{keys_of_name, part_keys, table_part_keys, table_rule_keys}
-use Rattle.mt_plain.specs.Plain.{Live, among, has_part, is_side, moves}
+use Rattle.mt_plain.specs.Plain.{Live, among, has_part, is_side, moves, rule_keys}
 use Rattle.mt_site_topology.specs.Keys.{keys_of_part, lists, same_about}
 
 pub same_about_decides : DecidesEquality same_about
@@ -129,31 +129,59 @@ counted w (table ∷ tables) all =
     (plain, (plain, (plain, (plain, (at_source, (at_source, (at_source, (at_source, (at_target, (at_target, (at_target, (at_target, (at_source, (at_target, (there, tt))))))))))))))))
     (counted w tables (All-tail (λ t. moves w t ≡ true) table tables all))
 
+each_moved : (w : Live) → All (λ t. moves w t ≡ true) w.tables
+each_moved w i d inside = let itself = All-contains_itself w.tables i d inside in among-there w.tables (slice_index_or w.tables i d) itself.0 itself.1 itself.2
+
 pub all_counted : (w : Live) → All (λ key. has_part w key ≡ true) (part_keys w.source w.target w.tables)
-all_counted w = counted w w.tables (λ i d inside. let itself = All-contains_itself w.tables i d inside in among-there w.tables (slice_index_or w.tables i d) itself.0 itself.1 itself.2)
+all_counted w = counted w w.tables (each_moved w)
 
 -- ---- by the test of keys
 
--- a key that stands there is found
-listed_there : (keys : List EntryKey) (key : EntryKey) (i : ℕ) → i < length keys → slice_index_or keys i key ≡ key → lists keys key ≡ true
-listed_there [] key i below is = absurd (omega (arith, below))
-listed_there (k ∷ ks) key zero below is = or_left (same_about k key) (lists ks key) ((same_about_decides k key).1 is)
-listed_there (k ∷ ks) key (suc i) below is = or_right (same_about k key) (lists ks key) (listed_there ks key i (omega (arith, below)) is)
+module _ {K : Type 0} (same : K → K → Bool) (decides : DecidesEquality same) where
+  -- a key that stands there is found
+  any_there : (keys : List K) (key : K) (i : ℕ) → i < length keys → slice_index_or keys i key ≡ key → list_any (λ k. same k key) keys ≡ true
+  any_there [] key i below is = absurd (omega (arith, below))
+  any_there (k ∷ ks) key zero below is = or_left (same k key) (list_any (λ j. same j key) ks) ((decides k key).1 is)
+  any_there (k ∷ ks) key (suc i) below is = or_right (same k key) (list_any (λ j. same j key) ks) (any_there ks key i (omega (arith, below)) is)
 
--- what holds of all of them holds of one that is found
+  -- what holds of all of them holds of one that is found
+  from_any : (P : K → Type 0) (keys : List K) (key : K) → All P keys → list_any (λ k. same k key) keys ≡ true → P key
+  from_any P [] key all is = absurd (true≢false (sym is))
+  from_any P (k ∷ ks) key all is = by (from_any P ks key) (same k key) refl
+    where
+      by : (All P ks → list_any (λ j. same j key) ks ≡ true → P key) → (t : Bool) → same k key ≡ t → P key
+      by again true t = subst P ((decides k key).0 t) (All-head P k ks all)
+      by again false t = again (All-tail P k ks all) (sym (ap (λ b. b || list_any (λ j. same j key) ks) t) ∙ is)
+
 pub from_listed : (P : EntryKey → Type 0) (keys : List EntryKey) (key : EntryKey) → All P keys → lists keys key ≡ true → P key
-from_listed P [] key all is = absurd (true≢false (sym is))
-from_listed P (k ∷ ks) key all is = by (from_listed P ks key) (same_about k key) refl
-  where
-    by : (All P ks → lists ks key ≡ true → P key) → (t : Bool) → same_about k key ≡ t → P key
-    by again true t = subst P ((same_about_decides k key).0 t) (All-head P k ks all)
-    by again false t = again (All-tail P k ks all) (sym (ap (λ b. b || lists ks key) t) ∙ is)
+from_listed = from_any same_about same_about_decides
 
 pub listed_part : (w : Live) (key : EntryKey) → lists (keys_of_part w) key ≡ has_part w key
 listed_part w key =
     both_ways (lists (keys_of_part w) key) (has_part w key)
     (from_listed (λ k. has_part w k ≡ true) (keys_of_part w) key (all_counted w))
-    (λ part. let there = in_part w key part in listed_there (keys_of_part w) key there.0 there.1 there.2)
+    (λ part. let there = in_part w key part in any_there same_about same_about_decides (keys_of_part w) key there.0 there.1 there.2)
+
+-- the rule keys among them
+rules_counted : (w : Live) (tables : List (List ℕ)) → All (λ t. moves w t ≡ true) tables → All (λ key. has_part w (about.Rule key) ≡ true) (flat_map (table_rule_keys w.source w.target) tables)
+rules_counted w [] all = All-nil (λ key. has_part w (about.Rule key) ≡ true)
+rules_counted w (table ∷ tables) all =
+    let moved : moves w table ≡ true = All-head (λ t. moves w t ≡ true) table tables all in
+    let source : same_text w.source w.source ≡ true = (same_text_decides w.source w.source).1 refl in
+    let target : same_text w.target w.target ≡ true = (same_text_decides w.target w.target).1 refl in
+    let plain : (moves w table && true) ≡ true = rw moved refl in
+    let at_source : (moves w table && is_side w w.source) ≡ true = rw (moved, source) refl in
+    let at_target : (moves w table && is_side w w.target) ≡ true = rw (moved, target) (or-true (same_text w.source w.target)) in
+    All-append (λ key. has_part w (about.Rule key) ≡ true) (table_rule_keys w.source w.target table) (flat_map (table_rule_keys w.source w.target) tables)
+    (All-from_recursion (λ key. has_part w (about.Rule key) ≡ true) (table_rule_keys w.source w.target table)
+    (plain, (plain, (plain, (plain, (at_source, (at_source, (at_source, (at_source, (at_target, (at_target, (at_target, (at_target, tt)))))))))))))
+    (rules_counted w tables (All-tail (λ t. moves w t ≡ true) table tables all))
+
+pub listed_rules : (w : Live) (key : RuleKey) → list_any (λ k. same_key k key) (rule_keys w) ≡ has_part w (about.Rule key)
+listed_rules w key =
+    both_ways (list_any (λ k. same_key k key) (rule_keys w)) (has_part w (about.Rule key))
+    (from_any same_key same_key_decides (λ k. has_part w (about.Rule k) ≡ true) (rule_keys w) key (rules_counted w w.tables (each_moved w)))
+    (λ part. let there = rule_in_part w key part in any_there same_key same_key_decides (rule_keys w) key there.0 there.1 there.2)
 
 -- some of the keys
 pub listed_some : (test : EntryKey → Bool) (keys : List EntryKey) (key : EntryKey) → lists (filter test keys) key ≡ (lists keys key && test key)

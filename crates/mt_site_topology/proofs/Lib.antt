@@ -1,6 +1,10 @@
+pub mod BackLemmas
 pub mod BeginLemmas
 pub mod CancelLemmas
+pub mod CompleteLemmas
 pub mod CreateLemmas
+pub mod EndLemmas
+pub mod HandLemmas
 pub mod KeyLemmas
 pub mod PartLemmas
 pub mod PlaceLemmas

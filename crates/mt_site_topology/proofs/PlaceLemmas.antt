@@ -23,7 +23,7 @@ use Rattle.mt_site_topology.proofs.KeyLemmas.{same_about_decides}
 
 -- ---- places made
 
-placed_elsewhere : {K V : Type 0} (same : K → K → Bool) → DecidesEquality same → (es : List (K × V)) (n k : K) (v : V) → n ≢ k
+pub placed_elsewhere : {K V : Type 0} (same : K → K → Bool) → DecidesEquality same → (es : List (K × V)) (n k : K) (v : V) → n ≢ k
     → is_some (lookup (same k) (option_map_or (λ found. es) (lookup (same n) es) (es ++ (n, v) ∷ []))) ≡ is_some (lookup (same k) es)
 placed_elsewhere {V = V} same decides es n k v other = by (lookup (same n) es)
   where

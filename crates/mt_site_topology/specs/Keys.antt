@@ -1,11 +1,14 @@
 -- Keys of entries, those of a part, and the entries that a workflow writes there. All of this page is this profile's own, unless a
 -- comment names a page of Vitess's documentation.
-use Rattle.std.specs.Prelude.{◌≡◌, ℕ, Bool, true, ◌==◌, List, [], filter, length, map}
+use Rattle.std.specs.Prelude.{◌≡◌, ℕ, Bool, true, false, ◌==◌, List, [], ◌++◌, filter, length, map, None}
 use Rattle.std.specs.List.{list_any}
+use Rattle.mt_names.specs.Names.{same_text}
 use Rattle.mt_names.specs.declared.types.TypeSet.{TypeSet}
 use Rattle.mt_model.specs.contracts.entries.EntryKeyPartialEq.TheImpl as of_about
 use Rattle.mt_model.specs.declared.entries.Entry.{Entry}
+use Rattle.mt_model.specs.declared.entries.Entry.TheVariants as entry
 use Rattle.mt_model.specs.declared.entries.EntryKey.{EntryKey}
+use Rattle.mt_model.specs.declared.entries.EntryKey.TheVariants as about
 use Rattle.mt_model.specs.Part.{part_keys}
 use Rattle.mt_model.specs.Topology.{Rules, TopologyState, rule_at, value_of}
 use Rattle.mt_plain.specs.Next.{created}
@@ -67,3 +70,19 @@ abbrev pub created_live : Plain → (name source target : List ℕ) → List (Li
 created_live p name source target tables =
     let w = created name source target tables (log_length p source) in
     record w { fed = length (writes_to p w) }
+
+-- ---- Complete
+
+-- the keys of the part, and the tables at the source (MoveTables: Complete)
+abbrev pub end_keys : Live → List EntryKey
+end_keys w = keys_of_part w ++ map (about.Present w.source) w.tables
+
+-- what Complete leaves there: no rule, no denial, and the tables at the target alone (MoveTables: Complete)
+abbrev pub end_entry : (target : List ℕ) → EntryKey → Entry
+end_entry target (about.Rule key) = entry.Rule key None
+end_entry target (about.Denied keyspace table) = entry.Denied keyspace table false
+end_entry target (about.Present keyspace table) = entry.Present keyspace table (same_text target keyspace)
+
+-- all of them
+abbrev pub end_entries : Live → List Entry
+end_entries w = map (end_entry w.target) (end_keys w)

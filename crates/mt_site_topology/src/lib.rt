@@ -2,12 +2,18 @@
 //! whatever workflows are live.
 #![tactic(auto)]
 
+mod by_hand;
+mod completing;
 mod creating;
 mod entries;
 mod rows;
 mod ways;
 
-pub use creating::{cancel_writes_what_was_kept, create_writes_the_part};
+pub use by_hand::edits_by_hand_are_made_in_the_topology;
+pub use completing::complete_writes_the_end;
+pub use creating::{
+    a_create_taken_back_leaves_the_topology, cancel_writes_what_was_kept, create_writes_the_part,
+};
 pub use entries::entries_are_written_each_at_its_key;
 pub use rows::what_changes_no_entry_leaves_the_topology;
 pub use ways::{a_way_that_begins_leaves_the_topology, steps_and_undos_write_what_is_theirs};
