@@ -1,0 +1,106 @@
+-- Entries recorded, written and written back.
+use Rattle.std.proofs.Common.{◌≡◌, ℕ, zero, suc, ◌+◌, ◌<◌, ◌≤◌, Bool, true, false, if◌then◌else◌, List, [], ◌∷◌, ◌++◌, length, map, filter, fold, take, drop, set, slice_get, Some, All, slice_index_or, append_assoc, append-nil, refl, sym, ap, subst, ◌∙◌, arith}
+use Rattle.std.proofs.lemmas.Grind.{drop_more_same}
+use Rattle.std.proofs.lemmas.List.{drop_all, drop-set-lt, drop_more, take_all, take_more_set}
+use Rattle.mt_names.specs.declared.types.TypeSet.{TypeSet}
+use Rattle.mt_model.specs.declared.entries.Entry.{Entry}
+use Rattle.mt_model.specs.declared.entries.EntryKey.{EntryKey}
+use Rattle.mt_model.specs.declared.entries.EntryKey.TheVariants as about
+use Rattle.mt_model.specs.Part.{with_entries}
+use Rattle.mt_model.specs.Topology.{TopologyState, has_place, key_of, value_of, with_entry}
+use Rattle.mt_workflow.specs.Workflows.{WorkflowState, wanted}
+use Rattle.mt_steps.specs.Entries.{is_of_step, recorded, recorded_entry, recorded_of, with_recorded, with_wanted}
+
+-- ---- a loop that changes each item of a list
+
+-- the items before this one are changed, the others are as they were
+pub record AreChanged (f : Entry → Entry) (all entries : List Entry) (i : ℕ) : Type 0 where
+  pub rest : drop i entries ≡ drop i all
+  pub front : take i entries ++ map f (drop i all) ≡ map f all
+
+pub one_changed : (f : Entry → Entry) (all entries : List Entry) (i : ℕ) (d new : Entry) → i < length entries → AreChanged f all entries i
+    → new ≡ f (slice_index_or entries i d) → AreChanged f all (set entries i new) (i + 1)
+one_changed f all entries i d new inside c is =
+    let x : Entry = slice_index_or entries i d in
+    let later : List Entry = drop (i + 1) all in
+    let split : drop i all ≡ x ∷ later = sym c.rest ∙ drop_more entries i d inside ∙ ap (λ l. x ∷ l) (drop_more_same entries all i c.rest) in
+    record {
+      rest = drop-set-lt (i + 1) entries i new (omega arith) ∙ drop_more_same entries all i c.rest;
+      front =
+          ap (λ l. l ++ map f later) (take_more_set entries i new inside) ∙ append_assoc (take i entries) (new ∷ []) (map f later)
+          ∙ ap (λ e. take i entries ++ e ∷ map f later) is ∙ ap (λ l. take i entries ++ map f l) (sym split) ∙ c.front;
+    }
+
+pub all_changed : (f : Entry → Entry) (all entries : List Entry) (i : ℕ) → length entries ≡ length all → length all ≤ i → AreChanged f all entries i → entries ≡ map f all
+all_changed f all entries i as_many over c =
+    let none : drop i all ≡ [] = drop_all i all over in
+    sym (append-nil entries) ∙ ap (λ l. l ++ []) (sym (take_all i entries (omega (arith, as_many, over)))) ∙ ap (λ l. take i entries ++ map f l) (sym none) ∙ c.front
+
+-- one item more of a list
+pub map_next : {X Y : Type 0} (f : X → Y) (xs : List X) (i : ℕ) (x : X) → Some x ≡ slice_get xs i → map f (take i xs) ++ f x ∷ [] ≡ map f (take (suc i) xs)
+map_next f [] i x is = absurd cc
+map_next f (y ∷ ys) zero x is = let same : y ≡ x = cc in rw same refl
+map_next f (y ∷ ys) (suc i) x is = ap (λ l. f y ∷ l) (map_next f ys i x is)
+
+-- ---- keys
+
+pub key_of-value_of : (t : TopologyState) (key : EntryKey) → key_of (value_of t key) ≡ key
+key_of-value_of t (about.Rule key) = refl
+key_of-value_of t (about.Denied keyspace table) = refl
+key_of-value_of t (about.Present keyspace table) = refl
+
+pub key_of-wanted : (w : WorkflowState) (types : TypeSet) (key : EntryKey) → key_of (wanted w types key) ≡ key
+key_of-wanted w types (about.Rule key) = refl
+key_of-wanted w types (about.Denied keyspace table) = refl
+key_of-wanted w types (about.Present keyspace table) = refl
+
+key_of-recorded : (w : WorkflowState) (n : ℕ) (t : TopologyState) (e : Entry) → key_of (recorded_entry w n t e) ≡ key_of e
+key_of-recorded w n t e = by (is_of_step w n (key_of e))
+  where
+    by : (b : Bool) → key_of (if b then value_of t (key_of e) else e) ≡ key_of e
+    by true = key_of-value_of t (key_of e)
+    by false = refl
+
+pub keys_recorded : (w : WorkflowState) (n : ℕ) (t : TopologyState) (entries : List Entry) → map key_of (recorded w n t entries) ≡ map key_of entries
+keys_recorded w n t [] = refl
+keys_recorded w n t (e ∷ entries) = rw (key_of-recorded w n t e, keys_recorded w n t entries) refl
+
+-- ---- places
+
+pub entries_have_places : (t : TopologyState) (keys : List EntryKey) (entries : List Entry) → map key_of entries ≡ keys → All (λ key. has_place t key ≡ true) keys → All (λ e. has_place t (key_of e) ≡ true) entries
+entries_have_places t keys entries is places = λ i d inside.
+    sym (ap (has_place t) (item entries i d)) ∙ (subst (All (λ key. has_place t key ≡ true)) (sym is) places i (key_of d) (omega (arith, as_many entries, inside)))
+  where
+    as_many : (es : List Entry) → length (map key_of es) ≡ length es
+    as_many [] = refl
+    as_many (e ∷ es) = omega (arith, as_many es)
+
+    item : (es : List Entry) (i : ℕ) (d : Entry) → slice_index_or (map key_of es) i (key_of d) ≡ key_of (slice_index_or es i d)
+    item [] i d = refl
+    item (e ∷ es) zero d = refl
+    item (e ∷ es) (suc i) d = item es i d
+
+-- ---- a loop that writes where it is of the step, as one list of entries
+
+pub writes_are_entries : (w : WorkflowState) (types : TypeSet) (n : ℕ) (t : TopologyState) (entries : List Entry)
+    → fold (λ u e. with_wanted w types n u (key_of e)) t entries ≡ with_entries t (map (wanted w types) (filter (is_of_step w n) (map key_of entries)))
+writes_are_entries w types n t [] = refl
+writes_are_entries w types n t (e ∷ entries) = by (λ u. writes_are_entries w types n u entries) (is_of_step w n (key_of e)) refl
+  where
+    Is : TopologyState → List Entry → Type 0
+    Is u es = fold (λ v x. with_wanted w types n v (key_of x)) u es ≡ with_entries u (map (wanted w types) (filter (is_of_step w n) (map key_of es)))
+
+    by : ((u : TopologyState) → Is u entries) → (b : Bool) → is_of_step w n (key_of e) ≡ b → Is t (e ∷ entries)
+    by again true b = rw b (again (with_entry t (wanted w types (key_of e))))
+    by again false b = rw b (again t)
+
+pub backs_are_entries : (w : WorkflowState) (n : ℕ) (t : TopologyState) (entries : List Entry) → fold (with_recorded w n) t entries ≡ with_entries t (recorded_of w n entries)
+backs_are_entries w n t [] = refl
+backs_are_entries w n t (e ∷ entries) = by (λ u. backs_are_entries w n u entries) (is_of_step w n (key_of e)) refl
+  where
+    Is : TopologyState → List Entry → Type 0
+    Is u es = fold (with_recorded w n) u es ≡ with_entries u (recorded_of w n es)
+
+    by : ((u : TopologyState) → Is u entries) → (b : Bool) → is_of_step w n (key_of e) ≡ b → Is t (e ∷ entries)
+    by again true b = rw b (again (with_entry t e))
+    by again false b = rw b (again t)

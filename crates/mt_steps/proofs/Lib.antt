@@ -1,0 +1,3 @@
+pub mod BackLemmas
+pub mod EntryLemmas
+pub mod StepLemmas

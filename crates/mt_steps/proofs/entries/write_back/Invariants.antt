@@ -1,0 +1,12 @@
+-- The entries before this one are written back, and places stay.
+use Rattle.std.proofs.Common.{◌≡◌, fold, take}
+use Rattle.mt_model.specs.declared.entries.EntryKey.{EntryKey}
+use Rattle.mt_model.specs.Topology.{has_place}
+use Rattle.mt_steps.specs.Entries.{with_recorded}
+use Rattle.mt_steps.proofs.entries.write_back.Given as goal
+
+abbrev pub invariant-loop-entry : goal.invariant-loop-entry
+invariant-loop-entry l = record {
+  written : l.topology ≡ fold (with_recorded l.workflow l.step) l.initial.topology (take l.entry-index l.entries);
+  places : (k : EntryKey) → has_place l.topology k ≡ has_place l.initial.topology k;
+}

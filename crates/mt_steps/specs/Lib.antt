@@ -1,0 +1,7 @@
+pub mod Entries
+pub mod Faults
+pub mod Plans
+pub mod Refreshes
+pub mod Steps
+pub mod Streams
+pub mod Undo

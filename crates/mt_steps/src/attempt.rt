@@ -1,0 +1,113 @@
+//! What of a step may be refused.
+ghost use Rattle.std.specs.Prelude.{◌≡◌, ◌||◌, not, None};
+ghost use Rattle.mt_plain.specs.Plain.{write_journal};
+ghost use Rattle.mt_workflow.specs.Workflows.{way_from};
+ghost use Rattle.mt_journal.specs.Journal.{entry_of};
+ghost use Rattle.mt_steps.specs.Plans.{number};
+ghost use Rattle.mt_steps.specs.Steps.{Attempts, Journals, answer_if_level, journal_entry};
+ghost use Rattle.mt_steps.specs.Streams.{is_fed, serves_other_side};
+
+use crate::fault::StepFault;
+use crate::refresh::refresh_side;
+use crate::step::Step;
+use crate::streams::{is_fed, serves_other_side};
+use mt_journal::{Journal, JournalEntry, JournalFault};
+use mt_primary::{Before, Primary};
+use mt_topology::Topology;
+use mt_watch::Asks;
+use mt_workflow::{Way, Workflow};
+use std::alloc::Global;
+
+/// `F18 NotLevel`, if the stream that feeds on the way isn't level.
+fn check_level(
+    workflow: &Workflow,
+    way: Way,
+    source: &Primary,
+    target: &Primary,
+) -> Result<(), StepFault>
+    ensures { result ≡ answer_if_level (is_fed workflow.now (way_from way) source.now target.now) }
+{
+    if is_fed(workflow, way, source, target) {
+        return Ok(());
+    }
+    Err(StepFault::NotLevel)
+}
+
+/// The same, if the side that will serve the reads isn't the owner.
+fn check_reads(
+    workflow: &Workflow,
+    way: Way,
+    source: &Primary,
+    target: &Primary,
+) -> Result<(), StepFault>
+    ensures { result ≡ answer_if_level (not (serves_other_side (way_from way)) || is_fed workflow.now (way_from way) source.now target.now) }
+{
+    if serves_other_side(way) {
+        return check_level(workflow, way, source, target);
+    }
+    Ok(())
+}
+
+/// Appends the entry of a way to the journal. `F27 Full`, `F0 Memory`.
+fn append(
+    journal: &mut Journal,
+    number: u64,
+    workflow: &Workflow,
+    way: Way,
+    source: &Primary,
+    target: &Primary,
+) -> Result<(), StepFault>
+    requires fresh { entry_of journal.old number ≡ None }
+    ensures { Journals (journal_entry number workflow.now (way_from way) source.now target.now) journal.old result journal.new }
+{
+    let entry = JournalEntry {
+        id: number,
+        workflow: workflow.name().copied(),
+        back: way.back,
+        source_position: source.position(),
+        target_position: target.position(),
+    };
+    match journal.append(entry) {
+        Ok(()) => Ok(()),
+        Err(JournalFault::Full) => Err(StepFault::Full),
+        Err(_) => Err(StepFault::Memory),
+    }
+}
+
+/// Does what of a step may be refused, and leaves all as it was if it is.
+pub(crate) fn attempt<W: Asks>(
+    alloc: Global,
+    way: Way,
+    step: Step,
+    id: u64,
+    topology: &Topology,
+    workflow: &Workflow,
+    source: &mut Primary,
+    target: &mut Primary,
+    journal: &mut Journal,
+    watchers: &W,
+    listed: &mut Option<Before>,
+) -> Result<(), StepFault>
+    requires fresh { number step ≡ write_journal → entry_of journal.old id ≡ None }
+    ensures { Attempts (W.scopes watchers.now) (W.may_answer watchers.now) id topology.now workflow.now (way_from way) step
+        (record { source = source.old; target = target.old; journal = journal.old; listed = listed.old }) result
+        (record { source = source.new; target = target.new; journal = journal.new; listed = listed.new }) }
+{
+    let at_target = way.before.primary;
+    match step {
+        Step::SwitchReads => check_reads(workflow, way, source, target),
+        Step::CatchUp => check_level(workflow, way, source, target),
+        Step::RefreshSource => {
+            refresh_side(
+                alloc, topology, workflow, at_target, source, target, watchers, listed,
+            )
+        }
+        Step::RefreshTarget => {
+            refresh_side(
+                alloc, topology, workflow, !at_target, source, target, watchers, listed,
+            )
+        }
+        Step::Journal => append(journal, id, workflow, way, source, target),
+        _ => Ok(()),
+    }
+}

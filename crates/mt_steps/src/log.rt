@@ -1,0 +1,95 @@
+//! What is kept of a way for its undo.
+ghost use Rattle.std.specs.Prelude.{◌≡◌, IfOk, IfErr};
+ghost use Rattle.mt_steps.specs.Entries.{recorded};
+ghost use Rattle.mt_steps.specs.Steps.{given_listed, given_slot, left_listed, left_slot};
+ghost use Rattle.mt_steps.specs.Undo.{new_log};
+
+use crate::entries::record_step;
+use crate::fault::StepFault;
+use crate::step::Step;
+use mt_model::Entry;
+use mt_primary::Before;
+use mt_stream::Stream;
+use mt_topology::Topology;
+use mt_workflow::Workflow;
+use std::alloc::Global;
+use std::marker::Model;
+use std::mem;
+
+/// What is kept of a way for its undo: an entry for each key of the workflow's part, as it stood before its step; what stood on a
+/// primary's own list before the last refresh; and the stream that a new one was put in place of. It is made before the first step,
+/// and no step and no undo takes memory for it. (this profile's own)
+#[derive(Drop)]
+pub struct UndoLog {
+    pub(crate) entries: Vec<Entry>,
+    pub(crate) listed: Option<Before>,
+    pub(crate) slot: Option<Stream>,
+}
+
+impl Model for UndoLog {
+    ghost use Rattle.mt_steps.specs.Undo.{UndoState};
+
+    ghost Value = { UndoState };
+
+    ghost view = { λ log. record { entries = log.entries.items; listed = log.listed; slot = log.slot } };
+}
+
+impl UndoLog {
+    /// What is kept for a workflow on whose way no step was done: its part as it is served at rest. `F0 Memory`. It alone takes memory.
+    pub fn reserve(alloc: Global, workflow: &Workflow) -> Result<Self, StepFault>
+        ensures value { IfOk result (λ log. log ≡ new_log workflow.now) }
+        ensures memory { IfErr result (λ fault. fault ≡ StepFault.Memory) }
+    {
+        let mut entries = Vec::new(alloc);
+        for index in 0..workflow.part_len() {
+            let key = workflow.part_key(index);
+            if entries
+                .push(workflow.wanted(&key, workflow.switched()))
+                .is_err()
+            {
+                return Err(StepFault::Memory);
+            }
+        }
+        Ok(UndoLog {
+            entries,
+            listed: None,
+            slot: None,
+        })
+    }
+
+    /// Its entries.
+    pub(crate) fn entries(&self) -> &[Entry]
+        ensures { result.now ≡ self.now.entries }
+    {
+        &self.entries
+    }
+
+    /// Records what the topology says at the entries that change with a step.
+    pub(crate) fn record(&mut self, topology: &Topology, workflow: &Workflow, step: u8)
+        ensures { self.new ≡ record self.old { entries = recorded workflow.now step topology.now self.old.entries } }
+    {
+        record_step(topology, workflow, step, &mut self.entries);
+    }
+
+    /// Takes what the undo of a step gives back to a primary's own list.
+    pub(crate) fn take_listed(&mut self, step: Step) -> Option<Before>
+        ensures taken { result ≡ given_listed step self.old.listed }
+        ensures left { self.new ≡ record self.old { listed = left_listed step self.old.listed } }
+    {
+        if step != Step::RefreshSource {
+            return None;
+        }
+        mem::replace(&mut self.listed, None)
+    }
+
+    /// Takes the stream that the undo of a step puts back.
+    pub(crate) fn take_slot(&mut self, step: Step) -> Option<Stream>
+        ensures taken { result ≡ given_slot step self.old.slot }
+        ensures left { self.new ≡ record self.old { slot = left_slot step self.old.slot } }
+    {
+        if step != Step::CreateBack {
+            return None;
+        }
+        mem::replace(&mut self.slot, None)
+    }
+}

@@ -1,0 +1,103 @@
+//! A refresh of a primary's own list.
+ghost use Rattle.std.specs.Prelude.{◌≡◌, ◌≤◌, List, IfOk, IfErr, length};
+ghost use Rattle.mt_names.specs.Tables.{most_tables};
+ghost use Rattle.mt_journal.specs.declared.entry.JournalEntry.{JournalEntry};
+ghost use Rattle.mt_steps.specs.Refreshes.{Refreshes, RefreshesSide, denials_at};
+
+use crate::fault::StepFault;
+use mt_model::{EntryKey, Scope};
+use mt_names::{KeyspaceName, TableName};
+use mt_primary::{Before, Primary};
+use mt_topology::Topology;
+use mt_watch::{Asks, Change, WatchersFault};
+use mt_workflow::Workflow;
+use std::alloc::Global;
+
+/// The denials of some tables at a side, as the topology has them.
+fn denials(
+    alloc: Global,
+    topology: &Topology,
+    side: &KeyspaceName,
+    tables: &[TableName],
+) -> Result<Change, StepFault>
+    ensures value { IfOk result (λ change. change ≡ denials_at topology.now side.now tables.now) }
+    ensures memory { IfErr result (λ fault. fault ≡ StepFault.Memory) }
+{
+    let mut change = Change::new(alloc);
+    for table in tables {
+        let key = EntryKey::Denied(side.copied(), table.copied());
+        if change.push(topology.value(&key)).is_err() {
+            return Err(StepFault::Memory);
+        }
+    }
+    Ok(change)
+}
+
+/// Asks the watchers of a side's primary, which takes over their notice for these tables alone; `listed` becomes what stood there
+/// for them. `F24 NoWatcher`, then `F0 Memory`, then `F23 WatcherRefused`.
+fn refresh<W: Asks>(
+    alloc: Global,
+    topology: &Topology,
+    side: &KeyspaceName,
+    tables: &[TableName],
+    primary: &mut Primary,
+    watchers: &W,
+    listed: &mut Option<Before>,
+) -> Result<(), StepFault>
+    requires { length tables.now ≤ most_tables }
+    ensures { Refreshes (W.scopes watchers.now) (W.may_answer watchers.now) topology.now side.now tables.now primary.old listed.old result primary.new listed.new }
+{
+    let scope = Scope::Primary(side.copied());
+    if !watchers.has(&scope) {
+        return Err(StepFault::NoWatcher);
+    }
+    let change = denials(alloc, topology, side, tables)?;
+    match watchers.ask(&scope, &change) {
+        Ok(notice) => {
+            *listed = Some(primary.take_denied(side, &notice, tables));
+            Ok(())
+        }
+        Err(WatchersFault::NoWatcher) => Err(StepFault::NoWatcher),
+        Err(WatchersFault::Refused(index)) => Err(StepFault::WatcherRefused(index)),
+        Err(_) => Err(StepFault::Memory),
+    }
+}
+
+/// The same at one of the sides of a workflow.
+pub(crate) fn refresh_side<W: Asks>(
+    alloc: Global,
+    topology: &Topology,
+    workflow: &Workflow,
+    at_target: bool,
+    source: &mut Primary,
+    target: &mut Primary,
+    watchers: &W,
+    listed: &mut Option<Before>,
+) -> Result<(), StepFault>
+    ensures { (journal : List JournalEntry) → RefreshesSide (W.scopes watchers.now) (W.may_answer watchers.now) topology.now workflow.now at_target
+        (record { source = source.old; target = target.old; journal = journal; listed = listed.old }) result
+        (record { source = source.new; target = target.new; journal = journal; listed = listed.new }) }
+{
+    workflow.facts();
+    let tables = workflow.tables();
+    if at_target {
+        return refresh(
+            alloc,
+            topology,
+            workflow.target(),
+            tables,
+            target,
+            watchers,
+            listed,
+        );
+    }
+    refresh(
+        alloc,
+        topology,
+        workflow.source(),
+        tables,
+        source,
+        watchers,
+        listed,
+    )
+}

@@ -1,0 +1,190 @@
+//! A step, and the undo of the last one.
+ghost use Rattle.std.specs.Prelude.{◌≡◌, ◌<◌, true, All, None, is_some};
+ghost use Rattle.mt_model.specs.Topology.{has_place, key_of};
+ghost use Rattle.mt_plain.specs.Plain.{next_step, write_journal};
+ghost use Rattle.mt_workflow.specs.Workflows.{way_from};
+ghost use Rattle.mt_journal.specs.Journal.{entry_of};
+ghost use Rattle.mt_steps.specs.Entries.{HasPlaces};
+ghost use Rattle.mt_steps.specs.Plans.{last_step, number, step_at};
+ghost use Rattle.mt_steps.specs.Steps.{IsGivenBack, IsUndone, Steps, open_way};
+ghost use Rattle.mt_steps.specs.Undo.{IsLogOf};
+
+use crate::attempt::attempt;
+use crate::entries::{write_back, write_step};
+use crate::fault::StepFault;
+use crate::log::UndoLog;
+use crate::step::Step;
+use crate::streams::{count_step, count_undo, last_step, log_end, step_streams, undo_streams};
+use mt_journal::Journal;
+use mt_primary::{Before, Primary};
+use mt_topology::Topology;
+use mt_watch::Asks;
+use mt_workflow::{Way, Workflow};
+use std::alloc::Global;
+
+/// What a step works on: the topology, the primaries of the workflow's two sides, the workflow, the journal, the watchers, and the
+/// number of the way.
+pub struct Sides<'a, W: Asks> {
+    /// The topology.
+    pub topology: &'a mut Topology,
+    /// The source's primary.
+    pub source: &'a mut Primary,
+    /// The target's primary.
+    pub target: &'a mut Primary,
+    /// The workflow whose way is open.
+    pub workflow: &'a mut Workflow,
+    /// The journal.
+    pub journal: &'a mut Journal,
+    /// The watchers.
+    pub watchers: &'a W,
+    /// The number of the way.
+    pub number: u64,
+}
+
+/// Does the step of a way that is next; `log` becomes what its undo needs. See `Step` for what each step does, what refuses it, and
+/// whom it asks. A refused step leaves everything as it was. Of the steps only a refresh and the journal take memory.
+/// (Vitess: SwitchTraffic, ReverseTraffic)
+pub fn do_step<W: Asks>(
+    alloc: Global,
+    sides: &mut Sides<'_, W>,
+    log: &mut UndoLog,
+    step: Step,
+) -> Result<(), StepFault>
+    requires open { is_some sides.old.workflow.now.way ≡ true }
+    requires next { number step ≡ next_step (open_way sides.old.workflow.now) }
+    requires places { HasPlaces sides.old.topology.now sides.old.workflow.now }
+    requires log { IsLogOf sides.old.workflow.now log.old }
+    requires fresh { number step ≡ write_journal → entry_of sides.old.journal.now sides.old.number ≡ None }
+    ensures topology { sides.new.topology.ghost_name ≡ sides.old.topology.ghost_name }
+    ensures source { sides.new.source.ghost_name ≡ sides.old.source.ghost_name }
+    ensures target { sides.new.target.ghost_name ≡ sides.old.target.ghost_name }
+    ensures workflow { sides.new.workflow.ghost_name ≡ sides.old.workflow.ghost_name }
+    ensures journal { sides.new.journal.ghost_name ≡ sides.old.journal.ghost_name }
+    ensures watchers { sides.new.watchers ≡ sides.old.watchers }
+    ensures number { sides.new.number ≡ sides.old.number }
+    ensures steps { Steps (W.scopes sides.old.watchers.now) (W.may_answer sides.old.watchers.now) sides.old.number (open_way sides.old.workflow.now) step
+        (record { topology = sides.old.topology.now; source = sides.old.source.now; target = sides.old.target.now; workflow = sides.old.workflow.now; journal = sides.old.journal.now }) log.old
+        result
+        (record { topology = sides.new.topology.now; source = sides.new.source.now; target = sides.new.target.now; workflow = sides.new.workflow.now; journal = sides.new.journal.now }) log.new }
+{
+    let way = sides.workflow.way().unwrap();
+    step_of_way(
+        alloc,
+        way,
+        step,
+        sides.number,
+        sides.topology,
+        sides.source,
+        sides.target,
+        sides.workflow,
+        sides.journal,
+        sides.watchers,
+        log,
+    )
+}
+
+/// The same, with everything apart.
+fn step_of_way<W: Asks>(
+    alloc: Global,
+    way: Way,
+    step: Step,
+    id: u64,
+    topology: &mut Topology,
+    source: &mut Primary,
+    target: &mut Primary,
+    workflow: &mut Workflow,
+    journal: &mut Journal,
+    watchers: &W,
+    log: &mut UndoLog,
+) -> Result<(), StepFault>
+    requires next { number step ≡ next_step (way_from way) }
+    requires places { HasPlaces topology.old workflow.old }
+    requires log { IsLogOf workflow.old log.old }
+    requires fresh { number step ≡ write_journal → entry_of journal.old id ≡ None }
+    ensures { Steps (W.scopes watchers.now) (W.may_answer watchers.now) id (way_from way) step
+        (record { topology = topology.old; source = source.old; target = target.old; workflow = workflow.old; journal = journal.old }) log.old
+        result
+        (record { topology = topology.new; source = source.new; target = target.new; workflow = workflow.new; journal = journal.new }) log.new }
+{
+    let end = log_end(way, source, target);
+    let listed = &mut log.listed;
+    attempt(
+        alloc, way, step, id, topology, workflow, source, target, journal, watchers, listed,
+    )?;
+    log.record(topology, workflow, step.number());
+    write_step(topology, workflow, way.after, step.number(), log.entries());
+    step_streams(workflow, way, step, end, &mut log.slot);
+    count_step(workflow, way, step);
+    Ok(())
+}
+
+/// Takes back the step that was done last, which is before the journal: its entries, the own list and the slot get what stood there
+/// before it, and all else stays as it is now. It takes no memory, asks nobody, and is never refused. (Vitess: Cancel of a switch of
+/// traffic before its journal)
+pub fn undo_last<W: Asks>(sides: &mut Sides<'_, W>, log: &mut UndoLog)
+    requires open { is_some sides.old.workflow.now.way ≡ true }
+    requires some { 0 < (open_way sides.old.workflow.now).done }
+    requires before { last_step (open_way sides.old.workflow.now) < write_journal }
+    requires places { HasPlaces sides.old.topology.now sides.old.workflow.now }
+    requires log { IsLogOf sides.old.workflow.now log.old }
+    ensures topology { sides.new.topology.ghost_name ≡ sides.old.topology.ghost_name }
+    ensures source { sides.new.source.ghost_name ≡ sides.old.source.ghost_name }
+    ensures target { sides.new.target.ghost_name ≡ sides.old.target.ghost_name }
+    ensures workflow { sides.new.workflow.ghost_name ≡ sides.old.workflow.ghost_name }
+    ensures journal { sides.new.journal.ghost_name ≡ sides.old.journal.ghost_name }
+    ensures watchers { sides.new.watchers ≡ sides.old.watchers }
+    ensures number { sides.new.number ≡ sides.old.number }
+    ensures undone { IsUndone (open_way sides.old.workflow.now) (step_at (last_step (open_way sides.old.workflow.now)))
+        (record { topology = sides.old.topology.now; source = sides.old.source.now; target = sides.old.target.now; workflow = sides.old.workflow.now; journal = sides.old.journal.now }) log.old
+        (record { topology = sides.new.topology.now; source = sides.new.source.now; target = sides.new.target.now; workflow = sides.new.workflow.now; journal = sides.new.journal.now }) log.new }
+{
+    let way = sides.workflow.way().unwrap();
+    let step = last_step(way);
+    undo_of_way(
+        way,
+        step,
+        sides.topology,
+        sides.source,
+        sides.target,
+        sides.workflow,
+        sides.journal,
+        log,
+    );
+}
+
+/// The same of a step, with everything apart.
+fn undo_of_way(
+    way: Way,
+    step: Step,
+    topology: &mut Topology,
+    source: &mut Primary,
+    target: &mut Primary,
+    workflow: &mut Workflow,
+    journal: &Journal,
+    log: &mut UndoLog,
+)
+    requires places { HasPlaces topology.old workflow.old }
+    requires log { IsLogOf workflow.old log.old }
+    ensures { IsUndone (way_from way) step
+        (record { topology = topology.old; source = source.old; target = target.old; workflow = workflow.old; journal = journal.now }) log.old
+        (record { topology = topology.new; source = source.new; target = target.new; workflow = workflow.new; journal = journal.now }) log.new }
+{
+    write_back(topology, workflow, step.number(), log.entries());
+    give_back(way, source, target, log.take_listed(step));
+    undo_streams(workflow, way, step, log.take_slot(step));
+    count_undo(workflow, way);
+}
+
+/// Gives back to the old owner's primary what stood on its own list.
+fn give_back(way: Way, source: &mut Primary, target: &mut Primary, listed: Option<Before>)
+    ensures { IsGivenBack (way_from way).before.primary listed source.old target.old source.new target.new }
+{
+    let Some(before) = listed else {
+        return;
+    };
+    if way.before.primary {
+        target.put_denied(before);
+        return;
+    }
+    source.put_denied(before);
+}
