@@ -1,5 +1,6 @@
 -- What `insert` makes of a keyspace's tables, and of the keyspaces.
-use Rattle.std.proofs.Common.{◌≡◌, ℕ, Bool, true, false, ◌&&◌, ◌==◌, ◌≤◌, ◌+◌, if◌then◌else◌, not, List, [], ◌∷◌, ◌++◌, length, Option, None, Some, is_some, Ok, Err, refl, sym, ap, ◌∙◌, arith}
+use Rattle.std.proofs.Common.{◌≡◌, inl, inr, Result, ℕ, Bool, true, false, ◌&&◌, ◌==◌, ◌≤◌, ◌+◌, if◌then◌else◌, not, List, [], ◌∷◌, ◌++◌, length, Option, None, Some, is_some, Ok, Err, refl, sym, ap, ◌∙◌, arith}
+use Rattle.std.proofs.lemmas.Bool.{ne_eqb}
 use Rattle.std.proofs.lemmas.Grind.{common_steps}
 use Rattle.std.specs.Bool.{Decides}
 use Rattle.std.specs.Map.{lookup, set_value}
@@ -8,10 +9,13 @@ use Rattle.indexmap.specs.IndexMap.{insert_entry}
 use Rattle.mt_names.specs.Names.{same_text}
 use Rattle.mt_names.proofs.EntryLemmas.{same_itself}
 use Rattle.mt_names.proofs.SameLemmas.{same_text_decides}
-use Rattle.mt_model.specs.declared.faults.TopologyFault.TheVariants.{Memory}
+use Rattle.mt_model.specs.declared.faults.TopologyFault.TheVariants.{Memory, Full}
 use Rattle.mt_model.specs.Limits.{most_tables_in_keyspace}
-use Rattle.mt_model.specs.Topology.{KeyspaceState, Marks, is_marked, with_new_table}
-use Rattle.mt_keyspace.specs.Edits.{Edits, lacks_table_place, new_table_refusal}
+use Rattle.mt_model.specs.Topology.{KeyspaceState, Marks, is_marked, with_denied_place, with_new_table}
+use Rattle.mt_denied.specs.declared.fault.DeniedFault.{DeniedFault}
+use Rattle.mt_denied.specs.declared.fault.DeniedFault.TheVariants as denied
+use Rattle.mt_denied.specs.Denied.{Reserves}
+use Rattle.mt_keyspace.specs.Edits.{Edits, answer_of, lacks_table_place, new_table_refusal}
 use Rattle.mt_keyspace.specs.Room.{lacks_mark_place, mark_place_refusal}
 
 -- it makes a place where the key has none, and sets its value
@@ -47,3 +51,16 @@ within-place old new limit false within room is = grind (arith, common_steps, wi
 -- where a name lacks a place, and there is room, none is refused
 pub room_for_place : (marks : Marks) (name : List ℕ) → is_some (lookup (same_text name) marks) ≡ false → (lacks_mark_place marks name && (length marks == most_tables_in_keyspace)) ≡ false → (mark_place_refusal marks name ≡ None) × (lacks_mark_place marks name ≡ true)
 room_for_place marks name lacks room = (rw room refl, ap not lacks)
+
+-- a denial that is reserved, as an edit of its keyspace
+pub denial_reserved : (state : KeyspaceState) (name : List ℕ) (r : Result Unit DeniedFault) (new : Marks) → Reserves state.denied name r new
+    → Edits state (mark_place_refusal state.denied name) (lacks_mark_place state.denied name) (with_denied_place name state) (answer_of r) (record state { denied = new })
+denial_reserved state name (Ok done) new (inl there, is) = (rw there refl, ap (λ marks. record state { denied = marks }) is)
+denial_reserved state name (Ok done) new (inr room, is) = (by (lacks_mark_place state.denied name), ap (λ marks. record state { denied = marks }) is)
+  where
+    by : (b : Bool) → (if b && (length state.denied == most_tables_in_keyspace) then Some Full else None) ≡ None
+    by true = rw (ne_eqb (length state.denied) most_tables_in_keyspace (λ e. absurd (omega (arith, room, e)))) refl
+    by false = refl
+denial_reserved state name (Err denied.Full) new (lacks, full, is) = (rw (lacks, full) refl, ap (λ marks. record state { denied = marks }) is)
+denial_reserved state name (Err denied.Memory) new (lacks, room, is) =
+    (rw (lacks, ne_eqb (length state.denied) most_tables_in_keyspace (λ e. absurd (omega (arith, room, e)))) refl, ap not lacks, ap (λ marks. record state { denied = marks }) is)

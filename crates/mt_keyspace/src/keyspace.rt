@@ -7,7 +7,7 @@ ghost use Rattle.mt_names.specs.Names.{IsTableName, same_text};
 ghost use Rattle.mt_model.specs.Limits.{most_tables_in_keyspace};
 ghost use Rattle.mt_model.specs.Part.{table_routes};
 ghost use Rattle.mt_model.specs.Topology.{is_marked, with_table_mark, with_denied_mark, with_new_table, with_table_place, without_table_place, with_denied_place, without_denied_place};
-ghost use Rattle.mt_keyspace.specs.Edits.{Edits, new_table_refusal, lacks_table_place};
+ghost use Rattle.mt_keyspace.specs.Edits.{Edits, answer_of, new_table_refusal, lacks_table_place};
 ghost use Rattle.mt_keyspace.specs.Room.{has_mark_room, lacking_marks, lacks_mark_place, mark_place_refusal};
 ghost use Rattle.mt_keyspace.specs.Values.{HasSameTexts, texts_value};
 ghost use Rattle.mt_model.specs.Documents.{marked, tables_in_order};
@@ -137,33 +137,29 @@ impl Keyspace {
         lacking_denials(&self.denied, tables) <= MAX_TABLES_IN_KEYSPACE - self.denied.len()
     }
 
-    /// Makes a place for a table, which isn't there by it. Where the table has one nothing changes. `T5 Full` at a 257th
-    /// place, `T0 Memory`.
-    pub(crate) fn reserve_table(&mut self, table: &TableName) -> Result<(), TopologyFault>
-        ensures { Edits self.old (mark_place_refusal self.old.tables table.now) (lacks_mark_place self.old.tables table.now) (with_table_place table.now self.old) result self.new }
+    /// Makes a place for a table, which isn't there by it. Where the table has one nothing changes. `L1 Full` at a 257th
+    /// place, `L0 Memory`.
+    pub(crate) fn reserve_table(&mut self, table: &TableName) -> Result<(), DeniedFault>
+        ensures { Edits self.old (mark_place_refusal self.old.tables table.now) (lacks_mark_place self.old.tables table.now) (with_table_place table.now self.old) (answer_of result) self.new }
     {
         if self.has_place(table) {
             return Ok(());
         }
         if self.is_full_for(table) {
-            return Err(TopologyFault::Full);
+            return Err(DeniedFault::Full);
         }
         match self.tables.insert(table.copied(), false) {
             Ok(_) => Ok(()),
-            Err(_) => Err(TopologyFault::Memory),
+            Err(_) => Err(DeniedFault::Memory),
         }
     }
 
     /// Makes a place for the denial of a table, which isn't denied by it. Where the denial has one nothing changes.
-    /// `T5 Full` at a 257th place, `T0 Memory`.
-    pub(crate) fn reserve_denial(&mut self, table: &TableName) -> Result<(), TopologyFault>
-        ensures { Edits self.old (mark_place_refusal self.old.denied table.now) (lacks_mark_place self.old.denied table.now) (with_denied_place table.now self.old) result self.new }
+    /// `L1 Full` at a 257th place, `L0 Memory`.
+    pub(crate) fn reserve_denial(&mut self, table: &TableName) -> Result<(), DeniedFault>
+        ensures { Edits self.old (mark_place_refusal self.old.denied table.now) (lacks_mark_place self.old.denied table.now) (with_denied_place table.now self.old) (answer_of result) self.new }
     {
-        match self.denied.reserve(table) {
-            Ok(()) => Ok(()),
-            Err(DeniedFault::Full) => Err(TopologyFault::Full),
-            Err(DeniedFault::Memory) => Err(TopologyFault::Memory),
-        }
+        self.denied.reserve(table)
     }
 
     /// Drops the place of a table that isn't there. It takes no memory.
