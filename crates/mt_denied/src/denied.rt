@@ -1,4 +1,4 @@
-//! The list of denied tables.
+//! Tables that are marked or not: the denied tables, and those that are there.
 ghost use Rattle.std.specs.Prelude.{◌≡◌, ◌≤◌, [], true, length, IfOk, IfErr};
 ghost use Rattle.std.specs.List.{IsDistinct};
 ghost use Rattle.std.specs.Map.{keys_of, set_value};
@@ -15,15 +15,17 @@ use std::alloc::Global;
 use std::marker::Model;
 use std::mem;
 
-/// The tables that a keyspace's primary is to refuse, as the denied tables of Vitess's shard record. A table is
-/// reserved before it is denied, so that to deny or to allow it takes no memory: it then has a place, denied or not.
-/// There are at most 256 places.
+/// The tables that a keyspace's primary is to refuse, as the denied tables of Vitess's shard record.
+pub type DeniedTables = TableMarks;
+
+/// Tables, each marked or not. A table is reserved before it is marked, so that to mark it takes no memory: it then has
+/// a place, marked or not. There are at most 256 places.
 #[derive(Drop)]
-pub struct DeniedTables {
+pub struct TableMarks {
     places: IndexMap<TableName, bool>,
 }
 
-impl Model for DeniedTables {
+impl Model for TableMarks {
     ghost use Rattle.std.specs.Prelude.{◌≤◌, length};
     ghost use Rattle.std.specs.List.{IsDistinct};
     ghost use Rattle.std.specs.Map.{keys_of};
@@ -38,14 +40,32 @@ impl Model for DeniedTables {
     ghost invariant = { λ denied. IsDistinct same_text (keys_of denied.places.entries) × (length denied.places.entries ≤ most_tables_in_keyspace) };
 }
 
-impl DeniedTables {
+impl TableMarks {
     /// No table is denied, and none has a place.
     pub fn new(alloc: Global) -> Self
         ensures { result ≡ [] }
     {
-        DeniedTables {
+        TableMarks {
             places: IndexMap::new(alloc),
         }
+    }
+
+    /// These places.
+    pub fn from_places(places: IndexMap<TableName, bool>) -> Self
+        requires distinct { IsDistinct same_text (keys_of places.entries) }
+        requires few { length places.entries ≤ most_tables_in_keyspace }
+        ensures { result ≡ places.entries }
+    {
+        TableMarks { places }
+    }
+
+    /// The places, each with its mark.
+    pub fn places(&self) -> &IndexMap<TableName, bool>
+        ensures places { result.now.entries ≡ self.now }
+        ensures within { length result.now.entries ≤ most_tables_in_keyspace }
+        ensures distinct { IsDistinct same_text (keys_of result.now.entries) }
+    {
+        &self.places
     }
 
     /// What is true of every denied list, for a caller's proof: there are at most 256 places, and no name has two. It does

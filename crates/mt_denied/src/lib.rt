@@ -4,5 +4,5 @@
 mod denied;
 mod fault;
 
-pub use denied::DeniedTables;
+pub use denied::{DeniedTables, TableMarks};
 pub use fault::DeniedFault;

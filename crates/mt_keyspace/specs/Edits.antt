@@ -7,6 +7,8 @@ use Rattle.mt_model.specs.declared.faults.TopologyFault.{TopologyFault}
 use Rattle.mt_model.specs.declared.faults.TopologyFault.TheVariants.{Memory, NoKeyspace, Exists, Full}
 use Rattle.mt_model.specs.Limits.{most_keyspaces, most_tables_in_keyspace}
 use Rattle.mt_model.specs.Topology.{Keyspaces, KeyspaceState, is_marked, keyspace_at}
+use Rattle.mt_denied.specs.declared.fault.DeniedFault.{DeniedFault}
+use Rattle.mt_denied.specs.declared.fault.DeniedFault.TheVariants as denied
 use Rattle.mt_keyspace.specs.Room.{lacks_mark_place, mark_place_refusal}
 
 -- what becomes of a value where an edit would make `made` of it, is refused as `refusal` says, and `grows` where it takes
@@ -61,3 +63,9 @@ denied_place_refusal keyspaces keyspace table = refusal_at (λ state. mark_place
 
 abbrev pub denied_place_grows : Keyspaces → List ℕ → List ℕ → Bool
 denied_place_grows keyspaces keyspace table = grows_at (λ state. lacks_mark_place state.denied table) keyspaces keyspace
+
+-- an answer of a list of places, as one of keyspaces (this profile's own)
+abbrev pub answer_of : Result Unit DeniedFault → Result Unit TopologyFault
+answer_of (Ok done) = Ok done
+answer_of (Err denied.Memory) = Err Memory
+answer_of (Err denied.Full) = Err Full

@@ -9,7 +9,7 @@ ghost use Rattle.mt_keyspace.specs.Load.{IsUnlessMemory, answer_with, or_bad_dum
 
 use crate::keyspace::Keyspace;
 use indexmap::IndexMap;
-use mt_denied::DeniedTables;
+use mt_denied::{DeniedTables, TableMarks};
 use mt_model::{MAX_TABLES_IN_KEYSPACE, TopologyFault};
 use mt_names::TableName;
 use std::alloc::Global;
@@ -94,7 +94,7 @@ impl Draft {
     {
         let Draft { tables, denied } = self;
         let denied = denials(alloc, &denied)?;
-        Ok(Keyspace::from_places(tables, denied))
+        Ok(Keyspace::from_places(TableMarks::from_places(tables), denied))
     }
 }
 

@@ -7,41 +7,32 @@ ghost use Rattle.mt_names.specs.Names.{IsTableName, same_text};
 ghost use Rattle.mt_model.specs.Limits.{most_tables_in_keyspace};
 ghost use Rattle.mt_model.specs.Part.{table_routes};
 ghost use Rattle.mt_model.specs.Topology.{is_marked, with_table_mark, with_denied_mark, with_new_table, with_table_place, without_table_place, with_denied_place, without_denied_place};
-ghost use Rattle.mt_keyspace.specs.Edits.{Edits, new_table_refusal, lacks_table_place};
+ghost use Rattle.mt_keyspace.specs.Edits.{Edits, answer_of, new_table_refusal, lacks_table_place};
 ghost use Rattle.mt_keyspace.specs.Room.{has_mark_room, lacking_marks, lacks_mark_place, mark_place_refusal};
 ghost use Rattle.mt_keyspace.specs.Values.{HasSameTexts, texts_value};
 ghost use Rattle.mt_model.specs.Documents.{marked, tables_in_order};
 
 use crate::{routes, write};
-use indexmap::IndexMap;
-use mt_denied::{DeniedFault, DeniedTables};
+use mt_denied::{DeniedFault, DeniedTables, TableMarks};
 use mt_model::{Entry, MAX_TABLES_IN_KEYSPACE, TopologyFault};
 use mt_names::{KeyspaceName, TableName};
 use serde_json::Value;
 use std::alloc::{AllocError, Global};
 use std::marker::Model;
-use std::mem;
 
 /// The tables of a keyspace, each there or not, and those that its primary is to refuse.
 #[derive(Drop)]
 pub struct Keyspace {
-    tables: IndexMap<TableName, bool>,
+    tables: TableMarks,
     denied: DeniedTables,
 }
 
 impl Model for Keyspace {
-    ghost use Rattle.std.specs.Prelude.{◌≤◌, [], length};
-    ghost use Rattle.std.specs.List.{IsDistinct};
-    ghost use Rattle.std.specs.Map.{keys_of};
-    ghost use Rattle.mt_names.specs.Names.{same_text};
-    ghost use Rattle.mt_model.specs.Limits.{most_tables_in_keyspace};
     ghost use Rattle.mt_model.specs.Topology.{KeyspaceState};
 
     ghost Value = { KeyspaceState };
 
-    ghost view = { λ keyspace. record { tables = keyspace.tables.entries; denied = keyspace.denied } };
-
-    ghost invariant = { λ keyspace. IsDistinct same_text (keys_of keyspace.tables.entries) × (length keyspace.tables.entries ≤ most_tables_in_keyspace) };
+    ghost view = { λ keyspace. record { tables = keyspace.tables; denied = keyspace.denied } };
 }
 
 impl Keyspace {
@@ -50,16 +41,14 @@ impl Keyspace {
         ensures { result ≡ record { tables = []; denied = [] } }
     {
         Keyspace {
-            tables: IndexMap::new(alloc),
+            tables: TableMarks::new(alloc),
             denied: DeniedTables::new(alloc),
         }
     }
 
-    /// A keyspace with these places, of which no table has two.
-    pub(crate) fn from_places(tables: IndexMap<TableName, bool>, denied: DeniedTables) -> Self
-        requires distinct { IsDistinct same_text (keys_of tables.entries) }
-        requires few { length tables.entries ≤ most_tables_in_keyspace }
-        ensures { result ≡ record { tables = tables.entries; denied = denied } }
+    /// A keyspace with these places.
+    pub(crate) fn from_places(tables: TableMarks, denied: DeniedTables) -> Self
+        ensures { result ≡ record { tables = tables; denied = denied } }
     {
         Keyspace { tables, denied }
     }
@@ -70,14 +59,14 @@ impl Keyspace {
         ensures tables { IsDistinct same_text (keys_of self.now.tables) }
         ensures few { length self.now.tables ≤ most_tables_in_keyspace }
     {
-        let _tables = &self.tables;
+        self.tables.facts();
     }
 
     /// Whether the keyspace has a table.
     pub(crate) fn is_present(&self, table: &TableName) -> bool
         ensures { result ≡ is_marked self.now.tables table.now }
     {
-        self.tables.get(table) == Some(&true)
+        self.tables.contains(table)
     }
 
     /// Whether the keyspace's primary is to refuse a table.
@@ -98,7 +87,7 @@ impl Keyspace {
     pub(crate) fn has_place(&self, table: &TableName) -> bool
         ensures { result ≡ is_some (lookup (same_text table.now) self.now.tables) }
     {
-        self.tables.contains_key(table)
+        self.tables.has_place(table)
     }
 
     /// Says of a table that has a place whether it is there, and answers what was said before. It takes no memory.
@@ -107,10 +96,7 @@ impl Keyspace {
         ensures before { result ≡ is_marked self.old.tables table.now }
         ensures after { self.new ≡ with_table_mark table.now is_present self.old }
     {
-        match self.tables.get_mut(table) {
-            Some(mark) => mem::replace(mark, is_present),
-            None => false,
-        }
+        self.tables.set(table, is_present)
     }
 
     /// Says of a table whose denial has a place whether it is denied, and answers what was said before. It takes no
@@ -127,52 +113,37 @@ impl Keyspace {
     pub fn has_room_for_tables(&self, tables: &[TableName]) -> bool
         ensures { result ≡ has_mark_room self.now.tables tables.now }
     {
-        lacking_tables(&self.tables, tables) <= MAX_TABLES_IN_KEYSPACE - self.tables.len()
+        lacking(&self.tables, tables) <= MAX_TABLES_IN_KEYSPACE - self.tables.len()
     }
 
     /// Whether there is room for the places that denials of tables lack.
     pub fn has_room_for_denials(&self, tables: &[TableName]) -> bool
         ensures { result ≡ has_mark_room self.now.denied tables.now }
     {
-        lacking_denials(&self.denied, tables) <= MAX_TABLES_IN_KEYSPACE - self.denied.len()
+        lacking(&self.denied, tables) <= MAX_TABLES_IN_KEYSPACE - self.denied.len()
     }
 
-    /// Makes a place for a table, which isn't there by it. Where the table has one nothing changes. `T5 Full` at a 257th
-    /// place, `T0 Memory`.
-    pub(crate) fn reserve_table(&mut self, table: &TableName) -> Result<(), TopologyFault>
-        ensures { Edits self.old (mark_place_refusal self.old.tables table.now) (lacks_mark_place self.old.tables table.now) (with_table_place table.now self.old) result self.new }
+    /// Makes a place for a table, which isn't there by it. Where the table has one nothing changes. `L1 Full` at a 257th
+    /// place, `L0 Memory`.
+    pub(crate) fn reserve_table(&mut self, table: &TableName) -> Result<(), DeniedFault>
+        ensures { Edits self.old (mark_place_refusal self.old.tables table.now) (lacks_mark_place self.old.tables table.now) (with_table_place table.now self.old) (answer_of result) self.new }
     {
-        if self.has_place(table) {
-            return Ok(());
-        }
-        if self.is_full_for(table) {
-            return Err(TopologyFault::Full);
-        }
-        match self.tables.insert(table.copied(), false) {
-            Ok(_) => Ok(()),
-            Err(_) => Err(TopologyFault::Memory),
-        }
+        self.tables.reserve(table)
     }
 
     /// Makes a place for the denial of a table, which isn't denied by it. Where the denial has one nothing changes.
-    /// `T5 Full` at a 257th place, `T0 Memory`.
-    pub(crate) fn reserve_denial(&mut self, table: &TableName) -> Result<(), TopologyFault>
-        ensures { Edits self.old (mark_place_refusal self.old.denied table.now) (lacks_mark_place self.old.denied table.now) (with_denied_place table.now self.old) result self.new }
+    /// `L1 Full` at a 257th place, `L0 Memory`.
+    pub(crate) fn reserve_denial(&mut self, table: &TableName) -> Result<(), DeniedFault>
+        ensures { Edits self.old (mark_place_refusal self.old.denied table.now) (lacks_mark_place self.old.denied table.now) (with_denied_place table.now self.old) (answer_of result) self.new }
     {
-        match self.denied.reserve(table) {
-            Ok(()) => Ok(()),
-            Err(DeniedFault::Full) => Err(TopologyFault::Full),
-            Err(DeniedFault::Memory) => Err(TopologyFault::Memory),
-        }
+        self.denied.reserve(table)
     }
 
     /// Drops the place of a table that isn't there. It takes no memory.
     pub(crate) fn release_table(&mut self, table: &TableName)
         ensures { self.new ≡ without_table_place table.now self.old }
     {
-        if !self.is_present(table) {
-            self.tables.shift_remove(table);
-        }
+        self.tables.release(table);
     }
 
     /// Drops the place of a denial that isn't there. It takes no memory.
@@ -187,21 +158,14 @@ impl Keyspace {
         ensures value { result ≡ length (marked self.now.tables) }
         ensures within { result ≤ most_tables_in_keyspace }
     {
-        routes::table_count(&self.tables)
+        routes::table_count(self.tables.places())
     }
 
     /// The entry of a table that is there, by its index among those.
     pub(crate) fn table_entry(&self, name: &KeyspaceName, index: usize) -> Option<Entry>
         ensures { result ≡ slice_get (table_routes (name.now, self.now)) index }
     {
-        routes::table_entry(name, &self.tables, index)
-    }
-
-    /// Whether a table lacks a place, and there are as many as there may be.
-    fn is_full_for(&self, table: &TableName) -> bool
-        ensures { result ≡ (lacks_table_place self.now table.now && (length self.now.tables == most_tables_in_keyspace)) }
-    {
-        !self.tables.contains_key(table) && self.tables.len() == MAX_TABLES_IN_KEYSPACE
+        routes::table_entry(name, self.tables.places(), index)
     }
 
     /// The tables that are there, as the value of a list in the order of their names.
@@ -209,7 +173,7 @@ impl Keyspace {
         ensures value { IfOk result (λ list. view list ≡ texts_value (tables_in_order self.now)) }
         ensures named { OnOk result (AllByRecursion IsTableName (tables_in_order self.now)) }
     {
-        write::value_of_tables(alloc, &self.tables)
+        write::value_of_tables(alloc, self.tables.places())
     }
 
     /// The denied tables, in the order of their names.
@@ -233,32 +197,23 @@ impl Keyspace {
         if self.is_present(table) {
             return Err(TopologyFault::Exists);
         }
-        if self.is_full_for(table) {
-            return Err(TopologyFault::Full);
-        }
-        match self.tables.insert(table.copied(), true) {
-            Ok(_) => Ok(()),
-            Err(_) => Err(TopologyFault::Memory),
+        match self.tables.reserve(table) {
+            Ok(()) => {
+                self.tables.set(table, true);
+                Ok(())
+            }
+            Err(DeniedFault::Full) => Err(TopologyFault::Full),
+            Err(DeniedFault::Memory) => Err(TopologyFault::Memory),
         }
     }
 }
 
 /// How many of some tables lack a place.
-fn lacking_tables(places: &IndexMap<TableName, bool>, tables: &[TableName]) -> usize
-    ensures { result ≡ lacking_marks places.now.entries tables.now }
+fn lacking(places: &TableMarks, tables: &[TableName]) -> usize
+    ensures { result ≡ lacking_marks places.now tables.now }
 {
     tables
         .iter()
-        .filter(|table| !places.contains_key(*table))
-        .count()
-}
-
-/// How many denials of some tables lack a place.
-fn lacking_denials(denied: &DeniedTables, tables: &[TableName]) -> usize
-    ensures { result ≡ lacking_marks denied.now tables.now }
-{
-    tables
-        .iter()
-        .filter(|table| !denied.has_place(table))
+        .filter(|table| !places.has_place(table))
         .count()
 }

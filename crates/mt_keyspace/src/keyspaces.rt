@@ -10,7 +10,7 @@ ghost use Rattle.mt_model.specs.Documents.{keyspaces_in_order};
 ghost use Rattle.mt_model.specs.Limits.{most_keyspaces, most_tables_in_keyspace};
 ghost use Rattle.mt_model.specs.Part.{table_routes};
 ghost use Rattle.mt_model.specs.Topology.{holders, is_denied, is_present, keyspace_at, sole_holder, with_denied_mark, with_denied_place, with_keyspace_state, with_new_table, with_table_mark, with_table_place, without_denied_place, without_table_place};
-ghost use Rattle.mt_keyspace.specs.Edits.{Edits, add_keyspace_refusal, add_table_grows, add_table_refusal, denied_place_grows, denied_place_refusal, table_place_grows, table_place_refusal};
+ghost use Rattle.mt_keyspace.specs.Edits.{Edits, add_keyspace_refusal, add_table_grows, add_table_refusal, answer_of, denied_place_grows, denied_place_refusal, table_place_grows, table_place_refusal};
 ghost use Rattle.mt_keyspace.specs.Keyspaces.{AreKeyspaces};
 ghost use Rattle.mt_keyspace.specs.Values.{IsDenialText, IsNamedKeyspace, keyspace_value, texts_value};
 ghost use Rattle.mt_keyspace.specs.Written.{denied_in_order};
@@ -18,6 +18,7 @@ ghost use Rattle.mt_keyspace.specs.Written.{denied_in_order};
 use crate::keyspace::Keyspace;
 use crate::write::{denials_by_text, keyspaces_by_name};
 use indexmap::IndexMap;
+use mt_denied::DeniedFault;
 use mt_model::{Entry, MAX_KEYSPACES, TopologyFault};
 use mt_names::{KeyspaceName, RuleTarget, TableName};
 use mt_rules::list_of_values;
@@ -194,34 +195,36 @@ impl Keyspaces {
         keyspace.add_table(table)
     }
 
-    /// Makes a place for a table in a keyspace. Where the table has one nothing changes. `T1 NoKeyspace`, `T5 Full` at a 257th
-    /// place of the keyspace, `T0 Memory`; each leaves all as it was.
+    /// Makes a place for a table in a keyspace that is there. Where the table has one nothing changes. `L1 Full` at a 257th
+    /// place of the keyspace, `L0 Memory`; both leave all as it was.
     pub fn reserve_table(
         &mut self,
         keyspace: &KeyspaceName,
         table: &TableName,
-    ) -> Result<(), TopologyFault>
+    ) -> Result<(), DeniedFault>
+        requires { is_some (keyspace_at self.old keyspace.now) ≡ true }
         ensures { Edits self.old (table_place_refusal self.old keyspace.now table.now) (table_place_grows self.old keyspace.now table.now)
-            (with_keyspace_state (with_table_place table.now) self.old keyspace.now) result self.new }
+            (with_keyspace_state (with_table_place table.now) self.old keyspace.now) (answer_of result) self.new }
     {
         let Some(keyspace) = self.places.get_mut(keyspace) else {
-            return Err(TopologyFault::NoKeyspace);
+            unreachable!();
         };
         keyspace.reserve_table(table)
     }
 
-    /// Makes a place for the denial of a table in a keyspace. Where the denial has one nothing changes. `T1 NoKeyspace`,
-    /// `T5 Full` at a 257th place of the keyspace, `T0 Memory`; each leaves all as it was.
+    /// Makes a place for the denial of a table in a keyspace that is there. Where the denial has one nothing changes.
+    /// `L1 Full` at a 257th place of the keyspace, `L0 Memory`; both leave all as it was.
     pub fn reserve_denial(
         &mut self,
         keyspace: &KeyspaceName,
         table: &TableName,
-    ) -> Result<(), TopologyFault>
+    ) -> Result<(), DeniedFault>
+        requires { is_some (keyspace_at self.old keyspace.now) ≡ true }
         ensures { Edits self.old (denied_place_refusal self.old keyspace.now table.now) (denied_place_grows self.old keyspace.now table.now)
-            (with_keyspace_state (with_denied_place table.now) self.old keyspace.now) result self.new }
+            (with_keyspace_state (with_denied_place table.now) self.old keyspace.now) (answer_of result) self.new }
     {
         let Some(keyspace) = self.places.get_mut(keyspace) else {
-            return Err(TopologyFault::NoKeyspace);
+            unreachable!();
         };
         keyspace.reserve_denial(table)
     }

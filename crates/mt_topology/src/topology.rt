@@ -8,11 +8,12 @@ ghost use Rattle.mt_keyspace.specs.Load.{IsUnlessMemory};
 ghost use Rattle.mt_topology.specs.Dump.{topology_of_text};
 ghost use Rattle.mt_topology.specs.Says.{HasDeniedTables, Says};
 ghost use Rattle.mt_model.specs.Documents.{dump_text};
-ghost use Rattle.mt_keyspace.specs.Edits.{Edits, add_keyspace_refusal, add_table_grows, add_table_refusal};
+ghost use Rattle.mt_keyspace.specs.Edits.{Edits, add_keyspace_refusal, add_table_grows, add_table_refusal, answer_of};
 ghost use Rattle.mt_topology.specs.Edits.{edit_rule_grows, edit_rule_refusal};
 
 use crate::rules::{put_rule, reserve_rule, rule_for, take_rule};
 use crate::{load, room, routes, write};
+use mt_denied::DeniedFault;
 use mt_keyspace::Keyspaces;
 use mt_model::{Entry, EntryKey, TopologyFault, table_part_keys};
 use mt_names::{KeyspaceName, RuleKey, RuleTarget, TableName, TabletType};
@@ -393,14 +394,19 @@ impl Topology {
         }
     }
 
-    /// Makes the place of a key. Where the key has one nothing changes. `T1 NoKeyspace`, `T5 Full`, `T0 Memory`.
+    /// Makes the place of a key, for which there is room. Where the key has one nothing changes. `T0 Memory`.
     fn make_place(&mut self, key: &EntryKey) -> Result<(), TopologyFault>
+        requires { place_refusal self.old key.now ≡ None }
         ensures { Edits self.old (place_refusal self.old key.now) (place_grows self.old key.now) (with_place self.old key.now) result self.new }
     {
         match key {
             EntryKey::Rule(key) => reserve_rule(&mut self.rules, key),
-            EntryKey::Denied(keyspace, table) => self.keyspaces.reserve_denial(keyspace, table),
-            EntryKey::Present(keyspace, table) => self.keyspaces.reserve_table(keyspace, table),
+            EntryKey::Denied(keyspace, table) => {
+                topology_answer(self.keyspaces.reserve_denial(keyspace, table))
+            }
+            EntryKey::Present(keyspace, table) => {
+                topology_answer(self.keyspaces.reserve_table(keyspace, table))
+            }
         }
     }
 
@@ -435,5 +441,16 @@ impl Topology {
                 self.keyspaces.release_table(keyspace, table);
             }
         }
+    }
+}
+
+/// The answer of a keyspace's list of places as one of the topology.
+fn topology_answer(answer: Result<(), DeniedFault>) -> Result<(), TopologyFault>
+    ensures { result ≡ answer_of answer }
+{
+    match answer {
+        Ok(()) => Ok(()),
+        Err(DeniedFault::Memory) => Err(TopologyFault::Memory),
+        Err(DeniedFault::Full) => Err(TopologyFault::Full),
     }
 }

@@ -3,8 +3,8 @@ use Rattle.std.proofs.Common.{◌≡◌, ◌<◌, false, length, subst, sym, ◌
 use Rattle.mt_model.specs.Limits.{most_tables_in_keyspace}
 use Rattle.mt_denied.specs.Denied.{Reserves, has_mark_place}
 use Rattle.mt_denied.proofs.DeniedLemmas.{insert_entry-place}
-use Rattle.mt_denied.proofs.denied.DeniedTables.reserve.Goals as goal
-use Rattle.mt_denied.proofs.denied.DeniedTables.reserve.Goals.{in-Ok, in-Err}
+use Rattle.mt_denied.proofs.denied.TableMarks.reserve.Goals as goal
+use Rattle.mt_denied.proofs.denied.TableMarks.reserve.Goals.{in-Ok, in-Err}
 
 pub returns : goal.returns
 returns c =

@@ -4,7 +4,7 @@ use Rattle.std.specs.List.{IsDistinct}
 use Rattle.std.specs.Map.{keys_of}
 use Rattle.mt_names.specs.Names.{same_text}
 use Rattle.mt_denied.proofs.DeniedLemmas.{members, sorted_members}
-use Rattle.mt_denied.proofs.denied.DeniedTables.sorted.Goals as goal
+use Rattle.mt_denied.proofs.denied.TableMarks.sorted.Goals as goal
 
 pub returns-clause-members : goal.returns-clause-members
 returns-clause-members c =
