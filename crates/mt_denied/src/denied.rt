@@ -41,7 +41,7 @@ impl Model for TableMarks {
 }
 
 impl TableMarks {
-    /// No table is denied, and none has a place.
+    /// No table has a place.
     pub fn new(alloc: Global) -> Self
         ensures { result ≡ [] }
     {
@@ -50,7 +50,7 @@ impl TableMarks {
         }
     }
 
-    /// These places.
+    /// A map's places, as they are.
     pub fn from_places(places: IndexMap<TableName, bool>) -> Self
         requires distinct { IsDistinct same_text (keys_of places.entries) }
         requires few { length places.entries ≤ most_tables_in_keyspace }
@@ -68,7 +68,7 @@ impl TableMarks {
         &self.places
     }
 
-    /// What is true of every denied list, for a caller's proof: there are at most 256 places, and no name has two. It does
+    /// What is true of all such marks, for a caller's proof: there are at most 256 places, and no name has two. It does
     /// nothing.
     pub fn facts(&self)
         ensures within { length self.now ≤ most_tables_in_keyspace }
@@ -85,7 +85,7 @@ impl TableMarks {
         self.places.len()
     }
 
-    /// Whether a table is denied. It takes no memory.
+    /// Whether a table is marked. It takes no memory.
     pub fn contains(&self, table: &TableName) -> bool
         ensures { result ≡ is_marked self.now table.now }
     {
@@ -99,8 +99,8 @@ impl TableMarks {
         self.places.contains_key(table)
     }
 
-    /// Makes a place for a table, which isn't denied by it. Where the table has one nothing changes. `L1 Full` at a
-    /// 257th place, `L0 Memory`; both leave all as it was.
+    /// Makes a place for a table, which isn't marked by it. If the table has one nothing changes. `L1 Full` at a 257th
+    /// place, `L0 Memory`; both leave all as it was.
     pub fn reserve(&mut self, table: &TableName) -> Result<(), DeniedFault>
         ensures { Reserves self.old table.now result self.new }
     {
@@ -116,7 +116,7 @@ impl TableMarks {
         }
     }
 
-    /// Says of a reserved table whether it is denied, and answers what stood before. It takes no memory.
+    /// Says of a reserved table whether it is marked, and answers what stood before. It takes no memory.
     pub fn set(&mut self, table: &TableName, is_denied: bool) -> bool
         requires { has_mark_place self.old table.now ≡ true }
         ensures before { result ≡ is_marked self.old table.now }
@@ -128,7 +128,7 @@ impl TableMarks {
         }
     }
 
-    /// Drops the place of a table that isn't denied. Where it is denied nothing changes. It takes no memory.
+    /// Drops the place of a table that isn't marked. If it is marked nothing changes. It takes no memory.
     pub fn release(&mut self, table: &TableName)
         ensures { self.new ≡ without_mark_place self.old table.now }
     {
@@ -137,7 +137,7 @@ impl TableMarks {
         }
     }
 
-    /// The denied tables in the order of their bytes, each once. `L0 Memory`.
+    /// The marked tables in the order of their bytes, each once. `L0 Memory`.
     pub fn sorted(&self, alloc: Global) -> Result<Vec<TableName>, DeniedFault>
         ensures members { IfOk result (λ names. AreMembersInOrder self.now names.items) }
         ensures memory { IfErr result (λ fault. fault ≡ DeniedFault.Memory) }

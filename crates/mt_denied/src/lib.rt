@@ -1,4 +1,4 @@
-//! Denied lists: the tables that a keyspace's primary is to refuse.
+//! Tables that are marked or not; of the denied lists they are the tables that a keyspace's primary is to refuse.
 #![tactic(auto)]
 
 mod denied;
