@@ -1,0 +1,20 @@
+-- What a primary answers to a write, in the words for events (this profile's own).
+use Rattle.std.specs.Prelude.{ℕ, Result, Ok, Err}
+use Rattle.mt_model.specs.declared.faults.PrimaryFault.{PrimaryFault}
+use Rattle.mt_model.specs.declared.faults.PrimaryFault.TheVariants as primary
+use Rattle.mt_plain.specs.Events.{Refusal, memory, no_table, denied, row_exists, no_row, full, too_long, Answer, done, refused}
+
+-- a primary's refusal
+abbrev pub refusal_by : PrimaryFault → Refusal
+refusal_by primary.Memory = memory
+refusal_by primary.NoTable = no_table
+refusal_by primary.Denied = denied
+refusal_by primary.RowExists = row_exists
+refusal_by primary.NoRow = no_row
+refusal_by primary.TooLong = too_long
+refusal_by primary.LogFull = full
+
+-- a write that is done, or refused
+abbrev pub answer_by : Result ℕ PrimaryFault → Answer
+answer_by (Ok position) = done
+answer_by (Err fault) = refused (refusal_by fault)

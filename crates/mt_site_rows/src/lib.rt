@@ -1,0 +1,11 @@
+//! Laws on primaries that stand for the rows and logs of a state of the definitions: each event leaves primaries that stand
+//! for those of the next state, whatever workflows are live.
+#![tactic(auto)]
+
+mod opening;
+mod stays;
+mod writes;
+
+pub use opening::the_opening_has_no_rows;
+pub use stays::events_that_change_no_row_keep_rows_and_logs;
+pub use writes::a_write_keeps_rows_and_logs;
