@@ -1,3 +1,4 @@
 pub mod KeepLemmas
 pub mod KnownLemmas
+pub mod StreamLemmas
 pub mod WriteLemmas

@@ -3,9 +3,11 @@ use Rattle.std.specs.Prelude.{◌≡◌, ◌≢◌, ℕ, Bool, true, List, ◌++
 use Rattle.mt_model.specs.declared.rows.RowChange.{RowChange}
 use Rattle.mt_plain.specs.Plain.{Live, LogEntry, Plain, Write, live_at, moves, number_of, owner}
 use Rattle.mt_plain.specs.Serve.{has_table}
-use Rattle.mt_plain.specs.Slots.{log_of}
+use Rattle.mt_plain.specs.Events.{StreamName, Slot}
+use Rattle.mt_plain.specs.Slots.{log_of, slot_of}
 use Rattle.mt_plain.specs.Writes.{row_of, writes_to}
 use Rattle.mt_primary.specs.Primary.{PrimaryState, empty_primary, row_at}
+use Rattle.mt_stream.specs.Streams.{StreamValue}
 
 -- the primaries of keyspaces, by the keyspaces' names
 abbrev pub Primaries : Type 0
@@ -45,3 +47,15 @@ pub record RowsStand (p : Plain) (at : Primaries) : Type 0 where
 -- all primaries but that of one keyspace are as they were
 abbrev pub OthersStay : (keyspace : List ℕ) → (old new : Primaries) → Type 0
 OthersStay keyspace old new = (other : List ℕ) → keyspace ≢ other → new other ≡ old other
+
+-- a stream of a workflow: it has the workflow's tables and copied range, and the position and the state of its slot
+abbrev pub stream_of : Live → Slot → StreamValue
+stream_of w slot = record { tables = w.tables; copied = w.copied; position = slot.position; state = slot.state }
+
+-- a stream is that of a live workflow
+pub record IsStreamOf (p : Plain) (name : List ℕ) (stream : StreamName) (value : StreamValue) : Type 0 where
+  pub live : Live
+  pub slot : Slot
+  pub found : live_at p name ≡ Some live
+  pub there : slot_of live stream ≡ Some slot
+  pub is : value ≡ stream_of live slot
