@@ -205,7 +205,7 @@ module _ (p q : Plain) (known : Known p) (known_q : Known q) (alike : IsAlike p 
 
 -- ---- a next state by what stays of its workflows
 
-owner_by_switched : (w v : Live) → HasSides w v → v.switched ≡ w.switched → owner v ≡ owner w
+pub owner_by_switched : (w v : Live) → HasSides w v → v.switched ≡ w.switched → owner v ≡ owner w
 owner_by_switched w v same e =
     ap (λ (t : TypeSet). cond t.primary v.target v.source) e ∙ ap (λ x. cond w.switched.primary x v.source) (sym same.target) ∙ ap (λ x. cond w.switched.primary w.target x) (sym same.source)
 

@@ -1,3 +1,5 @@
+pub mod AdvanceLemmas
+pub mod FeedLemmas
 pub mod KeepLemmas
 pub mod KnownLemmas
 pub mod StreamLemmas
