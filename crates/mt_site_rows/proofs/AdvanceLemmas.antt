@@ -1,10 +1,10 @@
 -- An advance that is done: what stands behind it.
-use Rattle.std.proofs.Common.{◌≡◌, ◌≢◌, ℕ, zero, suc, ◌+◌, ◌-◌, ◌≤◌, ◌⊎◌, Bool, true, false, not, cond, eqb, List, [], ◌∷◌, ◌++◌, drop, take, filter, length, Option, None, Some, refl, sym, ap, ◌∙◌, subst, arith, inl, inr, ⊎_elim, map, append-nil}
+use Rattle.std.proofs.Common.{◌≡◌, ◌≢◌, ℕ, ◌+◌, ◌≤◌, ◌⊎◌, Bool, true, false, not, cond, List, [], ◌∷◌, ◌++◌, drop, take, filter, length, Option, None, Some, refl, sym, ap, ◌∙◌, subst, arith, inl, inr, ⊎_elim, map, append-nil}
 use Rattle.std.proofs.lemmas.Bool.{true≢false, or_right}
-use Rattle.std.proofs.lemmas.List.{append_assoc, drop-map, drop_all, length-append, length-drop, length-map, map-append, take-append-drop, take-map}
+use Rattle.std.proofs.lemmas.List.{append_assoc, drop-map, drop_all, length-drop, length-map, map-append, take-append-drop, take-map}
 use Rattle.std.proofs.lemmas.List.Elements.{filter-append}
 use Rattle.std.proofs.lemmas.List.Sums.{fold-append, length-filter}
-use Rattle.std.specs.List.{AllByRecursion, count_by, find, fold, list_any}
+use Rattle.std.specs.List.{count_by, find, fold, list_any}
 use Rattle.std.specs.Option.{option_map, option_map_or}
 use Rattle.std.specs.Prelude.{◌&&◌, ◌||◌}
 use Rattle.mt_names.specs.Names.{same_text}
@@ -16,11 +16,11 @@ use Rattle.mt_primary.specs.Primary as primary_words
 use Rattle.mt_primary.specs.Writes.{RowPut, put_of, row_after_put}
 use Rattle.mt_plain.specs.Events.{StreamName, forward, back, running, Slot}
 use Rattle.mt_plain.specs.Next.{with_advance}
-use Rattle.mt_plain.specs.Plain.{Live, LogEntry, Plain, among, is_side, live_at, mover, moves, number_of, owner}
+use Rattle.mt_plain.specs.Plain.{Live, LogEntry, Plain, Write, is_side, live_at, mover, moves, number_of, owner}
 use Rattle.mt_plain.specs.Serve.{has_table}
 use Rattle.mt_plain.specs.Slots.{copied_after, entry_of_row, is_fresh, live_advanced, log_of, logged, read_side, running_at, slot_of, written_side}
 use Rattle.mt_plain.specs.Slots as plain
-use Rattle.mt_plain.specs.Writes.{client_number, client_row, in_range, is_copied, other_row, row_after_write, row_after_writes, row_by_mover, row_of, writes_to}
+use Rattle.mt_plain.specs.Writes.{client_row, in_range, is_copied, other_row, row_after_write, row_after_writes, row_by_mover, row_of, writes_to}
 use Rattle.mt_stream.specs.Advance.{applies, places, puts_of, rows_left, stream_after, to_copy}
 use Rattle.mt_stream.specs.Follows.{FollowsSource, row_at_position}
 use Rattle.mt_stream.specs.Puts.{PutsMade, changes_by}
@@ -29,9 +29,9 @@ use Rattle.mt_laws.specs.Advances.{IsAfterAdvance, advanced_live}
 use Rattle.mt_laws.specs.Changes.{HasSides}
 use Rattle.mt_laws.specs.Pending.{pending}
 use Rattle.mt_site_rows.specs.Rows.{IsPending, IsStreamOf, OthersStay, Primaries, RowsStand, entry_at, is_moved, stream_of, write_of}
-use Rattle.mt_site_rows.proofs.FeedLemmas.{AllMoved, all_append, all_take, applied_logged, applied_moved, changes_logged, copied_same, drop_more, fold_passed, fold_read, fold_untouched, left_moved, moved_entries, none_moved, same_end, slot_goes, take_more, take_none, take_passing}
+use Rattle.mt_site_rows.proofs.FeedLemmas.{AllMoved, all_append, all_take, applied_logged, applied_moved, changes_logged, copied_same, drop_more, fold_passed, fold_read, fold_untouched, left_moved, moved_entries, moved_to, none_moved, same_end, slot_goes, take_more, take_none, take_passing}
 use Rattle.mt_site_rows.proofs.KeepLemmas.{owner_by_switched}
-use Rattle.mt_site_rows.proofs.KnownLemmas.{Known, client_at_side, differs, itself, owner_is_side, row_at_other, row_at_owner, row_elsewhere, row_free, same_or, some_is}
+use Rattle.mt_site_rows.proofs.KnownLemmas.{Known, differs, itself, row_at_other, row_at_owner, row_elsewhere, row_free, same_or, some_is}
 use Rattle.mt_site_rows.proofs.StreamLemmas.{copy_places, has_at_side, past_is, reads_owner, source_row}
 
 -- what the laws say of the streams of a state that a run reaches
@@ -105,6 +105,9 @@ module _ (p : Plain) (known : Known p) (streams : KnownStreams p) (old new : Pri
   module _ (after : IsAfterAdvance p q name w stream slot.position at_most events rows) (puts : PutsMade sink (puts_of value source events rows) (new to)) where
     adv_w : adv w ≡ w'
     adv_w = ap (λ b. cond b w' w) (ap (λ n. same_text n name) (streams.named name w live) ∙ itself name)
+
+    live_now : live_at q name ≡ Some w'
+    live_now = after.live name ∙ ap (option_map adv) live ∙ ap Some adv_w
 
     sides : HasSides w w'
     sides = subst (HasSides w) adv_w (after.sides w)
@@ -242,6 +245,12 @@ module _ (p : Plain) (known : Known p) (streams : KnownStreams p) (old new : Pri
 
     -- ---- rows at the side that is written
 
+    copied_is : w'.copied ≡ copied_after w.copied read (places (to_copy value source read)) rows at_most
+    copied_is =
+        ap (λ es. copied_after w.copied es (plain.to_copy p w es) rows at_most) (sym entries_are)
+        ∙ copied_same w.copied from read (plain.to_copy p w (map (entry_at from) read)) rows at_most
+        ∙ ap (λ l. copied_after w.copied read l rows at_most) (sym (copy_places p known streams.reads old stands name w live stream slot there is runs left_is read))
+
     module _ (t : List ℕ) (moved : moves w t ≡ true) (key : ℕ) where
       sink_row : row_at sink t key ≡ other_row p w t key
       sink_row =
@@ -251,10 +260,7 @@ module _ (p : Plain) (known : Known p) (streams : KnownStreams p) (old new : Pri
       range_is : is_copied w' t key ≡ in_range w.tables (copied_after w.copied read (places (to_copy value source read)) rows at_most) t key
       range_is =
           ap (λ ts. in_range ts w'.copied t key) (sym sides.tables)
-          ∙ ap (λ c. in_range w.tables c t key)
-          (ap (λ es. copied_after w.copied es (plain.to_copy p w es) rows at_most) (sym entries_are)
-          ∙ copied_same w.copied from read (plain.to_copy p w (map (entry_at from) read)) rows at_most
-          ∙ ap (λ l. copied_after w.copied read l rows at_most) (sym (copy_places p known streams.reads old stands name w live stream slot there is runs left_is read)))
+          ∙ ap (λ c. in_range w.tables c t key) copied_is
 
       other_now : other_row q w' t key
           ≡ cond (in_range w.tables (copied_after w.copied read (places (to_copy value source read)) rows at_most) t key) (row_after_writes (take (w.fed + more) (writes_to p w)) (number_of p w.source t) key) None
@@ -352,3 +358,113 @@ module _ (p : Plain) (known : Known p) (streams : KnownStreams p) (old new : Pri
           by false outside =
               ap (λ b. cond b (row_at_position source (slot.position + events) t key) None) outside
               ∙ ap (λ b. cond b (row_after_writes (take w'.fed (writes_to q w')) (number_of q w'.source t) key) None) (sym outside)
+
+    -- ---- all of it
+
+    module _ (at_sink : (t : List ℕ) → moves w t ≡ true → (key : ℕ) → row_at (new to) t key ≡ other_row q w' t key) (live_q : live_at q name ≡ Some w') where
+      row_now : (k t : List ℕ) → has_table q k t ≡ true → (key : ℕ) → row_at (new k) t key ≡ row_of q k t key
+      row_now k t here key = by (moves w t) refl
+        where
+          before : row_at (old k) t key ≡ row_of p k t key
+          before = stands.rows k t (sym (after.present k t) ∙ here) key
+
+          written : moves w t ≡ true → row_at (new to) t key ≡ row_of q to t key
+          written moved =
+              at_sink t moved key
+              ∙ sym (row_at_other q to t w' (found_now t moved) key (side_same to ∙ written_is_side w stream) (λ e. apart (owns ∙ sym owner_same ∙ sym e)))
+
+          by : (b : Bool) → moves w t ≡ b → row_at (new k) t key ≡ row_of q k t key
+          by true moved = ⊎_elim
+              (λ (e : to ≡ k). subst (λ x. row_at (new x) t key ≡ row_of q x t key) e (written moved))
+              (λ (other : to ≢ k). ap (λ s. row_at s t key) (others k other) ∙ before ∙ sym (at_owner k t key moved other))
+              (same_or to k)
+          by false none = other_table k t key none ∙ before ∙ sym (unmoved k t key none)
+
+      w_pending : IsPending q w' (new (owner w')).log
+      w_pending = subst (λ (x : PrimaryState). IsPending q w' x.log) (sym (ap new (owner_same ∙ sym owns) ∙ others from (λ e. apart (sym e))))
+          (record {
+            before = was.before ++ take more was.left;
+            left = drop more was.left;
+            entries =
+                ap (λ ts. filter (λ (c : RowChange). list_any (λ n. same_text n c.table) ts) source.log) (sym sides.tables) ∙ was.entries
+                ∙ ap (λ l. was.before ++ l) (sym (take-append-drop more was.left)) ∙ sym (append_assoc was.before (take more was.left) (drop more was.left));
+            writes =
+                ap (λ s. map (λ (c : RowChange). let x : Write = record { table = number_of p s c.table; key = c.key; after = c.after } in x) (drop more was.left)) (sym sides.source)
+                ∙ sym (drop-map (write_of p w) more was.left) ∙ ap (drop more) was.writes ∙ drop_more w.fed more (writes_to p w) ∙ ap (drop (w.fed + more)) (sym all_same);
+          })
+
+      other_pending : (n : List ℕ) (v : Live) → live_at p n ≡ Some v → n ≢ name → adv v ≡ v → IsPending q v (new (owner v)).log
+      other_pending n v found other stays = ⊎_elim
+          (λ (e : to ≡ owner v). subst (λ x. IsPending p v (old x).log → IsPending q v (new x).log) e at_sink_log (stands.pending n v found))
+          (λ (e : to ≢ owner v). subst (λ (x : PrimaryState). IsPending q v x.log) (sym (others (owner v) e)) (same (stands.pending n v found)))
+          (same_or to (owner v))
+        where
+          writes_same : writes_to p v ≡ writes_to q v
+          writes_same = sym (ap (writes_to q) (sym stays) ∙ after.all_writes v)
+
+          same : {log : List RowChange} → IsPending p v log → IsPending q v log
+          same pend = record { before = pend.before; left = pend.left; entries = pend.entries; writes = pend.writes ∙ ap (drop v.fed) writes_same }
+
+          tables_apart : (t : List ℕ) → moves w t ≡ true → moves v t ≡ false
+          tables_apart t moved = by (moves v t) refl
+            where
+              by : (b : Bool) → moves v t ≡ b → moves v t ≡ false
+              by false e = e
+              by true e =
+                  let one : v ≡ w = some_is v w (sym (known.found n v found t e) ∙ known.found name w live t moved) in
+                  absurd (other (sym (streams.named n v found) ∙ ap (λ (u : Live). u.name) one ∙ streams.named name w live))
+
+          at_sink_log : IsPending p v sink.log → IsPending q v (new to).log
+          at_sink_log pend = record {
+            before = pend.before;
+            left = pend.left;
+            entries =
+                ap (filter (is_moved v)) puts.log ∙ filter-append (is_moved v) sink.log (changes_by (row_at sink) (puts_of value source events rows))
+                ∙ ap (λ l. filter (is_moved v) sink.log ++ l) (none_moved w v tables_apart (row_at sink) (puts_of value source events rows) puts_moved)
+                ∙ append-nil (filter (is_moved v) sink.log) ∙ pend.entries;
+            writes = pend.writes ∙ ap (drop v.fed) writes_same;
+          }
+
+      pending_now : (n : List ℕ) (u : Live) → live_at q n ≡ Some u → IsPending q u (new (owner u)).log
+      pending_now n u found = by (live_at p n) refl
+        where
+          of : (v : Live) → live_at p n ≡ Some v → (n ≡ name) ⊎ (n ≢ name) → IsPending q (adv v) (new (owner (adv v))).log
+          of v was_found (inl e) =
+              let one : v ≡ w = some_is v w (sym was_found ∙ ap (live_at p) e ∙ live) in
+              subst (λ x. IsPending q x (new (owner x)).log) (sym (ap adv one ∙ adv_w)) w_pending
+          of v was_found (inr e) =
+              let stays : adv v ≡ v =
+              ap (λ b. cond b (live_advanced p v stream slot.position at_most events rows) v) (differs v.name name (λ h. e (sym (streams.named n v was_found) ∙ h))) in
+              subst (λ x. IsPending q x (new (owner x)).log) (sym stays) (other_pending n v was_found e stays)
+
+          by : (o : Option Live) → live_at p n ≡ o → IsPending q u (new (owner u)).log
+          by None none = absurd (let h : Some u ≡ None = sym found ∙ after.live n ∙ ap (option_map adv) none in cc)
+          by (Some v) was_found =
+              let one : u ≡ adv v = some_is u (adv v) (sym found ∙ after.live n ∙ ap (option_map adv) was_found) in
+              subst (λ x. IsPending q x (new (owner x)).log) (sym one) (of v was_found (same_or n name))
+
+      pub advanced_stands : RowsStand q new
+      advanced_stands = record { log = log_now; rows = row_now; pending = pending_now }
+
+      pub advanced_stream : IsStreamOf q name stream (stream_after value source at_most events rows)
+      advanced_stream = record {
+        live = w';
+        slot = record { state = slot.state; position = slot.position + events };
+        found = live_q;
+        there = slot_goes w (slot.position + events) (w.fed + more) w'.copied stream ∙ ap (moved_to (slot.position + events)) there;
+        is =
+            ap (λ ts. let x : StreamValue = record { tables = ts; copied = copied_after w.copied read (places (to_copy value source read)) rows at_most; position = slot.position + events; state = slot.state } in x) sides.tables
+            ∙ ap (λ c. let x : StreamValue = record { tables = w'.tables; copied = c; position = slot.position + events; state = slot.state } in x) (sym copied_is);
+      }
+
+    module _ (has : (t : List ℕ) → moves w t ≡ true → primary_words.has_table source t ≡ true) (after_q : KnownStreams q)
+        (follows : FollowsSource value source sink → FollowsSource (stream_after value source at_most events rows) source (new to)) where
+      sink_now : (t : List ℕ) → moves w t ≡ true → (key : ℕ) → row_at (new to) t key ≡ other_row q w' t key
+      sink_now t moved key = by read refl
+        where
+          by : (l : List RowChange) → read ≡ l → row_at (new to) t key ≡ other_row q w' t key
+          by [] e = row_copied_now e has after_q live_now follows t moved key
+          by (c ∷ cs) e = row_read t moved key c cs e
+
+      pub advanced_keeps : RowsStand q new × IsStreamOf q name stream (stream_after value source at_most events rows)
+      advanced_keeps = (advanced_stands sink_now live_now, advanced_stream sink_now live_now)

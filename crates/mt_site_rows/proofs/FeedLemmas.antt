@@ -1,7 +1,7 @@
 -- What an advance puts at the side that its stream writes, in the words of the state: entries, rows and writes.
-use Rattle.std.proofs.Common.{◌≡◌, ◌≢◌, ℕ, zero, suc, ◌+◌, ◌≤◌, Bool, true, false, not, cond, eqb, List, [], ◌∷◌, ◌++◌, drop, take, filter, length, Option, None, Some, refl, sym, ap, ◌∙◌, subst, arith, map, eqb-true}
+use Rattle.std.proofs.Common.{◌≡◌, ℕ, zero, suc, ◌+◌, Bool, true, false, not, cond, eqb, List, [], ◌∷◌, ◌++◌, drop, take, filter, length, Option, None, Some, refl, sym, ap, ◌∙◌, arith, map, eqb-true}
 use Rattle.std.proofs.lemmas.Bool.{true≢false, eq-eqb, eqb-false, and_parts, ne_eqb, or_right}
-use Rattle.std.proofs.lemmas.List.{append_cancel_left, length-append, length-map, take-append-drop}
+use Rattle.std.proofs.lemmas.List.{length-append, take-append-drop}
 use Rattle.std.proofs.lemmas.List.Elements.{filter-append}
 use Rattle.std.proofs.Math.Seq.{drop-append_seam, take-append_seam}
 use Rattle.std.specs.List.{AllByRecursion, flat_map, fold}
@@ -13,8 +13,8 @@ use Rattle.mt_model.specs.declared.rows.RowChange.{RowChange}
 use Rattle.mt_model.specs.Rows.{Row, RowValue}
 use Rattle.mt_primary.specs.Primary.{PrimaryState}
 use Rattle.mt_primary.specs.Writes.{RowPut, put_of, row_after_put}
-use Rattle.mt_plain.specs.Events.{StreamName, forward, back, StreamState, running, stopped, frozen, Slot, Way}
-use Rattle.mt_plain.specs.Plain.{Copied, Live, LogEntry, Plain, Write, among, before_way, changes_primary, create_back, live_at, moves, number_of, start_back, stands_done, stop_feeding}
+use Rattle.mt_plain.specs.Events.{StreamName, forward, back, running, stopped, Slot, Way}
+use Rattle.mt_plain.specs.Plain.{Copied, Live, LogEntry, Plain, among, before_way, changes_primary, create_back, live_at, moves, number_of, start_back, stands_done, stop_feeding}
 use Rattle.mt_plain.specs.Slots.{copied_after, entry_of_row, is_fresh, slot_by_way, slot_of, with_position}
 use Rattle.mt_plain.specs.Slots as plain
 use Rattle.mt_plain.specs.Writes.{client_number, in_range, row_after_write}

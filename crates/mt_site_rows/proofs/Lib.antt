@@ -1,3 +1,4 @@
+pub mod AdvanceKeepLemmas
 pub mod AdvanceLemmas
 pub mod FeedLemmas
 pub mod KeepLemmas

@@ -7,7 +7,7 @@ mod opening;
 mod stays;
 mod writes;
 
-pub use advances::an_advance_answers_as_the_definitions_allow;
+pub use advances::{an_advance_answers_as_the_definitions_allow, an_advance_keeps_rows_and_logs};
 pub use opening::the_opening_has_no_rows;
 pub use stays::events_that_change_no_row_keep_rows_and_logs;
 pub use writes::a_write_keeps_rows_and_logs;
