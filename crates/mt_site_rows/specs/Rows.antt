@@ -1,7 +1,7 @@
 -- Which primaries stand for the rows and logs of a state (this profile's own).
-use Rattle.std.specs.Prelude.{◌≡◌, ◌≢◌, ℕ, Bool, true, List, ◌++◌, drop, filter, map, Some}
+use Rattle.std.specs.Prelude.{◌≡◌, ◌≢◌, ℕ, Bool, true, false, List, ◌++◌, drop, filter, map, Some}
 use Rattle.mt_model.specs.declared.rows.RowChange.{RowChange}
-use Rattle.mt_plain.specs.Plain.{Live, LogEntry, Plain, Write, live_at, moves, number_of, owner}
+use Rattle.mt_plain.specs.Plain.{Live, LogEntry, Plain, Write, among, live_at, moves, number_of, owner}
 use Rattle.mt_plain.specs.Serve.{has_table}
 use Rattle.mt_plain.specs.Events.{StreamName, Slot}
 use Rattle.mt_plain.specs.Slots.{log_of, slot_of}
@@ -47,6 +47,11 @@ pub record RowsStand (p : Plain) (at : Primaries) : Type 0 where
 -- all primaries but that of one keyspace are as they were
 abbrev pub OthersStay : (keyspace : List ℕ) → (old new : Primaries) → Type 0
 OthersStay keyspace old new = (other : List ℕ) → keyspace ≢ other → new other ≡ old other
+
+-- of a primary the log stays, and the rows of all tables but those named
+pub record OtherTablesStay (tables : List (List ℕ)) (old new : PrimaryState) : Type 0 where
+  pub log : new.log ≡ old.log
+  pub rows : (table : List ℕ) → among tables table ≡ false → (key : ℕ) → row_at new table key ≡ row_at old table key
 
 -- a stream of a workflow: it has the workflow's tables and copied range, and the position and the state of its slot
 abbrev pub stream_of : Live → Slot → StreamValue
