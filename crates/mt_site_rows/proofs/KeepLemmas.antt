@@ -1,0 +1,289 @@
+-- Events that change no row and no log: those by hand, and those that change the way of a workflow.
+use Rattle.std.proofs.Common.{◌≡◌, ◌≢◌, ℕ, ◌-◌, ◌⊎◌, Bool, true, false, not, cond, eqb, List, [], ◌∷◌, ◌++◌, drop, take, filter, length, map, Option, None, Some, refl, sym, ap, ◌∙◌, subst, arith, inl, inr, ⊎_elim, append-nil}
+use Rattle.std.proofs.lemmas.List.{drop_all}
+use Rattle.std.specs.List.{list_any}
+use Rattle.std.specs.Map.{lookup}
+use Rattle.std.specs.Option.{option_map_or}
+use Rattle.std.specs.Prelude.{◌&&◌, ◌||◌, is_some, unwrap_or}
+use Rattle.mt_names.specs.Names.{same_text}
+use Rattle.mt_names.specs.Same.{same_target}
+use Rattle.mt_model.specs.declared.rows.RowChange.{RowChange}
+use Rattle.mt_model.specs.Topology.{KeyspaceState, Keyspaces, is_marked, is_present, keyspace_at, with_keyspace}
+use Rattle.mt_names.specs.declared.types.TypeSet.{TypeSet}
+use Rattle.mt_names.proofs.EntryLemmas.{some_from}
+use Rattle.mt_plain.specs.Events.{Way}
+use Rattle.mt_plain.specs.Next.{live_undone, on_way_of, with_live, with_way_to}
+use Rattle.mt_plain.specs.Plain.{Live, LogEntry, Plain, Write, in_keyspace, is_side, live_at, mover, moves, number_of, owner}
+use Rattle.mt_plain.specs.Serve.{has_table}
+use Rattle.mt_plain.specs.Writes.{client_number, client_row, in_range, is_copied, is_write_to, other_row, row_after_writes, row_by_mover, row_of, writes_to}
+use Rattle.mt_laws.specs.Changes.{HasSides}
+use Rattle.mt_laws.specs.Numbers.{Numbers}
+use Rattle.mt_site_rows.specs.Rows.{IsPending, Primaries, RowsStand, is_moved, write_of}
+use Rattle.mt_site_rows.proofs.KnownLemmas.{Known, client_at_side, owner_is_side, row_at_other, row_at_owner, row_elsewhere, row_free, same_or, some_is}
+
+-- the other side is level with the owner: all was fed, and it has the owner's rows
+pub record IsLevel (p : Plain) (w : Live) : Type 0 where
+  pub fed : w.fed ≡ length (writes_to p w)
+  pub rows : (table : List ℕ) → moves w table ≡ true → (key : ℕ) → other_row p w table key ≡ client_row p (owner w) table key
+
+-- a workflow as it was, but for its way and its streams; the owner is the one that it was, or the other side is level
+pub record IsAsBefore (p : Plain) (w v : Live) : Type 0 where
+  pub sides : HasSides w v
+  pub fed : v.fed ≡ w.fed
+  pub copied : v.copied ≡ w.copied
+  pub owners : (owner v ≡ owner w) ⊎ IsLevel p w
+
+abbrev pub Before : Plain → List ℕ → Live → Type 0
+Before p name v = (w : Live) × ((live_at p name ≡ Some w) × IsAsBefore p w v)
+
+-- a next state with the same numbers, writes and logs, and the same workflows but for their ways
+pub record IsAlike (p q : Plain) : Type 0 where
+  pub numbers : q.numbers ≡ p.numbers
+  pub made : q.made ≡ p.made
+  pub writes : q.writes ≡ p.writes
+  pub log : q.log ≡ p.log
+  pub tables : (keyspace table : List ℕ) → has_table q keyspace table ≡ true → has_table p keyspace table ≡ true
+  pub lives : (name : List ℕ) (v : Live) → live_at q name ≡ Some v → Before p name v
+  pub stay : (name : List ℕ) (w : Live) → live_at p name ≡ Some w → (v : Live) × (live_at q name ≡ Some v)
+
+module _ (p q : Plain) (known : Known p) (known_q : Known q) (alike : IsAlike p q) where
+  number_stays : (keyspace table : List ℕ) → number_of q keyspace table ≡ number_of p keyspace table
+  number_stays keyspace table =
+      ap (λ ns. unwrap_or (lookup (same_target (in_keyspace keyspace table)) ns) q.made) alike.numbers
+      ∙ ap (unwrap_or (lookup (same_target (in_keyspace keyspace table)) p.numbers)) alike.made
+
+  moved_before : (w v : Live) → HasSides w v → (table : List ℕ) → moves v table ≡ moves w table
+  moved_before w v same table = ap (λ ts. list_any (λ n. same_text n table) ts) (sym same.tables)
+
+  side_before : (w v : Live) → HasSides w v → (keyspace : List ℕ) → is_side v keyspace ≡ is_side w keyspace
+  side_before w v same keyspace = ap (λ s. same_text s keyspace || same_text v.target keyspace) (sym same.source) ∙ ap (λ s. same_text w.source keyspace || same_text s keyspace) (sym same.target)
+
+  -- the mover of a table is the one that it was
+  moved_by : (table : List ℕ) (v : Live) → mover q table ≡ Some v → (w : Live) × ((mover p table ≡ Some w) × ((live_at p w.name ≡ Some w) × IsAsBefore p w v))
+  moved_by table v found =
+      let live = known_q.moving table v found in
+      let before = alike.lives v.name v live.1 in
+      let m = known.found v.name before.0 before.1.0 table (sym (moved_before before.0 v before.1.1.sides table) ∙ live.0) in
+      (before.0, (m, ((known.moving table before.0 m).1, before.1.1)))
+
+  not_moved : (table : List ℕ) → mover q table ≡ None → mover p table ≡ None
+  not_moved table none = by (mover p table) refl
+    where
+      by : (o : Option Live) → mover p table ≡ o → o ≡ None
+      by None e = refl
+      by (Some w) e =
+          let live = known.moving table w e in
+          let v = alike.stay w.name w live.1 in
+          let before = alike.lives w.name v.0 v.1 in
+          let same : before.0 ≡ w = some_is before.0 w (sym before.1.0 ∙ live.1) in
+          let moved : moves v.0 table ≡ true = moved_before before.0 v.0 before.1.1.sides table ∙ ap (λ u. moves u table) same ∙ live.0 in
+          absurd (let h : None ≡ Some v.0 = sym none ∙ known_q.found w.name v.0 v.1 table moved in cc)
+
+  numbers_same : (keyspace table : List ℕ) → client_number p keyspace table ≡ client_number q keyspace table → (key : ℕ) → client_row q keyspace table key ≡ client_row p keyspace table key
+  numbers_same keyspace table same key = ap (λ ws. row_after_writes ws (client_number q keyspace table) key) alike.writes ∙ ap (λ n. row_after_writes p.writes n key) (sym same)
+
+  all_same : (w v : Live) → HasSides w v → writes_to q v ≡ writes_to p w
+  all_same w v same =
+      ap (filter (is_write_to q v)) alike.writes
+      ∙ by v.source v.tables (sym same.source) (sym same.tables) q.numbers alike.numbers q.made alike.made
+    where
+      by : (source : List ℕ) (tables : List (List ℕ)) → source ≡ w.source → tables ≡ w.tables → (numbers : Numbers) → numbers ≡ p.numbers → (made : ℕ) → made ≡ p.made
+          → filter (λ (x : Write). list_any (λ table. eqb (unwrap_or (lookup (same_target (in_keyspace source table)) numbers) made) x.table) tables) p.writes ≡ writes_to p w
+      by source tables s t numbers n made m = rw (s, t, n, m) refl
+
+  other_same : (w v : Live) → IsAsBefore p w v → (table : List ℕ) (key : ℕ) → other_row q v table key ≡ other_row p w table key
+  other_same w v same table key =
+      ap (λ ws. cond (is_copied v table key) (row_after_writes (take v.fed ws) (number_of q v.source table) key) None) (all_same w v same.sides)
+      ∙ ap (λ n. cond (is_copied v table key) (row_after_writes (take v.fed (writes_to p w)) n key) None) (number_stays v.source table ∙ ap (λ s. number_of p s table) (sym same.sides.source))
+      ∙ ap (λ n. cond (is_copied v table key) (row_after_writes (take n (writes_to p w)) (number_of p w.source table) key) None) same.fed
+      ∙ ap (λ b. cond b (row_after_writes (take w.fed (writes_to p w)) (number_of p w.source table) key) None)
+      (ap (λ ts. in_range ts v.copied table key) (sym same.sides.tables) ∙ ap (λ c. in_range w.tables c table key) same.copied)
+
+  module _ (keyspace table : List ℕ) (key : ℕ) where
+    at_moved : (w v : Live) → mover p table ≡ Some w → mover q table ≡ Some v → IsAsBefore p w v → row_of q keyspace table key ≡ row_of p keyspace table key
+    at_moved w v was found same = by (is_side w keyspace) refl
+      where
+        side_now : (b : Bool) → is_side w keyspace ≡ b → is_side v keyspace ≡ b
+        side_now b e = side_before w v same.sides keyspace ∙ e
+
+        client_side : is_side w keyspace ≡ true → client_row q keyspace table key ≡ client_row p keyspace table key
+        client_side side = numbers_same keyspace table
+            (client_at_side p w table was keyspace side
+            ∙ sym (client_at_side q v table found keyspace (side_now true side) ∙ number_stays v.source table ∙ ap (λ s. number_of p s table) (sym same.sides.source))) key
+
+        client_none : is_side w keyspace ≡ false → client_row q keyspace table key ≡ client_row p keyspace table key
+        client_none none = numbers_same keyspace table
+            (ap (λ o. number_of p (option_map_or (λ (u : Live). cond (is_side u keyspace) u.source keyspace) o keyspace) table) was ∙ ap (λ b. number_of p (cond b w.source keyspace) table) none
+            ∙ sym (ap (λ o. number_of q (option_map_or (λ (u : Live). cond (is_side u keyspace) u.source keyspace) o keyspace) table) found ∙ ap (λ b. number_of q (cond b v.source keyspace) table) (side_now false none)
+            ∙ number_stays keyspace table)) key
+
+        -- at a level side all rows are the clients'
+        level_row : IsLevel p w → is_side w keyspace ≡ true → (b : Bool) → cond b (other_row p w table key) (client_row p keyspace table key) ≡ client_row p keyspace table key
+        level_row level side false = refl
+        level_row level side true =
+            level.rows table (known.moving table w was).0 key
+            ∙ ap (λ n. row_after_writes p.writes n key) (client_at_side p w table was (owner w) (owner_is_side w) ∙ sym (client_at_side p w table was keyspace side))
+
+        same_side : is_side w keyspace ≡ true → (owner v ≡ owner w) ⊎ IsLevel p w → row_of q keyspace table key ≡ row_of p keyspace table key
+        same_side side (inl owns) = ⊎_elim
+            (λ (at : keyspace ≡ owner w). row_at_owner q keyspace table v found key (at ∙ sym owns) ∙ client_side side ∙ sym (row_at_owner p keyspace table w was key at))
+            (λ (other : keyspace ≢ owner w).
+            row_at_other q keyspace table v found key (side_now true side) (λ e. other (e ∙ owns)) ∙ other_same w v same table key ∙ sym (row_at_other p keyspace table w was key side other))
+            (same_or keyspace (owner w))
+        same_side side (inr level) =
+            ap (λ o. row_by_mover q o keyspace table key) found
+            ∙ ap (λ b. cond (b && not (same_text (owner v) keyspace)) (other_row q v table key) (client_row q keyspace table key)) (side_now true side)
+            ∙ ap (λ r. cond (not (same_text (owner v) keyspace)) r (client_row q keyspace table key)) (other_same w v same table key)
+            ∙ ap (λ r. cond (not (same_text (owner v) keyspace)) (other_row p w table key) r) (client_side side)
+            ∙ level_row level side (not (same_text (owner v) keyspace))
+            ∙ sym (level_row level side (not (same_text (owner w) keyspace)))
+            ∙ sym (ap (λ b. cond (b && not (same_text (owner w) keyspace)) (other_row p w table key) (client_row p keyspace table key)) side)
+            ∙ sym (ap (λ o. row_by_mover p o keyspace table key) was)
+
+        by : (b : Bool) → is_side w keyspace ≡ b → row_of q keyspace table key ≡ row_of p keyspace table key
+        by true side = same_side side same.owners
+        by false none = row_elsewhere q keyspace table v found key (side_now false none) ∙ client_none none ∙ sym (row_elsewhere p keyspace table w was key none)
+
+    row_stays : row_of q keyspace table key ≡ row_of p keyspace table key
+    row_stays = by (mover q table) refl
+      where
+        by : (o : Option Live) → mover q table ≡ o → row_of q keyspace table key ≡ row_of p keyspace table key
+        by None none =
+            row_free q keyspace table none key
+            ∙ numbers_same keyspace table
+            (ap (λ o. number_of p (option_map_or (λ (u : Live). cond (is_side u keyspace) u.source keyspace) o keyspace) table) (not_moved table none)
+            ∙ sym (ap (λ o. number_of q (option_map_or (λ (u : Live). cond (is_side u keyspace) u.source keyspace) o keyspace) table) none ∙ number_stays keyspace table)) key
+            ∙ sym (row_free p keyspace table (not_moved table none) key)
+        by (Some v) found = let r = moved_by table v found in at_moved r.0 v r.1.0 found r.1.1.1
+
+  -- what was not fed
+
+  is_moved_same : (w v : Live) → HasSides w v → (log : List RowChange) → filter (is_moved v) log ≡ filter (is_moved w) log
+  is_moved_same w v same log = ap (λ ts. filter (λ (c : RowChange). list_any (λ n. same_text n c.table) ts) log) (sym same.tables)
+
+  write_same : (w v : Live) → HasSides w v → (cs : List RowChange) → map (write_of q v) cs ≡ map (write_of p w) cs
+  write_same w v same cs = by v.source (sym same.source) q.numbers alike.numbers q.made alike.made
+    where
+      by : (source : List ℕ) → source ≡ w.source → (numbers : Numbers) → numbers ≡ p.numbers → (made : ℕ) → made ≡ p.made
+          → map (λ (c : RowChange). let x : Write = record { table = unwrap_or (lookup (same_target (in_keyspace source c.table)) numbers) made; key = c.key; after = c.after } in x) cs ≡ map (write_of p w) cs
+      by source s numbers n made m = rw (s, n, m) refl
+
+  pending_same : (at : Primaries) → RowsStand p at → (name : List ℕ) (v : Live) → live_at q name ≡ Some v → IsPending q v (at (owner v)).log
+  pending_same at stands name v live = by same.owners
+    where
+      w : Live
+      w = (alike.lives name v live).0
+
+      same : IsAsBefore p w v
+      same = (alike.lives name v live).1.1
+
+      left_same : drop w.fed (writes_to p w) ≡ drop v.fed (writes_to q v)
+      left_same = ap (λ n. drop n (writes_to p w)) (sym same.fed) ∙ ap (drop v.fed) (sym (all_same w v same.sides))
+
+      by : (owner v ≡ owner w) ⊎ IsLevel p w → IsPending q v (at (owner v)).log
+      by (inl owns) = subst (λ x. IsPending q v (at x).log) (sym owns)
+          (let was = stands.pending name w (alike.lives name v live).1.0 in
+          record {
+            before = was.before;
+            left = was.left;
+            entries = is_moved_same w v same.sides (at (owner w)).log ∙ was.entries;
+            writes = write_same w v same.sides was.left ∙ was.writes ∙ left_same;
+          })
+      by (inr level) = record {
+        before = filter (is_moved v) (at (owner v)).log;
+        left = [];
+        entries = sym (append-nil (filter (is_moved v) (at (owner v)).log));
+        writes = sym (drop_all w.fed (writes_to p w) (let e = level.fed in omega (arith, e))) ∙ left_same;
+      }
+
+  pub rows_stay : (at : Primaries) → RowsStand p at → RowsStand q at
+  rows_stay at stands = record {
+    log = λ keyspace. stands.log keyspace ∙ ap (filter (λ (e : LogEntry). same_text e.keyspace keyspace)) (sym alike.log);
+    rows = λ keyspace table has key. stands.rows keyspace table (alike.tables keyspace table has) key ∙ sym (row_stays keyspace table key);
+    pending = pending_same at stands;
+  }
+
+-- ---- a next state by what stays of its workflows
+
+pub owner_by_switched : (w v : Live) → HasSides w v → v.switched ≡ w.switched → owner v ≡ owner w
+owner_by_switched w v same e =
+    ap (λ (t : TypeSet). cond t.primary v.target v.source) e ∙ ap (λ x. cond w.switched.primary x v.source) (sym same.target) ∙ ap (λ x. cond w.switched.primary w.target x) (sym same.source)
+
+module _ (p q : Plain) (numbers : q.numbers ≡ p.numbers) (made : q.made ≡ p.made) (writes : q.writes ≡ p.writes) (log : q.log ≡ p.log)
+    (tables : (keyspace table : List ℕ) → has_table q keyspace table ≡ true → has_table p keyspace table ≡ true)
+    (live : (name : List ℕ) → is_some (live_at q name) ≡ is_some (live_at p name))
+    (sides : (name : List ℕ) (w v : Live) → live_at p name ≡ Some w → live_at q name ≡ Some v → HasSides w v)
+    (fed : (name : List ℕ) (w v : Live) → live_at p name ≡ Some w → live_at q name ≡ Some v → v.fed ≡ w.fed)
+    (copied : (name : List ℕ) (w v : Live) → live_at p name ≡ Some w → live_at q name ≡ Some v → v.copied ≡ w.copied) where
+  pub alike_by : ((name : List ℕ) (w v : Live) → live_at p name ≡ Some w → live_at q name ≡ Some v → (owner v ≡ owner w) ⊎ IsLevel p w) → IsAlike p q
+  alike_by owners = record {
+    numbers = numbers;
+    made = made;
+    writes = writes;
+    log = log;
+    tables = tables;
+    lives = λ name v is.
+        let w = some_from (live_at p name) (sym (live name) ∙ ap is_some is) in
+        (w.0, (w.1, record { sides = sides name w.0 v w.1 is; fed = fed name w.0 v w.1 is; copied = copied name w.0 v w.1 is; owners = owners name w.0 v w.1 is }));
+    stay = λ name w is. some_from (live_at q name) (live name ∙ ap is_some is);
+  }
+
+  -- where nothing is switched the owners are the same
+  pub alike_at_rest : ((name : List ℕ) (w v : Live) → live_at p name ≡ Some w → live_at q name ≡ Some v → v.switched ≡ w.switched) → IsAlike p q
+  alike_at_rest switched = alike_by (λ name w v was is. inl (owner_by_switched w v (sides name w v was is) (switched name w v was is)))
+
+-- ---- the tables that are there
+
+any_map : {X : Type 0} (test : X → Bool) (f : X → X) (xs : List X) → ((x : X) → test (f x) ≡ test x) → list_any test (map f xs) ≡ list_any test xs
+any_map test f [] same = refl
+any_map test f (x ∷ xs) same = ap (λ b. b || list_any test (map f xs)) (same x) ∙ ap (λ b. test x || b) (any_map test f xs same)
+
+-- a workflow changes and keeps its sides and tables
+pub any_changed : (lives : List Live) (name : List ℕ) (f : Live → Live) → ((w : Live) → HasSides w (f w)) → (keyspace table : List ℕ)
+    → list_any (λ w. moves w table && same_text w.target keyspace) (with_live f name lives) ≡ list_any (λ w. moves w table && same_text w.target keyspace) lives
+any_changed lives name f same keyspace table =
+    any_map (λ (w : Live). moves w table && same_text w.target keyspace) (λ (w : Live). cond (same_text w.name name) (f w) w) lives
+    (λ w. by w (same_text w.name name))
+  where
+    by : (w : Live) (b : Bool) → (moves (cond b (f w) w) table && same_text (cond b (f w) w).target keyspace) ≡ (moves w table && same_text w.target keyspace)
+    by w true =
+        ap (λ ts. list_any (λ n. same_text n table) ts && same_text (f w).target keyspace) (sym (same w).tables)
+        ∙ ap (λ s. moves w table && same_text s keyspace) (sym (same w).target)
+    by w false = refl
+
+pub there_changed : (p : Plain) (name : List ℕ) (f : Live → Live) → ((w : Live) → HasSides w (f w)) → (keyspace table : List ℕ)
+    → cond (list_any (λ w. moves w table && same_text w.target keyspace) (with_live f name p.lives)) true (is_present p.topology.keyspaces keyspace table) ≡ true → has_table p keyspace table ≡ true
+there_changed p name f same keyspace table h = ap (λ b. cond b true (is_present p.topology.keyspaces keyspace table)) (sym (any_changed p.lives name f same keyspace table)) ∙ h
+
+pub begun_sides : (backward : Bool) (change : TypeSet → TypeSet) (w : Live) → HasSides w (with_way_to backward change w)
+begun_sides backward change w = record { name = refl; source = refl; target = refl; tables = refl }
+
+pub undone_sides : (w : Live) → HasSides w (on_way_of (live_undone w) w)
+undone_sides w = by w.way
+  where
+    left : (way : Way) (b : Bool) → HasSides w (cond b (record w { way = None }) (record w { way = Some (record way { done = way.done - 1; undoing = true }) }))
+    left way true = record { name = refl; source = refl; target = refl; tables = refl }
+    left way false = record { name = refl; source = refl; target = refl; tables = refl }
+
+    by : (o : Option Way) → HasSides w (option_map_or (live_undone w) o w)
+    by None = record { name = refl; source = refl; target = refl; tables = refl }
+    by (Some way) = left way (eqb (way.done - 1) 0)
+
+-- a new keyspace has no tables
+present_pushed : (ks : Keyspaces) (name keyspace table : List ℕ) → is_present (ks ++ (name, record { tables = []; denied = [] }) ∷ []) keyspace table ≡ is_present ks keyspace table
+present_pushed [] name keyspace table = by (same_text keyspace name)
+  where
+    by : (b : Bool) → option_map_or (λ (s : KeyspaceState). is_marked s.tables table) (cond b (Some (record { tables = []; denied = [] })) None) false ≡ false
+    by true = refl
+    by false = refl
+present_pushed (k ∷ ks) name keyspace table = by (same_text keyspace k.0) (present_pushed ks name keyspace table)
+  where
+    by : (b : Bool) → is_present (ks ++ (name, record { tables = []; denied = [] }) ∷ []) keyspace table ≡ is_present ks keyspace table
+        → option_map_or (λ (s : KeyspaceState). is_marked s.tables table) (cond b (Some k.1) (keyspace_at (ks ++ (name, record { tables = []; denied = [] }) ∷ []) keyspace)) false
+        ≡ option_map_or (λ (s : KeyspaceState). is_marked s.tables table) (cond b (Some k.1) (keyspace_at ks keyspace)) false
+    by true again = refl
+    by false again = again
+
+pub there_pushed : (p : Plain) (name keyspace table : List ℕ) → cond (list_any (λ w. moves w table && same_text w.target keyspace) p.lives) true (is_present (with_keyspace p.topology name).keyspaces keyspace table) ≡ true → has_table p keyspace table ≡ true
+there_pushed p name keyspace table h =
+    ap (λ b. cond (list_any (λ w. moves w table && same_text w.target keyspace) p.lives) true b) (sym (present_pushed p.topology.keyspaces name keyspace table)) ∙ h

@@ -1,0 +1,154 @@
+-- What is known of a state that a run reaches, and what it says of rows and of writes.
+use Rattle.std.proofs.Common.{◌≡◌, ◌≢◌, ℕ, ◌≤◌, ◌⊎◌, Bool, true, false, not, cond, eqb, List, [], ◌∷◌, length, map, Option, None, Some, refl, sym, ap, ◌∙◌, subst, inl, inr, eqb-true}
+use Rattle.std.proofs.lemmas.Bool.{true≢false, eq-eqb, and_from, and_parts, or_right}
+use Rattle.std.specs.List.{list_any}
+use Rattle.std.specs.Option.{option_map_or}
+use Rattle.std.specs.Prelude.{◌&&◌, ◌||◌}
+use Rattle.mt_names.specs.Names.{same_text}
+use Rattle.mt_names.proofs.EntryLemmas.{same_itself, same_or_other, apart}
+use Rattle.mt_names.proofs.SameLemmas.{same_text_decides}
+use Rattle.mt_model.specs.Topology.{is_present}
+use Rattle.mt_primary.specs.Primary.{PrimaryState, row_at}
+use Rattle.mt_plain.specs.Plain.{Live, Plain, among, is_side, live_at, mover, moves, number_of, owner}
+use Rattle.mt_plain.specs.Serve.{IsWritable, has_table}
+use Rattle.mt_plain.specs.Writes.{client_number, client_row, other_row, row_by_mover, row_of, writes_to}
+use Rattle.mt_laws.specs.Places.{AreSidesOfMove}
+use Rattle.mt_laws.specs.Reached.{IsInPlace}
+use Rattle.mt_site_rows.specs.Rows.{IsPending, Primaries, RowsStand, entry_at}
+
+-- what the laws say of a state that a run reaches
+pub record Known (p : Plain) : Type 0 where
+  pub found : (name : List ℕ) (w : Live) → live_at p name ≡ Some w → (table : List ℕ) → moves w table ≡ true → mover p table ≡ Some w
+  pub moving : (table : List ℕ) (w : Live) → mover p table ≡ Some w → (moves w table ≡ true) × (live_at p w.name ≡ Some w)
+  pub placed : (name : List ℕ) (w : Live) → live_at p name ≡ Some w → IsInPlace p.topology w
+  pub fed : (name : List ℕ) (w : Live) → live_at p name ≡ Some w → w.fed ≤ length (writes_to p w)
+  pub apart : (k t keyspace table : List ℕ) → has_table p k t ≡ true → has_table p keyspace table ≡ true → client_number p k t ≡ client_number p keyspace table → (t ≡ table) × ((k ≡ keyspace) ⊎ AreSidesOfMove p t k keyspace)
+  pub writable : (table : List ℕ) (w : Live) → mover p table ≡ Some w → (keyspace : List ℕ) → is_side w keyspace ≡ true → IsWritable p keyspace table → keyspace ≡ owner w
+
+pub itself : (k : List ℕ) → same_text k k ≡ true
+itself k = same_itself same_text same_text_decides k
+
+pub differs : (j k : List ℕ) → j ≢ k → same_text j k ≡ false
+differs j k other = apart same_text same_text_decides j k other
+
+pub same_or : (j k : List ℕ) → (j ≡ k) ⊎ (j ≢ k)
+same_or j k = same_or_other same_text same_text_decides j k
+
+pub some_is : {A : Type 0} (a b : A) → Some a ≡ Some b → a ≡ b
+some_is a b e = cc
+
+-- ---- lists
+
+any_some : (test : List ℕ → Bool) (ts : List (List ℕ)) → list_any test ts ≡ true → (t : List ℕ) × ((among ts t ≡ true) × (test t ≡ true))
+any_some test [] e = absurd (true≢false (sym e))
+any_some test (t ∷ ts) e = by (any_some test ts) (test t) refl
+  where
+    by : (list_any test ts ≡ true → (u : List ℕ) × ((among ts u ≡ true) × (test u ≡ true))) → (b : Bool) → test t ≡ b → (u : List ℕ) × ((among (t ∷ ts) u ≡ true) × (test u ≡ true))
+    by again true is = (t, (ap (λ b. b || among ts t) (itself t), is))
+    by again false is = let r = again (sym (ap (λ b. b || list_any test ts) is) ∙ e) in (r.0, (or_right (same_text t r.0) (among ts r.0) r.1.0, r.1.1))
+
+any_of : (test : List ℕ → Bool) (ts : List (List ℕ)) (t : List ℕ) → among ts t ≡ true → test t ≡ true → list_any test ts ≡ true
+any_of test [] t e is = absurd (true≢false (sym e))
+any_of test (u ∷ ts) t e is = by (λ f. any_of test ts t f is) (same_text u t) refl
+  where
+    by : (among ts t ≡ true → list_any test ts ≡ true) → (b : Bool) → same_text u t ≡ b → (test u || list_any test ts) ≡ true
+    by again true same = ap (λ b. b || list_any test ts) (ap test ((same_text_decides u t).0 same) ∙ is)
+    by again false same = or_right (test u) (list_any test ts) (again (sym (ap (λ b. b || among ts t) same) ∙ e))
+
+-- ---- sides
+
+pub owner_is_side : (w : Live) → is_side w (owner w) ≡ true
+owner_is_side w = by w.switched.primary
+  where
+    by : (b : Bool) → is_side w (cond b w.target w.source) ≡ true
+    by true = or_right (same_text w.source w.target) (same_text w.target w.target) (itself w.target)
+    by false = ap (λ b. b || same_text w.target w.source) (itself w.source)
+
+pub source_is_side : (w : Live) → is_side w w.source ≡ true
+source_is_side w = ap (λ b. b || same_text w.target w.source) (itself w.source)
+
+pub client_at_side : (p : Plain) (w : Live) (t : List ℕ) → mover p t ≡ Some w → (k : List ℕ) → is_side w k ≡ true → client_number p k t ≡ number_of p w.source t
+client_at_side p w t found k side =
+    ap (λ o. number_of p (option_map_or (λ (u : Live). cond (is_side u k) u.source k) o k) t) found ∙ ap (λ b. number_of p (cond b w.source k) t) side
+
+-- ---- the row of a table at a keyspace
+
+module _ (p : Plain) (k t : List ℕ) (w : Live) (found : mover p t ≡ Some w) (key : ℕ) where
+  by_w : row_of p k t key ≡ cond (is_side w k && not (same_text (owner w) k)) (other_row p w t key) (client_row p k t key)
+  by_w = ap (λ o. row_by_mover p o k t key) found
+
+  pub row_at_owner : k ≡ owner w → row_of p k t key ≡ client_row p k t key
+  row_at_owner at = by_w ∙ ap (λ b. cond (is_side w k && not b) (other_row p w t key) (client_row p k t key)) (ap (same_text (owner w)) at ∙ itself (owner w)) ∙ by (is_side w k)
+    where
+      by : (b : Bool) → cond (b && false) (other_row p w t key) (client_row p k t key) ≡ client_row p k t key
+      by true = refl
+      by false = refl
+
+  pub row_at_other : is_side w k ≡ true → k ≢ owner w → row_of p k t key ≡ other_row p w t key
+  row_at_other side other =
+      by_w ∙ ap (λ b. cond (b && not (same_text (owner w) k)) (other_row p w t key) (client_row p k t key)) side
+      ∙ ap (λ b. cond (not b) (other_row p w t key) (client_row p k t key)) (differs (owner w) k (λ e. other (sym e)))
+
+  pub row_elsewhere : is_side w k ≡ false → row_of p k t key ≡ client_row p k t key
+  row_elsewhere none = by_w ∙ ap (λ b. cond (b && not (same_text (owner w) k)) (other_row p w t key) (client_row p k t key)) none
+
+pub row_free : (p : Plain) (k t : List ℕ) → mover p t ≡ None → (key : ℕ) → row_of p k t key ≡ client_row p k t key
+row_free p k t none key = ap (λ o. row_by_mover p o k t key) none
+
+-- ---- what is known
+
+module _ (p : Plain) (known : Known p) where
+  -- where a table is writable its clients' row stands
+  pub row_writable : (k t : List ℕ) → IsWritable p k t → (key : ℕ) → row_of p k t key ≡ client_row p k t key
+  row_writable k t writable key = by (mover p t) refl
+    where
+      by_side : (w : Live) → mover p t ≡ Some w → (b : Bool) → is_side w k ≡ b → row_of p k t key ≡ client_row p k t key
+      by_side w found true side = row_at_owner p k t w found key (known.writable t w found k side writable)
+      by_side w found false none = row_elsewhere p k t w found key none
+
+      by : (o : Option Live) → mover p t ≡ o → row_of p k t key ≡ client_row p k t key
+      by None none = row_free p k t none key
+      by (Some w) found = by_side w found (is_side w k) refl
+
+  pub has_at_source : (name : List ℕ) (w : Live) → live_at p name ≡ Some w → (t : List ℕ) → moves w t ≡ true → has_table p w.source t ≡ true
+  has_at_source name w live t moved = by (list_any (λ v. moves v t && same_text v.target w.source) p.lives)
+    where
+      by : (b : Bool) → cond b true (is_present p.topology.keyspaces w.source t) ≡ true
+      by true = refl
+      by false = (known.placed name w live).at_source t moved
+
+  -- a write is one to a workflow's tables if it is of one of them, at one of its sides
+  pub is_to : (name : List ℕ) (w : Live) → live_at p name ≡ Some w → (k t : List ℕ) → has_table p k t ≡ true
+      → list_any (λ table. eqb (number_of p w.source table) (client_number p k t)) w.tables ≡ (moves w t && is_side w k)
+  is_to name w live k t has = by (moves w t && is_side w k) refl
+    where
+      test : List ℕ → Bool
+      test table = eqb (number_of p w.source table) (client_number p k t)
+
+      side_by : (u : List ℕ) → moves w u ≡ true → (w.source ≡ k) ⊎ AreSidesOfMove p u w.source k → is_side w k ≡ true
+      side_by u moved (inl at) = subst (λ x. is_side w x ≡ true) at (source_is_side w)
+      side_by u moved (inr sides) = subst (λ v. is_side v k ≡ true) (some_is sides.live w (sym sides.moving ∙ known.found name w live u moved)) sides.second
+
+      none : (b : Bool) → list_any test w.tables ≡ b → (moves w t && is_side w k) ≡ false → b ≡ false
+      none false e not_so = refl
+      none true e not_so =
+          let r = any_some test w.tables e in
+          let moved : moves w r.0 ≡ true = r.1.0 in
+          let number = client_at_side p w r.0 (known.found name w live r.0 moved) w.source (source_is_side w) in
+          let same = known.apart w.source r.0 k t (has_at_source name w live r.0 moved) has (number ∙ eqb-true (number_of p w.source r.0) (client_number p k t) r.1.1) in
+          absurd (true≢false (sym (and_from (moves w t) (is_side w k) (subst (λ x. moves w x ≡ true) same.0 moved) (side_by r.0 moved same.1)) ∙ not_so))
+
+      by : (b : Bool) → (moves w t && is_side w k) ≡ b → list_any test w.tables ≡ b
+      by true e =
+          let r = and_parts (moves w t) (is_side w k) e in
+          any_of test w.tables t r.0 (eq-eqb (number_of p w.source t) (client_number p k t) (sym (client_at_side p w t (known.found name w live t r.0) k r.1)))
+      by false e = none (list_any test w.tables) refl e
+
+-- ---- the same primaries
+
+pub same_primaries : (p : Plain) (old new : Primaries) → RowsStand p old → ((k : List ℕ) → new k ≡ old k) → RowsStand p new
+same_primaries p old new stands same = record {
+  log = λ k. ap (λ (s : PrimaryState). map (entry_at k) s.log) (same k) ∙ stands.log k;
+  rows = λ k t has key. ap (λ s. row_at s t key) (same k) ∙ stands.rows k t has key;
+  pending = λ name w live. subst (λ (s : PrimaryState). IsPending p w s.log) (sym (same (owner w))) (stands.pending name w live);
+}

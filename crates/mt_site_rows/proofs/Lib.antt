@@ -1,0 +1,9 @@
+pub mod AdvanceKeepLemmas
+pub mod AdvanceLemmas
+pub mod CancelLemmas
+pub mod FeedLemmas
+pub mod KeepLemmas
+pub mod KnownLemmas
+pub mod StepLemmas
+pub mod StreamLemmas
+pub mod WriteLemmas

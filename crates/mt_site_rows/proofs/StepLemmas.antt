@@ -1,0 +1,158 @@
+-- A step of a way: the owner of the tables changes with the journal alone, where the other side is level.
+use Rattle.std.proofs.Common.{◌≡◌, ℕ, suc, ◌⊎◌, Bool, true, false, not, cond, eqb, List, [], ◌∷◌, drop, find, map, Option, None, Some, refl, sym, ap, ◌∙◌, subst, arith, inl, inr, eqb-true, lt-ltb}
+use Rattle.std.proofs.lemmas.Bool.{true≢false, and_from}
+use Rattle.std.proofs.lemmas.List.{drop-map}
+use Rattle.std.specs.List.{list_any}
+use Rattle.std.specs.Option.{option_map, option_map_or}
+use Rattle.std.specs.Prelude.{◌||◌, nat_le, nat_lt}
+use Rattle.mt_names.specs.Names.{same_text}
+use Rattle.mt_names.specs.declared.types.TypeSet.{TypeSet}
+use Rattle.mt_model.specs.declared.rows.RowChange.{RowChange}
+use Rattle.mt_plain.specs.Events.{StreamName, Slot, Way}
+use Rattle.mt_plain.specs.Next.{live_stepped, on_way_of, way_stepped, with_fresh_stream, with_live}
+use Rattle.mt_plain.specs.Plain.{Live, LogEntry, Plain, behind_last, changed_types, changes_primary, create_back, first_step, live_at, moves, next_step, owner, stands_done, write_journal}
+use Rattle.mt_plain.specs.Refuse.{is_behind, new_owner}
+use Rattle.mt_plain.specs.Slots.{log_length, read_side}
+use Rattle.mt_plain.specs.Slots as plain
+use Rattle.mt_stream.specs.Streams.{is_level, past}
+use Rattle.mt_laws.specs.Changes.{HasSides}
+use Rattle.mt_laws.specs.Reached.{IsOnCourse}
+use Rattle.mt_site_rows.specs.Rows.{Primaries, RowsStand, entry_at, stream_of}
+use Rattle.mt_site_rows.proofs.KeepLemmas.{IsLevel}
+use Rattle.mt_site_rows.proofs.KnownLemmas.{itself, some_is}
+
+-- ---- what a step leaves
+
+module _ (p : Plain) (w : Live) where
+  fresh_sides : (way : Way) → HasSides w (with_fresh_stream w way)
+  fresh_sides way = by (not (changes_primary way)) way.back
+    where
+      by : (a b : Bool) → HasSides w (cond a w (cond b (record w { forward_at = w.fresh_at }) (record w { back_at = w.fresh_at })))
+      by true b = record { name = refl; source = refl; target = refl; tables = refl }
+      by false true = record { name = refl; source = refl; target = refl; tables = refl }
+      by false false = record { name = refl; source = refl; target = refl; tables = refl }
+
+  way_sides : (way : Way) → HasSides w (way_stepped w way)
+  way_sides way = by (eqb (suc (next_step way)) (behind_last way))
+    where
+      by : (b : Bool) → HasSides w (cond b (record (with_fresh_stream w way) { switched = way.after; way = None }) (record w { way = Some (record way { done = suc way.done }) }))
+      by true = let s = fresh_sides way in record { name = s.name; source = s.source; target = s.target; tables = s.tables }
+      by false = record { name = refl; source = refl; target = refl; tables = refl }
+
+  stepped_by : (way : Way) (a b : Bool) → HasSides w (cond a (record (way_stepped w way) { fresh_at = log_length p (new_owner w) }) (cond b (record (way_stepped w way) { switched = way.after }) (way_stepped w way)))
+  stepped_by way true b = let s = way_sides way in record { name = s.name; source = s.source; target = s.target; tables = s.tables }
+  stepped_by way false true = let s = way_sides way in record { name = s.name; source = s.source; target = s.target; tables = s.tables }
+  stepped_by way false false = way_sides way
+
+  pub stepped_sides : HasSides w (on_way_of (live_stepped p w) w)
+  stepped_sides = by w.way
+    where
+      by : (o : Option Way) → HasSides w (option_map_or (live_stepped p w) o w)
+      by None = record { name = refl; source = refl; target = refl; tables = refl }
+      by (Some way) = stepped_by way (eqb (next_step way) create_back) (eqb (next_step way) write_journal)
+
+  -- ---- the owner
+
+  module _ (way : Way) (course : IsOnCourse w way) where
+    closed_primary : eqb (suc (next_step way)) (behind_last way) ≡ true → way.after.primary ≡ w.switched.primary
+    closed_primary last = by (changes_primary way) refl
+      where
+        first_low : nat_le (first_step way) write_journal ≡ true
+        first_low = low ((changed_types way).replica || (changed_types way).rdonly)
+          where
+            low : (b : Bool) → nat_le (cond b 0 1) 6 ≡ true
+            low true = refl
+            low false = refl
+
+        at_last : changes_primary way ≡ true → suc (next_step way) ≡ 12
+        at_last c = eqb-true (suc (next_step way)) (behind_last way) last ∙ ap (λ b. cond b 12 1) c
+
+        no_change : (a b : Bool) → cond a (not b) b ≡ false → b ≡ a
+        no_change true true e = refl
+        no_change true false e = absurd (true≢false e)
+        no_change false true e = absurd (true≢false e)
+        no_change false false e = refl
+
+        by : (c : Bool) → changes_primary way ≡ c → way.after.primary ≡ w.switched.primary
+        by true c =
+            let l = at_last c in
+            let journal : stands_done way write_journal ≡ true = and_from (nat_le (first_step way) write_journal) (nat_lt write_journal (next_step way)) first_low (lt-ltb 6 (next_step way) (omega (arith, l))) in
+            sym (ap (λ (t : TypeSet). t.primary) (course.after journal))
+        by false c = no_change way.before.primary way.after.primary c ∙ sym (ap (λ (t : TypeSet). t.primary) (course.before (no_journal (stands_done way write_journal) refl)))
+          where
+            no_journal : (b : Bool) → stands_done way write_journal ≡ b → stands_done way write_journal ≡ false
+            no_journal false e = e
+            no_journal true e = absurd (true≢false (sym (course.journals e) ∙ c))
+
+    way_primary : (way_stepped w way).switched.primary ≡ w.switched.primary
+    way_primary = by (eqb (suc (next_step way)) (behind_last way)) refl
+      where
+        by : (b : Bool) → eqb (suc (next_step way)) (behind_last way) ≡ b
+            → (cond (eqb (suc (next_step way)) (behind_last way)) (record (with_fresh_stream w way) { switched = way.after; way = None }) (record w { way = Some (record way { done = suc way.done }) })).switched.primary ≡ w.switched.primary
+        by true e = ap (λ b. (cond b (record (with_fresh_stream w way) { switched = way.after; way = None }) (record w { way = Some (record way { done = suc way.done }) })).switched.primary) e ∙ closed_primary e
+        by false e = ap (λ b. (cond b (record (with_fresh_stream w way) { switched = way.after; way = None }) (record w { way = Some (record way { done = suc way.done }) })).switched.primary) e
+
+    pub stepped_primary : eqb (next_step way) write_journal ≡ false → (live_stepped p w way).switched.primary ≡ w.switched.primary
+    stepped_primary other =
+        ap (λ b. (cond (eqb (next_step way) create_back) (record (way_stepped w way) { fresh_at = log_length p (new_owner w) }) (cond b (record (way_stepped w way) { switched = way.after }) (way_stepped w way))).switched.primary) other
+        ∙ by (eqb (next_step way) create_back)
+      where
+        by : (a : Bool) → (cond a (record (way_stepped w way) { fresh_at = log_length p (new_owner w) }) (way_stepped w way)).switched.primary ≡ w.switched.primary
+        by true = way_primary
+        by false = way_primary
+
+owner_by_primary : (w v : Live) → HasSides w v → v.switched.primary ≡ w.switched.primary → owner v ≡ owner w
+owner_by_primary w v same e =
+    ap (λ b. cond b v.target v.source) e ∙ ap (λ x. cond w.switched.primary x v.source) (sym same.target) ∙ ap (λ x. cond w.switched.primary w.target x) (sym same.source)
+
+-- ---- the workflow of a name
+
+find_changed : (test : Live → Bool) (f : Live → Live) (ws : List Live) → ((w : Live) → test (f w) ≡ test w) → find test (map f ws) ≡ option_map f (find test ws)
+find_changed test f [] same = refl
+find_changed test f (w ∷ ws) same = ap (λ b. cond b (Some (f w)) (find test (map f ws))) (same w) ∙ by (test w) (find_changed test f ws same)
+  where
+    by : (t : Bool) → find test (map f ws) ≡ option_map f (find test ws) → cond t (Some (f w)) (find test (map f ws)) ≡ option_map f (cond t (Some w) (find test ws))
+    by true again = refl
+    by false again = again
+
+pub live_changed : (lives : List Live) (name : List ℕ) (f : Live → Live) → ((w : Live) → HasSides w (f w)) → (other : List ℕ)
+    → find (λ w. same_text w.name other) (with_live f name lives) ≡ option_map (λ w. cond (same_text w.name name) (f w) w) (find (λ w. same_text w.name other) lives)
+live_changed lives name f same other =
+    find_changed (λ (w : Live). same_text w.name other) (λ (w : Live). cond (same_text w.name name) (f w) w) lives (λ w. by w (same_text w.name name))
+  where
+    by : (w : Live) (b : Bool) → same_text (cond b (f w) w).name other ≡ same_text w.name other
+    by w true = ap (λ n. same_text n other) (sym (same w).name)
+    by w false = refl
+
+pub step_owner : (p : Plain) (w v : Live) (named : (n : List ℕ) → live_at p n ≡ Some w → w.name ≡ n) (name : List ℕ) → live_at p name ≡ Some w
+    → find (λ u. same_text u.name name) (with_live (λ u. on_way_of (live_stepped p u) u) name p.lives) ≡ Some v
+    → ((way : Way) → w.way ≡ Some way → IsOnCourse w way) → ((way : Way) → w.way ≡ Some way → next_step way ≡ write_journal → IsLevel p w) → (owner v ≡ owner w) ⊎ IsLevel p w
+step_owner p w v named name live now course level = subst (λ x. (owner x ≡ owner w) ⊎ IsLevel p w) (sym v_is) (by w.way refl)
+  where
+    v_is : v ≡ on_way_of (live_stepped p w) w
+    v_is =
+        some_is v (cond (same_text w.name name) (on_way_of (live_stepped p w) w) w)
+        (sym now ∙ live_changed p.lives name (λ u. on_way_of (live_stepped p u) u) (stepped_sides p) name ∙ ap (option_map (λ u. cond (same_text u.name name) (on_way_of (live_stepped p u) u) u)) live)
+        ∙ ap (λ b. cond b (on_way_of (live_stepped p w) w) w) (ap (λ n. same_text n name) (named name live) ∙ itself name)
+
+    on : (way : Way) → w.way ≡ Some way → (b : Bool) → eqb (next_step way) write_journal ≡ b → (owner (live_stepped p w way) ≡ owner w) ⊎ IsLevel p w
+    on way is true e = inr (level way is (eqb-true (next_step way) write_journal e))
+    on way is false e = inl (owner_by_primary w (live_stepped p w way) (stepped_by p w way (eqb (next_step way) create_back) (eqb (next_step way) write_journal)) (stepped_primary p w way (course way is) e))
+
+    by : (o : Option Way) → w.way ≡ o → (owner (option_map_or (live_stepped p w) w.way w) ≡ owner w) ⊎ IsLevel p w
+    by None e = inl (ap (λ o. owner (option_map_or (live_stepped p w) o w)) e)
+    by (Some way) e = subst (λ o. (owner (option_map_or (live_stepped p w) o w) ≡ owner w) ⊎ IsLevel p w) (sym e) (on way e (eqb (next_step way) write_journal) refl)
+
+-- ---- a stream that is level
+
+any_moved : (w : Live) (k : List ℕ) (cs : List RowChange) → list_any (λ e. moves w e.table) (map (entry_at k) cs) ≡ list_any (λ c. moves w c.table) cs
+any_moved w k [] = refl
+any_moved w k (c ∷ cs) = ap (λ b. moves w c.table || b) (any_moved w k cs)
+
+pub level_by : (p : Plain) (at : Primaries) → RowsStand p at → (w : Live) (stream : StreamName) (slot : Slot) → is_behind p w ≡ list_any (λ e. moves w e.table) (plain.past p w stream slot.position)
+    → is_level (stream_of w slot) (at (read_side w stream)) ≡ not (is_behind p w)
+level_by p at stands w stream slot behind =
+    ap not
+    (sym (any_moved w (read_side w stream) (past (stream_of w slot) (at (read_side w stream))))
+    ∙ ap (list_any (λ (e : LogEntry). moves w e.table)) (sym (drop-map (entry_at (read_side w stream)) slot.position (at (read_side w stream)).log) ∙ ap (drop slot.position) (stands.log (read_side w stream)))
+    ∙ sym behind)

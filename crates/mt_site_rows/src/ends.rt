@@ -1,0 +1,31 @@
+//! Laws on the end of a workflow.
+ghost use Rattle.std.specs.Prelude.{◌≡◌, ℕ, List, Some};
+ghost use Rattle.mt_laws.specs.WayBack.{IsReached};
+ghost use Rattle.mt_plain.specs.Answers.{Answers};
+ghost use Rattle.mt_plain.specs.Events.{cancel, done};
+ghost use Rattle.mt_plain.specs.Next.{next};
+ghost use Rattle.mt_plain.specs.Plain.{Live, Plain, live_at};
+ghost use Rattle.mt_site_rows.specs.Rows.{OtherTablesStay, OthersStay, Primaries, RowsStand};
+
+use mt_laws::{
+    a_live_workflow_is_found_by_its_part, each_next_state_is_reached,
+    each_table_has_a_number_of_its_own, live_workflows_stand_in_place,
+    only_named_events_change_a_workflow, the_owner_alone_serves_the_primary,
+    what_was_fed_stays_fed,
+};
+
+/// Behind a Cancel the primaries stand for the rows and logs of the next state, whatever became of the workflow's tables at
+/// the target's primary, if its log and its other tables' rows stay, and the other primaries.
+pub fn a_cancel_keeps_rows_and_logs()
+    ensures { (p : Plain) → IsReached p → (old new : Primaries) → RowsStand p old → (name : List ℕ) (w : Live) → live_at p name ≡ Some w
+        → Answers p (cancel name) done → OthersStay w.target old new → OtherTablesStay w.tables (old w.target) (new w.target)
+        → RowsStand (next p (cancel name) done) new }
+{
+    a_live_workflow_is_found_by_its_part();
+    live_workflows_stand_in_place();
+    what_was_fed_stays_fed();
+    each_table_has_a_number_of_its_own();
+    the_owner_alone_serves_the_primary();
+    each_next_state_is_reached();
+    only_named_events_change_a_workflow();
+}
