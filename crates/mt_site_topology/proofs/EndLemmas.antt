@@ -126,7 +126,7 @@ module _ (u : TopologyState) (w : Live) (apart : w.source ≢ w.target) (there :
   abbrev without_source : Keyspaces
   without_source = with_keyspace_state (without_tables w.tables) u.keyspaces w.source
 
-  rule_ended : (key : RuleKey) → rule_at (completed u w).rules key ≡ cond (has_part w (about.Rule key)) None (rule_at u.rules key)
+  pub rule_ended : (key : RuleKey) → rule_at (completed u w).rules key ≡ cond (has_part w (about.Rule key)) None (rule_at u.rules key)
   rule_ended key =
       ap (λ o. unwrap_or o None) (removed_all same_key same_key_decides (rule_keys w) u.rules key distinct.rules)
       ∙ ap (λ b. unwrap_or (cond b None (lookup (same_key key) u.rules)) None) (listed_rules w key) ∙ by (has_part w (about.Rule key))

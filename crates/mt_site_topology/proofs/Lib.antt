@@ -5,6 +5,7 @@ pub mod CompleteLemmas
 pub mod CreateLemmas
 pub mod EndLemmas
 pub mod HandLemmas
+pub mod KeptLemmas
 pub mod KeyLemmas
 pub mod PartLemmas
 pub mod PlaceLemmas

@@ -6,6 +6,7 @@ mod by_hand;
 mod completing;
 mod creating;
 mod entries;
+mod kept;
 mod rows;
 mod ways;
 
@@ -15,5 +16,6 @@ pub use creating::{
     a_create_taken_back_leaves_the_topology, cancel_writes_what_was_kept, create_writes_the_part,
 };
 pub use entries::entries_are_written_each_at_its_key;
+pub use kept::{the_empty_topology_stands_for_the_opening, what_is_kept_stays_what_stood};
 pub use rows::what_changes_no_entry_leaves_the_topology;
 pub use ways::{a_way_that_begins_leaves_the_topology, steps_and_undos_write_what_is_theirs};
