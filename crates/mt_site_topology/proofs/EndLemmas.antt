@@ -20,6 +20,7 @@ use Rattle.mt_plain.specs.Next.{completed, with_tables, without_tables}
 use Rattle.mt_plain.specs.Plain.{Live, among, has_part, is_side, moves, rule_keys}
 use Rattle.mt_site_topology.specs.Keys.{end_entry, end_keys, keys_of_part, lists, same_about}
 use Rattle.mt_site_topology.proofs.KeyLemmas.{listed_part, listed_rules}
+use Rattle.mt_site_topology.proofs.WriteLemmas.{merged}
 
 -- ---- the keys
 
@@ -74,11 +75,6 @@ end_keyed target (about.Denied k n) = refl
 end_keyed target (about.Present k n) = refl
 
 -- ---- lists of keys removed, and of tables made
-
-merged : {A : Type 0} (a b : Bool) (x y : A) → cond b x (cond a x y) ≡ cond (a || b) x y
-merged true true x y = refl
-merged true false x y = refl
-merged false b x y = refl
 
 module _ {K V : Type 0} (same : K → K → Bool) (decides : DecidesEquality same) where
   removed_one : (es : List (K × V)) (k j : K) → IsDistinct same (keys_of es) → lookup (same j) (remove_entry (same k) es) ≡ cond (same k j) None (lookup (same j) es)

@@ -15,7 +15,7 @@ pub use completing::complete_writes_the_end;
 pub use creating::{
     a_create_taken_back_leaves_the_topology, cancel_writes_what_was_kept, create_writes_the_part,
 };
-pub use entries::entries_are_written_each_at_its_key;
+pub use entries::{entries_are_written_each_at_its_key, what_is_written_has_a_place};
 pub use kept::{the_empty_topology_stands_for_the_opening, what_is_kept_stays_what_stood};
 pub use rows::what_changes_no_entry_leaves_the_topology;
 pub use ways::{a_way_that_begins_leaves_the_topology, steps_and_undos_write_what_is_theirs};
