@@ -4,6 +4,7 @@
 
 mod by_hand;
 mod completing;
+mod counts;
 mod creating;
 mod entries;
 mod kept;
@@ -12,6 +13,9 @@ mod ways;
 
 pub use by_hand::edits_by_hand_are_made_in_the_topology;
 pub use completing::complete_writes_the_end;
+pub use counts::{
+    places_are_as_many_as_the_definitions_count, tables_are_as_many_as_the_definitions_count,
+};
 pub use creating::{
     a_create_taken_back_leaves_the_topology, cancel_writes_what_was_kept, create_writes_the_part,
 };
