@@ -38,7 +38,7 @@ held_by p rules tables denials allowed (about.Present keyspace table) = tables k
 
 -- ---- a workflow less
 
-gone : (name : List ℕ) (ws : List Live) → find (λ w. same_text w.name name) (without_live name ws) ≡ None
+pub gone : (name : List ℕ) (ws : List Live) → find (λ w. same_text w.name name) (without_live name ws) ≡ None
 gone name [] = refl
 gone name (w ∷ ws) = by (gone name ws) (same_text w.name name) refl
   where

@@ -1,6 +1,7 @@
 -- Complete: the end is written over the part and the source's tables, and places that hold nothing are dropped.
-use Rattle.std.proofs.Common.{◌≡◌, ◌≢◌, ℕ, Bool, true, false, not, cond, ◌&&◌, ◌||◌, List, Option, None, Some, is_some, refl, sym, ap, ◌∙◌}
+use Rattle.std.proofs.Common.{All, slice_index_or, ◌≡◌, ◌≢◌, ℕ, Bool, true, false, not, cond, ◌&&◌, ◌||◌, List, Option, None, Some, is_some, refl, sym, ap, ◌∙◌}
 use Rattle.std.proofs.Math.Bool.{and-false, and-true}
+use Rattle.std.proofs.lemmas.List.Elements.{All-contains_itself}
 use Rattle.std.proofs.lemmas.Bool.{and_from, and_parts, or_right}
 use Rattle.std.specs.Option.{option_map_or}
 use Rattle.mt_names.specs.Names.{same_text}
@@ -15,11 +16,11 @@ use Rattle.mt_plain.specs.Next.{completed, with_tables, without_live, without_ta
 use Rattle.mt_plain.specs.Plain.{Live, Plain, has_part, is_side, live_at, mover, moves, part_owner}
 use Rattle.mt_plain.specs.Serve.{served_by, served_entry, step_of_entry, types_by}
 use Rattle.mt_laws.specs.Reached.{IsInPlace}
-use Rattle.mt_site_topology.specs.Keys.{end_entries, end_entry, end_keys, lists}
+use Rattle.mt_site_topology.specs.Keys.{end_entries, end_entry, end_keys, keys_of_part, lists, same_about}
 use Rattle.mt_site_topology.specs.Stands.{TopologyStands}
 use Rattle.mt_site_topology.proofs.CancelLemmas.{none_named, was_owner}
 use Rattle.mt_site_topology.proofs.EndLemmas.{end_keyed, ends, listed_ends, value_ended}
-use Rattle.mt_site_topology.proofs.KeyLemmas.{moved, table_of}
+use Rattle.mt_site_topology.proofs.KeyLemmas.{all_counted, any_there, moved, same_about_decides, table_of}
 use Rattle.mt_site_topology.proofs.PartLemmas.{part_place, serve_same}
 use Rattle.mt_site_topology.proofs.PlaceLemmas.{distinct_dropped, holds, places_dropped}
 use Rattle.mt_site_topology.proofs.StandLemmas.{IsFound, IsOwned}
@@ -67,6 +68,51 @@ module _ (p q : Plain) (name : List ℕ) (w : Live) (live : live_at p name ≡ S
           let wrong : None ≡ Some v = sym (none_named p q name w live lives named owned found owned_next found_next elsewhere) ∙ at in
           absurd cc
 
+-- ---- what is written has a place
+
+module _ (p : Plain) (t : TopologyState) (w : Live) (stands : TopologyStands p t) (in_place : IsInPlace p.topology w)
+    (owned : (key : EntryKey) → has_part w key ≡ true → part_owner p key ≡ Some w)
+    (held : (key : EntryKey) → has_place p.topology key ≡ holds (value_of p.topology key)) where
+  source_place : (key : EntryKey) → ends w key ≡ true → has_part w key ≡ false → has_place p.topology key ≡ true
+  source_place (about.Rule key) is other = let wrong : true ≡ false = sym is ∙ other in absurd cc
+  source_place (about.Denied k n) is other = let wrong : true ≡ false = sym is ∙ other in absurd cc
+  source_place (about.Present k n) is other = held (about.Present k n) ∙ ap (λ x. is_present p.topology.keyspaces x n) (sym at) ∙ in_place.at_source n m
+    where
+      m : moves w n ≡ true
+      m = (and_parts (moves w n) (is_side w k) is).0
+
+      by : (s t : Bool) → (s || t) ≡ true → t ≡ false → s ≡ true
+      by true t is not_t = refl
+      by false true is not_t = absurd cc
+      by false false is not_t = absurd cc
+
+      at : w.source ≡ k
+      at = (same_text_decides w.source k).0
+          (by (same_text w.source k) (same_text w.target k) (and_parts (moves w n) (is_side w k) is).1 (sym (ap (λ b. b && same_text w.target k) m) ∙ other))
+
+  pub end_place : (key : EntryKey) → lists (end_keys w) key ≡ true → has_place t key ≡ true
+  end_place key is = by (has_part w key) refl
+    where
+      or_true : (b : Bool) → (b || true) ≡ true
+      or_true true = refl
+      or_true false = refl
+
+      by : (b : Bool) → has_part w key ≡ b → has_place t key ≡ true
+      by true b = part_place p t w stands owned key b
+      by false b =
+          stands.places key ∙ ap (λ x. is_some (part_owner p key) || x) (source_place key (sym (listed_ends w key) ∙ is) b) ∙ or_true (is_some (part_owner p key))
+
+pub part_has_places : (p : Plain) (t : TopologyState) (w : Live) → TopologyStands p t → ((key : EntryKey) → has_part w key ≡ true → part_owner p key ≡ Some w)
+    → All (λ key. has_place t key ≡ true) (keys_of_part w)
+part_has_places p t w stands owned i d inside = part_place p t w stands owned (slice_index_or (keys_of_part w) i d) (all_counted w i d inside)
+
+pub ends_have_places : (p : Plain) (t : TopologyState) (w : Live) → TopologyStands p t → IsInPlace p.topology w → ((key : EntryKey) → has_part w key ≡ true → part_owner p key ≡ Some w)
+    → ((key : EntryKey) → has_place p.topology key ≡ holds (value_of p.topology key)) → All (λ key. has_place t key ≡ true) (end_keys w)
+ends_have_places p t w stands in_place owned held i d inside =
+    let itself = All-contains_itself (end_keys w) i d inside in
+    end_place p t w stands in_place owned held (slice_index_or (end_keys w) i d)
+    (any_there same_about same_about_decides (end_keys w) (slice_index_or (end_keys w) i d) itself.0 itself.1 itself.2)
+
 -- ---- the topology
 
 module _ (p q : Plain) (t : TopologyState) (w : Live) (same : q.topology ≡ completed p.topology w) (stands : TopologyStands p t)
@@ -88,39 +134,9 @@ module _ (p q : Plain) (t : TopologyState) (w : Live) (same : q.topology ≡ com
       ap (λ u. value_of u key) same
       ∙ value_ended p.topology w in_place.sides.apart in_place.sides.target distinct_there allowed (λ k n. ap (λ (u : TopologyState). is_denied u.keyspaces k n) (sym same) ∙ allowed_next k n) key
 
-  -- all of them have places
-  source_place : (key : EntryKey) → ends w key ≡ true → has_part w key ≡ false → has_place p.topology key ≡ true
-  source_place (about.Rule key) is other = let wrong : true ≡ false = sym is ∙ other in absurd cc
-  source_place (about.Denied k n) is other = let wrong : true ≡ false = sym is ∙ other in absurd cc
-  source_place (about.Present k n) is other = held (about.Present k n) ∙ ap (λ x. is_present p.topology.keyspaces x n) (sym at) ∙ in_place.at_source n m
-    where
-      m : moves w n ≡ true
-      m = (and_parts (moves w n) (is_side w k) is).0
-
-      by : (s t : Bool) → (s || t) ≡ true → t ≡ false → s ≡ true
-      by true t is not_t = refl
-      by false true is not_t = absurd cc
-      by false false is not_t = absurd cc
-
-      at : w.source ≡ k
-      at = (same_text_decides w.source k).0
-          (by (same_text w.source k) (same_text w.target k) (and_parts (moves w n) (is_side w k) is).1 (sym (ap (λ b. b && same_text w.target k) m) ∙ other))
-
-  end_place : (key : EntryKey) → lists (end_keys w) key ≡ true → has_place t key ≡ true
-  end_place key is = by (has_part w key) refl
-    where
-      or_true : (b : Bool) → (b || true) ≡ true
-      or_true true = refl
-      or_true false = refl
-
-      by : (b : Bool) → has_part w key ≡ b → has_place t key ≡ true
-      by true b = part_place p t w stands owned key b
-      by false b =
-          stands.places key ∙ ap (λ x. is_some (part_owner p key) || x) (source_place key (sym (listed_ends w key) ∙ is) b) ∙ or_true (is_some (part_owner p key))
-
   said : (key : EntryKey) → value_of written key ≡ cond (ends w key) (end_entry w.target key) (served_entry p key)
   said key =
-      values_written (end_entry w.target) (end_keyed w.target) t (end_keys w) key end_place
+      values_written (end_entry w.target) (end_keyed w.target) t (end_keys w) key (end_place p t w stands in_place owned held)
       ∙ ap (λ b. cond b (end_entry w.target key) (value_of t key)) (listed_ends w key)
       ∙ ap (λ v. cond (ends w key) (end_entry w.target key) v) (stands.served.entries key)
 

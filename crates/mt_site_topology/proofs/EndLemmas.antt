@@ -20,6 +20,7 @@ use Rattle.mt_plain.specs.Next.{completed, with_tables, without_tables}
 use Rattle.mt_plain.specs.Plain.{Live, among, has_part, is_side, moves, rule_keys}
 use Rattle.mt_site_topology.specs.Keys.{end_entry, end_keys, keys_of_part, lists, same_about}
 use Rattle.mt_site_topology.proofs.KeyLemmas.{listed_part, listed_rules}
+use Rattle.mt_site_topology.proofs.WriteLemmas.{merged}
 
 -- ---- the keys
 
@@ -75,11 +76,6 @@ end_keyed target (about.Present k n) = refl
 
 -- ---- lists of keys removed, and of tables made
 
-merged : {A : Type 0} (a b : Bool) (x y : A) → cond b x (cond a x y) ≡ cond (a || b) x y
-merged true true x y = refl
-merged true false x y = refl
-merged false b x y = refl
-
 module _ {K V : Type 0} (same : K → K → Bool) (decides : DecidesEquality same) where
   removed_one : (es : List (K × V)) (k j : K) → IsDistinct same (keys_of es) → lookup (same j) (remove_entry (same k) es) ≡ cond (same k j) None (lookup (same j) es)
   removed_one es k j distinct = by (same k j) refl
@@ -126,7 +122,7 @@ module _ (u : TopologyState) (w : Live) (apart : w.source ≢ w.target) (there :
   abbrev without_source : Keyspaces
   without_source = with_keyspace_state (without_tables w.tables) u.keyspaces w.source
 
-  rule_ended : (key : RuleKey) → rule_at (completed u w).rules key ≡ cond (has_part w (about.Rule key)) None (rule_at u.rules key)
+  pub rule_ended : (key : RuleKey) → rule_at (completed u w).rules key ≡ cond (has_part w (about.Rule key)) None (rule_at u.rules key)
   rule_ended key =
       ap (λ o. unwrap_or o None) (removed_all same_key same_key_decides (rule_keys w) u.rules key distinct.rules)
       ∙ ap (λ b. unwrap_or (cond b None (lookup (same_key key) u.rules)) None) (listed_rules w key) ∙ by (has_part w (about.Rule key))

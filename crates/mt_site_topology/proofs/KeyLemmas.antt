@@ -139,7 +139,7 @@ all_counted w = counted w w.tables (each_moved w)
 
 module _ {K : Type 0} (same : K → K → Bool) (decides : DecidesEquality same) where
   -- a key that stands there is found
-  any_there : (keys : List K) (key : K) (i : ℕ) → i < length keys → slice_index_or keys i key ≡ key → list_any (λ k. same k key) keys ≡ true
+  pub any_there : (keys : List K) (key : K) (i : ℕ) → i < length keys → slice_index_or keys i key ≡ key → list_any (λ k. same k key) keys ≡ true
   any_there [] key i below is = absurd (omega (arith, below))
   any_there (k ∷ ks) key zero below is = or_left (same k key) (list_any (λ j. same j key) ks) ((decides k key).1 is)
   any_there (k ∷ ks) key (suc i) below is = or_right (same k key) (list_any (λ j. same j key) ks) (any_there ks key i (omega (arith, below)) is)

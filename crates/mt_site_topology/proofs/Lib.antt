@@ -2,11 +2,14 @@ pub mod BackLemmas
 pub mod BeginLemmas
 pub mod CancelLemmas
 pub mod CompleteLemmas
+pub mod CountLemmas
 pub mod CreateLemmas
 pub mod EndLemmas
 pub mod HandLemmas
+pub mod KeptLemmas
 pub mod KeyLemmas
 pub mod PartLemmas
 pub mod PlaceLemmas
 pub mod StandLemmas
+pub mod TableCountLemmas
 pub mod WriteLemmas

@@ -29,7 +29,7 @@ keyspaces_written t entries name = fold-unchanged with_entry (λ u. is_some (key
 
 -- ---- values
 
-merged : {A : Type 0} (a b : Bool) (x y : A) → cond b x (cond a x y) ≡ cond (a || b) x y
+pub merged : {A : Type 0} (a b : Bool) (x y : A) → cond b x (cond a x y) ≡ cond (a || b) x y
 merged true true x y = refl
 merged true false x y = refl
 merged false b x y = refl
