@@ -1,6 +1,7 @@
 pub mod AdvanceKeepLemmas
 pub mod AdvanceLemmas
 pub mod CancelLemmas
+pub mod CreateLemmas
 pub mod FeedLemmas
 pub mod KeepLemmas
 pub mod KnownLemmas

@@ -1,10 +1,11 @@
-//! Laws on the end of a workflow.
-ghost use Rattle.std.specs.Prelude.{◌≡◌, ℕ, List, Some};
+//! Laws on Create and Cancel.
+ghost use Rattle.std.specs.Prelude.{◌≡◌, ℕ, true, List, None, Some};
 ghost use Rattle.mt_laws.specs.WayBack.{IsReached};
 ghost use Rattle.mt_plain.specs.Answers.{Answers};
-ghost use Rattle.mt_plain.specs.Events.{cancel, done};
+ghost use Rattle.mt_plain.specs.Events.{create, cancel, done};
 ghost use Rattle.mt_plain.specs.Next.{next};
-ghost use Rattle.mt_plain.specs.Plain.{Live, Plain, live_at};
+ghost use Rattle.mt_plain.specs.Plain.{Live, Plain, among, each_once, live_at};
+ghost use Rattle.mt_primary.specs.Primary.{row_at};
 ghost use Rattle.mt_site_rows.specs.Rows.{OtherTablesStay, OthersStay, Primaries, RowsStand};
 
 use mt_laws::{
@@ -20,6 +21,23 @@ pub fn a_cancel_keeps_rows_and_logs()
     ensures { (p : Plain) → IsReached p → (old new : Primaries) → RowsStand p old → (name : List ℕ) (w : Live) → live_at p name ≡ Some w
         → Answers p (cancel name) done → OthersStay w.target old new → OtherTablesStay w.tables (old w.target) (new w.target)
         → RowsStand (next p (cancel name) done) new }
+{
+    a_live_workflow_is_found_by_its_part();
+    live_workflows_stand_in_place();
+    what_was_fed_stays_fed();
+    each_table_has_a_number_of_its_own();
+    the_owner_alone_serves_the_primary();
+    each_next_state_is_reached();
+    only_named_events_change_a_workflow();
+}
+
+/// Behind a Create the primaries stand for the rows and logs of the next state, if the target's has the workflow's tables
+/// without rows, its log and its other tables' rows stay, and the other primaries.
+pub fn a_create_keeps_rows_and_logs()
+    ensures { (p : Plain) → IsReached p → (old new : Primaries) → RowsStand p old → (name source target : List ℕ) (tables : List (List ℕ))
+        → Answers p (create name source target tables) done → OthersStay target old new → OtherTablesStay (each_once tables) (old target) (new target)
+        → ((table : List ℕ) → among (each_once tables) table ≡ true → (key : ℕ) → row_at (new target) table key ≡ None)
+        → RowsStand (next p (create name source target tables) done) new }
 {
     a_live_workflow_is_found_by_its_part();
     live_workflows_stand_in_place();

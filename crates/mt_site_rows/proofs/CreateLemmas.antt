@@ -1,0 +1,141 @@
+-- Create: a workflow to which all writes are fed, and empty tables at its target.
+use Rattle.std.proofs.Common.{◌≡◌, ◌≢◌, ℕ, ◌⊎◌, Bool, true, false, not, cond, List, [], ◌∷◌, ◌++◌, filter, find, length, map, Option, None, Some, refl, sym, ap, ◌∙◌, subst, arith, inl, inr, ⊎_elim, append-nil}
+use Rattle.std.proofs.lemmas.Bool.{and_right, or_right}
+use Rattle.std.proofs.lemmas.List.{drop_all}
+use Rattle.std.proofs.lemmas.List.Folds.{find-append}
+use Rattle.std.specs.List.{list_any}
+use Rattle.std.specs.Option.{option_map_or, option_or}
+use Rattle.std.specs.Prelude.{◌&&◌, ◌||◌, is_some}
+use Rattle.mt_names.specs.Names.{same_text}
+use Rattle.mt_model.specs.Topology.{is_present}
+use Rattle.mt_primary.specs.Primary.{PrimaryState, row_at}
+use Rattle.mt_plain.specs.Events.{Refusal, workflow_exists}
+use Rattle.mt_plain.specs.Next.{created}
+use Rattle.mt_plain.specs.Plain.{Live, Plain, is_side, live_at, mover, moves, number_of, owner}
+use Rattle.mt_plain.specs.Refuse.{or_else, refuse_if}
+use Rattle.mt_plain.specs.Serve.{has_table}
+use Rattle.mt_plain.specs.Slots.{log_length}
+use Rattle.mt_plain.specs.Writes.{client_row, other_row, row_after_writes, row_by_mover, row_of, writes_to}
+use Rattle.mt_site_rows.specs.Rows.{IsPending, OtherTablesStay, OthersStay, Primaries, RowsStand, entry_at, is_moved}
+use Rattle.mt_site_rows.proofs.KnownLemmas.{Known, differs, itself, row_at_other, row_at_owner, row_elsewhere, row_free, same_or, some_is}
+
+pub free_name : (p : Plain) (name : List ℕ) (more : Option Refusal) → or_else (refuse_if (is_some (live_at p name)) workflow_exists) more ≡ None → live_at p name ≡ None
+free_name p name more e = by (live_at p name) e
+  where
+    by : (o : Option Live) → or_else (refuse_if (is_some o) workflow_exists) more ≡ None → o ≡ None
+    by None e = refl
+    by (Some w) e = absurd cc
+
+any_behind : (test : Live → Bool) (ws : List Live) (w : Live) → test w ≡ false → list_any test (ws ++ w ∷ []) ≡ list_any test ws
+any_behind test [] w e = ap (λ b. b || false) e
+any_behind test (v ∷ ws) w e = ap (λ b. test v || b) (any_behind test ws w e)
+
+module _ (p : Plain) (known : Known p) (old new : Primaries) (stands : RowsStand p old) (name source target : List ℕ) (tables : List (List ℕ)) (free : live_at p name ≡ None)
+    (others : OthersStay target old new) (stay : OtherTablesStay tables (old target) (new target))
+    (empty : (t : List ℕ) → list_any (λ n. same_text n t) tables ≡ true → (key : ℕ) → row_at (new target) t key ≡ None) where
+  abbrev first : Live
+  first = created name source target tables (log_length p source)
+
+  abbrev w : Live
+  w = record first { fed = length (writes_to p first) }
+
+  abbrev q : Plain
+  q = record p { lives = p.lives ++ w ∷ [] }
+
+  module _ (known_q : Known q) (elsewhere : (n : List ℕ) → name ≢ n → live_at q n ≡ live_at p n) where
+    live_w : live_at q name ≡ Some w
+    live_w =
+        find-append (λ (v : Live). same_text v.name name) p.lives (w ∷ []) ∙ ap (λ o. option_or o (find (λ (v : Live). same_text v.name name) (w ∷ []))) free
+        ∙ ap (λ b. cond b (Some w) None) (itself name)
+
+    log_same : (k : List ℕ) → (new k).log ≡ (old k).log
+    log_same k = ⊎_elim (λ (e : target ≡ k). subst (λ x. (new x).log ≡ (old x).log) e stay.log) (λ (e : target ≢ k). ap (λ (s : PrimaryState). s.log) (others k e)) (same_or target k)
+
+    row_same : (k t : List ℕ) → moves w t ≡ false → (key : ℕ) → row_at (new k) t key ≡ row_at (old k) t key
+    row_same k t other key = ⊎_elim
+        (λ (e : target ≡ k). subst (λ x. row_at (new x) t key ≡ row_at (old x) t key) e (stay.rows t other key))
+        (λ (e : target ≢ k). ap (λ s. row_at s t key) (others k e)) (same_or target k)
+
+    mover_now : (t : List ℕ) → mover q t ≡ option_or (mover p t) (cond (moves w t) (Some w) None)
+    mover_now t = find-append (λ (v : Live). moves v t) p.lives (w ∷ [])
+
+    apart : target ≢ source
+    apart e = (known_q.placed name w live_w).sides.apart (sym e)
+
+    module _ (k t : List ℕ) (key : ℕ) where
+      abbrev numbered : Option Live → ℕ
+      numbered o = number_of p (option_map_or (λ (u : Live). cond (is_side u k) u.source k) o k) t
+
+      same_mover : mover q t ≡ mover p t → row_of q k t key ≡ row_of p k t key
+      same_mover e = by (mover q t) ∙ ap (λ o. row_by_mover p o k t key) e
+        where
+          same_client : client_row q k t key ≡ client_row p k t key
+          same_client = ap (λ n. row_after_writes p.writes n key) (ap numbered e)
+
+          by : (o : Option Live) → row_by_mover q o k t key ≡ row_by_mover p o k t key
+          by None = same_client
+          by (Some v) = ap (cond (is_side v k && not (same_text (owner v) k)) (other_row p v t key)) same_client
+
+      has_before : (moves w t && same_text target k) ≡ false → has_table q k t ≡ true → has_table p k t ≡ true
+      has_before e here = ap (λ b. cond b true (is_present p.topology.keyspaces k t)) (sym (any_behind (λ (v : Live). moves v t && same_text v.target k) p.lives w e)) ∙ here
+
+      not_moved : moves w t ≡ false → mover q t ≡ mover p t → has_table q k t ≡ true → row_at (new k) t key ≡ row_of q k t key
+      not_moved m e here = row_same k t m key ∙ stands.rows k t (has_before (ap (λ b. b && same_text target k) m) here) key ∙ sym (same_mover e)
+
+      moved_now : moves w t ≡ true → mover p t ≡ None → mover q t ≡ Some w → has_table q k t ≡ true → row_at (new k) t key ≡ row_of q k t key
+      moved_now m none found here = ⊎_elim at_target elsewhere_ (same_or target k)
+        where
+          at_target : target ≡ k → row_at (new k) t key ≡ row_of q k t key
+          at_target e = subst (λ x. row_at (new x) t key ≡ row_of q x t key) e
+              (empty t m key ∙ sym (row_at_other q target t w found key (or_right (same_text source target) (same_text target target) (itself target)) apart))
+
+          elsewhere_ : target ≢ k → row_at (new k) t key ≡ row_of q k t key
+          elsewhere_ e =
+              ap (λ s. row_at s t key) (others k e)
+              ∙ stands.rows k t (has_before (ap (λ b. moves w t && b) not_target ∙ and_right (moves w t) false refl) here) key
+              ∙ row_free p k t none key ∙ ap (λ n. row_after_writes p.writes n key) (ap numbered none) ∙ sym (by (same_or source k))
+            where
+              not_target : same_text target k ≡ false
+              not_target = differs target k e
+
+              by : (source ≡ k) ⊎ (source ≢ k) → row_of q k t key ≡ row_after_writes p.writes (number_of p k t) key
+              by (inl at) =
+                  row_at_owner q k t w found key (sym at)
+                  ∙ ap (λ n. row_after_writes p.writes n key) (ap numbered found ∙ ap (λ b. number_of p (cond b source k) t) (ap (λ x. same_text x k || same_text target k) at ∙ ap (λ b. b || same_text target k) (itself k)) ∙ ap (λ x. number_of p x t) at)
+              by (inr other) =
+                  let side : is_side w k ≡ false = ap (λ b. b || same_text target k) (differs source k other) ∙ not_target in
+                  row_elsewhere q k t w found key side ∙ ap (λ n. row_after_writes p.writes n key) (ap numbered found ∙ ap (λ b. number_of p (cond b source k) t) side)
+
+      row_now : has_table q k t ≡ true → row_at (new k) t key ≡ row_of q k t key
+      row_now = by (mover p t) refl (moves w t) refl
+        where
+          by : (o : Option Live) → mover p t ≡ o → (m : Bool) → moves w t ≡ m → has_table q k t ≡ true → row_at (new k) t key ≡ row_of q k t key
+          by None e false m = not_moved m (mover_now t ∙ ap (λ b. option_or (mover p t) (cond b (Some w) None)) m ∙ ap (λ o. option_or o None) e ∙ sym e)
+          by None e true m = moved_now m e (mover_now t ∙ ap (λ b. option_or (mover p t) (cond b (Some w) None)) m ∙ ap (λ o. option_or o (Some w)) e)
+          by (Some v) e false m = not_moved m (mover_now t ∙ ap (λ b. option_or (mover p t) (cond b (Some w) None)) m ∙ ap (λ o. option_or o None) e ∙ sym e)
+          by (Some v) e true m =
+              let one : v ≡ w = some_is v w (sym (mover_now t ∙ ap (λ o. option_or o (cond (moves w t) (Some w) None)) e) ∙ known_q.found name w live_w t m) in
+              absurd (let h : Some v ≡ None = sym (known.moving t v e).1 ∙ ap (λ (u : Live). live_at p u.name) one ∙ free in cc)
+
+    pending_now : (n : List ℕ) (v : Live) → live_at q n ≡ Some v → IsPending q v (new (owner v)).log
+    pending_now n v found = ⊎_elim here other (same_or name n)
+      where
+        here : name ≡ n → IsPending q v (new (owner v)).log
+        here e = subst (λ x. IsPending q x (new (owner x)).log) (some_is w v (sym live_w ∙ ap (λ x. live_at q x) e ∙ found))
+            (record {
+              before = filter (is_moved w) (new source).log;
+              left = [];
+              entries = sym (append-nil (filter (is_moved w) (new source).log));
+              writes = sym (drop_all (length (writes_to p first)) (writes_to p first) (omega arith));
+            })
+
+        other : name ≢ n → IsPending q v (new (owner v)).log
+        other e = subst (λ l. IsPending q v l) (sym (log_same (owner v)))
+            (let was = stands.pending n v (sym (elsewhere n e) ∙ found) in record { before = was.before; left = was.left; entries = was.entries; writes = was.writes })
+
+    pub create_stands : RowsStand q new
+    create_stands = record {
+      log = λ k. ap (map (entry_at k)) (log_same k) ∙ stands.log k;
+      rows = λ k t here key. row_now k t key here;
+      pending = pending_now;
+    }
