@@ -38,7 +38,7 @@ at_rest-none w o e = none_from w.way (refuse_if-none (is_some w.way) under_way (
 
 -- ---- a way with no step done
 
-serve_turned : (u : TopologyState) (w v : Live) (types : TypeSet) (key : EntryKey) → w.source ≡ v.source → w.target ≡ v.target → serve u w types key ≡ serve u v types key
+pub serve_turned : (u : TopologyState) (w v : Live) (types : TypeSet) (key : EntryKey) → w.source ≡ v.source → w.target ≡ v.target → serve u w types key ≡ serve u v types key
 serve_turned u w v types (about.Rule key) s t = ap (entry.Rule key) (by key.tablet_type)
   where
     plain : (o : Option (List ℕ)) → serve_plain u w types key o ≡ serve_plain u v types key o

@@ -5,6 +5,7 @@ pub mod CompleteLemmas
 pub mod CountLemmas
 pub mod CreateLemmas
 pub mod EndLemmas
+pub mod FieldLemmas
 pub mod HandLemmas
 pub mod KeptLemmas
 pub mod KeyLemmas

@@ -22,4 +22,7 @@ pub use creating::{
 pub use entries::{entries_are_written_each_at_its_key, what_is_written_has_a_place};
 pub use kept::{the_empty_topology_stands_for_the_opening, what_is_kept_stays_what_stood};
 pub use rows::what_changes_no_entry_leaves_the_topology;
-pub use ways::{a_way_that_begins_leaves_the_topology, steps_and_undos_write_what_is_theirs};
+pub use ways::{
+    a_way_that_begins_leaves_the_topology, entries_follow_from_sides_types_and_way,
+    steps_and_undos_write_what_is_theirs,
+};

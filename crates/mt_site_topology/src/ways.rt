@@ -9,7 +9,7 @@ ghost use Rattle.mt_plain.specs.Answers.{Answers};
 ghost use Rattle.mt_plain.specs.Events.{Way, begin_reverse, begin_switch, done, step, undo};
 ghost use Rattle.mt_plain.specs.Next.{next};
 ghost use Rattle.mt_plain.specs.Plain.{Live, Plain, live_at, next_step};
-ghost use Rattle.mt_site_topology.specs.Keys.{IsKept, step_entries};
+ghost use Rattle.mt_site_topology.specs.Keys.{IsKept, part_entries, step_entries};
 ghost use Rattle.mt_site_topology.specs.Stands.{TopologyStands};
 
 use mt_laws::{
@@ -54,3 +54,12 @@ pub fn steps_and_undos_write_what_is_theirs()
     only_named_events_change_the_state();
     steps_and_undos_change_the_state_by_their_numbers();
 }
+
+/// The entries of a workflow follow from its sides and tables, and those of a step from its switched types and open way
+/// besides: what else a workflow has, as its name and how far its copy has come, is not read.
+pub fn entries_follow_from_sides_types_and_way()
+    ensures part { (v w : Live) (kept : Rules) (types : TypeSet) → v.source ≡ w.source → v.target ≡ w.target
+        → v.tables ≡ w.tables → part_entries kept v types ≡ part_entries kept w types }
+    ensures step { (v w : Live) (kept : Rules) (types : TypeSet) (n : ℕ) → v.source ≡ w.source → v.target ≡ w.target
+        → v.tables ≡ w.tables → v.switched ≡ w.switched → v.way ≡ w.way → step_entries kept v types n ≡ step_entries kept w types n }
+{}
