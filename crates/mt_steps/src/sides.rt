@@ -62,6 +62,8 @@ pub fn do_step<W: Asks>(
     ensures journal { sides.new.journal.ghost_name ≡ sides.old.journal.ghost_name }
     ensures watchers { sides.new.watchers ≡ sides.old.watchers }
     ensures number { sides.new.number ≡ sides.old.number }
+    ensures log { IsLogOf sides.new.workflow.now log.new }
+    ensures places { HasPlaces sides.new.topology.now sides.new.workflow.now }
     ensures steps { Steps (W.scopes sides.old.watchers.now) (W.may_answer sides.old.watchers.now) sides.old.number (open_way sides.old.workflow.now) step
         (record { topology = sides.old.topology.now; source = sides.old.source.now; target = sides.old.target.now; workflow = sides.old.workflow.now; journal = sides.old.journal.now }) log.old
         result
@@ -101,7 +103,9 @@ fn step_of_way<W: Asks>(
     requires places { HasPlaces topology.old workflow.old }
     requires log { IsLogOf workflow.old log.old }
     requires fresh { number step ≡ write_journal → entry_of journal.old id ≡ None }
-    ensures { Steps (W.scopes watchers.now) (W.may_answer watchers.now) id (way_from way) step
+    ensures log { IsLogOf workflow.new log.new }
+    ensures places { HasPlaces topology.new workflow.new }
+    ensures steps { Steps (W.scopes watchers.now) (W.may_answer watchers.now) id (way_from way) step
         (record { topology = topology.old; source = source.old; target = target.old; workflow = workflow.old; journal = journal.old }) log.old
         result
         (record { topology = topology.new; source = source.new; target = target.new; workflow = workflow.new; journal = journal.new }) log.new }
@@ -134,6 +138,8 @@ pub fn undo_last<W: Asks>(sides: &mut Sides<'_, W>, log: &mut UndoLog)
     ensures journal { sides.new.journal.ghost_name ≡ sides.old.journal.ghost_name }
     ensures watchers { sides.new.watchers ≡ sides.old.watchers }
     ensures number { sides.new.number ≡ sides.old.number }
+    ensures log { IsLogOf sides.new.workflow.now log.new }
+    ensures places { HasPlaces sides.new.topology.now sides.new.workflow.now }
     ensures undone { IsUndone (open_way sides.old.workflow.now) (step_at (last_step (open_way sides.old.workflow.now)))
         (record { topology = sides.old.topology.now; source = sides.old.source.now; target = sides.old.target.now; workflow = sides.old.workflow.now; journal = sides.old.journal.now }) log.old
         (record { topology = sides.new.topology.now; source = sides.new.source.now; target = sides.new.target.now; workflow = sides.new.workflow.now; journal = sides.new.journal.now }) log.new }
@@ -165,7 +171,9 @@ fn undo_of_way(
 )
     requires places { HasPlaces topology.old workflow.old }
     requires log { IsLogOf workflow.old log.old }
-    ensures { IsUndone (way_from way) step
+    ensures log { IsLogOf workflow.new log.new }
+    ensures places { HasPlaces topology.new workflow.new }
+    ensures undone { IsUndone (way_from way) step
         (record { topology = topology.old; source = source.old; target = target.old; workflow = workflow.old; journal = journal.now }) log.old
         (record { topology = topology.new; source = source.new; target = target.new; workflow = workflow.new; journal = journal.now }) log.new }
 {

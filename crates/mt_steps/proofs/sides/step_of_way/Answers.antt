@@ -5,11 +5,12 @@ use Rattle.mt_model.specs.Part.{with_entries}
 use Rattle.mt_model.specs.Topology.{key_of}
 use Rattle.mt_workflow.specs.Workflows.{WorkflowState, keys_of_part, wanted, way_from}
 use Rattle.mt_steps.specs.Entries.{is_of_step, recorded, step_entries}
+use Rattle.mt_steps.specs.Plans.{number}
 use Rattle.mt_steps.specs.Steps.{Attempts}
 use Rattle.mt_steps.specs.Streams.{log_end, put_away, types_after, way_after, with_streams}
 use Rattle.mt_steps.specs.Undo.{UndoState}
 use Rattle.mt_steps.proofs.EntryLemmas.{entries_have_places, keys_recorded, writes_are_entries}
-use Rattle.mt_steps.proofs.StepLemmas.{streams-switched}
+use Rattle.mt_steps.proofs.StepLemmas.{stepped_log, stepped_places, streams-switched}
 use Rattle.mt_steps.proofs.sides.step_of_way.Goals as goal
 
 pub write_step-requires : goal.write_step-requires
@@ -21,8 +22,8 @@ write_step-requires g c =
     ap (map key_of) (c.entries.ensures ∙ ap (λ (l : UndoState). l.entries) c.record.ensures) ∙ keys_recorded w c.number.result t items ∙ ap (λ (l : UndoState). map key_of l.entries) c.log.view_is ∙ c.requires.log in
     entries_have_places t (keys_of_part w) c.entries.result.now keys c.requires.places
 
-pub returns : goal.returns
-returns g c =
+pub returns-clause-steps : goal.returns-clause-steps
+returns-clause-steps g c =
     let w = c.args.workflow.now in
     let t = c.args.topology.now in
     let way = way_from c.args.way in
@@ -51,3 +52,15 @@ returns g c =
           ∙ ap (λ k. recorded w k t log.entries) c.number.ensures.value;
       slot = c.step_streams.ensures.kept ∙ ap (put_away w way step) (ap (λ (l : UndoState). l.slot) (c.log-2.view_is ∙ c.record.ensures) ∙ ap (λ (l : UndoState). l.slot) c.log.view_is);
     }
+
+pub returns-clause-log : goal.returns-clause-log
+returns-clause-log g c =
+    let done = returns-clause-steps g c in
+    stepped_log (way_from c.args.way) c.args.step c.args.topology.now c.write_step.new.topology c.args.workflow.now c.count_step.new.workflow c.args.log.now (record { entries = c.log-2.inside.entries.items; listed = c.log-2.inside.listed; slot = c.step_streams.new.kept }) (log_end (way_from c.args.way) c.args.source.now c.args.target.now) (step_entries c.args.workflow.now (way_from c.args.way).after (number c.args.step)) done.topology
+    done.workflow done.entries c.requires.log
+
+pub returns-clause-places : goal.returns-clause-places
+returns-clause-places g c =
+    let done = returns-clause-steps g c in
+    stepped_places (way_from c.args.way) c.args.step c.args.topology.now c.write_step.new.topology c.args.workflow.now c.count_step.new.workflow c.args.log.now c.args.log.now (log_end (way_from c.args.way) c.args.source.now c.args.target.now) (step_entries c.args.workflow.now (way_from c.args.way).after (number c.args.step)) done.topology
+    done.workflow c.requires.places

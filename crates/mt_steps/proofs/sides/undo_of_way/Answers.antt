@@ -4,19 +4,20 @@ use Rattle.mt_model.specs.Part.{with_entries}
 use Rattle.mt_model.specs.Topology.{key_of}
 use Rattle.mt_workflow.specs.Workflows.{WorkflowState, keys_of_part, way_from}
 use Rattle.mt_steps.specs.Entries.{recorded_of}
+use Rattle.mt_steps.specs.Plans.{number}
 use Rattle.mt_steps.specs.Steps.{IsGivenBack, given_slot, left_slot}
 use Rattle.mt_steps.specs.Streams.{streams_undone, way_undone}
 use Rattle.mt_steps.specs.Undo.{UndoState}
 use Rattle.mt_steps.proofs.EntryLemmas.{backs_are_entries, entries_have_places}
-use Rattle.mt_steps.proofs.StepLemmas.{streams-given}
+use Rattle.mt_steps.proofs.StepLemmas.{streams-given, undone_log, undone_places}
 use Rattle.mt_steps.proofs.sides.undo_of_way.Goals as goal
 
 pub write_back-requires : goal.write_back-requires
 write_back-requires c =
     entries_have_places c.args.topology.now (keys_of_part c.args.workflow.now) c.entries.result.now (ap (map key_of) c.entries.ensures ∙ c.requires.log) c.requires.places
 
-pub returns : goal.returns
-returns c =
+pub returns-clause-undone : goal.returns-clause-undone
+returns-clause-undone c =
     let w = c.args.workflow.now in
     let t = c.args.topology.now in
     let way = way_from c.args.way in
@@ -34,3 +35,13 @@ returns c =
       journal = refl;
       log = c.take_slot.ensures.left ∙ ap (λ (l : UndoState). record l { slot = left_slot step l.slot }) c.take_listed.ensures.left;
     }
+
+pub returns-clause-log : goal.returns-clause-log
+returns-clause-log c =
+    let done = returns-clause-undone c in
+    undone_log (way_from c.args.way) c.args.step c.args.topology.now c.write_back.new.topology c.args.workflow.now c.count_undo.new.workflow c.args.log.now c.take_slot.new.self 0 (recorded_of c.args.workflow.now (number c.args.step) c.args.log.now.entries) done.topology done.workflow done.log c.requires.log
+
+pub returns-clause-places : goal.returns-clause-places
+returns-clause-places c =
+    let done = returns-clause-undone c in
+    undone_places (way_from c.args.way) c.args.step c.args.topology.now c.write_back.new.topology c.args.workflow.now c.count_undo.new.workflow c.args.log.now c.take_slot.new.self 0 (recorded_of c.args.workflow.now (number c.args.step) c.args.log.now.entries) done.topology done.workflow c.requires.places
