@@ -24,6 +24,7 @@ use std::alloc::Global;
 
 /// What a step works on: the topology, the primaries of the workflow's two sides, the workflow, the journal, the watchers, and the
 /// number of the way.
+#[derive(Drop)]
 pub struct Sides<'a, W: Asks> {
     /// The topology.
     pub topology: &'a mut Topology,

@@ -1,7 +1,15 @@
-//! Tests of the journal, of the plans of ways, and of how the refusals of steps are printed.
+//! Tests of the journal, of the plans of ways, of steps and their undo, and of how the refusals of steps are printed.
 #![tactic(auto)]
 
+#[cfg(test)]
+mod acts;
 #[cfg(test)]
 mod journal;
 #[cfg(test)]
 mod plans;
+#[cfg(test)]
+mod play;
+#[cfg(test)]
+mod scene;
+#[cfg(test)]
+mod ways;
