@@ -1,7 +1,7 @@
 //! What is done with workflows, what it answers, and how things stand then.
 
 use crate::scene::{Moved, Scene};
-use mt_names::{KeyspaceName, RuleKey, TableName, TabletType, TypeSet};
+use mt_names::{KeyspaceName, RuleKey, TableName, TabletType, TypeSet, Value};
 use mt_primary::{Op, Primary, PrimaryFault};
 use mt_steps::{Step, StepFault};
 use mt_stream::StreamState;
@@ -9,7 +9,6 @@ use mt_topology::{Entry, EntryKey, Topology};
 use mt_watch::Asks;
 use mt_workflow::{Slot, Way};
 use std::alloc::Global;
-use std::test::Fail;
 
 /// Something that is done with a workflow, or how things stand for it.
 #[derive(Clone, Copy)]
@@ -67,7 +66,7 @@ fn state(moved: &Moved, slot: Slot) -> Option<StreamState> {
     Some(moved.workflow().slot(slot)?.state())
 }
 
-/// How a step is answered, at once or at a second try if it is out of memory.
+/// How a step is answered, at once or at a second try if it, or a watcher, is out of memory.
 fn answer<W: Asks>(
     alloc: Global,
     scene: &mut Scene,
@@ -76,7 +75,9 @@ fn answer<W: Asks>(
     step: Step,
 ) -> Option<Result<(), StepFault>> {
     match moved.does(alloc, scene, watchers, step) {
-        Some(Err(StepFault::Memory)) => moved.does(alloc, scene, watchers, step),
+        Some(Err(StepFault::Memory | StepFault::WatcherRefused(_))) => {
+            moved.does(alloc, scene, watchers, step)
+        }
         answer => answer,
     }
 }
@@ -87,14 +88,12 @@ fn begins(alloc: Global, moved: &mut Moved, number: u64, way: Way) -> bool {
 }
 
 /// Whether a row is written, at once or at a second try.
-fn writes(primary: &mut Primary, table: &TableName, key: u64) -> bool {
-    primary.write(table, Op::Delete(key)).is_err()
-        && (primary
-            .write(table, Op::Insert(key, mt_names::Value::new()))
-            .is_ok()
-            || primary
-                .write(table, Op::Insert(key, mt_names::Value::new()))
-                .is_ok())
+fn writes(primary: &mut Primary, moved: &Moved, key: u64) -> bool {
+    let Some(table) = moved.workflow().tables().first() else {
+        return false;
+    };
+    primary.write(table, Op::Insert(key, Value::new())).is_ok()
+        || primary.write(table, Op::Insert(key, Value::new())).is_ok()
 }
 
 /// Whether something is done so.
@@ -103,7 +102,6 @@ pub fn is_done<W: Asks>(
     scene: &mut Scene,
     moved: &mut Moved,
     watchers: &W,
-    table: &TableName,
     act: Act,
 ) -> bool {
     match act {
@@ -122,14 +120,17 @@ pub fn is_done<W: Asks>(
             answer(alloc, scene, moved, watchers, step) == Some(Err(want))
         }
         Act::Undoes => moved.undoes(scene, watchers),
-        Act::Writes(key) => writes(&mut scene.source, table, key),
-        other => stands(scene, moved, table, other),
+        Act::Writes(key) => writes(&mut scene.source, moved, key),
+        other => stands(scene, moved, other),
     }
 }
 
 /// Whether things stand so.
-fn stands(scene: &Scene, moved: &Moved, table: &TableName, act: Act) -> bool {
+fn stands(scene: &Scene, moved: &Moved, act: Act) -> bool {
     let workflow = moved.workflow();
+    let Some(table) = workflow.tables().first() else {
+        return false;
+    };
     match act {
         Act::Denied(source, target) => {
             is_denied(&scene.topology, workflow.source(), table) == source

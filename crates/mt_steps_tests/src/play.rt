@@ -4,10 +4,9 @@ ghost use Rattle.mt_watch.specs.Notices.{notice_of};
 
 use crate::acts::{Act, is_done};
 use crate::scene::{Moved, Scene};
-use mt_names::{KeyspaceName, TableName};
+use mt_names::KeyspaceName;
 use mt_watch::{Asks, Callback, Change, Notice, Scope, WatchFault, Watcher, Watchers};
 use std::alloc::Global;
-use std::test::Fail;
 
 /// With which of the two workflows something is done: the one that moves `t`, or the one that moves `u`.
 #[derive(Clone, Copy, PartialEq)]
@@ -27,35 +26,40 @@ pub enum Played {
     NotMade,
 }
 
-/// What is made at once, or at a second try.
-fn made(alloc: Global) -> Option<(Scene, Moved, Moved)> {
-    let scene = Scene::new(alloc)?;
-    let t = Moved::new(alloc, &scene, "m", "t")?;
-    let u = Moved::new(alloc, &scene, "n", "u")?;
-    Some((scene, t, u))
+/// The sides, and two workflows between them.
+#[derive(Drop)]
+struct Stage {
+    scene: Scene,
+    t: Moved,
+    u: Moved,
 }
 
-/// Two tables' names.
-fn names() -> Option<(TableName, TableName)> {
-    Some((TableName::parse("t").ok()?, TableName::parse("u").ok()?))
+/// A scene with both workflows created.
+fn stage_of(alloc: Global) -> Option<Stage> {
+    let mut scene = Scene::new(alloc)?;
+    let t = Moved::new(alloc, &scene, "m", "t")?;
+    scene.create(&t);
+    let u = Moved::new(alloc, &scene, "n", "u")?;
+    scene.create(&u);
+    Some(Stage { scene, t, u })
+}
+
+/// Whether something is done so with one of the two.
+fn is_so<W: Asks>(alloc: Global, stage: &mut Stage, watchers: &W, of: Of, act: Act) -> bool {
+    let Stage { scene, t, u } = stage;
+    match of {
+        Of::T => is_done(alloc, scene, t, watchers, act),
+        Of::U => is_done(alloc, scene, u, watchers, act),
+    }
 }
 
 /// How acts go, which are done in their order up to the first that isn't done so.
-fn played<W: Asks>(alloc: Global, watchers: &W, acts: &[(Of, Act)]) -> Played {
-    let (Some((mut scene, mut t, mut u)), Some((first, second))) = (
-        made(alloc).or_else(|| made(alloc)),
-        names(),
-    ) else {
+fn play<W: Asks>(alloc: Global, watchers: &W, acts: &[(Of, Act)]) -> Played {
+    let Some(mut stage) = stage_of(alloc) else {
         return Played::NotMade;
     };
-    scene.create(&t);
-    scene.create(&u);
     for (index, (of, act)) in acts.iter().enumerate() {
-        let is_so = match of {
-            Of::T => is_done(alloc, &mut scene, &mut t, watchers, &first, *act),
-            Of::U => is_done(alloc, &mut scene, &mut u, watchers, &second, *act),
-        };
-        if !is_so {
+        if !is_so(alloc, &mut stage, watchers, *of, *act) {
             return Played::Wrong(index);
         }
     }
@@ -63,18 +67,34 @@ fn played<W: Asks>(alloc: Global, watchers: &W, acts: &[(Of, Act)]) -> Played {
 }
 
 /// The same, with a watcher for the primary of each keyspace that is named.
-pub fn played_with(alloc: Global, keyspaces: &[&str], acts: &[(Of, Act)]) -> Result<Played, Fail> {
+fn play_watched(alloc: Global, keyspaces: &[&str], acts: &[(Of, Act)]) -> Played {
     let mut watchers = Watchers::new(alloc);
     for keyspace in keyspaces {
-        let scope = Scope::Primary(KeyspaceName::parse(keyspace)?);
+        let Ok(name) = KeyspaceName::parse(keyspace) else {
+            return Played::NotMade;
+        };
+        let scope = Scope::Primary(name);
         let own = scope.copied();
-        let call: Callback = Box::new(
+        let call: Callback = match Box::new(
             alloc,
             move |change: &Change| -> Result<Notice, WatchFault>
                 ensures { IfOk result (λ notice. notice ≡ notice_of own change.now) }
             { Notice::of(alloc, &own, change).map_err(|_| WatchFault(0)) },
-        )?;
-        watchers.add(Watcher::new(scope, call))?;
+        ) {
+            Ok(call) => call,
+            Err(_) => return Played::NotMade,
+        };
+        if watchers.add(Watcher::new(scope, call)).is_err() {
+            return Played::NotMade;
+        }
     }
-    Ok(played(alloc, &watchers, acts))
+    play(alloc, &watchers, acts)
+}
+
+/// The same, at once or at a second try if there was no memory for the watchers or the sides.
+pub fn play_at(alloc: Global, keyspaces: &[&str], acts: &[(Of, Act)]) -> Played {
+    match play_watched(alloc, keyspaces, acts) {
+        Played::NotMade => play_watched(alloc, keyspaces, acts),
+        answer => answer,
+    }
 }

@@ -1,7 +1,7 @@
 //! Ways between two primaries: done, given up, reversed, and side by side.
 
 use crate::acts::Act;
-use crate::play::{Of, Played, played_with};
+use crate::play::{Of, Played, play_at};
 use mt_names::{TabletType, TypeSet};
 use mt_steps::{Step, StepFault};
 use mt_stream::StreamState;
@@ -226,7 +226,7 @@ const NO_WATCHER: [(Of, Act); 5] = [
 #[test]
 fn a_refresh_is_taken_back(rt: HostRuntime) -> Result<(), Fail> {
     assert_eq!(rt;
-        played_with(rt.alloc(), &["a", "b"], &REFRESH_BACK)?,
+        play_at(rt.alloc(), &["a", "b"], &REFRESH_BACK),
         Played::AllSo
     );
     Ok(())
@@ -235,7 +235,7 @@ fn a_refresh_is_taken_back(rt: HostRuntime) -> Result<(), Fail> {
 #[test]
 fn the_journal_has_one_entry(rt: HostRuntime) -> Result<(), Fail> {
     assert_eq!(rt;
-        played_with(rt.alloc(), &["a", "b"], &TO_THE_JOURNAL)?,
+        play_at(rt.alloc(), &["a", "b"], &TO_THE_JOURNAL),
         Played::AllSo
     );
     Ok(())
@@ -244,7 +244,7 @@ fn the_journal_has_one_entry(rt: HostRuntime) -> Result<(), Fail> {
 #[test]
 fn all_types_go_there_and_back(rt: HostRuntime) -> Result<(), Fail> {
     assert_eq!(rt;
-        played_with(rt.alloc(), &["a", "b"], &THERE_AND_BACK)?,
+        play_at(rt.alloc(), &["a", "b"], &THERE_AND_BACK),
         Played::AllSo
     );
     Ok(())
@@ -252,17 +252,14 @@ fn all_types_go_there_and_back(rt: HostRuntime) -> Result<(), Fail> {
 
 #[test]
 fn a_switch_is_given_up(rt: HostRuntime) -> Result<(), Fail> {
-    assert_eq!(rt;
-        played_with(rt.alloc(), &["a", "b"], &GIVEN_UP)?,
-        Played::AllSo
-    );
+    assert_eq!(rt; play_at(rt.alloc(), &["a", "b"], &GIVEN_UP), Played::AllSo);
     Ok(())
 }
 
 #[test]
 fn a_reversal_is_given_up(rt: HostRuntime) -> Result<(), Fail> {
     assert_eq!(rt;
-        played_with(rt.alloc(), &["a", "b"], &BACK_GIVEN_UP)?,
+        play_at(rt.alloc(), &["a", "b"], &BACK_GIVEN_UP),
         Played::AllSo
     );
     Ok(())
@@ -270,17 +267,14 @@ fn a_reversal_is_given_up(rt: HostRuntime) -> Result<(), Fail> {
 
 #[test]
 fn a_row_that_is_not_fed_holds_the_switch(rt: HostRuntime) -> Result<(), Fail> {
-    assert_eq!(rt;
-        played_with(rt.alloc(), &["a", "b"], &NOT_LEVEL)?,
-        Played::AllSo
-    );
+    assert_eq!(rt; play_at(rt.alloc(), &["a", "b"], &NOT_LEVEL), Played::AllSo);
     Ok(())
 }
 
 #[test]
 fn one_is_given_up_while_the_other_is_switched(rt: HostRuntime) -> Result<(), Fail> {
     assert_eq!(rt;
-        played_with(rt.alloc(), &["a", "b"], &SIDE_BY_SIDE)?,
+        play_at(rt.alloc(), &["a", "b"], &SIDE_BY_SIDE),
         Played::AllSo
     );
     Ok(())
@@ -288,9 +282,6 @@ fn one_is_given_up_while_the_other_is_switched(rt: HostRuntime) -> Result<(), Fa
 
 #[test]
 fn a_refresh_needs_a_watcher(rt: HostRuntime) -> Result<(), Fail> {
-    assert_eq!(rt;
-        played_with(rt.alloc(), &["b"], &NO_WATCHER)?,
-        Played::AllSo
-    );
+    assert_eq!(rt; play_at(rt.alloc(), &["b"], &NO_WATCHER), Played::AllSo);
     Ok(())
 }
