@@ -1,0 +1,4 @@
+pub mod Core
+pub mod Stands
+pub mod ByHand
+pub mod Workflows

@@ -1,0 +1,80 @@
+-- Which state of the definitions a core stands for (this profile's own).
+use Rattle.std.specs.Prelude.{◌≡◌, ℕ, List, length, map, Option, None, Some, option_map, is_some, ⊤}
+use Rattle.std.specs.List.{AllByRecursion}
+use Rattle.std.specs.Map.{keys_of}
+use Rattle.mt_model.specs.declared.entries.Scope.{Scope}
+use Rattle.mt_primary.specs.Primary.{is_denied_at}
+use Rattle.mt_primary.specs.Primary as primary
+use Rattle.mt_workflow.specs.Workflows.{WorkflowState, live_of}
+use Rattle.mt_plain.specs.Answers.{Answers}
+use Rattle.mt_plain.specs.Events.{Event, Answer, forward, back}
+use Rattle.mt_plain.specs.Next.{next}
+use Rattle.mt_plain.specs.Plain.{Live, Plain, has_keyspace, live_at}
+use Rattle.mt_plain.specs.Serve.{has_table, refuses}
+use Rattle.mt_plain.specs.Slots.{slot_of}
+use Rattle.mt_laws.specs.Changes.{HasSides}
+use Rattle.mt_laws.specs.Texts.{BringsNames}
+use Rattle.mt_laws.specs.WayBack.{IsReached}
+use Rattle.mt_site_topology.specs.Keys.{IsKept}
+use Rattle.mt_site_topology.specs.Stands.{TopologyStands}
+use Rattle.mt_site_rows.specs.Rows.{RowsStand, stream_of}
+use Rattle.mt_site_state.specs.Core.{CoreState, Primaries, Workflows, primary_at, primary_of, workflow_at}
+
+-- each keyspace of the state has a primary, with the tables that it has there, and the own list that refuses what it refuses there
+pub record ArePrimaries (p : Plain) (primaries : Primaries) : Type 0 where
+  pub there : (keyspace : List ℕ) → is_some (primary_at primaries keyspace) ≡ has_keyspace p keyspace
+  pub count : length primaries ≡ length p.topology.keyspaces
+  pub tables : (keyspace table : List ℕ) → primary.has_table (primary_of primaries keyspace) table ≡ has_table p keyspace table
+  pub denials : (keyspace table : List ℕ) → is_denied_at (primary_of primaries keyspace) table ≡ refuses p keyspace table
+
+-- a workflow stands for a live one: its name, sides and tables, the types that it has switched, the way that is open, and its streams are
+-- those of the live one, and what it keeps of the rules is what the topology says in its part as if no workflow were live
+pub record StandsFor (p : Plain) (live : Live) (w : WorkflowState) : Type 0 where
+  pub sides : HasSides live (live_of w)
+  pub switched : w.switched ≡ live.switched
+  pub way : w.way ≡ live.way
+  pub kept : IsKept p.topology live w.kept
+  pub forward : w.forward ≡ option_map (stream_of live) (slot_of live forward)
+  pub back : w.back ≡ option_map (stream_of live) (slot_of live back)
+
+-- the same where there may be none
+abbrev pub StandsForAny : Plain → Option Live → Option WorkflowState → Type 0
+StandsForAny p None None = ⊤
+StandsForAny p (Some live) (Some w) = StandsFor p live w
+StandsForAny p live w = ⊥
+
+-- the workflows are those that are live, by their names and in their order
+pub record AreWorkflows (p : Plain) (workflows : Workflows) : Type 0 where
+  pub each : (name : List ℕ) → StandsForAny p (live_at p name) (workflow_at workflows name)
+  pub names : keys_of workflows ≡ map (λ live. live.name) p.lives
+
+-- a core, with watchers of these scopes, stands for a state that a run reaches
+pub record StandsWith (p : Plain) (scopes : List Scope) (core : CoreState) : Type 0 where
+  pub reached : IsReached p
+  pub scopes_are : p.scopes ≡ scopes
+  pub topology : TopologyStands p core.topology
+  pub rows : RowsStand p (primary_of core.primaries)
+  pub primaries : ArePrimaries p core.primaries
+  pub workflows : AreWorkflows p core.workflows
+
+-- the same with the watchers that the state has
+abbrev pub Stands : Plain → CoreState → Type 0
+Stands p core = StandsWith p p.scopes core
+
+-- what an event does leads from each state that the core stands for to the next one: the answer is one that the event may get there
+abbrev pub Steps : List Scope → CoreState → Event → Answer → CoreState → Type 0
+Steps scopes old event answer new = (p : Plain) → StandsWith p scopes old
+    → Answers p event answer × StandsWith (next p event answer) scopes new
+
+-- ---- what is true of every core
+
+-- a state that it stands for, reached by events that bring names alone
+pub record HasState (core : CoreState) : Type 0 where
+  pub state : Plain
+  pub reached : IsReached state
+  pub named : AllByRecursion BringsNames reached.events
+  pub stands : Stands state core
+
+-- there is one
+abbrev pub IsCore : CoreState → Type 0
+IsCore core = ∥ HasState core ∥₁
