@@ -1,0 +1,2 @@
+pub mod WiderLemmas
+pub mod StayLemmas
