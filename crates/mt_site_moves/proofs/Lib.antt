@@ -1,1 +1,4 @@
+pub mod AdvanceLemmas
+pub mod CoreLemmas
 pub mod ShowLemmas
+pub mod StreamLemmas

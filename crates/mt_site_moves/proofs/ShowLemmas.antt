@@ -4,11 +4,11 @@ use Rattle.std.specs.Option.{option_map_or}
 use Rattle.mt_model.specs.declared.entries.Scope.{Scope}
 use Rattle.mt_names.specs.declared.types.TypeSet.{TypeSet}
 use Rattle.mt_plain.specs.Answers.{Answers, show_of, shown_of}
-use Rattle.mt_plain.specs.Events.{Answer, show, forward, back, running, frozen, stopped, Shown, shown, Slot, Way}
+use Rattle.mt_plain.specs.Events.{Answer, show, forward, back, running, frozen, stopped, shown, Slot, Way}
 use Rattle.mt_plain.specs.Next.{next}
-use Rattle.mt_plain.specs.Plain.{Copied, ended, not_begun, up_to, Live, Plain, changes_primary, create_back, live_at, stands_done, stop_feeding}
+use Rattle.mt_plain.specs.Plain.{Copied, ended, not_begun, up_to, Live, Plain, changes_primary, create_back, live_at, stands_done}
 use Rattle.mt_plain.specs.Refuse.{in_workflow, is_still_copying}
-use Rattle.mt_plain.specs.Slots.{feeding_slot, is_feeding, other_slot, slot_before_way, slot_by_way, slot_of}
+use Rattle.mt_plain.specs.Slots.{feeding_slot, is_feeding, slot_before_way, slot_by_way, slot_of}
 use Rattle.mt_stream.specs.Streams.{StreamValue, has_ended}
 use Rattle.mt_workflow.specs.Workflows.{WorkflowState}
 use Rattle.mt_site_rows.specs.Rows.{stream_of}

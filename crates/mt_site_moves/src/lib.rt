@@ -2,6 +2,8 @@
 //! advance and Cancel do to it leads to one that stands for the next state.
 #![tactic(auto)]
 
+mod advancing;
 mod showing;
 
+pub use advancing::an_advance_steps;
 pub use showing::a_show_steps;
