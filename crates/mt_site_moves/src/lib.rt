@@ -3,7 +3,9 @@
 #![tactic(auto)]
 
 mod advancing;
+mod cancelling;
 mod showing;
 
 pub use advancing::an_advance_steps;
+pub use cancelling::a_cancel_steps;
 pub use showing::a_show_steps;
