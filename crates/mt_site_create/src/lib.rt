@@ -1,0 +1,6 @@
+//! Laws on Create: what becomes of a core that stands for a state of the definitions.
+#![tactic(auto)]
+
+mod refusals;
+
+pub use refusals::a_create_is_refused_as_the_definitions_refuse_it;
