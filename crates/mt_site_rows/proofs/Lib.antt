@@ -1,5 +1,6 @@
 pub mod AdvanceKeepLemmas
 pub mod AdvanceLemmas
+pub mod BridgeLemmas
 pub mod CancelLemmas
 pub mod CreateLemmas
 pub mod FeedLemmas
@@ -7,4 +8,5 @@ pub mod KeepLemmas
 pub mod KnownLemmas
 pub mod StepLemmas
 pub mod StreamLemmas
+pub mod TableLemmas
 pub mod WriteLemmas
