@@ -1,3 +1,4 @@
+pub mod AskedLemmas
 pub mod FreeLemmas
 pub mod ListLemmas
 pub mod NamedLemmas

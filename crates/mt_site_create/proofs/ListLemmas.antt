@@ -1,6 +1,6 @@
 -- Lists that are tested alike, and what holds of each element.
-use Rattle.std.proofs.Common.{◌≡◌, ℕ, Bool, true, false, cond, List, [], ◌∷◌, filter, find, None, Some, refl, sym, ap, subst, ◌∙◌}
-use Rattle.std.proofs.lemmas.Bool.{true≢false}
+use Rattle.std.proofs.Common.{◌≡◌, ℕ, Bool, true, false, cond, List, [], ◌∷◌, ◌++◌, filter, find, flat_map, map, None, Some, refl, sym, ap, subst, ◌∙◌}
+use Rattle.std.proofs.lemmas.Bool.{or_left, or_right, true≢false}
 use Rattle.std.specs.List.{AllByRecursion, list_any}
 use Rattle.mt_names.specs.declared.keys.RuleKey.{RuleKey}
 use Rattle.mt_names.specs.declared.types.TabletType.{TabletType}
@@ -38,33 +38,46 @@ at_named P (n ∷ ns) each name is = by (at_named P ns each.1 name) (same_text n
     by again true b = subst P ((same_text_decides n name).0 b) each.0
     by again false b = again (rw b at is)
 
+-- what holds of each name among some
+pub each_named : (P : List ℕ → Type 0) (names : List (List ℕ)) → ((name : List ℕ) → list_any (λ n. same_text n name) names ≡ true → P name) → AllByRecursion P names
+each_named P [] each = tt
+each_named P (n ∷ ns) each = (
+  each n (or_left (same_text n n) (list_any (λ m. same_text m n) ns) ((same_text_decides n n).1 refl)),
+  each_named P ns (λ name is. each name (or_right (same_text n name) (list_any (λ m. same_text m name) ns) is)),
+)
+
+-- ---- lists that are made alike
+
+pub map_same : {X Y : Type 0} (f g : X → Y) (xs : List X) → AllByRecursion (λ x. f x ≡ g x) xs → map f xs ≡ map g xs
+map_same f g [] each = refl
+map_same f g (x ∷ xs) each = ap (λ y. y ∷ map f xs) each.0 ∙ ap (λ l. g x ∷ l) (map_same f g xs each.1)
+
+pub flat_map_same : {X Y : Type 0} (f g : X → List Y) (xs : List X) → AllByRecursion (λ x. f x ≡ g x) xs → flat_map f xs ≡ flat_map g xs
+flat_map_same f g [] each = refl
+flat_map_same f g (x ∷ xs) each = ap (λ l. l ++ flat_map f xs) each.0 ∙ ap (λ l. g x ++ l) (flat_map_same f g xs each.1)
+
 -- ---- the twelve keys of a table
 
-pub each_key : (P : RuleKey → Type 0) (source target table : List ℕ)
-    → ((keyspace : Option (List ℕ)) (tablet_type : Option TabletType) → P (record { keyspace = keyspace; table = table; tablet_type = tablet_type }))
+pub each_side_key : (P : RuleKey → Type 0) (source target table : List ℕ)
+    → ((tablet_type : Option TabletType) → P (record { keyspace = None; table = table; tablet_type = tablet_type }))
+    → ((tablet_type : Option TabletType) → P (record { keyspace = Some source; table = table; tablet_type = tablet_type }))
+    → ((tablet_type : Option TabletType) → P (record { keyspace = Some target; table = table; tablet_type = tablet_type }))
     → AllByRecursion P (table_rule_keys source target table)
-each_key P source target table each = (
-  each None None,
+each_side_key P source target table none s t = (
+  none None,
   (
-    each None (Some Primary),
+    none (Some Primary),
     (
-      each None (Some Replica),
+      none (Some Replica),
       (
-        each None (Some Rdonly),
-        (
-          each (Some source) None,
-          (
-            each (Some source) (Some Primary),
-            (
-              each (Some source) (Some Replica),
-              (
-                each (Some source) (Some Rdonly),
-                (each (Some target) None, (each (Some target) (Some Primary), (each (Some target) (Some Replica), (each (Some target) (Some Rdonly), tt)))),
-              ),
-            ),
-          ),
-        ),
+        none (Some Rdonly),
+        (s None, (s (Some Primary), (s (Some Replica), (s (Some Rdonly), (t None, (t (Some Primary), (t (Some Replica), (t (Some Rdonly), tt)))))))),
       ),
     ),
   ),
 )
+
+pub each_key : (P : RuleKey → Type 0) (source target table : List ℕ)
+    → ((keyspace : Option (List ℕ)) (tablet_type : Option TabletType) → P (record { keyspace = keyspace; table = table; tablet_type = tablet_type }))
+    → AllByRecursion P (table_rule_keys source target table)
+each_key P source target table each = each_side_key P source target table (each None) (each (Some source)) (each (Some target))

@@ -3,4 +3,6 @@
 
 mod refusals;
 
-pub use refusals::a_create_is_refused_as_the_definitions_refuse_it;
+pub use refusals::{
+    a_create_is_refused_as_the_definitions_refuse_it, the_watchers_are_asked_with_what_create_makes,
+};

@@ -1,12 +1,13 @@
 //! Laws on what refuses a Create, and on what it asks.
-ghost use Rattle.std.specs.Prelude.{◌≡◌, ℕ, List};
+ghost use Rattle.std.specs.Prelude.{◌≡◌, ℕ, List, None};
 ghost use Rattle.mt_model.specs.declared.entries.Scope.{Scope};
+ghost use Rattle.mt_plain.specs.Asks.{asked_change};
 ghost use Rattle.mt_plain.specs.Events.{create};
 ghost use Rattle.mt_plain.specs.Plain.{Plain, each_once};
 ghost use Rattle.mt_plain.specs.Refuse.{refusal_of};
 ghost use Rattle.mt_site_state.specs.Core.{CoreState};
 ghost use Rattle.mt_site_state.specs.Stands.{StandsWith};
-ghost use Rattle.mt_site_state.specs.Workflows.{create_refusal};
+ghost use Rattle.mt_site_state.specs.Workflows.{change_of, create_refusal, new_of};
 
 use mt_laws::{
     a_live_workflow_is_found_by_its_part, live_workflows_stand_in_place,
@@ -14,7 +15,8 @@ use mt_laws::{
     parts_are_apart,
 };
 use mt_site_topology::{
-    places_are_as_many_as_the_definitions_count, tables_are_as_many_as_the_definitions_count,
+    create_writes_the_part, places_are_as_many_as_the_definitions_count,
+    tables_are_as_many_as_the_definitions_count,
 };
 use mt_watch::scopes_are_told_apart;
 
@@ -34,4 +36,15 @@ pub fn a_create_is_refused_as_the_definitions_refuse_it()
     places_are_as_many_as_the_definitions_count();
     tables_are_as_many_as_the_definitions_count();
     scopes_are_told_apart();
+}
+
+/// And it asks the watchers of the target's primary with the very change with which the definitions ask them.
+pub fn the_watchers_are_asked_with_what_create_makes()
+    ensures { (p : Plain) (scopes : List Scope) (core : CoreState) → StandsWith p scopes core
+        → (workflow source target : List ℕ) (tables : List (List ℕ))
+        → create_refusal core scopes workflow source target (each_once tables) ≡ None
+        → change_of (new_of core workflow source target (each_once tables)) ≡ asked_change p (create workflow source target tables) }
+{
+    a_create_is_refused_as_the_definitions_refuse_it();
+    create_writes_the_part();
 }
