@@ -120,3 +120,43 @@ module _ (p : Plain) (scopes : List Scope) (core : CoreState) (stands : StandsWi
   same_refusal =
       ap (λ b. or_else (refuse_if b workflow_exists) (behind core_source)) (same_names p core.workflows stands.workflows workflow)
       ∙ ap (λ o. or_else (refuse_if (is_some (live_at p workflow)) workflow_exists) (behind o)) from_source
+
+-- ---- what holds where no test refuses
+
+pub record Passes (p : Plain) (workflow source target : List ℕ) (tables : List (List ℕ)) : Type 0 where
+  pub free : live_at p workflow ≡ None
+  pub there : has_keyspace p target ≡ true
+  pub can : AllByRecursion (CanMove p source target) tables
+
+module _ (p : Plain) (workflow source target : List ℕ) (tables : List (List ℕ)) where
+  abbrev behind_tables : Option Refusal
+  behind_tables = or_else (watcher_refusal p target) (refuse_if (create_is_full p source target tables) full)
+
+  abbrev behind_target : Option Refusal
+  behind_target = or_else (moved_tables_refusal p source target tables) behind_tables
+
+  abbrev behind_source : Option Refusal
+  behind_source = or_else (refuse_if (not (has_keyspace p target)) no_keyspace) behind_target
+
+  abbrev behind_sides : Option Refusal
+  behind_sides = or_else (refuse_if (not (has_keyspace p source)) no_keyspace) behind_source
+
+  abbrev behind_number : Option Refusal
+  behind_number = or_else (refuse_if (same_text source target) same_keyspace) behind_sides
+
+  abbrev behind_name : Option Refusal
+  behind_name = or_else (refuse_if (length tables == 0) no_tables) behind_number
+
+  pub passes : plain.create_refusal p workflow source target tables ≡ None → Passes p workflow source target tables
+  passes none =
+      let (name, a) = or_else_none (refuse_if (is_some (live_at p workflow)) workflow_exists) behind_name none in
+      let (number, b) = or_else_none (refuse_if (length tables == 0) no_tables) behind_number a in
+      let (sides, d) = or_else_none (refuse_if (same_text source target) same_keyspace) behind_sides b in
+      let (at_source, e) = or_else_none (refuse_if (not (has_keyspace p source)) no_keyspace) behind_source d in
+      let (at_target, f) = or_else_none (refuse_if (not (has_keyspace p target)) no_keyspace) behind_target e in
+      let (each, g) = or_else_none (moved_tables_refusal p source target tables) behind_tables f in
+      record {
+        free = none_from (live_at p workflow) (refuse_if_none (is_some (live_at p workflow)) workflow_exists name);
+        there = not-false (has_keyspace p target) (refuse_if_none (not (has_keyspace p target)) no_keyspace at_target);
+        can = can_moves p source target tables each;
+      }
