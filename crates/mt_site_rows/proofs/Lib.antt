@@ -7,4 +7,5 @@ pub mod KeepLemmas
 pub mod KnownLemmas
 pub mod StepLemmas
 pub mod StreamLemmas
+pub mod TableLemmas
 pub mod WriteLemmas

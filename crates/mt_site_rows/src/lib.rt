@@ -7,6 +7,7 @@ mod ends;
 mod opening;
 mod stays;
 mod steps;
+mod tables;
 mod writes;
 
 pub use advances::{an_advance_answers_as_the_definitions_allow, an_advance_keeps_rows_and_logs};
@@ -14,4 +15,5 @@ pub use ends::{a_cancel_keeps_rows_and_logs, a_create_keeps_rows_and_logs};
 pub use opening::the_opening_has_no_rows;
 pub use stays::events_that_change_no_row_keep_rows_and_logs;
 pub use steps::{a_step_keeps_rows_and_logs, a_stream_is_level_where_all_is_fed};
+pub use tables::a_new_table_keeps_rows_and_logs;
 pub use writes::a_write_keeps_rows_and_logs;
