@@ -1,5 +1,6 @@
 pub mod AdvanceKeepLemmas
 pub mod AdvanceLemmas
+pub mod BridgeLemmas
 pub mod CancelLemmas
 pub mod CreateLemmas
 pub mod FeedLemmas

@@ -3,6 +3,7 @@
 #![tactic(auto)]
 
 mod advances;
+mod bridges;
 mod ends;
 mod opening;
 mod stays;
@@ -11,6 +12,7 @@ mod tables;
 mod writes;
 
 pub use advances::{an_advance_answers_as_the_definitions_allow, an_advance_keeps_rows_and_logs};
+pub use bridges::tables_made_and_dropped_leave_the_others;
 pub use ends::{a_cancel_keeps_rows_and_logs, a_create_keeps_rows_and_logs};
 pub use opening::the_opening_has_no_rows;
 pub use stays::events_that_change_no_row_keep_rows_and_logs;
