@@ -5,4 +5,5 @@ pub mod OwnedLemmas
 pub mod PrimaryLemmas
 pub mod RefusalLemmas
 pub mod SayLemmas
+pub mod TableLemmas
 pub mod WriteLemmas

@@ -6,6 +6,6 @@ mod by_hand;
 mod rows;
 mod telling;
 
-pub use by_hand::{a_keyspace_steps, a_rule_steps};
+pub use by_hand::{a_keyspace_steps, a_rule_steps, a_table_steps};
 pub use rows::{a_read_steps, a_write_steps};
 pub use telling::{a_core_tells_what_its_state_serves, an_empty_core_stands_for_the_opening};
