@@ -16,8 +16,8 @@ use Rattle.mt_model.specs.Limits.{most_keyspaces, most_rules}
 use Rattle.mt_model.specs.Topology.{KeyspaceState, TopologyState, is_marked, is_present, keyspace_at, with_keyspace, with_rule}
 use Rattle.mt_primary.specs.Primary.{empty_primary, has_table, is_denied_at}
 use Rattle.mt_topology.specs.Edits.{add_keyspace_refusal, edit_rule_grows, edit_rule_refusal}
-use Rattle.mt_plain.specs.Answers.{Answers}
-use Rattle.mt_plain.specs.Events.{Answer, add_keyspace, done, edit_rule, exists, full, rule_owned}
+use Rattle.mt_plain.specs.Answers.{Answers, answer_of}
+use Rattle.mt_plain.specs.Events.{Answer, Event, add_keyspace, done, edit_rule, exists, full, rule_owned}
 use Rattle.mt_plain.specs.Next.{next}
 use Rattle.mt_plain.specs.Plain.{Plain, has_keyspace, moves, part_owner}
 use Rattle.mt_plain.specs.Refuse.{may_grow, or_else, refusal_of, refuse_if, rule_count, rule_refusal}
@@ -38,6 +38,7 @@ use Rattle.mt_site_hand.proofs.RefusalLemmas.{keyspace_told, rule_told, told}
 
 -- what the laws say of it
 pub record KeyspaceLaws : Type 0 where
+  pub answered : (p : Plain) (event : Event) → Answers p event (answer_of p event)
   pub limits : (p : Plain) → IsReached p → IsWithinLimits p
   pub count : (p : Plain) (t : TopologyState) → IsReached p → TopologyStands p t → length t.keyspaces ≡ length p.topology.keyspaces
   pub topology : (p : Plain) (t : TopologyState) (name : List ℕ) → Answers p (add_keyspace name) done → TopologyStands p t → TopologyStands (next p (add_keyspace name) done) (with_keyspace t name)
@@ -112,12 +113,13 @@ module _ (laws : Laws) (law : KeyspaceLaws) (p : Plain) (scopes : List Scope) (o
 pub keyspace_steps : Laws → KeyspaceLaws → (scopes : List Scope) (old new : CoreState) (name : List ℕ) (answer : Answer) → AddsKeyspace old name answer new → Steps scopes old (add_keyspace name) answer new
 keyspace_steps laws law scopes old new name answer did p stands =
     does_steps p scopes old (record old { topology = with_keyspace old.topology name; primaries = old.primaries ++ (name, empty_primary) ∷ [] }) (add_keyspace name)
-    (told (add_keyspace_refusal old.topology.keyspaces name)) true refl (λ e. refl) (keyspace_refusing laws law p scopes old name stands) stands (keyspace_making laws law p scopes old name stands) answer new did
+    (told (add_keyspace_refusal old.topology.keyspaces name)) true refl (λ e. refl) (keyspace_refusing laws law p scopes old name stands) stands (keyspace_making laws law p scopes old name stands) (law.answered p (add_keyspace name)) answer new did
 
 -- ---- a rule edited
 
 -- what the laws say of it
 pub record RuleLaws : Type 0 where
+  pub answered : (p : Plain) (event : Event) → Answers p event (answer_of p event)
   pub limits : (p : Plain) → IsReached p → IsWithinLimits p
   pub names : (p : Plain) → IsReached p → AllPairs (λ v w. v.name ≢ w.name) p.lives
   pub count : (p : Plain) (t : TopologyState) → IsReached p → TopologyStands p t → length t.rules ≡ rule_count p
@@ -172,4 +174,4 @@ pub rule_steps : Laws → RuleLaws → (scopes : List Scope) (old new : CoreStat
 rule_steps laws law scopes old new key target answer did p stands =
     does_steps p scopes old (record old { topology = record old.topology { rules = with_rule old.topology.rules key target } }) (edit_rule key target)
     (or_else (refuse_if (is_owned old.workflows (about.Rule key)) rule_owned) (told (edit_rule_refusal old.topology.rules key target))) (edit_rule_grows old.topology.rules key target) refl
-    (rule_growing laws law p scopes old key target stands target) (rule_refusing laws law p scopes old key target stands) stands (rule_making laws law p scopes old key target stands) answer new did
+    (rule_growing laws law p scopes old key target stands target) (rule_refusing laws law p scopes old key target stands) stands (rule_making laws law p scopes old key target stands) (law.answered p (edit_rule key target)) answer new did

@@ -3,13 +3,12 @@ use Rattle.std.proofs.Common.{◌≡◌, ℕ, Bool, true, List, map, find, Optio
 use Rattle.mt_names.specs.Names.{same_text}
 use Rattle.mt_model.specs.declared.entries.Scope.{Scope}
 use Rattle.mt_model.specs.Topology.{Rules}
-use Rattle.mt_plain.specs.Answers.{Answers, reply_of}
+use Rattle.mt_plain.specs.Answers.{Answers, answer_of, answer_or, reply_of}
 use Rattle.mt_plain.specs.Events.{Event, Answer, done, Refusal, memory, refused}
 use Rattle.mt_plain.specs.Next.{next}
 use Rattle.mt_plain.specs.Plain.{Live, Plain, live_at}
 use Rattle.mt_plain.specs.Refuse.{may_grow, refusal_of}
 use Rattle.mt_laws.specs.WayBack.{IsReached}
-use Rattle.mt_laws.proofs.AnswerLemmas.{refused_as_decided}
 use Rattle.mt_workflow.specs.Workflows.{WorkflowState}
 use Rattle.mt_site_topology.specs.Keys.{IsKept}
 use Rattle.mt_site_topology.specs.Stands.{TopologyStands}
@@ -69,9 +68,9 @@ module _ (laws : Laws) (p : Plain) (event : Event) (answer : Answer) (reached : 
 
 module _ (p : Plain) (scopes : List Scope) (old made : CoreState) (event : Event) (refusal : Option Refusal) (grows : Bool)
     (answered : reply_of p event ≡ done) (growing : grows ≡ true → may_grow p event ≡ true) (same : refusal_of p event ≡ refusal) (stands : StandsWith p scopes old)
-    (making : Answers p event done → StandsWith (next p event done) scopes made) where
+    (making : Answers p event done → StandsWith (next p event done) scopes made) (one_answer : Answers p event (answer_of p event)) where
   refused_step : (r : Refusal) (new : CoreState) → refusal ≡ Some r → new ≡ old → Answers p event (refused r) × StandsWith p scopes new
-  refused_step r new is kept = (refused_as_decided p event r (same ∙ is), subst (StandsWith p scopes) (sym kept) stands)
+  refused_step r new is kept = (subst (λ o. Answers p event (answer_or o (reply_of p event))) (same ∙ is) one_answer, subst (StandsWith p scopes) (sym kept) stands)
 
   pub does_steps : (answer : Answer) (new : CoreState) → Does old refusal grows made answer new → Answers p event answer × StandsWith (next p event answer) scopes new
   does_steps done new is =

@@ -19,8 +19,8 @@ use Rattle.mt_model.specs.Topology as model
 use Rattle.mt_primary.specs.Primary.{PrimaryState, has_table, is_denied_at, row_at}
 use Rattle.mt_primary.specs.Writes.{with_new_table}
 use Rattle.mt_topology.specs.Edits.{add_table_refusal, new_table_refusal}
-use Rattle.mt_plain.specs.Answers.{Answers}
-use Rattle.mt_plain.specs.Events.{Answer, add_table, done, exists, full, no_keyspace}
+use Rattle.mt_plain.specs.Answers.{Answers, answer_of}
+use Rattle.mt_plain.specs.Events.{Answer, Event, add_table, done, exists, full, no_keyspace}
 use Rattle.mt_plain.specs.Next.{next}
 use Rattle.mt_plain.specs.Plain.{Live, Plain, among, has_keyspace, moves, part_owner}
 use Rattle.mt_plain.specs.Refuse.{or_else, refusal_of, refuse_if, table_count}
@@ -41,6 +41,7 @@ use Rattle.mt_site_hand.proofs.RefusalLemmas.{table_told, told}
 
 -- what the laws say of it
 pub record TableLaws : Type 0 where
+  pub answered : (p : Plain) (event : Event) → Answers p event (answer_of p event)
   pub limits : (p : Plain) → IsReached p → IsWithinLimits p
   pub places : (p : Plain) → IsReached p → (keyspace table : List ℕ) → has_place p.topology (about.Present keyspace table) ≡ is_present p.topology.keyspaces keyspace table
   pub count : (p : Plain) (t : TopologyState) (keyspace : List ℕ) (state : KeyspaceState) → IsReached p → TopologyStands p t → keyspace_at t.keyspaces keyspace ≡ Some state → length state.tables ≡ table_count p keyspace
@@ -229,4 +230,4 @@ pub table_steps : Laws → TableLaws → (scopes : List Scope) (old new : CoreSt
 table_steps laws law scopes old new keyspace table answer did p stands =
     does_steps p scopes old (record old { topology = with_table old.topology keyspace table; primaries = with_primary old.primaries keyspace (λ primary. with_new_table primary table) }) (add_table keyspace table)
     (told (add_table_refusal old.topology.keyspaces keyspace table)) true refl (λ e. refl) (table_refusing laws law p scopes old keyspace table stands) stands
-    (table_making laws law p scopes old keyspace table stands) answer new did
+    (table_making laws law p scopes old keyspace table stands) (law.answered p (add_table keyspace table)) answer new did

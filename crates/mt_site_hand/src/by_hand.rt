@@ -9,8 +9,8 @@ ghost use Rattle.mt_site_state.specs.Core.{CoreState};
 ghost use Rattle.mt_site_state.specs.Stands.{Steps};
 
 use mt_laws::{
-    each_next_state_is_reached, no_limit_is_passed, only_named_events_change_the_state,
-    only_what_stands_has_a_place, parts_are_apart,
+    answers_are_determined, each_next_state_is_reached, no_limit_is_passed,
+    only_named_events_change_the_state, only_what_stands_has_a_place, parts_are_apart,
 };
 use mt_model::what_is_made_by_hand;
 use mt_site_rows::{
@@ -27,6 +27,7 @@ pub fn a_keyspace_steps()
     ensures { (scopes : List Scope) (old new : CoreState) (name : List ℕ) (answer : Answer)
         → AddsKeyspace old name answer new → Steps scopes old (add_keyspace name) answer new }
 {
+    answers_are_determined();
     each_next_state_is_reached();
     no_limit_is_passed();
     only_named_events_change_the_state();
@@ -41,6 +42,7 @@ pub fn a_table_steps()
     ensures { (scopes : List Scope) (old new : CoreState) (keyspace table : List ℕ) (answer : Answer)
         → AddsTable old keyspace table answer new → Steps scopes old (add_table keyspace table) answer new }
 {
+    answers_are_determined();
     each_next_state_is_reached();
     no_limit_is_passed();
     only_named_events_change_the_state();
@@ -58,6 +60,7 @@ pub fn a_rule_steps()
     ensures { (scopes : List Scope) (old new : CoreState) (key : RuleKey) (target : Option RuleTarget) (answer : Answer)
         → EditsRule old key target answer new → Steps scopes old (edit_rule key target) answer new }
 {
+    answers_are_determined();
     each_next_state_is_reached();
     no_limit_is_passed();
     only_named_events_change_the_state();

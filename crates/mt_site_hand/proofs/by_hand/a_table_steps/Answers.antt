@@ -12,6 +12,7 @@ returns c =
       kept = c.what_is_kept_stays_what_stood.ensures;
     })
     (record {
+      answered = c.answers_are_determined.ensures.one_at_least;
       limits = c.no_limit_is_passed.ensures;
       places = c.only_what_stands_has_a_place.ensures.tables;
       count = c.tables_are_as_many_as_the_definitions_count.ensures;
