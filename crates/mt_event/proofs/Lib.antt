@@ -1,0 +1,2 @@
+pub mod DecideLemmas
+pub mod SameLemmas

@@ -1,0 +1,89 @@
+-- What is asked of the controller and what it answers, in the words of the definitions.
+use Rattle.std.specs.Prelude.{option_map, Result, Ok, Err}
+use Rattle.mt_event.specs.declared.event.Event.{Event}
+use Rattle.mt_event.specs.declared.event.Event.TheVariants as event
+use Rattle.mt_event.specs.declared.refusal.Refusal.{Refusal}
+use Rattle.mt_event.specs.declared.refusal.Refusal.TheVariants as from
+use Rattle.mt_event.specs.declared.reply.Reply.{Reply}
+use Rattle.mt_event.specs.declared.reply.Reply.TheVariants as reply
+use Rattle.mt_event.specs.declared.reply.Shown.{Shown}
+use Rattle.mt_event.specs.declared.reply.ShownStream.{ShownStream}
+use Rattle.mt_plain.specs.Events as plain
+use Rattle.mt_stream.specs.Streams.{state_from}
+use Rattle.mt_workflow.specs.Workflows.{stream_name, way_from}
+
+-- an event (MoveTables: its commands; the atomic steps are this profile's own)
+abbrev pub event_of : Event → plain.Event
+event_of (event.Write keyspace table op) = plain.write keyspace table op
+event_of (event.Read keyspace table key type_of) = plain.read keyspace table key type_of
+event_of (event.AddKeyspace keyspace) = plain.add_keyspace keyspace
+event_of (event.AddTable keyspace table) = plain.add_table keyspace table
+event_of (event.EditRule key target) = plain.edit_rule key target
+event_of (event.Create workflow source target tables) = plain.create workflow source target tables.items
+event_of (event.Advance workflow stream at max) = plain.advance workflow (stream_name stream) at max
+event_of (event.Cancel workflow) = plain.cancel workflow
+event_of (event.Show workflow) = plain.show workflow
+
+-- why an event is refused (this profile's own)
+abbrev pub refusal_from : Refusal → plain.Refusal
+refusal_from from.Memory = plain.memory
+refusal_from from.NoKeyspace = plain.no_keyspace
+refusal_from from.NoTable = plain.no_table
+refusal_from from.Denied = plain.denied
+refusal_from from.RowExists = plain.row_exists
+refusal_from from.NoRow = plain.no_row
+refusal_from from.WorkflowExists = plain.workflow_exists
+refusal_from from.NoWorkflow = plain.no_workflow
+refusal_from from.TableInWorkflow = plain.table_in_workflow
+refusal_from (from.RuleConflict key) = plain.rule_conflict key
+refusal_from (from.TargetHasTable table) = plain.target_has_table table
+refusal_from from.SameKeyspace = plain.same_keyspace
+refusal_from from.NoTables = plain.no_tables
+refusal_from from.UnderWay = plain.under_way
+refusal_from from.NothingUnderWay = plain.nothing_under_way
+refusal_from from.NothingToSwitch = plain.nothing_to_switch
+refusal_from from.NothingToReverse = plain.nothing_to_reverse
+refusal_from from.Copying = plain.copying
+refusal_from from.NotLevel = plain.not_level
+refusal_from from.PastJournal = plain.past_journal
+refusal_from from.TrafficSwitched = plain.traffic_switched
+refusal_from from.NotAllSwitched = plain.not_all_switched
+refusal_from from.RuleOwned = plain.rule_owned
+refusal_from (from.WatcherRefused index) = plain.watcher_refused index
+refusal_from from.NoWatcher = plain.no_watcher
+refusal_from (from.Stale current) = plain.stale current
+refusal_from from.StreamStopped = plain.stream_stopped
+refusal_from from.Full = plain.full
+refusal_from from.Undoing = plain.undoing
+refusal_from from.TooLong = plain.too_long
+refusal_from from.Exists = plain.exists
+
+-- a stream with its position (MoveTables: Show)
+abbrev pub shown_stream_from : ShownStream → plain.Slot
+shown_stream_from stream = record { state = state_from stream.state; position = stream.position }
+
+-- what Show tells of a workflow (MoveTables: Show)
+abbrev pub shown_from : Shown → plain.Shown
+shown_from shown = record {
+  workflow = shown.workflow;
+  source = shown.source;
+  target = shown.target;
+  tables = shown.tables.items;
+  switched = shown.switched;
+  way = option_map way_from shown.way;
+  forward = shown_stream_from shown.forward;
+  copied = shown.copied;
+  back = option_map shown_stream_from shown.back;
+}
+
+-- the answer to an event that is taken (this profile's own)
+abbrev pub reply_from : Reply → plain.Answer
+reply_from reply.Done = plain.done
+reply_from (reply.Row row) = plain.row row
+reply_from (reply.Advanced advanced) = plain.advanced advanced.events advanced.rows
+reply_from (reply.Shown shown) = plain.shown (shown_from shown)
+
+-- the answer to an event (this profile's own)
+abbrev pub answer_from : Result Reply Refusal → plain.Answer
+answer_from (Ok reply) = reply_from reply
+answer_from (Err refusal) = plain.refused (refusal_from refusal)

@@ -1,0 +1,155 @@
+//! What is asked of the controller.
+use crate::tables::copied_tables;
+use arrayvec::ArrayVec;
+use mt_model::Op;
+use mt_names::{
+    KeyspaceName, MAX_TABLES, Position, RuleKey, RuleTarget, TableName, TabletType, WorkflowName,
+};
+use mt_workflow::Slot;
+
+/// An event: each is taken whole, or refused and changes nothing. (Vitess: the commands of MoveTables, in atomic steps)
+#[derive(Debug, Drop, Eq, PartialEq)]
+pub enum Event {
+    /// A client writes to a table of a keyspace.
+    Write {
+        /// The keyspace.
+        keyspace: KeyspaceName,
+        /// The table.
+        table: TableName,
+        /// What is done to a row of it.
+        op: Op,
+    },
+    /// A client reads a row of a table of a keyspace.
+    Read {
+        /// The keyspace.
+        keyspace: KeyspaceName,
+        /// The table.
+        table: TableName,
+        /// The key of the row.
+        key: u64,
+        /// The type of the tablet that is read.
+        type_of: TabletType,
+    },
+    /// Makes a keyspace.
+    AddKeyspace {
+        /// The keyspace.
+        keyspace: KeyspaceName,
+    },
+    /// Makes a table in a keyspace.
+    AddTable {
+        /// The keyspace.
+        keyspace: KeyspaceName,
+        /// The table.
+        table: TableName,
+    },
+    /// Sets the routing rule of a key, or takes it away.
+    EditRule {
+        /// The key.
+        key: RuleKey,
+        /// Where it leads, or that there is no rule.
+        target: Option<RuleTarget>,
+    },
+    /// Makes a workflow that moves tables. (Vitess: Create of MoveTables)
+    Create {
+        /// The workflow.
+        workflow: WorkflowName,
+        /// The keyspace that the tables move from.
+        source: KeyspaceName,
+        /// The keyspace that they move to.
+        target: KeyspaceName,
+        /// The tables.
+        tables: ArrayVec<TableName, MAX_TABLES>,
+    },
+    /// A stream of a workflow copies rows, or reads its source's log. (Vitess: VReplication, which does so on its own)
+    Advance {
+        /// The workflow.
+        workflow: WorkflowName,
+        /// Which of its streams.
+        stream: Slot,
+        /// The position at which the stream is expected.
+        at: Position,
+        /// How many rows or entries at most.
+        max: u16,
+    },
+    /// Takes a workflow back. (Vitess: Cancel of MoveTables)
+    Cancel {
+        /// The workflow.
+        workflow: WorkflowName,
+    },
+    /// Tells of a workflow. (Vitess: Show of MoveTables)
+    Show {
+        /// The workflow.
+        workflow: WorkflowName,
+    },
+}
+
+impl Event {
+    ghost use Rattle.std.specs.Prelude.{◌≡◌};
+
+    /// The same event. It takes no memory.
+    pub fn copied(&self) -> Self
+        ensures { result ≡ self.now }
+    {
+        match self {
+            Event::Write {
+                keyspace,
+                table,
+                op,
+            } => Event::Write {
+                keyspace: keyspace.copied(),
+                table: table.copied(),
+                op: op.copied(),
+            },
+            Event::Read {
+                keyspace,
+                table,
+                key,
+                type_of,
+            } => Event::Read {
+                keyspace: keyspace.copied(),
+                table: table.copied(),
+                key: *key,
+                type_of: *type_of,
+            },
+            Event::AddKeyspace { keyspace } => Event::AddKeyspace {
+                keyspace: keyspace.copied(),
+            },
+            Event::AddTable { keyspace, table } => Event::AddTable {
+                keyspace: keyspace.copied(),
+                table: table.copied(),
+            },
+            Event::EditRule { key, target } => Event::EditRule {
+                key: key.copied(),
+                target: target.as_ref().map(|target| target.copied()),
+            },
+            Event::Create {
+                workflow,
+                source,
+                target,
+                tables,
+            } => Event::Create {
+                workflow: workflow.copied(),
+                source: source.copied(),
+                target: target.copied(),
+                tables: copied_tables(tables),
+            },
+            Event::Advance {
+                workflow,
+                stream,
+                at,
+                max,
+            } => Event::Advance {
+                workflow: workflow.copied(),
+                stream: *stream,
+                at: *at,
+                max: *max,
+            },
+            Event::Cancel { workflow } => Event::Cancel {
+                workflow: workflow.copied(),
+            },
+            Event::Show { workflow } => Event::Show {
+                workflow: workflow.copied(),
+            },
+        }
+    }
+}

@@ -1,0 +1,13 @@
+//! What is asked of the controller, and what it answers.
+#![tactic(auto)]
+
+mod event;
+mod laws;
+mod refusal;
+mod reply;
+mod tables;
+
+pub use event::Event;
+pub use laws::events_and_answers_are_told_apart;
+pub use refusal::Refusal;
+pub use reply::{Reply, Shown, ShownStream};

@@ -1,0 +1,90 @@
+//! What the controller answers to an event that is taken.
+use crate::tables::copied_tables;
+use arrayvec::ArrayVec;
+use mt_names::{
+    KeyspaceName, MAX_TABLES, Position, TableName, TypeSet, Value, WorkflowName, copied_value,
+};
+use mt_stream::{Advanced, StreamState};
+use mt_workflow::Way;
+
+/// What is told of a stream. (Vitess: Show of MoveTables)
+#[derive(Clone, Copy, Debug, Eq, PartialEq)]
+pub struct ShownStream {
+    /// What it does.
+    pub state: StreamState,
+    /// The position up to which it has read its source's log.
+    pub position: Position,
+}
+
+/// What is told of a workflow. (Vitess: Show of MoveTables; the layout is this profile's own)
+#[derive(Debug, Drop, Eq, PartialEq)]
+pub struct Shown {
+    /// Its name.
+    pub workflow: WorkflowName,
+    /// The keyspace that its tables move from.
+    pub source: KeyspaceName,
+    /// The keyspace that they move to.
+    pub target: KeyspaceName,
+    /// Its tables, each once, in the order in which they were first named.
+    pub tables: ArrayVec<TableName, MAX_TABLES>,
+    /// The tablet types whose traffic is switched.
+    pub switched: TypeSet,
+    /// The way that is open, if one is.
+    pub way: Option<Way>,
+    /// Its forward stream.
+    pub forward: ShownStream,
+    /// Whether the copy has ended.
+    pub copied: bool,
+    /// Its back stream, if it has one.
+    pub back: Option<ShownStream>,
+}
+
+/// The answer to an event that is taken.
+#[derive(Debug, Drop, Eq, PartialEq)]
+pub enum Reply {
+    /// The event is done.
+    Done,
+    /// The row that was read, if there is one.
+    Row(Option<Value>),
+    /// What an advance did.
+    Advanced(Advanced),
+    /// What is told of a workflow.
+    Shown(Shown),
+}
+
+impl Shown {
+    ghost use Rattle.std.specs.Prelude.{◌≡◌};
+
+    /// The same. It takes no memory.
+    pub fn copied(&self) -> Self
+        ensures { result ≡ self.now }
+    {
+        Shown {
+            workflow: self.workflow.copied(),
+            source: self.source.copied(),
+            target: self.target.copied(),
+            tables: copied_tables(&self.tables),
+            switched: self.switched,
+            way: self.way,
+            forward: self.forward,
+            copied: self.copied,
+            back: self.back,
+        }
+    }
+}
+
+impl Reply {
+    ghost use Rattle.std.specs.Prelude.{◌≡◌};
+
+    /// The same answer. It takes no memory.
+    pub fn copied(&self) -> Self
+        ensures { result ≡ self.now }
+    {
+        match self {
+            Reply::Done => Reply::Done,
+            Reply::Row(row) => Reply::Row(row.as_ref().map(|value| copied_value(value))),
+            Reply::Advanced(advanced) => Reply::Advanced(*advanced),
+            Reply::Shown(shown) => Reply::Shown(shown.copied()),
+        }
+    }
+}
