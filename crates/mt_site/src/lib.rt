@@ -1,0 +1,21 @@
+//! The controller: its core, the watchers that it asks, and each event as one call.
+#![tactic(auto)]
+
+mod advance;
+mod by_hand;
+mod cancel;
+mod parts;
+mod rows;
+mod show;
+mod target;
+
+use indexmap::IndexMap;
+use mt_names::{KeyspaceName, WorkflowName};
+use mt_primary::Primary;
+use mt_workflow::Workflow;
+
+/// Primaries by the names of their keyspaces.
+pub(crate) type Primaries = IndexMap<KeyspaceName, Primary>;
+
+/// The live workflows by their names, in the order in which they were created.
+pub(crate) type Workflows = IndexMap<WorkflowName, Workflow>;
