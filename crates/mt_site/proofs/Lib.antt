@@ -1,1 +1,3 @@
+pub mod PrimaryLemmas
+pub mod TargetLemmas
 pub mod WriteLemmas

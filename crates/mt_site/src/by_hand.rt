@@ -127,7 +127,7 @@ fn key_is_named(key: &RuleKey)
 fn is_owned(workflows: &Workflows, key: &RuleKey) -> bool
     ensures { result ≡ is_owned workflows.now.entries (EntryKey.Rule key.now) }
 {
-    for workflow in workflows.values() {
+    for (_, workflow) in workflows.iter() {
         if owns(workflow, key) {
             return true;
         }
