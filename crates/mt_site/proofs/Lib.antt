@@ -1,3 +1,5 @@
+pub mod AdvanceLemmas
+pub mod HandLemmas
 pub mod PrimaryLemmas
 pub mod TargetLemmas
 pub mod WriteLemmas
