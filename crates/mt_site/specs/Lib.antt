@@ -1,5 +1,6 @@
 pub mod Advance
 pub mod ByHand
 pub mod Cancel
+pub mod Create
 pub mod Parts
 pub mod Target

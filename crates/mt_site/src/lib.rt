@@ -4,6 +4,7 @@
 mod advance;
 mod by_hand;
 mod cancel;
+mod create;
 mod parts;
 mod rows;
 mod show;
