@@ -1,5 +1,5 @@
 -- Primaries that take each other's places.
-use Rattle.std.proofs.Common.{◌≡◌, ◌≢◌, ℕ, true, false, List, [], ◌∷◌, ◌++◌, Option, None, Some, Result, Ok, Err, is_some, unwrap_or, refl, sym, ap, ◌∙◌}
+use Rattle.std.proofs.Common.{◌≡◌, ◌≢◌, ℕ, Bool, true, false, cond, subst, List, [], ◌∷◌, ◌++◌, Option, None, Some, Result, Ok, Err, is_some, unwrap_or, refl, sym, ap, ◌∙◌}
 use Rattle.std.proofs.lemmas.Bool.{true≢false}
 use Rattle.std.proofs.lemmas.Map.Steps.{set_value_same}
 use Rattle.std.specs.Map.{lookup, set_value}
@@ -11,7 +11,7 @@ use Rattle.mt_names.specs.Names.{same_text}
 use Rattle.mt_names.proofs.EntryLemmas.{is_some-set_value, lookup-set_value_elsewhere, lookup-set_value_here, set_value-twice}
 use Rattle.mt_names.proofs.SameLemmas.{same_text_decides}
 use Rattle.mt_model.specs.declared.faults.PrimaryFault.{PrimaryFault}
-use Rattle.mt_primary.specs.Primary.{PrimaryState, empty_primary}
+use Rattle.mt_primary.specs.Primary.{IsPrimary, PrimaryState, empty_primary}
 use Rattle.mt_primary.specs.Writes.{Creates, with_new_table}
 use Rattle.mt_site_state.specs.Core.{Primaries, primary_at, primary_of, with_primary}
 use Rattle.mt_site.specs.ByHand.{CreatesTable}
@@ -64,3 +64,23 @@ module _ (old new : Primaries) (read written : List ℕ) (meanwhile : PrimarySta
   -- the one put back stands where it stood
   pub put-back : (back : Primaries) (sink : PrimaryState) → back ≡ set_value (same_text written) new sink → back ≡ set_value (same_text written) old sink
   put-back back sink put = put ∙ ap (λ ps. set_value (same_text written) ps sink) is ∙ set_value-twice (same_text written) old meanwhile sink
+
+-- ---- all primaries
+
+-- what is true of every primary is true of each that is found
+abbrev pub AreEach : Primaries → Type 0
+AreEach primaries = (keyspace : List ℕ) (state : PrimaryState) → primary_at primaries keyspace ≡ Some state → IsPrimary state
+
+pub each-more : (name : List ℕ) (state : PrimaryState) (rest : Primaries) → IsPrimary state → AreEach rest → AreEach ((name, state) ∷ rest)
+each-more name state rest is are keyspace found = by (same_text keyspace name) found
+  where
+    by : {s : PrimaryState} (t : Bool) → cond t (Some state) (primary_at rest keyspace) ≡ Some s → IsPrimary s
+    by true e = let same : state ≡ _ = cc in subst IsPrimary same is
+    by false e = are keyspace _ e
+
+pub each-of : (primaries : Primaries) → IsPrimary empty_primary → AreEach primaries → (keyspace : List ℕ) → IsPrimary (primary_of primaries keyspace)
+each-of primaries none are keyspace = by (primary_at primaries keyspace) refl
+  where
+    by : (o : Option PrimaryState) → primary_at primaries keyspace ≡ o → IsPrimary (unwrap_or o empty_primary)
+    by None e = none
+    by (Some state) e = are keyspace state e

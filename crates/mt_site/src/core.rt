@@ -13,7 +13,8 @@ ghost use Rattle.mt_site_state.specs.Stands.{Stands, StandsWith, Steps};
 ghost use Rattle.mt_site_state.specs.Workflows.{AdvancesWorkflow, Cancels, Creates, ShowsWorkflow};
 ghost use Rattle.mt_workflow.specs.Workflows.{stream_name};
 
-use crate::{Primaries, Workflows, advance, by_hand, cancel, create, rows, show};
+use crate::primaries::each_is_a_primary;
+use crate::{Primaries, Workflows, advance, by_hand, cancel, rows, show};
 use indexmap::IndexMap;
 use mt_event::{Event, Refusal, Reply};
 use mt_model::{Op, TopologyFault};
@@ -21,7 +22,6 @@ use mt_names::{
     KeyspaceName, Position, RuleKey, RuleTarget, TableName, TabletType, WorkflowName,
 };
 use mt_rules::RulesFault;
-use mt_site_create::{a_create_can_be_taken_back, a_create_leaves_a_core, a_create_steps};
 use mt_site_facts::{
     a_core_stays_one, each_keyspace_of_a_core_has_a_primary,
     primaries_of_a_core_have_the_tables_of_its_topology, streams_of_a_core_lie_in_their_logs,
@@ -174,33 +174,6 @@ impl Core {
         rows::read_row(&self.primaries, keyspace, table, key, tablet_type)
     }
 
-    /// Creates a workflow: see `create::create`.
-    fn create<W: Asks>(
-        &mut self,
-        watchers: &W,
-        name: &WorkflowName,
-        source: &KeyspaceName,
-        target: &KeyspaceName,
-        tables: &[TableName],
-    ) -> Result<Reply, Refusal>
-        requires { length tables.now ≤ most_tables }
-        ensures { Creates self.old (W.scopes watchers.now) (W.may_answer watchers.now) name.now source.now target.now tables.now (answer_from result) self.new }
-    {
-        a_create_can_be_taken_back(watchers);
-        a_create_leaves_a_core(watchers);
-        create::create(
-            self.alloc,
-            &mut self.topology,
-            &mut self.primaries,
-            &mut self.workflows,
-            watchers,
-            name,
-            source,
-            target,
-            tables,
-        )
-    }
-
     /// Advances a stream of a workflow: `F7 NoWorkflow`, `F26 Stopped`, `F25 Stale`, `F27 Full`, `F0 Memory`.
     fn advance(
         &mut self,
@@ -215,6 +188,7 @@ impl Core {
         streams_of_a_core_lie_in_their_logs();
         a_core_stays_one();
         an_advance_steps();
+        each_is_a_primary(self.alloc, &self.primaries);
         advance::advance(
             self.alloc,
             &mut self.primaries,
@@ -233,6 +207,7 @@ impl Core {
         workflows_of_a_core_stand_in_place();
         a_core_stays_one();
         a_cancel_steps();
+        each_is_a_primary(self.alloc, &self.primaries);
         cancel::cancel(
             &mut self.topology,
             &mut self.primaries,
