@@ -1,1 +1,2 @@
 pub mod CreateLemmas
+pub mod MakeLemmas
