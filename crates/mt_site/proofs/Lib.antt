@@ -1,2 +1,7 @@
+pub mod AdvanceLemmas
 pub mod CreateLemmas
+pub mod HandLemmas
 pub mod MakeLemmas
+pub mod PrimaryLemmas
+pub mod TargetLemmas
+pub mod WriteLemmas

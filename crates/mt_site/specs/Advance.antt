@@ -39,10 +39,10 @@ pub record IsBetween (primaries : Primaries) (w : WorkflowState) (name : StreamN
   pub within : stream.position ≤ length (primary_of primaries (read_side (live_of w) name)).log
   pub there : (table : List ℕ) → among stream.tables table ≡ true → has_table (primary_of primaries (written_side (live_of w) name)) table ≡ true
 
--- so does that of a live workflow, if there is one
-abbrev pub CanAdvance : Primaries → Workflows → (workflow : List ℕ) → StreamName → Type 0
-CanAdvance primaries workflows workflow name = (w : WorkflowState) → workflow_at workflows workflow ≡ Some w
-    → (stream : StreamValue) → slot_of w name ≡ Some stream → IsBetween primaries w name stream
+-- so does that of a live workflow, if there is one; and the workflow stands under its own name
+pub record CanAdvance (primaries : Primaries) (workflows : Workflows) (workflow : List ℕ) (name : StreamName) : Type 0 where
+  pub named : (w : WorkflowState) → workflow_at workflows workflow ≡ Some w → w.name ≡ workflow
+  pub between : (w : WorkflowState) → workflow_at workflows workflow ≡ Some w → (stream : StreamValue) → slot_of w name ≡ Some stream → IsBetween primaries w name stream
 
 -- the workflow and the primaries behind an advance of a stream, if there is one
 abbrev pub AdvancesOne : Option StreamValue → Primaries → WorkflowState → StreamName → (at at_most : ℕ) → Answer → WorkflowState → Primaries → Type 0

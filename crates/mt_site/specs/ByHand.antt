@@ -1,16 +1,18 @@
 -- What the controller tells of the refusals of its layers, and what becomes of primaries and of the topology as a table is made and taken
 -- back (this profile's own).
-use Rattle.std.specs.Prelude.{◌≡◌, ⊤, ℕ, false, List, Result, Ok, Err}
+use Rattle.std.specs.Prelude.{◌≡◌, ⊤, ℕ, false, List, is_some, length, Result, Ok, Err}
 use Rattle.mt_model.specs.declared.entries.Entry.TheVariants.{Present}
+use Rattle.mt_model.specs.declared.entries.EntryKey.TheVariants as about
 use Rattle.mt_model.specs.declared.faults.PrimaryFault.{PrimaryFault}
 use Rattle.mt_model.specs.declared.faults.PrimaryFault.TheVariants as primary
 use Rattle.mt_model.specs.declared.faults.TopologyFault.{TopologyFault}
 use Rattle.mt_model.specs.declared.faults.TopologyFault.TheVariants as topology
-use Rattle.mt_model.specs.Topology.{TopologyState, with_entry, with_keyspace_state, without_table_place}
+use Rattle.mt_model.specs.Topology.{TopologyState, has_place, is_present, keyspace_at, with_entry, with_keyspace_state, without_table_place}
 use Rattle.mt_event.specs.declared.refusal.Refusal.{Refusal}
 use Rattle.mt_event.specs.declared.refusal.Refusal.TheVariants as refusal
+use Rattle.mt_primary.specs.Primary.{has_table}
 use Rattle.mt_primary.specs.Writes.{with_new_table}
-use Rattle.mt_site_state.specs.Core.{Primaries, with_primary}
+use Rattle.mt_site_state.specs.Core.{Primaries, primary_at, primary_of, with_primary}
 
 abbrev pub refusal_by_topology : TopologyFault → Refusal
 refusal_by_topology topology.Memory = refusal.Memory
@@ -38,3 +40,10 @@ abbrev pub without_table : TopologyState → (keyspace table : List ℕ) → Top
 without_table t keyspace table =
     let absent = with_entry t (Present keyspace table false) in
     record absent { keyspaces = with_keyspace_state (without_table_place table) absent.keyspaces keyspace }
+
+-- the keyspaces of a topology are those that have a primary, which has the tables that are there, and just these have a place
+pub record AreTables (t : TopologyState) (primaries : Primaries) : Type 0 where
+  pub there : (keyspace : List ℕ) → is_some (primary_at primaries keyspace) ≡ is_some (keyspace_at t.keyspaces keyspace)
+  pub count : length primaries ≡ length t.keyspaces
+  pub tables : (keyspace table : List ℕ) → has_table (primary_of primaries keyspace) table ≡ is_present t.keyspaces keyspace table
+  pub places : (keyspace table : List ℕ) → has_place t (about.Present keyspace table) ≡ is_present t.keyspaces keyspace table

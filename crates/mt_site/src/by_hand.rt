@@ -9,9 +9,8 @@ ghost use Rattle.mt_workflow.specs.Workflows.{live_of};
 ghost use Rattle.mt_event.specs.Events.{answer_from};
 ghost use Rattle.mt_site_state.specs.Core.{primary_at, primary_of};
 ghost use Rattle.mt_site_state.specs.ByHand.{AddsKeyspace, AddsTable, EditsRule, is_owned};
-ghost use Rattle.mt_site_state.specs.Stands.{IsCore};
 ghost use Rattle.mt_site_state.specs.Core as core;
-ghost use Rattle.mt_site.specs.ByHand.{CreatesTable, refusal_by_topology, without_table};
+ghost use Rattle.mt_site.specs.ByHand.{AreTables, CreatesTable, refusal_by_topology, without_table};
 
 use crate::{Primaries, Workflows};
 use mt_event::{Refusal, Reply};
@@ -42,8 +41,8 @@ pub(crate) fn add_keyspace(
     primaries: &mut Primaries,
     name: &KeyspaceName,
 ) -> Result<Reply, Refusal>
-    ensures { (workflows : core.Workflows) → IsCore (record { topology = topology.old; primaries = primaries.old.entries; workflows = workflows })
-        → AddsKeyspace (record { topology = topology.old; primaries = primaries.old.entries; workflows = workflows }) name.now (answer_from result)
+    requires { AreTables topology.old primaries.old.entries }
+    ensures { (workflows : core.Workflows) → AddsKeyspace (record { topology = topology.old; primaries = primaries.old.entries; workflows = workflows }) name.now (answer_from result)
         (record { topology = topology.new; primaries = primaries.new.entries; workflows = workflows }) }
 {
     if primaries.contains_key(name) {
@@ -95,13 +94,12 @@ fn take_table(topology: &mut Topology, keyspace: &KeyspaceName, table: &TableNam
 pub(crate) fn add_table(
     topology: &mut Topology,
     primaries: &mut Primaries,
-    workflows: &Workflows,
     keyspace: &KeyspaceName,
     table: &TableName,
 ) -> Result<Reply, Refusal>
-    requires { IsCore (record { topology = topology.old; primaries = primaries.old.entries; workflows = workflows.now.entries }) }
-    ensures { AddsTable (record { topology = topology.old; primaries = primaries.old.entries; workflows = workflows.now.entries }) keyspace.now table.now (answer_from result)
-        (record { topology = topology.new; primaries = primaries.new.entries; workflows = workflows.now.entries }) }
+    requires { AreTables topology.old primaries.old.entries }
+    ensures { (workflows : core.Workflows) → AddsTable (record { topology = topology.old; primaries = primaries.old.entries; workflows = workflows }) keyspace.now table.now (answer_from result)
+        (record { topology = topology.new; primaries = primaries.new.entries; workflows = workflows }) }
 {
     if let Err(fault) = topology.add_table(keyspace, table) {
         return Err(refusal_by_topology(fault));
@@ -127,7 +125,7 @@ fn key_is_named(key: &RuleKey)
 fn is_owned(workflows: &Workflows, key: &RuleKey) -> bool
     ensures { result ≡ is_owned workflows.now.entries (EntryKey.Rule key.now) }
 {
-    for workflow in workflows.values() {
+    for (_, workflow) in workflows.iter() {
         if owns(workflow, key) {
             return true;
         }

@@ -4,11 +4,15 @@
 mod advance;
 mod by_hand;
 mod cancel;
+mod core;
 mod create;
 mod parts;
+mod primaries;
 mod rows;
 mod show;
 mod target;
+
+pub use core::Core;
 
 use indexmap::IndexMap;
 use mt_names::{KeyspaceName, WorkflowName};

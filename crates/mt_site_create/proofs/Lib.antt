@@ -1,0 +1,9 @@
+pub mod AskedLemmas
+pub mod FreeLemmas
+pub mod ListLemmas
+pub mod MadeLemmas
+pub mod NamedLemmas
+pub mod RefusalLemmas
+pub mod RefusedLemmas
+pub mod RoomLemmas
+pub mod StepLemmas

@@ -1,0 +1,50 @@
+//! Laws on what refuses a Create, and on what it asks.
+ghost use Rattle.std.specs.Prelude.{◌≡◌, ℕ, List, None};
+ghost use Rattle.mt_model.specs.declared.entries.Scope.{Scope};
+ghost use Rattle.mt_plain.specs.Asks.{asked_change};
+ghost use Rattle.mt_plain.specs.Events.{create};
+ghost use Rattle.mt_plain.specs.Plain.{Plain, each_once};
+ghost use Rattle.mt_plain.specs.Refuse.{refusal_of};
+ghost use Rattle.mt_site_state.specs.Core.{CoreState};
+ghost use Rattle.mt_site_state.specs.Stands.{StandsWith};
+ghost use Rattle.mt_site_state.specs.Workflows.{change_of, create_refusal, new_of};
+
+use mt_laws::{
+    a_live_workflow_is_found_by_its_part, live_workflows_stand_in_place,
+    names_as_a_set_have_each_name_once, no_limit_is_passed, only_what_stands_has_a_place,
+    parts_are_apart,
+};
+use mt_site_topology::{
+    create_writes_the_part, places_are_as_many_as_the_definitions_count,
+    tables_are_as_many_as_the_definitions_count,
+};
+use mt_watch::scopes_are_told_apart;
+
+/// A core that stands for a state refuses a Create by the very test by which the definitions refuse it, and takes it where they
+/// take it: the name, the tables, the sides, each table, the watcher of the target's primary, the limits.
+pub fn a_create_is_refused_as_the_definitions_refuse_it()
+    ensures { (p : Plain) (scopes : List Scope) (core : CoreState) → StandsWith p scopes core
+        → (workflow source target : List ℕ) (tables : List (List ℕ))
+        → create_refusal core scopes workflow source target (each_once tables) ≡ refusal_of p (create workflow source target tables) }
+{
+    a_live_workflow_is_found_by_its_part();
+    live_workflows_stand_in_place();
+    names_as_a_set_have_each_name_once();
+    no_limit_is_passed();
+    only_what_stands_has_a_place();
+    parts_are_apart();
+    places_are_as_many_as_the_definitions_count();
+    tables_are_as_many_as_the_definitions_count();
+    scopes_are_told_apart();
+}
+
+/// And it asks the watchers of the target's primary with the very change with which the definitions ask them.
+pub fn the_watchers_are_asked_with_what_create_makes()
+    ensures { (p : Plain) (scopes : List Scope) (core : CoreState) → StandsWith p scopes core
+        → (workflow source target : List ℕ) (tables : List (List ℕ))
+        → create_refusal core scopes workflow source target (each_once tables) ≡ None
+        → change_of (new_of core workflow source target (each_once tables)) ≡ asked_change p (create workflow source target tables) }
+{
+    a_create_is_refused_as_the_definitions_refuse_it();
+    create_writes_the_part();
+}

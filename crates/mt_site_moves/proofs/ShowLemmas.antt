@@ -1,0 +1,91 @@
+-- Show: a workflow that stands for a live one is shown as that one is.
+use Rattle.std.proofs.Common.{◌≡◌, ℕ, Bool, true, false, not, cond, List, Option, None, Some, option_map, is_some, unwrap_or, refl, sym, ap, ◌∙◌, subst}
+use Rattle.std.specs.Option.{option_map_or}
+use Rattle.mt_model.specs.declared.entries.Scope.{Scope}
+use Rattle.mt_names.specs.declared.types.TypeSet.{TypeSet}
+use Rattle.mt_plain.specs.Answers.{Answers, show_of, shown_of}
+use Rattle.mt_plain.specs.Events.{Answer, show, forward, back, running, frozen, stopped, shown, Slot, Way}
+use Rattle.mt_plain.specs.Next.{next}
+use Rattle.mt_plain.specs.Plain.{Copied, ended, not_begun, up_to, Live, Plain, changes_primary, create_back, live_at, stands_done}
+use Rattle.mt_plain.specs.Refuse.{in_workflow, is_still_copying}
+use Rattle.mt_plain.specs.Slots.{feeding_slot, is_feeding, slot_before_way, slot_by_way, slot_of}
+use Rattle.mt_stream.specs.Streams.{StreamValue, has_ended}
+use Rattle.mt_workflow.specs.Workflows.{WorkflowState}
+use Rattle.mt_site_rows.specs.Rows.{stream_of}
+use Rattle.mt_site_state.specs.Core.{CoreState, workflow_at}
+use Rattle.mt_site_state.specs.Stands.{StandsFor, StandsForAny, StandsWith}
+use Rattle.mt_site_state.specs.Workflows.{ShowsWorkflow, show_at, shown_by, slot_from}
+
+-- ---- a forward stream is always there
+
+pub forward_there : (w : Live) (o : Option Way) → is_some (slot_by_way w o forward) ≡ true
+forward_there w None = refl
+forward_there w (Some way) = by (changes_primary way) (is_feeding way forward) (stands_done way create_back)
+  where
+    by : (c f t : Bool) → is_some (cond (not c) (slot_before_way w forward) (cond f (feeding_slot w way (slot_before_way w forward))
+        (cond t (Some (record { state = cond (stands_done way 10) running stopped; position = w.fresh_at })) (slot_before_way w forward)))) ≡ true
+    by false f t = refl
+    by true true t = refl
+    by true false true = refl
+    by true false false = refl
+
+-- ---- what is shown
+
+slots_back : (w : Live) (o : Option Slot) → option_map slot_from (option_map (stream_of w) o) ≡ o
+slots_back w None = refl
+slots_back w (Some s) = refl
+
+any_default : (o : Option Slot) (a b : Slot) → is_some o ≡ true → unwrap_or o a ≡ unwrap_or o b
+any_default None a b e = absurd cc
+any_default (Some s) a b e = refl
+
+ended_copy : (c : Copied) → has_ended c ≡ not (is_still_copying c)
+ended_copy not_begun = refl
+ended_copy (up_to table key) = refl
+ended_copy ended = refl
+
+copy_of : (w : Live) (o : Option Slot) → is_some o ≡ true → option_map_or (λ (s : StreamValue). has_ended s.copied) (option_map (stream_of w) o) false ≡ not (is_still_copying w.copied)
+copy_of w None e = absurd cc
+copy_of w (Some s) e = ended_copy w.copied
+
+module _ (p : Plain) (live : Live) (w : WorkflowState) (stands : StandsFor p live w) where
+  forward_shown : unwrap_or (option_map slot_from w.forward) (record { state = frozen; position = 0 }) ≡ unwrap_or (slot_of live forward) (record { state = frozen; position = live.forward_at })
+  forward_shown =
+      ap (λ o. unwrap_or (option_map slot_from o) (record { state = frozen; position = 0 })) stands.forward
+      ∙ ap (λ o. unwrap_or o (record { state = frozen; position = 0 })) (slots_back live (slot_of live forward))
+      ∙ any_default (slot_of live forward) (record { state = frozen; position = 0 }) (record { state = frozen; position = live.forward_at }) (forward_there live live.way)
+
+  copy_shown : option_map_or (λ (s : StreamValue). has_ended s.copied) w.forward false ≡ not (is_still_copying live.copied)
+  copy_shown = ap (λ o. option_map_or (λ (s : StreamValue). has_ended s.copied) o false) stands.forward ∙ copy_of live (slot_of live forward) (forward_there live live.way)
+
+  back_shown : option_map slot_from w.back ≡ slot_of live back
+  back_shown = ap (λ o. option_map slot_from o) stands.back ∙ slots_back live (slot_of live back)
+
+  pub shown_same : shown_by w ≡ shown_of live
+  shown_same =
+      by w.name (sym stands.sides.name) w.source (sym stands.sides.source) w.target (sym stands.sides.target) w.tables (sym stands.sides.tables) w.switched stands.switched w.way stands.way
+      _ forward_shown _ copy_shown _ back_shown
+    where
+      by : (n : List ℕ) → n ≡ live.name → (s : List ℕ) → s ≡ live.source → (t : List ℕ) → t ≡ live.target → (ts : List (List ℕ)) → ts ≡ live.tables
+          → (types : TypeSet) → types ≡ live.switched → (way : Option Way) → way ≡ live.way
+          → (f : Slot) → f ≡ unwrap_or (slot_of live forward) (record { state = frozen; position = live.forward_at })
+          → (c : Bool) → c ≡ not (is_still_copying live.copied) → (b : Option Slot) → b ≡ slot_of live back
+          → record { workflow = n; source = s; target = t; tables = ts; switched = types; way = way; forward = f; copied = c; back = b } ≡ shown_of live
+      by n e0 s e1 t e2 ts e3 types e4 way e5 f e6 c e7 b e8 = cc
+
+-- ---- the law
+
+show-any : (p : Plain) (workflow : List ℕ) (o : Option Live) (v : Option WorkflowState) → live_at p workflow ≡ o → StandsForAny p o v
+    → Answers p (show workflow) (show_at v) × (next p (show workflow) (show_at v) ≡ p)
+show-any p workflow None None is stands = (ap (λ o. in_workflow o (λ w. None)) is, refl)
+show-any p workflow None (Some w) is stands = absurd stands
+show-any p workflow (Some live) None is stands = absurd stands
+show-any p workflow (Some live) (Some w) is stands =
+    ((ap (λ o. in_workflow o (λ w. None)) is, ap shown (shown_same p live w stands) ∙ sym (ap show_of is)), refl)
+
+pub show_steps : (scopes : List Scope) (old new : CoreState) (workflow : List ℕ) (answer : Answer) → ShowsWorkflow old workflow answer new → (p : Plain) → StandsWith p scopes old
+    → Answers p (show workflow) answer × StandsWith (next p (show workflow) answer) scopes new
+show_steps scopes old new workflow answer shows p stands =
+    let r = show-any p workflow (live_at p workflow) (workflow_at old.workflows workflow) refl (stands.workflows.each workflow) in
+    subst (λ a. Answers p (show workflow) a × StandsWith (next p (show workflow) a) scopes new) (sym shows.0)
+    (r.0, subst (λ q. StandsWith q scopes new) (sym r.1) (subst (StandsWith p scopes) (sym shows.1) stands))
