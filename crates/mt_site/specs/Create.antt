@@ -7,7 +7,6 @@ use Rattle.mt_model.specs.declared.entries.Entry.{Entry}
 use Rattle.mt_model.specs.declared.entries.Scope.{Scope}
 use Rattle.mt_model.specs.declared.entries.Scope.TheVariants as scope
 use Rattle.mt_model.specs.Part.{part_keys, with_entries, with_places, without_places}
-use Rattle.mt_model.specs.Topology.{TopologyState}
 use Rattle.mt_event.specs.declared.refusal.Refusal.{Refusal}
 use Rattle.mt_event.specs.declared.refusal.Refusal.TheVariants as refusal
 use Rattle.mt_event.specs.declared.reply.Reply.{Reply}
@@ -19,7 +18,7 @@ use Rattle.mt_watch.specs.declared.fault.WatchersFault.TheVariants as watchers
 use Rattle.mt_watch.specs.Scopes.{has_scope}
 use Rattle.mt_workflow.specs.Workflows.{WorkflowState, live_of}
 use Rattle.mt_site_topology.specs.Keys.{part_entries}
-use Rattle.mt_site_state.specs.Core.{CoreState, Primaries, Workflows, primary_at, primary_of, with_primary}
+use Rattle.mt_site_state.specs.Core.{CoreState, Primaries, primary_at, primary_of, with_primary}
 use Rattle.mt_site_state.specs.Workflows.{change_of, create_refusal, target_made}
 use Rattle.mt_site.specs.Target.{MakesTarget}
 

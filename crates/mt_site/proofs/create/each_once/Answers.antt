@@ -1,9 +1,8 @@
 -- One table more.
-use Rattle.std.proofs.Common.{◌≡◌, length, take, rules, ap, arith, ◌∙◌}
+use Rattle.std.proofs.Common.{length, take, ap, arith, ◌∙◌}
 use Rattle.std.proofs.lemmas.List.{length-take}
 use Rattle.indexmap.specs.IndexSet.{insert_key}
 use Rattle.mt_names.specs.Names.{same_text}
-use Rattle.mt_plain.specs.Plain.{each_once}
 use Rattle.mt_workflow.proofs.OnceLemmas.{length-once, once-more}
 use Rattle.mt_site.proofs.create.each_once.Goals as goal
 

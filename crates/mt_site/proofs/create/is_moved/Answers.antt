@@ -1,5 +1,5 @@
 -- One workflow more.
-use Rattle.std.proofs.Common.{◌≡◌, ◌||◌, ap, sym, ◌∙◌}
+use Rattle.std.proofs.Common.{◌||◌, ap, sym, ◌∙◌}
 use Rattle.mt_site.proofs.CreateLemmas.{any_moves, moved-values}
 use Rattle.mt_site.proofs.create.is_moved.Goals as goal
 

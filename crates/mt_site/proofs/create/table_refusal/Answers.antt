@@ -1,5 +1,5 @@
 -- What `may_create` says of the one table.
-use Rattle.std.proofs.Common.{◌≡◌, ◌∷◌, [], None, Some, Ok, Err, ap, sym, ◌∙◌}
+use Rattle.std.proofs.Common.{◌≡◌, ◌∷◌, [], None, Some, ap, sym, ◌∙◌}
 use Rattle.mt_workflow.specs.Creates as create
 use Rattle.mt_site_state.specs.Workflows.{is_moved, refusal_by_table}
 use Rattle.mt_site.proofs.CreateLemmas.{none-refuses, one-refuses, one-table}
