@@ -1,0 +1,113 @@
+-- Cores with more watchers, and the next core.
+use Rattle.std.proofs.Common.{◌≡◌, List, [], ◌∷◌, ◌++◌, Option, None, Some, refl, sym, ap, subst, ◌∙◌}
+use Rattle.std.specs.List.{AllByRecursion}
+use Rattle.mt_model.specs.declared.entries.Scope.{Scope}
+use Rattle.mt_model.specs.Topology.{empty_topology}
+use Rattle.mt_plain.specs.Answers.{Answers, Run, after}
+use Rattle.mt_plain.specs.Events.{Event, Answer}
+use Rattle.mt_plain.specs.Next.{next}
+use Rattle.mt_plain.specs.Plain.{Live, Plain, live_at, opening, owner}
+use Rattle.mt_laws.specs.Texts.{BringsNames}
+use Rattle.mt_laws.specs.WayBack.{IsReached}
+use Rattle.mt_site_rows.specs.Rows.{IsPending, RowsStand, no_primaries}
+use Rattle.mt_site_topology.specs.Stands.{TopologyStands}
+use Rattle.mt_workflow.specs.Workflows.{WorkflowState}
+use Rattle.mt_site_state.specs.Core.{CoreState, empty_core, primary_of, workflow_at}
+use Rattle.mt_site_state.specs.Stands.{HasState, Stands, StandsForAny, StandsWith, Steps}
+use Rattle.mt_site_facts.proofs.WiderLemmas.{IsWide, row_same, wider, widened}
+
+module _ (more : List Scope) (p : Plain) where
+  pending_wide : (w : Live) (core : CoreState) → IsPending p w (primary_of core.primaries (owner w)).log → IsPending (wider more p) w (primary_of core.primaries (owner w)).log
+  pending_wide w core pending = record { before = pending.before; left = pending.left; entries = pending.entries; writes = pending.writes }
+
+  any_wide : (o : Option Live) (v : Option WorkflowState) → StandsForAny p o v → StandsForAny (wider more p) o v
+  any_wide None None stands = stands
+  any_wide None (Some w) stands = stands
+  any_wide (Some live) None stands = stands
+  any_wide (Some live) (Some w) stands = record { sides = stands.sides; switched = stands.switched; way = stands.way; kept = stands.kept; forward = stands.forward; back = stands.back }
+
+  stands_wide : (core : CoreState) → IsReached (wider more p) → Stands p core → Stands (wider more p) core
+  stands_wide core reached stands = record {
+    reached = reached;
+    scopes_are = refl;
+    topology = record {
+      served = record { keyspaces = stands.topology.served.keyspaces; entries = stands.topology.served.entries; places = stands.topology.served.places };
+      places = stands.topology.places;
+    };
+    rows = record {
+      log = stands.rows.log;
+      rows = λ keyspace table there key. stands.rows.rows keyspace table there key ∙ sym (row_same more p keyspace table key);
+      pending = λ name w live. pending_wide w core (stands.rows.pending name w live);
+    };
+    primaries = record { there = stands.primaries.there; count = stands.primaries.count; tables = stands.primaries.tables; denials = stands.primaries.denials };
+    workflows = record { each = λ name. any_wide (live_at p name) (workflow_at core.workflows name) (stands.workflows.each name); names = stands.workflows.names };
+  }
+
+pub more_watchers : (core : CoreState) (scopes : List Scope) (h : HasState core) → (g : HasState core) × (g.state.scopes ≡ h.state.scopes ++ scopes)
+more_watchers core scopes h = (record { state = wider scopes h.state; reached = reached; named = wide.named; stands = stands_wide scopes h.state core reached h.stands }, refl)
+  where
+    wide : IsWide scopes (opening h.reached.scopes) (after (opening h.reached.scopes) h.reached.events h.reached.answers)
+    wide = widened scopes (opening h.reached.scopes) h.reached.events h.reached.answers h.reached.run h.named
+
+    reached : IsReached (wider scopes h.state)
+    reached = record {
+      scopes = h.reached.scopes ++ scopes;
+      events = wide.events;
+      answers = wide.answers;
+      run = wide.run;
+      is = wide.is ∙ ap (wider scopes) h.reached.is;
+    }
+
+pushed : (events : List Event) (event : Event) → AllByRecursion BringsNames events → BringsNames event → AllByRecursion BringsNames (events ++ event ∷ [])
+pushed [] event all named = (named, tt)
+pushed (e ∷ events) event all named = (all.0, pushed events event all.1 named)
+
+-- a run goes on with one event more
+run_on : (events : List Event) (answers : List Answer) (p : Plain) (event : Event) (answer : Answer) → Run p events answers → Answers (after p events answers) event answer
+    → Run p (events ++ event ∷ []) (answers ++ answer ∷ []) × (after p (events ++ event ∷ []) (answers ++ answer ∷ []) ≡ next (after p events answers) event answer)
+run_on [] [] p event answer run given = ((given, tt), refl)
+run_on [] (a ∷ answers) p event answer run given = absurd run
+run_on (e ∷ events) [] p event answer run given = absurd run
+run_on (e ∷ events) (a ∷ answers) p event answer run given =
+    let (further, is) = run_on events answers (next p e a) event answer run.1 given in
+    ((run.0, further), is)
+
+-- the next state of a core with these watchers too
+pub next_state : (scopes : List Scope) (old new : CoreState) (event : Event) (answer : Answer) → BringsNames event → ((more : List Scope) → Steps (more ++ scopes) old event answer new) → HasState old → HasState new
+next_state scopes old new event answer named steps h =
+    let (g, are) = more_watchers old scopes h in
+    let stands : StandsWith g.state (h.state.scopes ++ scopes) old = subst (λ s. StandsWith g.state s old) are g.stands in
+    let (given, after_it) = steps h.state.scopes g.state stands in
+    let (run, is) = run_on g.reached.events g.reached.answers (opening g.reached.scopes) event answer g.reached.run (subst (λ q. Answers q event answer) (sym g.reached.is) given) in
+    record {
+      state = next g.state event answer;
+      reached = record {
+        scopes = g.reached.scopes;
+        events = g.reached.events ++ event ∷ [];
+        answers = g.reached.answers ++ answer ∷ [];
+        run = run;
+        is = is ∙ ap (λ q. next q event answer) g.reached.is;
+      };
+      named = pushed g.reached.events event g.named named;
+      stands = subst (λ s. StandsWith (next g.state event answer) s new) (sym after_it.scopes_are) after_it;
+    }
+
+-- ---- the core without keyspaces and workflows
+
+pub opening_state : TopologyStands (opening []) empty_topology → RowsStand (opening []) no_primaries → HasState empty_core
+opening_state topology rows = record {
+  state = opening [];
+  reached = reached;
+  named = tt;
+  stands = record {
+    reached = reached;
+    scopes_are = refl;
+    topology = topology;
+    rows = rows;
+    primaries = record { there = λ keyspace. refl; count = refl; tables = λ keyspace table. refl; denials = λ keyspace table. refl };
+    workflows = record { each = λ name. tt; names = refl };
+  };
+}
+  where
+    reached : IsReached (opening [])
+    reached = record { scopes = []; events = []; answers = []; run = tt; is = refl }
