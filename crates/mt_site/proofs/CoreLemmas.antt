@@ -2,7 +2,7 @@
 use Rattle.std.proofs.Common.{◌≡◌, ◌≢◌, ◌≤◌, ℕ, true, List, Some, is_some, length, refl, sym, subst}
 use Rattle.mt_plain.specs.Events.{StreamName, forward, back}
 use Rattle.mt_plain.specs.Plain.{among}
-use Rattle.mt_plain.specs.Slots.{read_side}
+use Rattle.mt_plain.specs.Slots.{read_side, written_side}
 use Rattle.mt_primary.specs.Primary.{has_table}
 use Rattle.mt_stream.specs.Streams.{StreamValue}
 use Rattle.mt_workflow.specs.Workflows.{WorkflowState, live_of, slot_of}
@@ -41,3 +41,11 @@ can_advance core name stream named source target apart at_source at_target table
       within = position name w back s found (subst (λ n. slot_of w n ≡ Some s) (sym is) there);
       there = λ table among_s. at_source name w found table (subst (λ ts. among ts table ≡ true) (tables name w stream s found there) among_s);
     })
+
+-- the primary that a stream of a workflow writes is there
+pub written_there : (core : CoreState) (name : List ℕ) (stream : StreamName)
+    → ((name : List ℕ) (w : WorkflowState) → workflow_at core.workflows name ≡ Some w → is_some (primary_at core.primaries w.source) ≡ true)
+    → ((name : List ℕ) (w : WorkflowState) → workflow_at core.workflows name ≡ Some w → is_some (primary_at core.primaries w.target) ≡ true)
+    → (w : WorkflowState) → workflow_at core.workflows name ≡ Some w → is_some (primary_at core.primaries (written_side (live_of w) stream)) ≡ true
+written_there core name forward source target w found = target name w found
+written_there core name back source target w found = source name w found

@@ -4,6 +4,9 @@ use Rattle.mt_event.specs.Events.{answer_from}
 use Rattle.mt_plain.specs.Events.{add_table}
 use Rattle.mt_site_state.specs.ByHand.{AddsTable}
 use Rattle.mt_site_state.specs.Core.{CoreState}
+use Rattle.std.proofs.Common.{◌≡◌}
+use Rattle.std.specs.Result.{OnErr}
+use Rattle.mt_site.proofs.LeaveLemmas.{does_leave}
 use Rattle.mt_site.proofs.controller.Core.add_table.Goals as goal
 
 pub add_table-requires : goal.add_table-requires
@@ -23,7 +26,13 @@ invariant_of-self c =
     c.a_core_stays_one.ensures.stays [] old new (add_table c.args.keyspace.now c.args.table.now) (answer_from c.add_table.result) tt
     (λ more. c.a_table_steps.ensures _ old new c.args.keyspace.now c.args.table.now (answer_from c.add_table.result) (c.add_table.ensures c.self.inside.workflows.entries)) c.self.invariant
 
-pub returns : goal.returns
-returns c =
+pub returns-clause-does : goal.returns-clause-does
+returns-clause-does c =
     let new : CoreState = record { topology = c.add_table.new.topology; primaries = c.add_table.new.primaries.entries; workflows = c.self.inside.workflows.entries } in
     subst (λ s. AddsTable s c.args.keyspace.now c.args.table.now (answer_from c.add_table.result) new) c.self.view_is (c.add_table.ensures c.self.inside.workflows.entries)
+
+pub returns-clause-unchanged : goal.returns-clause-unchanged
+returns-clause-unchanged c =
+    let old : CoreState = record { topology = c.self.inside.topology; primaries = c.self.inside.primaries.entries; workflows = c.self.inside.workflows.entries } in
+    let new : CoreState = record { topology = c.add_table.new.topology; primaries = c.add_table.new.primaries.entries; workflows = c.self.inside.workflows.entries } in
+    subst (λ s. OnErr c.add_table.result (new ≡ s)) c.self.view_is (does_leave old new _ _ _ c.add_table.result (c.add_table.ensures c.self.inside.workflows.entries))
