@@ -107,9 +107,12 @@ module _ (t : TopologyState) (primaries : Primaries) (keyspace table : List ℕ)
     where
       by : (o : Option KeyspaceState) → keyspace_at t.keyspaces keyspace ≡ o → (state : KeyspaceState) × (keyspace_at t.keyspaces keyspace ≡ Some state) × (lookup (same_text table) state.tables ≡ None)
       by None at = absurd (let h = rw at at (table-free t.keyspaces keyspace table free).0 in cc)
-      by (Some state) at =
-          (state, at, none_from (lookup (same_text table) state.tables)
-          (ap (λ (o : Option KeyspaceState). option_map_or (λ s. is_some (lookup (same_text table) s.tables)) o false) (sym at) ∙ are.places keyspace table ∙ (table-free t.keyspaces keyspace table free).1))
+      by (Some state) at = (
+        state,
+        at,
+        none_from (lookup (same_text table) state.tables)
+            (ap (λ (o : Option KeyspaceState). option_map_or (λ s. is_some (lookup (same_text table) s.tables)) o false) (sym at) ∙ are.places keyspace table ∙ (table-free t.keyspaces keyspace table free).1),
+      )
 
   pub taken_back : without_table (with_table t keyspace table) keyspace table ≡ t
   taken_back =

@@ -21,9 +21,7 @@ use crate::{Primaries, Workflows, advance, by_hand, cancel, create, rows, show};
 use indexmap::IndexMap;
 use mt_event::{Event, Refusal, Reply};
 use mt_model::{Op, TopologyFault};
-use mt_names::{
-    KeyspaceName, Position, RuleKey, RuleTarget, TableName, TabletType, WorkflowName,
-};
+use mt_names::{KeyspaceName, Position, RuleKey, RuleTarget, TableName, TabletType, WorkflowName};
 use mt_rules::RulesFault;
 use mt_site_create::{a_create_can_be_taken_back, a_create_leaves_a_core, a_create_steps};
 use mt_site_facts::{
@@ -285,7 +283,10 @@ impl Core {
         match event {
             Event::AddKeyspace { keyspace } => self.add_keyspace(keyspace),
             Event::AddTable { keyspace, table } => self.add_table(keyspace, table),
-            Event::EditRule { key, target } => self.edit_rule(key, target.as_ref().map(RuleTarget::copied)),
+            Event::EditRule { key, target } => self.edit_rule(
+                key,
+                target.as_ref().map(RuleTarget::copied),
+            ),
             Event::Write {
                 keyspace,
                 table,

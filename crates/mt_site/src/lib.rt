@@ -10,14 +10,15 @@ mod parts;
 mod primaries;
 mod rows;
 mod show;
+mod site;
 mod target;
 
 pub use controller::Core;
-
 use indexmap::IndexMap;
 use mt_names::{KeyspaceName, WorkflowName};
 use mt_primary::Primary;
 use mt_workflow::Workflow;
+pub use site::Site;
 
 /// Primaries by the names of their keyspaces.
 pub(crate) type Primaries = IndexMap<KeyspaceName, Primary>;

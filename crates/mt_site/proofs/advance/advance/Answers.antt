@@ -1,5 +1,5 @@
 -- The workflow that advances takes its place.
-use Rattle.std.proofs.Common.{Some, subst, sym}
+use Rattle.std.proofs.Common.{subst, sym}
 use Rattle.mt_event.specs.Events.{answer_from}
 use Rattle.mt_model.specs.Topology.{TopologyState}
 use Rattle.mt_workflow.specs.Workflows.{slot_of, stream_name}

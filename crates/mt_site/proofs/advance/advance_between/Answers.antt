@@ -1,5 +1,5 @@
 -- The primary that is written is out of its place meanwhile, and the other one stays in its own.
-use Rattle.std.proofs.Common.{◌≡◌, ◌≤◌, ap, is_some, length, subst, sym, true, ◌∙◌}
+use Rattle.std.proofs.Common.{◌≤◌, ap, is_some, length, subst, sym, ◌∙◌}
 use Rattle.std.proofs.lemmas.Bool.{true≢false}
 use Rattle.mt_primary.specs.Primary.{PrimaryState}
 use Rattle.mt_stream.specs.Advance.{Advances}
@@ -27,7 +27,8 @@ returns c =
     let old = c.args.primaries.now.entries in
     let meanwhile = c.exchange-sink.new.primaries.entries in
     let source = other-is old meanwhile c.args.read.now c.args.written.now c.new.result c.exchange-sink.ensures.after c.requires.apart c.in-Some.source.now c.in-Some.ensures.value in
-    let to : PrimaryState → PrimaryState → Type 0 = λ from sink. Advances c.args.stream.now from sink c.args.at c.args.max c.advance-result.result c.advance-result.new.self c.advance-result.new.sink in
-    (c.advance-result.new.sink,
-    subst (λ from. to from (primary_of old c.args.written.now)) (sym source) (subst (to c.in-Some.source.now) c.exchange-sink.ensures.before c.advance-result.ensures.advances),
-    put-back old meanwhile c.args.read.now c.args.written.now c.new.result c.exchange-sink.ensures.after c.exchange.new.primaries.entries c.advance-result.new.sink c.exchange.ensures.after)
+    let to : PrimaryState → PrimaryState → Type 0 = λ from sink. Advances c.args.stream.now from sink c.args.at c.args.max c.advance-result.result c.advance-result.new.self c.advance-result.new.sink in (
+      c.advance-result.new.sink,
+      subst (λ from. to from (primary_of old c.args.written.now)) (sym source) (subst (to c.in-Some.source.now) c.exchange-sink.ensures.before c.advance-result.ensures.advances),
+      put-back old meanwhile c.args.read.now c.args.written.now c.new.result c.exchange-sink.ensures.after c.exchange.new.primaries.entries c.advance-result.new.sink c.exchange.ensures.after,
+    )

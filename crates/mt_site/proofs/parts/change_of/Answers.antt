@@ -1,5 +1,5 @@
 -- One table more.
-use Rattle.std.proofs.Common.{◌≡◌, add-one, ap, get_or, length, subst, sym, take, ◌∙◌, ◌<◌}
+use Rattle.std.proofs.Common.{◌≡◌, add-one, get_or, length, subst, sym, take, ◌<◌}
 use Rattle.mt_plain.specs.Asks.{create_change}
 use Rattle.mt_workflow.specs.Workflows.{live_of}
 use Rattle.mt_site_topology.specs.Keys.{rules_only}

@@ -1,6 +1,5 @@
 -- The tables before this one are pushed.
-use Rattle.std.proofs.Common.{◌≡◌, flat_map, take}
-use Rattle.mt_names.specs.Types.{no_types}
+use Rattle.std.proofs.Common.{◌≡◌, take}
 use Rattle.mt_plain.specs.Asks.{create_change}
 use Rattle.mt_workflow.specs.Workflows.{live_of}
 use Rattle.mt_site_topology.specs.Keys.{rules_only}

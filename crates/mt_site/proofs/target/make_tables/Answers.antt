@@ -1,7 +1,6 @@
 -- No table stands twice among those to be made, so that none of them is there before its turn; and those that are made are dropped again.
-use Rattle.std.proofs.Common.{ap, fold, sym, take, ◌∙◌}
+use Rattle.std.proofs.Common.{ap, sym, ◌∙◌}
 use Rattle.mt_primary.specs.Primary.{has_table}
-use Rattle.mt_primary.specs.Writes.{without_table}
 use Rattle.mt_site.proofs.TargetLemmas.{absent-next, dropped-again, not-made}
 use Rattle.mt_site.proofs.target.make_tables.Goals as goal
 

@@ -1,5 +1,5 @@
 -- The tables that were made are dropped again.
-use Rattle.std.proofs.Common.{◌≡◌, Err, ap, fold, subst, sym, ◌∙◌}
+use Rattle.std.proofs.Common.{◌≡◌, Err, ap, fold, subst, ◌∙◌}
 use Rattle.mt_model.specs.declared.entries.Scope.TheVariants as scope
 use Rattle.mt_primary.specs.Primary.{PrimaryState}
 use Rattle.mt_primary.specs.Writes.{with_new_table, without_table}

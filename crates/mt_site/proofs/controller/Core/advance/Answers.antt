@@ -1,5 +1,5 @@
 -- The stream advances in each state that the core stands for.
-use Rattle.std.proofs.Common.{◌≡◌, [], ap, subst, sym, ◌∙◌}
+use Rattle.std.proofs.Common.{◌≡◌, [], subst}
 use Rattle.mt_event.specs.Events.{answer_from}
 use Rattle.mt_plain.specs.Events.{advance}
 use Rattle.mt_workflow.specs.Workflows.{stream_name}
