@@ -72,11 +72,11 @@ abbrev pub AreEach : Primaries → Type 0
 AreEach primaries = (keyspace : List ℕ) (state : PrimaryState) → primary_at primaries keyspace ≡ Some state → IsPrimary state
 
 pub each-more : (name : List ℕ) (state : PrimaryState) (rest : Primaries) → IsPrimary state → AreEach rest → AreEach ((name, state) ∷ rest)
-each-more name state rest is are keyspace found = by (same_text keyspace name) found
+each-more name state rest is are keyspace found there = by (same_text keyspace name) there
   where
-    by : {s : PrimaryState} (t : Bool) → cond t (Some state) (primary_at rest keyspace) ≡ Some s → IsPrimary s
-    by true e = let same : state ≡ _ = cc in subst IsPrimary same is
-    by false e = are keyspace _ e
+    by : (t : Bool) → cond t (Some state) (primary_at rest keyspace) ≡ Some found → IsPrimary found
+    by true e = let same : state ≡ found = cc in subst IsPrimary same is
+    by false e = are keyspace found e
 
 pub each-of : (primaries : Primaries) → IsPrimary empty_primary → AreEach primaries → (keyspace : List ℕ) → IsPrimary (primary_of primaries keyspace)
 each-of primaries none are keyspace = by (primary_at primaries keyspace) refl
@@ -84,3 +84,6 @@ each-of primaries none are keyspace = by (primary_at primaries keyspace) refl
     by : (o : Option PrimaryState) → primary_at primaries keyspace ≡ o → IsPrimary (unwrap_or o empty_primary)
     by None e = none
     by (Some state) e = are keyspace state e
+
+pub each-none : AreEach []
+each-none keyspace state found = absurd cc

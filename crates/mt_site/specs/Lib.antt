@@ -1,4 +1,5 @@
 pub mod Advance
+pub mod Applies
 pub mod ByHand
 pub mod Cancel
 pub mod Create

@@ -5,7 +5,8 @@ ghost use Rattle.indexmap.specs.IndexSet.{insert_key};
 ghost use Rattle.mt_event.specs.Events.{answer_from, refusal_from};
 ghost use Rattle.mt_model.specs.Part.{part_keys};
 ghost use Rattle.mt_model.specs.Topology.{has_place};
-ghost use Rattle.mt_names.specs.Names.{same_text};
+ghost use Rattle.std.specs.List.{AllByRecursion};
+ghost use Rattle.mt_names.specs.Names.{IsKeyspaceName, IsTableName, same_text};
 ghost use Rattle.mt_names.specs.Tables.{most_tables};
 ghost use Rattle.mt_plain.specs.Events.{full};
 ghost use Rattle.mt_plain.specs.Plain.{among, each_once};
@@ -331,4 +332,17 @@ pub(crate) fn create<W: Asks>(
         target,
         set.as_slice(),
     )
+}
+
+/// The names that a Create brings are names, for a caller's proof. It does nothing.
+pub(crate) fn names_are_names(source: &KeyspaceName, target: &KeyspaceName, tables: &[TableName])
+    ensures source { IsKeyspaceName source.now }
+    ensures target { IsKeyspaceName target.now }
+    ensures tables { AllByRecursion IsTableName tables.now }
+{
+    source.as_str();
+    target.as_str();
+    for table in tables {
+        table.as_str();
+    }
 }

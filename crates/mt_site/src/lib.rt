@@ -4,7 +4,7 @@
 mod advance;
 mod by_hand;
 mod cancel;
-mod core;
+mod controller;
 mod create;
 mod parts;
 mod primaries;
@@ -12,7 +12,7 @@ mod rows;
 mod show;
 mod target;
 
-pub use core::Core;
+pub use controller::Core;
 
 use indexmap::IndexMap;
 use mt_names::{KeyspaceName, WorkflowName};
