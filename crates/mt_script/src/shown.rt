@@ -126,7 +126,7 @@ fn open_way_text(way: Way) -> ArrayVec<u8, 59>
 }
 
 /// Tables, separated by commas, or `-` where there is none.
-fn tables_text(tables: &[TableName]) -> ArrayVec<u8, 1040>
+fn tables_text(tables: &[TableName]) -> ArrayVec<u8, 1039>
     requires { length tables.now ≤ most_tables }
     ensures { result.items ≡ table_list_text tables.now }
 {
@@ -137,7 +137,7 @@ fn tables_text(tables: &[TableName]) -> ArrayVec<u8, 1040>
 }
 
 /// A table and others, separated by commas.
-fn comma_text(first: &TableName, others: &[TableName]) -> ArrayVec<u8, 1040>
+fn comma_text(first: &TableName, others: &[TableName]) -> ArrayVec<u8, 1039>
     requires { 1 + length others.now ≤ most_tables }
     ensures { result.items ≡ join_with_byte comma (first.now ∷ others.now) }
 {
@@ -149,8 +149,8 @@ fn comma_text(first: &TableName, others: &[TableName]) -> ArrayVec<u8, 1040>
 }
 
 /// Adds a table behind a comma.
-fn push_table(text: &mut ArrayVec<u8, 1040>, table: &TableName)
-    requires { length text.old.items + 65 ≤ 1040 }
+fn push_table(text: &mut ArrayVec<u8, 1039>, table: &TableName)
+    requires { length text.old.items + 65 ≤ 1039 }
     ensures text { text.new.items ≡ text.old.items ++ comma ∷ table.now }
     ensures short { length text.new.items ≤ length text.old.items + 65 }
 {
@@ -188,12 +188,12 @@ fn traffic_text(shown: &Shown) -> ArrayVec<u8, 174>
 }
 
 /// What is told of a workflow.
-pub fn shown_text(shown: &Shown) -> ArrayVec<u8, 1410>
+pub fn shown_text(shown: &Shown) -> ArrayVec<u8, 1409>
     ensures { result.items ≡ shown_text (shown_from shown.now) }
 {
     let tables = tables_text(shown.tables.as_slice());
-    let tables = spaced::<1215>(&tables, &traffic_text(shown));
-    let target = spaced::<1280>(shown.target.as_str().as_bytes(), &tables);
-    let source = spaced::<1345>(shown.source.as_str().as_bytes(), &target);
+    let tables = spaced::<1214>(&tables, &traffic_text(shown));
+    let target = spaced::<1279>(shown.target.as_str().as_bytes(), &tables);
+    let source = spaced::<1344>(shown.source.as_str().as_bytes(), &target);
     spaced(shown.workflow.as_str().as_bytes(), &source)
 }

@@ -7,4 +7,4 @@ use Rattle.mt_script.proofs.shown.comma_text.Given as goal
 abbrev pub invariant-loop-table : goal.invariant-loop-table
 invariant-loop-table l =
     (l.text.items ≡ join_with_byte comma (l.first ∷ take l.table-index l.others)) ×
-    (length l.text.items ≤ 65 * (1 + l.table-index))
+    (length l.text.items + 1 ≤ 65 * (1 + l.table-index))
