@@ -6,7 +6,8 @@ mod staying;
 mod steps;
 
 pub use refusals::{
-    a_create_is_refused_as_the_definitions_refuse_it, the_watchers_are_asked_with_what_create_makes,
+    a_create_is_refused_as_the_definitions_refuse_it, a_create_that_is_taken_finds_room,
+    the_watchers_are_asked_with_what_create_makes,
 };
 pub use staying::{a_create_can_be_taken_back, a_create_leaves_a_core};
 pub use steps::{
