@@ -1,5 +1,5 @@
 -- One event more is applied, and its answer is the next one.
-use Rattle.std.proofs.Common.{◌≡◌, ◌≤◌, ◌∙◌, add-one, length, rules, subst, suc, sym, take}
+use Rattle.std.proofs.Common.{◌≤◌, ◌∙◌, add-one, length, rules, subst, suc, sym, take}
 use Rattle.mt_event.specs.Events.{answer_from, event_of}
 use Rattle.mt_site_state.specs.Stands.{Steps}
 use Rattle.mt_site.proofs.RunLemmas.{runs_more}
