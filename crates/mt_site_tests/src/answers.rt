@@ -57,7 +57,7 @@ fn shown_of(
 }
 
 /// The reply, if the answer is one.
-fn reply_of(answer: Answer) -> Option<Reply> {
+pub fn reply_of(answer: Answer) -> Option<Reply> {
     match answer {
         Answer::Done => Some(Reply::Done),
         Answer::Row(text) => Some(Reply::Row(Some(value_of(text)))),

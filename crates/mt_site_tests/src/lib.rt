@@ -9,8 +9,16 @@ mod answers;
 #[cfg(test)]
 mod asking;
 #[cfg(test)]
+mod copies;
+#[cfg(test)]
 mod events;
+#[cfg(test)]
+mod full;
+#[cfg(test)]
+mod memory;
 #[cfg(test)]
 mod moves;
 #[cfg(test)]
 mod play;
+#[cfg(test)]
+mod refusals;
