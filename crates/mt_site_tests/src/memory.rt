@@ -83,7 +83,7 @@ struct Written {
 }
 
 /// The documents, each at once or at a second try.
-fn written(site: &Site<Watchers>) -> Option<Written> {
+fn documents(site: &Site<Watchers>) -> Option<Written> {
     let rules = site.rules_json().or_else(|_| site.rules_json()).ok()?;
     let dump = site.dump().or_else(|_| site.dump()).ok()?;
     Some(Written { rules, dump })
@@ -128,11 +128,11 @@ fn has_tables(site: &mut Site<Watchers>) -> bool {
 
 /// Whether the workflow is created at once, or at a second try after a refusal that changed nothing.
 fn is_created(site: &mut Site<Watchers>, event: &Event) -> bool {
-    let before = written(site);
+    let before = documents(site);
     let answer = site.apply(event);
     if is_want(&answer) {
         return before.is_some()
-            && written(site) == before
+            && documents(site) == before
             && play_on(site, &NOT_CREATED) == Played::AllSo
             && site.apply(event) == Ok(Reply::Done);
     }
@@ -142,15 +142,15 @@ fn is_created(site: &mut Site<Watchers>, event: &Event) -> bool {
 /// Whether the workflow is created, stands as it is to, and is taken back. Answers the documents with it.
 fn there_and_back(site: &mut Site<Watchers>) -> Option<Written> {
     let event = event_of(CREATE)?;
-    let before = written(site)?;
+    let before = documents(site)?;
     if !is_created(site, &event) || play_on(site, &CREATED) != Played::AllSo {
         return None;
     }
-    let with = written(site)?;
+    let with = documents(site)?;
     if play_on(site, &[Act::Asks(Ask::Cancel("mv"), Answer::Done)]) != Played::AllSo {
         return None;
     }
-    if written(site)? != before || play_on(site, &NOT_CREATED) != Played::AllSo {
+    if documents(site)? != before || play_on(site, &NOT_CREATED) != Played::AllSo {
         return None;
     }
     Some(with)
