@@ -20,8 +20,7 @@ pub enum Act {
     Leads(&'static str, TabletType, &'static str),
 }
 
-/// How an event is answered; nothing if it isn't one. Where it is refused for want of memory, which a watcher may refuse for
-/// too, the refusal is looked at and the event is asked once more.
+/// How an event is answered; nothing if one of its names isn't one.
 fn answer(site: &mut Site<Watchers>, ask: Ask) -> Option<Result<Reply, Refusal>> {
     let event = event_of(ask)?;
     Some(site.apply(&event))
