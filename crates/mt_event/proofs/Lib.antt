@@ -1,2 +1,3 @@
 pub mod DecideLemmas
 pub mod SameLemmas
+pub mod TellLemmas

@@ -8,6 +8,6 @@ mod reply;
 mod tables;
 
 pub use event::Event;
-pub use laws::events_and_answers_are_told_apart;
+pub use laws::{events_and_answers_are_told_apart, events_and_answers_are_told_in_full};
 pub use refusal::Refusal;
 pub use reply::{Reply, Shown, ShownStream};

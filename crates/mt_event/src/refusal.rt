@@ -21,9 +21,9 @@ pub enum Refusal {
     NoRow,
     /// A workflow of that name is there already.
     WorkflowExists,
-    /// There is no workflow of that name, or it has no such stream.
+    /// There is no workflow of that name.
     NoWorkflow,
-    /// Another workflow moves one of the tables.
+    /// A workflow that is there moves one of the tables.
     TableInWorkflow,
     /// The rule of this key leads elsewhere than to the table at the source.
     RuleConflict(RuleKey),
@@ -33,17 +33,17 @@ pub enum Refusal {
     SameKeyspace,
     /// No table was named.
     NoTables,
-    /// A way is open.
+    /// A way is open on the workflow.
     UnderWay,
-    /// No way is open.
+    /// No way is open on the workflow.
     NothingUnderWay,
     /// All these types are switched already.
     NothingToSwitch,
     /// None of these types is switched.
     NothingToReverse,
-    /// The copy hasn't ended.
+    /// Rows are still to be copied.
     Copying,
-    /// A stream hasn't read the whole of its source's log.
+    /// A write to the workflow's tables hasn't reached the other side.
     NotLevel,
     /// The journal is written, after which no step is undone.
     PastJournal,
@@ -51,15 +51,15 @@ pub enum Refusal {
     TrafficSwitched,
     /// Traffic of some type isn't switched.
     NotAllSwitched,
-    /// A workflow that is there owns the rule of the key.
+    /// The rule of the key lies in the part of a workflow that is there.
     RuleOwned,
-    /// The watcher of this number refused.
+    /// The watcher of this number, counted from 0, refused.
     WatcherRefused(usize),
-    /// No watcher has the scope.
+    /// No watcher keeps that primary up to date.
     NoWatcher,
-    /// The event was meant for another place than this, the present one.
+    /// The event names another position, or another count of steps done, than this one, which holds.
     Stale(u64),
-    /// The stream doesn't run.
+    /// The stream doesn't run, or isn't there.
     StreamStopped,
     /// A limit would be passed.
     Full,

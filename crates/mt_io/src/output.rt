@@ -10,8 +10,9 @@ use std::io::{ErrorKind, Write};
 /// How many bytes of output wait at most.
 pub const ROOM: usize = 8192;
 
-/// The longest line of output, in bytes: `row `, a value of 64 bytes, and the line feed.
-pub const LONGEST_LINE: usize = 69;
+/// The longest line of output, in bytes: what is told of a workflow that moves 16 tables, with each name of 64 bytes and each
+/// number of 20 digits, and the line feed.
+pub const LONGEST_LINE: usize = 1410;
 
 /// Output that is still to be written.
 pub type Waiting = ArrayVec<u8, ROOM>;

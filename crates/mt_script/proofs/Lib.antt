@@ -1,5 +1,7 @@
 pub mod CutLemmas
 pub mod LineLemmas
+pub mod ManyWordsLemmas
 pub mod NumberLemmas
 pub mod RowLemmas
+pub mod TextLemmas
 pub mod WordLemmas

@@ -16,15 +16,22 @@ use Rattle.mt_model.specs.declared.rows.Op.{Op}
 use Rattle.mt_model.specs.declared.rows.Op.TheVariants.{Insert, Update, Append, Delete}
 use Rattle.mt_model.specs.Rows.{RowValue}
 use Rattle.mt_plain.specs.Events.{add_keyspace, add_table, edit_rule, read, write}
+use Rattle.mt_plain.specs.Events as core
 use Rattle.mt_plain.specs.Output.{Reading}
-use Rattle.mt_plain.specs.Script.{Command, Request, event, write_through, read_through, rules_document, dump_document, is_for_reads, is_row_verb, one_word, read_command, read_line_by, read_number, read_value, request_of, two_words}
+use Rattle.mt_plain.specs.Script.{Command, Request, event, write_through, read_through, rules_document, dump_document, advance, cancel, change, create, four_words, get, is_for_reads, is_row_verb, one_word, read_advance, read_command, read_line_by, read_number, read_row_command, read_value, request_of, show, two_words}
 use Rattle.mt_plain.specs.Script as plain
+use Rattle.mt_workflow.specs.Workflows.{stream_name}
+
+-- the verbs of the commands on workflows that are read up to now
+abbrev pub is_workflow_verb : List ℕ → Bool
+is_workflow_verb verb =
+    same_text verb (codes "create") || same_text verb (codes "advance") || same_text verb (codes "cancel") || same_text verb (codes "show")
 
 -- the verbs of the commands that are read up to now
 abbrev pub has_come : List ℕ → Bool
 has_come verb =
     same_text verb (codes "keyspace") || same_text verb (codes "table") || same_text verb (codes "rule") || same_text verb (codes "rules")
-    || same_text verb (codes "dump") || same_text verb (codes "at") || is_row_verb verb
+    || same_text verb (codes "dump") || same_text verb (codes "at") || is_row_verb verb || is_workflow_verb verb
 
 -- the command of some words, of which the first is its verb; a command that isn't implemented is a bad line
 abbrev pub command_so_far : List (List ℕ) → Option Command
@@ -34,6 +41,23 @@ command_so_far (verb ∷ words) = if has_come verb then read_command verb words 
 -- how lines are read up to now
 abbrev pub reading_so_far : Reading
 reading_so_far line = read_line_by command_so_far line
+
+-- what stands behind `create`
+abbrev pub read_create : List (List ℕ) → Option Command
+read_create words = option_map (λ w. create w.0 w.1 w.2 w.3) (four_words words)
+
+-- a command on a workflow, by its verb
+abbrev pub workflow_command : (verb : List ℕ) → List (List ℕ) → Option Command
+workflow_command verb words =
+    if same_text verb (codes "create") then read_create words
+    else if same_text verb (codes "advance") then read_advance words
+    else if same_text verb (codes "cancel") then option_map cancel (one_word words)
+    else if same_text verb (codes "show") then option_map show (one_word words)
+    else None
+
+-- an operation on a row, or a command on a workflow
+abbrev pub other_command : (verb : List ℕ) → List (List ℕ) → Option Command
+other_command verb words = if is_row_verb verb then read_row_command change get verb words else workflow_command verb words
 
 -- what is done to a row, behind a name
 abbrev pub work_of : (List ℕ → Op → Command) → (List ℕ → ℕ → Command) → (name : List ℕ) → RowWork → Option Command
@@ -76,6 +100,10 @@ request_from (request.Write key op) = write_through key op
 request_from (request.Read key number tablet_type) = read_through key number tablet_type
 request_from (request.WriteAt keyspace table op) = event (write keyspace table op)
 request_from (request.ReadAt keyspace table number tablet_type) = event (read keyspace table number tablet_type)
+request_from (request.Create workflow source target tables) = event (core.create workflow source target tables.items)
+request_from (request.Advance workflow stream at max) = event (core.advance workflow (stream_name stream) at max)
+request_from (request.Cancel workflow) = event (core.cancel workflow)
+request_from (request.Show workflow) = event (core.show workflow)
 request_from request.Rules = rules_document
 request_from request.Dump = dump_document
 

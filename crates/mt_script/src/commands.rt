@@ -1,31 +1,15 @@
 //! Commands: a verb, and the words behind it.
 ghost use Rattle.std.specs.Prelude.{◌≡◌, true, find, option_copied, option_map};
-ghost use Rattle.std.specs.Char.{is_ascii_digit};
-ghost use Rattle.std.specs.List.{list_all};
 ghost use Rattle.mt_names.specs.Keys.{after, at_sign};
-ghost use Rattle.mt_plain.specs.Script.{change, change_at, get, get_at, is_for_reads, is_qualified, is_readable, keyspace, read_at, read_number, read_row_command, read_rule_target, read_value, request_of, rule, table, words_of};
-ghost use Rattle.mt_script.specs.Requests.{command_so_far, is_mark, read_from, read_last_number, read_number_and_value, read_work, work_of};
+ghost use Rattle.mt_plain.specs.Script.{change, change_at, get, get_at, is_for_reads, is_qualified, is_readable, is_row_verb, keyspace, read_at, read_row_command, read_rule_target, read_value, request_of, rule, table, words_of};
+ghost use Rattle.mt_script.specs.Requests.{command_so_far, is_mark, other_command, read_from, read_last_number, read_number_and_value, read_work, work_of};
 
 use crate::lines::Request;
+use crate::numbers::read_number;
 use crate::words::{first_word, no_word, one_word, text_of, two_words};
+use crate::workflows::workflow_command;
 use mt_model::Op;
 use mt_names::{KeyspaceName, NameFault, RuleKey, RuleTarget, TableName, TabletType, Value};
-
-fn is_all_digits(word: &[u8]) -> bool
-    ensures { result ≡ list_all is_ascii_digit word.now }
-{
-    word.iter().all(|byte| byte.is_ascii_digit())
-}
-
-/// Reads a number: 1 to 20 digits of a value that fits 64 bits.
-fn read_number(word: &str) -> Option<u64>
-    ensures { result ≡ read_number word.now }
-{
-    if word.len() > 20 || !is_all_digits(word.as_bytes()) {
-        return None;
-    }
-    word.parse().ok()
-}
 
 /// Reads a value: at most 64 bytes.
 fn read_value(word: &str) -> Option<Value>
@@ -261,6 +245,24 @@ fn at_command(words: &[u8]) -> Option<Result<Request, NameFault>>
     work_there(name, work)
 }
 
+/// Whether a verb is that of an operation on a row.
+fn is_row_verb(verb: &str) -> bool
+    ensures { result ≡ is_row_verb verb.now }
+{
+    verb == "insert" || verb == "update" || verb == "append" || verb == "delete" || verb == "get"
+}
+
+/// Reads an operation on a row, or a command on a workflow, behind its verb.
+fn other_command(verb: &str, words: &[u8]) -> Option<Result<Request, NameFault>>
+    requires { is_readable words.now ≡ true }
+    ensures { option_map read_from result ≡ option_map request_of (other_command verb.now (words_of words.now)) }
+{
+    if is_row_verb(verb) {
+        return row_command(verb, words);
+    }
+    workflow_command(verb, words)
+}
+
 /// Reads a command: its verb, its words, and then its names. `None` is a bad line.
 pub fn read_command(line: &[u8]) -> Option<Result<Request, NameFault>>
     requires { is_readable line.now ≡ true }
@@ -286,6 +288,6 @@ pub fn read_command(line: &[u8]) -> Option<Result<Request, NameFault>>
             Some(Ok(Request::Dump))
         }
         "at" => at_command(rest),
-        verb => row_command(verb, rest),
+        verb => other_command(verb, rest),
     }
 }

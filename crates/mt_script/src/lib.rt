@@ -4,8 +4,11 @@
 mod commands;
 mod cut;
 mod lines;
+mod numbers;
+mod shown;
 mod texts;
 mod words;
+mod workflows;
 
 pub use cut::first_line;
 pub use lines::{Line, LineRefusal, MAX_LINE_LENGTH, Request, read_line};

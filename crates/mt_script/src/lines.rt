@@ -6,8 +6,13 @@ ghost use Rattle.mt_script.specs.Requests.{meaning_from, meaning_of, reading_so_
 
 use crate::commands::read_command;
 use crate::words::{is_blank, is_visible};
+use arrayvec::ArrayVec;
 use mt_model::Op;
-use mt_names::{KeyspaceName, NameFault, RuleKey, RuleTarget, TableName, TabletType};
+use mt_names::{
+    KeyspaceName, MAX_TABLES, NameFault, Position, RuleKey, RuleTarget, TableName, TabletType,
+    WorkflowName,
+};
+use mt_workflow::Slot;
 
 /// The longest line that is read, in bytes, without its line end.
 pub const MAX_LINE_LENGTH: usize = 4096;
@@ -29,6 +34,15 @@ pub enum Request {
     WriteAt(KeyspaceName, TableName, Op),
     /// `at K.T get N`: reads the table of the keyspace for the name's type, without a look-up.
     ReadAt(KeyspaceName, TableName, u64, TabletType),
+    /// `create W S T TABLES`: makes a workflow that moves tables from S to T.
+    Create(WorkflowName, KeyspaceName, KeyspaceName, ArrayVec<TableName, MAX_TABLES>),
+    /// `advance W forward AT MAX`, or `back`: the workflow's stream at this position copies rows or reads entries, so many at
+    /// most.
+    Advance(WorkflowName, Slot, Position, u16),
+    /// `cancel W`: takes a workflow back.
+    Cancel(WorkflowName),
+    /// `show W`: tells of a workflow.
+    Show(WorkflowName),
     /// `rules`: the document of the routing rules.
     Rules,
     /// `dump`: the document of the whole topology.

@@ -1,14 +1,18 @@
 //! The texts of answers.
 ghost use Rattle.std.specs.Prelude.{◌≡◌, ◌+◌, ◌<◌, ◌++◌, length};
-ghost use Rattle.mt_plain.specs.Events.{answer_from};
+ghost use Rattle.mt_plain.specs.Events.{advanced};
 ghost use Rattle.mt_plain.specs.Output.{answer_text, line_feed, refused_text};
+ghost use Rattle.mt_event.specs.Events.{answer_from};
 ghost use Rattle.mt_model.specs.Faults.{topology_fault_text};
 ghost use Rattle.mt_script.specs.Requests.{line_refusal_text};
 
 use crate::lines::LineRefusal;
+use crate::shown::{number, shown_text, spaced};
 use arrayvec::ArrayVec;
+use mt_event::{Refusal, Reply};
 use mt_io::LONGEST_LINE;
-use mt_model::{Refusal, Reply, TopologyFault};
+use mt_model::TopologyFault;
+use mt_stream::Advanced;
 
 /// The text of a line of output, with its line feed.
 pub type LineText = ArrayVec<u8, LONGEST_LINE>;
@@ -25,6 +29,15 @@ fn line_of(first: &[u8], second: &[u8]) -> LineText
     line
 }
 
+/// The line that tells what an advance did.
+fn advanced_line(did: Advanced) -> LineText
+    ensures { result.items ≡ answer_text (advanced did.events did.rows) ++ line_feed }
+{
+    let rows = spaced::<25>(b"rows", &number(u64::from(did.rows)));
+    let events = spaced::<46>(&number(u64::from(did.events)), &rows);
+    line_of(b"events ", &events)
+}
+
 /// The line that tells the answer to an event.
 pub fn answer_line(answer: &Result<Reply, Refusal>) -> LineText
     ensures { result.items ≡ answer_text (answer_from answer.now) ++ line_feed }
@@ -33,6 +46,8 @@ pub fn answer_line(answer: &Result<Reply, Refusal>) -> LineText
         Ok(Reply::Done) => line_of(b"ok", b""),
         Ok(Reply::Row(None)) => line_of(b"none", b""),
         Ok(Reply::Row(Some(value))) => line_of(b"row ", value),
+        Ok(Reply::Advanced(advanced)) => advanced_line(*advanced),
+        Ok(Reply::Shown(shown)) => line_of(&shown_text(shown), b""),
         Err(refusal) => line_of(b"refused ", refusal.as_str().as_bytes()),
     }
 }

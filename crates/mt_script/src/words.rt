@@ -1,7 +1,7 @@
 //! The words of a line.
 ghost use Rattle.std.specs.Prelude.{◌≡◌, ◌≤◌, ◌∷◌, [], ◌++◌, not, length, position, drop, take, MatchOption, IfSome, Some, option_copied, option_map, true};
 ghost use Rattle.std.specs.List.{list_all};
-ghost use Rattle.mt_plain.specs.Script.{Command, is_blank, is_readable, is_visible, no_word, one_word, two_words, words_of};
+ghost use Rattle.mt_plain.specs.Script.{Command, four_words, is_blank, is_readable, is_visible, no_word, one_word, two_words, words_of};
 
 use std::str;
 
@@ -87,4 +87,15 @@ pub fn two_words(line: &[u8]) -> Option<(&str, &str)>
     let (first, rest) = first_word(line)?;
     let second = one_word(rest)?;
     Some((text_of(first), second))
+}
+
+/// The words of a line that has just four.
+pub fn four_words(line: &[u8]) -> Option<(&str, &str, &str, &str)>
+    requires { is_readable line.now ≡ true }
+    ensures { option_map (λ w. (w.0.now, w.1.now, w.2.now, w.3.now)) result ≡ four_words (words_of line.now) }
+{
+    let (first, rest) = first_word(line)?;
+    let (second, rest) = first_word(rest)?;
+    let (third, fourth) = two_words(rest)?;
+    Some((text_of(first), text_of(second), third, fourth))
 }

@@ -6,4 +6,6 @@ pub mod NamedLemmas
 pub mod RefusalLemmas
 pub mod RefusedLemmas
 pub mod RoomLemmas
+pub mod SetLemmas
+pub mod StayLemmas
 pub mod StepLemmas

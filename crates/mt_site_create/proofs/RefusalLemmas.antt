@@ -1,7 +1,8 @@
 -- What refuses a Create, test by test.
-use Rattle.std.proofs.Common.{◌≡◌, ℕ, Bool, true, false, not, ◌||◌, List, [], ◌∷◌, find, fold, map, Option, None, Some, is_some, refl, sym, ap, ◌∙◌}
+use Rattle.std.proofs.Common.{◌≡◌, ℕ, Bool, true, false, not, ◌||◌, List, [], ◌∷◌, find, fold, length, map, Option, None, Some, is_some, refl, sym, ap, ◌∙◌}
 use Rattle.std.specs.List.{AllByRecursion, list_any}
 use Rattle.std.specs.Option.{option_map, option_map_or, option_or}
+use Rattle.std.specs.Prelude.{nat_le, ◌==◌}
 use Rattle.mt_names.specs.declared.keys.RuleKey.{RuleKey}
 use Rattle.mt_names.specs.declared.keys.RuleTarget.{RuleTarget}
 use Rattle.mt_names.specs.Same.{same_target}
@@ -9,16 +10,18 @@ use Rattle.mt_model.specs.declared.entries.Scope.{Scope}
 use Rattle.mt_model.specs.declared.entries.Scope.TheVariants as scope
 use Rattle.mt_model.specs.Part.{table_rule_keys}
 use Rattle.mt_model.specs.Topology.{Rules, is_present, rule_at}
+use Rattle.mt_topology.specs.Part.{reserve_refusal}
 use Rattle.mt_watch.specs.Scopes.{has_scope, same_scope}
 use Rattle.mt_workflow.specs.Creates as create
 use Rattle.mt_workflow.specs.declared.fault.WorkflowFault.TheVariants as fault
-use Rattle.mt_plain.specs.Events.{Refusal, no_table, table_in_workflow, target_has_table, rule_conflict}
+use Rattle.mt_plain.specs.Events.{Refusal, full, no_keyspace, no_tables, no_watcher, same_keyspace, workflow_exists, no_table, table_in_workflow, target_has_table, rule_conflict}
 use Rattle.mt_plain.specs.Plain.{Live, Plain, in_keyspace, mover}
-use Rattle.mt_plain.specs.Refuse.{is_of_primary, moved_table_refusal, moved_tables_refusal, or_else, refuse_if}
+use Rattle.mt_plain.specs.Refuse.{is_of_primary, most_workflows, moved_table_refusal, moved_tables_refusal, or_else, refuse_if}
 use Rattle.mt_plain.specs.Serve.{has_table}
 use Rattle.mt_site_topology.specs.Stands.{TopologyStands}
-use Rattle.mt_site_state.specs.Core.{CoreState}
-use Rattle.mt_site_state.specs.Workflows.{is_moved, refusal_by_table, table_refusal, tables_refusal}
+use Rattle.mt_names.specs.Names.{same_text}
+use Rattle.mt_site_state.specs.Core.{CoreState, primary_at, workflow_at}
+use Rattle.mt_site_state.specs.Workflows.{create_refusal, is_moved, refusal_by_table, table_refusal, tables_refusal}
 use Rattle.mt_site_create.proofs.FreeLemmas.{free_rule, present_there}
 use Rattle.mt_site_create.proofs.ListLemmas.{each_key, find_same}
 
@@ -128,3 +131,35 @@ pub same_watchers : (target : List ℕ) (scopes : List Scope) → has_scope scop
 same_watchers target [] = refl
 same_watchers target (other ∷ others) =
     ap (λ b. b || has_scope others (scope.Primary target)) (same_watcher target other) ∙ ap (λ b. is_of_primary target other || b) (same_watchers target others)
+
+-- ---- the last test
+
+or_none : (a b : Bool) → (a || b) ≡ false → b ≡ false
+or_none true b e = absurd cc
+or_none false b e = e
+
+no_fault : {A : Type 0} (o : Option A) → is_some o ≡ false → o ≡ None
+no_fault None e = refl
+no_fault (Some x) e = absurd cc
+
+last_of : (a b c d e f g h : Option Refusal) → or_else a (or_else b (or_else c (or_else d (or_else e (or_else f (or_else g h)))))) ≡ None → h ≡ None
+last_of None None None None None None None h none = none
+last_of (Some r) b c d e f g h none = absurd cc
+last_of None (Some r) c d e f g h none = absurd cc
+last_of None None (Some r) d e f g h none = absurd cc
+last_of None None None (Some r) e f g h none = absurd cc
+last_of None None None None (Some r) f g h none = absurd cc
+last_of None None None None None (Some r) g h none = absurd cc
+last_of None None None None None None (Some r) h none = absurd cc
+
+-- what no test refuses has room
+pub room_behind : (core : CoreState) (scopes : List Scope) (workflow source target : List ℕ) (tables : List (List ℕ)) → create_refusal core scopes workflow source target tables ≡ None
+    → reserve_refusal core.topology source target tables ≡ None
+room_behind core scopes workflow source target tables none =
+    let room = is_some (reserve_refusal core.topology source target tables) in
+    no_fault (reserve_refusal core.topology source target tables)
+    (or_none (nat_le most_workflows (length core.workflows)) room
+    (refuse_if_none (nat_le most_workflows (length core.workflows) || room) full
+    (last_of (refuse_if (is_some (workflow_at core.workflows workflow)) workflow_exists) (refuse_if (length tables == 0) no_tables) (refuse_if (same_text source target) same_keyspace)
+    (refuse_if (not (is_some (primary_at core.primaries source))) no_keyspace) (refuse_if (not (is_some (primary_at core.primaries target))) no_keyspace) (tables_refusal core source target tables)
+    (refuse_if (not (has_scope scopes (scope.Primary target))) no_watcher) (refuse_if (nat_le most_workflows (length core.workflows) || room) full) none)))

@@ -5,6 +5,7 @@ ghost use Rattle.mt_plain.specs.Asks.{asked_change};
 ghost use Rattle.mt_plain.specs.Events.{create};
 ghost use Rattle.mt_plain.specs.Plain.{Plain, each_once};
 ghost use Rattle.mt_plain.specs.Refuse.{refusal_of};
+ghost use Rattle.mt_topology.specs.Part.{reserve_refusal};
 ghost use Rattle.mt_site_state.specs.Core.{CoreState};
 ghost use Rattle.mt_site_state.specs.Stands.{StandsWith};
 ghost use Rattle.mt_site_state.specs.Workflows.{change_of, create_refusal, new_of};
@@ -47,4 +48,14 @@ pub fn the_watchers_are_asked_with_what_create_makes()
 {
     a_create_is_refused_as_the_definitions_refuse_it();
     create_writes_the_part();
+}
+
+/// What the definitions take of a Create, the topology of a core has room for: no limit of its own refuses it, that on denials
+/// neither, with however many live workflows.
+pub fn a_create_that_is_taken_finds_room()
+    ensures { (p : Plain) (scopes : List Scope) (core : CoreState) → StandsWith p scopes core
+        → (workflow source target : List ℕ) (tables : List (List ℕ))
+        → refusal_of p (create workflow source target tables) ≡ None → reserve_refusal core.topology source target (each_once tables) ≡ None }
+{
+    a_create_is_refused_as_the_definitions_refuse_it();
 }

@@ -1,0 +1,195 @@
+-- Events and answers are found again from what the definitions know of them.
+use Rattle.std.proofs.Common.{◌≡◌, Option, None, Some, option_map, Result, Ok, Err, refl, sym, ap, ◌∙◌}
+use Rattle.mt_plain.specs.Events as plain
+use Rattle.mt_stream.specs.declared.stream.StreamState.{StreamState}
+use Rattle.mt_stream.specs.declared.stream.StreamState.TheVariants as state
+use Rattle.mt_stream.specs.Streams.{state_from}
+use Rattle.mt_workflow.specs.declared.way.Slot.{Slot}
+use Rattle.mt_workflow.specs.declared.way.Slot.TheVariants as slot
+use Rattle.mt_workflow.specs.declared.way.Way.{Way}
+use Rattle.mt_workflow.specs.Workflows.{way_from}
+use Rattle.mt_event.specs.declared.event.Event.{Event}
+use Rattle.mt_event.specs.declared.event.Event.TheVariants as event
+use Rattle.mt_event.specs.declared.refusal.Refusal.{Refusal}
+use Rattle.mt_event.specs.declared.refusal.Refusal.TheVariants as refusal
+use Rattle.mt_event.specs.declared.reply.Reply.{Reply}
+use Rattle.mt_event.specs.declared.reply.Reply.TheVariants as reply
+use Rattle.mt_event.specs.declared.reply.Shown.{Shown}
+use Rattle.mt_event.specs.declared.reply.ShownStream.{ShownStream}
+use Rattle.mt_event.specs.Events.{answer_from, event_of, refusal_from, shown_from, shown_stream_from}
+
+-- what is found again is told in full
+one_from_back : {A B : Type 0} (tell : A → B) (back : B → A) → ((a : A) → back (tell a) ≡ a) → (a b : A) → tell a ≡ tell b → a ≡ b
+one_from_back tell back returns a b same = sym (returns a) ∙ ap back same ∙ returns b
+
+-- ---- events
+
+abbrev back_slot : plain.StreamName → Slot
+back_slot plain.forward = slot.Forward
+back_slot plain.back = slot.Back
+
+-- the event that is asked of the code; of a command that the code doesn't have yet it says nothing
+abbrev back_event : plain.Event → Event
+back_event (plain.write keyspace table op) = event.Write keyspace table op
+back_event (plain.read keyspace table key type_of) = event.Read keyspace table key type_of
+back_event (plain.add_keyspace keyspace) = event.AddKeyspace keyspace
+back_event (plain.add_table keyspace table) = event.AddTable keyspace table
+back_event (plain.edit_rule key target) = event.EditRule key target
+back_event (plain.create workflow source target tables) = event.Create workflow source target (record { items = tables })
+back_event (plain.advance workflow stream at max) = event.Advance workflow (back_slot stream) at max
+back_event (plain.cancel workflow) = event.Cancel workflow
+back_event (plain.show workflow) = event.Show workflow
+back_event (plain.begin_switch workflow types) = event.Show workflow
+back_event (plain.begin_reverse workflow types) = event.Show workflow
+back_event (plain.step workflow at) = event.Show workflow
+back_event (plain.undo workflow at) = event.Show workflow
+back_event (plain.complete workflow) = event.Show workflow
+
+event-returns : (e : Event) → back_event (event_of e) ≡ e
+event-returns (event.Write keyspace table op) = refl
+event-returns (event.Read keyspace table key type_of) = refl
+event-returns (event.AddKeyspace keyspace) = refl
+event-returns (event.AddTable keyspace table) = refl
+event-returns (event.EditRule key target) = refl
+event-returns (event.Create workflow source target tables) = refl
+event-returns (event.Advance workflow slot.Forward at max) = refl
+event-returns (event.Advance workflow slot.Back at max) = refl
+event-returns (event.Cancel workflow) = refl
+event-returns (event.Show workflow) = refl
+
+pub told_events_are_one : (a b : Event) → event_of a ≡ event_of b → a ≡ b
+told_events_are_one = one_from_back event_of back_event event-returns
+
+-- ---- answers
+
+abbrev back_refusal : plain.Refusal → Refusal
+back_refusal plain.memory = refusal.Memory
+back_refusal plain.no_keyspace = refusal.NoKeyspace
+back_refusal plain.no_table = refusal.NoTable
+back_refusal plain.denied = refusal.Denied
+back_refusal plain.row_exists = refusal.RowExists
+back_refusal plain.no_row = refusal.NoRow
+back_refusal plain.workflow_exists = refusal.WorkflowExists
+back_refusal plain.no_workflow = refusal.NoWorkflow
+back_refusal plain.table_in_workflow = refusal.TableInWorkflow
+back_refusal (plain.rule_conflict key) = refusal.RuleConflict key
+back_refusal (plain.target_has_table table) = refusal.TargetHasTable table
+back_refusal plain.same_keyspace = refusal.SameKeyspace
+back_refusal plain.no_tables = refusal.NoTables
+back_refusal plain.under_way = refusal.UnderWay
+back_refusal plain.nothing_under_way = refusal.NothingUnderWay
+back_refusal plain.nothing_to_switch = refusal.NothingToSwitch
+back_refusal plain.nothing_to_reverse = refusal.NothingToReverse
+back_refusal plain.copying = refusal.Copying
+back_refusal plain.not_level = refusal.NotLevel
+back_refusal plain.past_journal = refusal.PastJournal
+back_refusal plain.traffic_switched = refusal.TrafficSwitched
+back_refusal plain.not_all_switched = refusal.NotAllSwitched
+back_refusal plain.rule_owned = refusal.RuleOwned
+back_refusal (plain.watcher_refused index) = refusal.WatcherRefused index
+back_refusal plain.no_watcher = refusal.NoWatcher
+back_refusal (plain.stale current) = refusal.Stale current
+back_refusal plain.stream_stopped = refusal.StreamStopped
+back_refusal plain.full = refusal.Full
+back_refusal plain.undoing = refusal.Undoing
+back_refusal plain.too_long = refusal.TooLong
+back_refusal plain.exists = refusal.Exists
+
+refusal-returns : (r : Refusal) → back_refusal (refusal_from r) ≡ r
+refusal-returns refusal.Memory = refl
+refusal-returns refusal.NoKeyspace = refl
+refusal-returns refusal.NoTable = refl
+refusal-returns refusal.Denied = refl
+refusal-returns refusal.RowExists = refl
+refusal-returns refusal.NoRow = refl
+refusal-returns refusal.WorkflowExists = refl
+refusal-returns refusal.NoWorkflow = refl
+refusal-returns refusal.TableInWorkflow = refl
+refusal-returns (refusal.RuleConflict key) = refl
+refusal-returns (refusal.TargetHasTable table) = refl
+refusal-returns refusal.SameKeyspace = refl
+refusal-returns refusal.NoTables = refl
+refusal-returns refusal.UnderWay = refl
+refusal-returns refusal.NothingUnderWay = refl
+refusal-returns refusal.NothingToSwitch = refl
+refusal-returns refusal.NothingToReverse = refl
+refusal-returns refusal.Copying = refl
+refusal-returns refusal.NotLevel = refl
+refusal-returns refusal.PastJournal = refl
+refusal-returns refusal.TrafficSwitched = refl
+refusal-returns refusal.NotAllSwitched = refl
+refusal-returns refusal.RuleOwned = refl
+refusal-returns (refusal.WatcherRefused index) = refl
+refusal-returns refusal.NoWatcher = refl
+refusal-returns (refusal.Stale current) = refl
+refusal-returns refusal.StreamStopped = refl
+refusal-returns refusal.Full = refl
+refusal-returns refusal.Undoing = refl
+refusal-returns refusal.TooLong = refl
+refusal-returns refusal.Exists = refl
+
+abbrev back_state : plain.StreamState → StreamState
+back_state plain.running = state.Running
+back_state plain.stopped = state.Stopped
+back_state plain.frozen = state.Frozen
+
+state-returns : (s : StreamState) → back_state (state_from s) ≡ s
+state-returns state.Running = refl
+state-returns state.Stopped = refl
+state-returns state.Frozen = refl
+
+abbrev back_stream : plain.Slot → ShownStream
+back_stream s = record { state = back_state s.state; position = s.position }
+
+stream-returns : (s : ShownStream) → back_stream (shown_stream_from s) ≡ s
+stream-returns s = λ i. record { state = state-returns s.state i; position = s.position }
+
+abbrev back_way : plain.Way → Way
+back_way w = record { back = w.back; before = w.before; after = w.after; done = w.done; undoing = w.undoing }
+
+option-returns : {A B : Type 0} (tell : A → B) (back : B → A) → ((a : A) → back (tell a) ≡ a) → (o : Option A) → option_map back (option_map tell o) ≡ o
+option-returns tell back returns None = refl
+option-returns tell back returns (Some a) = ap Some (returns a)
+
+abbrev back_shown : plain.Shown → Shown
+back_shown s = record {
+  workflow = s.workflow;
+  source = s.source;
+  target = s.target;
+  tables = record { items = s.tables };
+  switched = s.switched;
+  way = option_map back_way s.way;
+  forward = back_stream s.forward;
+  copied = s.copied;
+  back = option_map back_stream s.back;
+}
+
+shown-returns : (s : Shown) → back_shown (shown_from s) ≡ s
+shown-returns s = λ i. record {
+  workflow = s.workflow;
+  source = s.source;
+  target = s.target;
+  tables = s.tables;
+  switched = s.switched;
+  way = option-returns way_from back_way (λ w. refl) s.way i;
+  forward = stream-returns s.forward i;
+  copied = s.copied;
+  back = option-returns shown_stream_from back_stream stream-returns s.back i;
+}
+
+abbrev back_answer : plain.Answer → Result Reply Refusal
+back_answer plain.done = Ok reply.Done
+back_answer (plain.row row) = Ok (reply.Row row)
+back_answer (plain.advanced events rows) = Ok (reply.Advanced (record { events = events; rows = rows }))
+back_answer (plain.shown s) = Ok (reply.Shown (back_shown s))
+back_answer (plain.refused r) = Err (back_refusal r)
+
+answer-returns : (a : Result Reply Refusal) → back_answer (answer_from a) ≡ a
+answer-returns (Ok reply.Done) = refl
+answer-returns (Ok (reply.Row row)) = refl
+answer-returns (Ok (reply.Advanced advanced)) = refl
+answer-returns (Ok (reply.Shown s)) = ap (λ t. Ok (reply.Shown t)) (shown-returns s)
+answer-returns (Err r) = ap Err (refusal-returns r)
+
+pub told_answers_are_one : (a b : Result Reply Refusal) → answer_from a ≡ answer_from b → a ≡ b
+told_answers_are_one = one_from_back answer_from back_answer answer-returns

@@ -1,0 +1,199 @@
+//! What is told of a workflow.
+ghost use Rattle.std.specs.Prelude.{◌≡◌, ◌+◌, ◌≤◌, ◌++◌, ◌∷◌, [], length, codes, if◌then◌else◌, Some, option_map};
+ghost use Rattle.std.specs.List.{join_with_byte};
+ghost use Rattle.mt_names.specs.Tables.{most_tables, table_list_text};
+ghost use Rattle.mt_names.specs.Types.{comma};
+ghost use Rattle.mt_plain.specs.Numbers.{number_text};
+ghost use Rattle.mt_plain.specs.Output.{back_text, shown_text, slot_text, spaced, state_text, way_text};
+ghost use Rattle.mt_plain.specs.Plain.{changed_types};
+ghost use Rattle.mt_stream.specs.Streams.{state_from};
+ghost use Rattle.mt_workflow.specs.Workflows.{way_from};
+ghost use Rattle.mt_event.specs.Events.{shown_from, shown_stream_from};
+ghost use Rattle.mt_script.specs.Texts.{streams_text, traffic_text};
+
+use arrayvec::ArrayVec;
+use itoa::Buffer;
+use mt_event::{Shown, ShownStream};
+use mt_names::{TableName, TypeSet};
+use mt_stream::StreamState;
+use mt_workflow::Way;
+
+/// Two texts, one behind the other.
+fn joined<const N: usize>(first: &[u8], second: &[u8]) -> ArrayVec<u8, N>
+    requires { length first.now + length second.now ≤ N }
+    ensures { result.items ≡ first.now ++ second.now }
+{
+    let mut text = ArrayVec::new();
+    let _fits = text.try_extend_from_slice(first);
+    let _fits = text.try_extend_from_slice(second);
+    text
+}
+
+/// Two texts with a space between them.
+pub fn spaced<const N: usize>(first: &[u8], second: &[u8]) -> ArrayVec<u8, N>
+    requires { length first.now + 1 + length second.now ≤ N }
+    ensures { result.items ≡ spaced first.now second.now }
+{
+    let mut text = ArrayVec::new();
+    let _fits = text.try_extend_from_slice(first);
+    text.push(b' ');
+    let _fits = text.try_extend_from_slice(second);
+    text
+}
+
+/// A number in decimal digits.
+pub fn number(n: u64) -> ArrayVec<u8, 20>
+    ensures { result.items ≡ number_text n }
+{
+    let mut buffer = Buffer::new();
+    let digits = buffer.format(n);
+    joined(digits.as_bytes(), b"")
+}
+
+/// What a stream does.
+fn state_text(state: StreamState) -> &'static [u8]
+    ensures text { result.now ≡ state_text (state_from state) }
+    ensures short { length result.now ≤ 7 }
+{
+    match state {
+        StreamState::Running => b"running",
+        StreamState::Stopped => b"stopped",
+        StreamState::Frozen => b"frozen",
+    }
+}
+
+/// A stream with its position.
+fn stream_text(stream: ShownStream) -> ArrayVec<u8, 28>
+    ensures { result.items ≡ slot_text (shown_stream_from stream) }
+{
+    spaced(state_text(stream.state), &number(stream.position))
+}
+
+/// The back stream, if there is one.
+fn back_text(back: Option<ShownStream>) -> ArrayVec<u8, 28>
+    ensures { result.items ≡ back_text (option_map shown_stream_from back) }
+{
+    match back {
+        None => joined(b"none", b""),
+        Some(stream) => stream_text(stream),
+    }
+}
+
+/// The types that a way changes.
+fn changed_types(way: Way) -> TypeSet
+    ensures { result ≡ changed_types (way_from way) }
+{
+    TypeSet {
+        primary: way.before.primary != way.after.primary,
+        replica: way.before.replica != way.after.replica,
+        rdonly: way.before.rdonly != way.after.rdonly,
+    }
+}
+
+/// The direction of a way.
+fn direction(is_back: bool) -> &'static [u8]
+    ensures text { result.now ≡ if is_back then codes "back" else codes "forward" }
+    ensures short { length result.now ≤ 7 }
+{
+    if is_back { b"back" } else { b"forward" }
+}
+
+/// That an undo of a way was taken, if one was.
+fn undo_text(is_undoing: bool) -> &'static [u8]
+    ensures text { result.now ≡ if is_undoing then codes " undoing" else [] }
+    ensures short { length result.now ≤ 8 }
+{
+    if is_undoing { b" undoing" } else { b"" }
+}
+
+/// The open way, if there is one: its direction, the types that it changes, how many of its steps stand done.
+fn way_text(way: Option<Way>) -> ArrayVec<u8, 59>
+    ensures { result.items ≡ way_text (option_map way_from way) }
+{
+    match way {
+        None => joined(b"none", b""),
+        Some(way) => open_way_text(way),
+    }
+}
+
+fn open_way_text(way: Way) -> ArrayVec<u8, 59>
+    ensures { result.items ≡ way_text (Some (way_from way)) }
+{
+    let types = changed_types(way).text();
+    let done = spaced::<43>(types.as_str().as_bytes(), &number(u64::from(way.done)));
+    let open = spaced::<51>(direction(way.back), &done);
+    joined(&open, undo_text(way.undoing))
+}
+
+/// Tables, separated by commas, or `-` where there is none.
+fn tables_text(tables: &[TableName]) -> ArrayVec<u8, 1039>
+    requires { length tables.now ≤ most_tables }
+    ensures { result.items ≡ table_list_text tables.now }
+{
+    match tables {
+        [] => joined(b"-", b""),
+        [first, others @ ..] => comma_text(first, others),
+    }
+}
+
+/// A table and others, separated by commas.
+fn comma_text(first: &TableName, others: &[TableName]) -> ArrayVec<u8, 1039>
+    requires { 1 + length others.now ≤ most_tables }
+    ensures { result.items ≡ join_with_byte comma (first.now ∷ others.now) }
+{
+    let mut text = joined(first.as_str().as_bytes(), b"");
+    for table in others {
+        push_table(&mut text, table);
+    }
+    text
+}
+
+/// Adds a table behind a comma.
+fn push_table(text: &mut ArrayVec<u8, 1039>, table: &TableName)
+    requires { length text.old.items + 65 ≤ 1039 }
+    ensures text { text.new.items ≡ text.old.items ++ comma ∷ table.now }
+    ensures short { length text.new.items ≤ length text.old.items + 65 }
+{
+    text.push(b',');
+    let _fits = text.try_extend_from_slice(table.as_str().as_bytes());
+}
+
+/// Whether the copy has ended.
+fn copied_text(is_copied: bool) -> &'static [u8]
+    ensures text { result.now ≡ if is_copied then codes "copied" else codes "copying" }
+    ensures short { length result.now ≤ 7 }
+{
+    if is_copied { b"copied" } else { b"copying" }
+}
+
+/// The streams of a workflow.
+fn streams_text(shown: &Shown) -> ArrayVec<u8, 78>
+    ensures { result.items ≡ streams_text (shown_from shown.now) }
+{
+    let back = spaced::<33>(b"back", &back_text(shown.back));
+    let copied = spaced::<41>(copied_text(shown.copied), &back);
+    let forward = spaced::<70>(&stream_text(shown.forward), &copied);
+    spaced(b"forward", &forward)
+}
+
+/// The types whose traffic is switched, the open way, and the streams.
+fn traffic_text(shown: &Shown) -> ArrayVec<u8, 174>
+    ensures { result.items ≡ traffic_text (shown_from shown.now) }
+{
+    let way = spaced::<138>(&way_text(shown.way), &streams_text(shown));
+    let way = spaced::<142>(b"way", &way);
+    let types = shown.switched.text();
+    let switched = spaced::<165>(types.as_str().as_bytes(), &way);
+    spaced(b"switched", &switched)
+}
+
+/// What is told of a workflow.
+pub fn shown_text(shown: &Shown) -> ArrayVec<u8, 1409>
+    ensures { result.items ≡ shown_text (shown_from shown.now) }
+{
+    let tables = tables_text(shown.tables.as_slice());
+    let tables = spaced::<1214>(&tables, &traffic_text(shown));
+    let target = spaced::<1279>(shown.target.as_str().as_bytes(), &tables);
+    let source = spaced::<1344>(shown.source.as_str().as_bytes(), &target);
+    spaced(shown.workflow.as_str().as_bytes(), &source)
+}

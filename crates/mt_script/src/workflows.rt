@@ -1,0 +1,96 @@
+//! Commands on workflows.
+ghost use Rattle.std.specs.Prelude.{◌≡◌, true, option_map};
+ghost use Rattle.mt_plain.specs.Script.{advance, cancel, create, is_readable, read_advance, read_stream, request_of, show, words_of};
+ghost use Rattle.mt_workflow.specs.Workflows.{stream_name};
+ghost use Rattle.mt_script.specs.Requests.{read_create, read_from, workflow_command};
+
+use crate::lines::Request;
+use crate::numbers::{read_number, read_small_number};
+use crate::words::{four_words, one_word};
+use mt_names::{KeyspaceName, NameFault, Position, WorkflowName, table_list};
+use mt_workflow::Slot;
+
+/// Reads which stream is meant: `forward` or `back`.
+fn read_stream(word: &str) -> Option<Slot>
+    ensures { option_map stream_name result ≡ read_stream word.now }
+{
+    match word {
+        "forward" => Some(Slot::Forward),
+        "back" => Some(Slot::Back),
+        _ => None,
+    }
+}
+
+fn create_request(
+    workflow: &str,
+    source: &str,
+    target: &str,
+    tables: &str,
+) -> Result<Request, NameFault>
+    ensures { read_from result ≡ request_of (create workflow.now source.now target.now tables.now) }
+{
+    let workflow = WorkflowName::parse(workflow)?;
+    let source = KeyspaceName::parse(source)?;
+    let target = KeyspaceName::parse(target)?;
+    let tables = table_list(tables)?;
+    Ok(Request::Create(workflow, source, target, tables))
+}
+
+fn advance_request(
+    workflow: &str,
+    stream: Slot,
+    at: Position,
+    max: u16,
+) -> Result<Request, NameFault>
+    ensures { read_from result ≡ request_of (advance workflow.now (stream_name stream) at max) }
+{
+    let workflow = WorkflowName::parse(workflow)?;
+    Ok(Request::Advance(workflow, stream, at, max))
+}
+
+fn cancel_request(workflow: &str) -> Result<Request, NameFault>
+    ensures { read_from result ≡ request_of (cancel workflow.now) }
+{
+    Ok(Request::Cancel(WorkflowName::parse(workflow)?))
+}
+
+fn show_request(workflow: &str) -> Result<Request, NameFault>
+    ensures { read_from result ≡ request_of (show workflow.now) }
+{
+    Ok(Request::Show(WorkflowName::parse(workflow)?))
+}
+
+/// Reads what stands behind `create`: the workflow, the source, the target, the tables.
+fn create_command(words: &[u8]) -> Option<Result<Request, NameFault>>
+    requires { is_readable words.now ≡ true }
+    ensures { option_map read_from result ≡ option_map request_of (read_create (words_of words.now)) }
+{
+    let (workflow, source, target, tables) = four_words(words)?;
+    Some(create_request(workflow, source, target, tables))
+}
+
+/// Reads what stands behind `advance`: the workflow, the stream, the position, how many at most.
+fn advance_command(words: &[u8]) -> Option<Result<Request, NameFault>>
+    requires { is_readable words.now ≡ true }
+    ensures { option_map read_from result ≡ option_map request_of (read_advance (words_of words.now)) }
+{
+    let (workflow, stream, at, max) = four_words(words)?;
+    let stream = read_stream(stream)?;
+    let at = read_number(at)?;
+    let max = read_small_number(max)?;
+    Some(advance_request(workflow, stream, at, max))
+}
+
+/// Reads a command on a workflow, behind its verb.
+pub fn workflow_command(verb: &str, words: &[u8]) -> Option<Result<Request, NameFault>>
+    requires { is_readable words.now ≡ true }
+    ensures { option_map read_from result ≡ option_map request_of (workflow_command verb.now (words_of words.now)) }
+{
+    match verb {
+        "create" => create_command(words),
+        "advance" => advance_command(words),
+        "cancel" => Some(cancel_request(one_word(words)?)),
+        "show" => Some(show_request(one_word(words)?)),
+        _ => None,
+    }
+}

@@ -1,0 +1,54 @@
+-- What becomes of two primaries as a stream is advanced between them (this profile's own).
+use Rattle.std.specs.Prelude.{◌≡◌, ◌≢◌, ◌≤◌, ℕ, true, List, Option, None, Some, is_some, length, Result}
+use Rattle.std.specs.Map.{set_value}
+use Rattle.mt_names.specs.Names.{same_text}
+use Rattle.mt_event.specs.declared.refusal.Refusal.{Refusal}
+use Rattle.mt_event.specs.declared.refusal.Refusal.TheVariants as refusal
+use Rattle.mt_plain.specs.Events.{StreamName, Answer, refused, stream_stopped}
+use Rattle.mt_plain.specs.Plain.{among}
+use Rattle.mt_plain.specs.Slots.{read_side, written_side}
+use Rattle.mt_primary.specs.Primary.{PrimaryState, has_table}
+use Rattle.mt_stream.specs.declared.fault.StreamFault.{StreamFault}
+use Rattle.mt_stream.specs.declared.fault.StreamFault.TheVariants as stream
+use Rattle.mt_stream.specs.declared.stream.Advanced.{Advanced}
+use Rattle.mt_stream.specs.Advance.{Advances}
+use Rattle.mt_stream.specs.Streams.{StreamValue}
+use Rattle.mt_workflow.specs.Workflows.{WorkflowState, live_of, slot_of, with_slot}
+use Rattle.mt_site_rows.specs.Answers.{answer_by_stream}
+use Rattle.mt_site_state.specs.Core.{Primaries, Workflows, primary_at, primary_of, workflow_at}
+
+abbrev pub refusal_by_stream : StreamFault → Refusal
+refusal_by_stream stream.Memory = refusal.Memory
+refusal_by_stream (stream.Stale position) = refusal.Stale position
+refusal_by_stream stream.Stopped = refusal.StreamStopped
+refusal_by_stream stream.Frozen = refusal.StreamStopped
+refusal_by_stream stream.LogFull = refusal.Full
+
+-- the stream advances, and the primary that it writes takes the place of the one that stood there
+abbrev pub AdvancesBetween : Primaries → (read written : List ℕ) → StreamValue → (at at_most : ℕ) → Result Advanced StreamFault → StreamValue → Primaries → Type 0
+AdvancesBetween old read written stream at at_most result after new =
+    (sink : PrimaryState) × Advances stream (primary_of old read) (primary_of old written) at at_most result after sink
+    × (new ≡ set_value (same_text written) old sink)
+
+-- a stream of a workflow stands between two primaries: those of its two sides are there, its position lies in the log that it reads, and its
+-- tables are there where it writes
+pub record IsBetween (primaries : Primaries) (w : WorkflowState) (name : StreamName) (stream : StreamValue) : Type 0 where
+  pub read : is_some (primary_at primaries (read_side (live_of w) name)) ≡ true
+  pub written : is_some (primary_at primaries (written_side (live_of w) name)) ≡ true
+  pub apart : read_side (live_of w) name ≢ written_side (live_of w) name
+  pub within : stream.position ≤ length (primary_of primaries (read_side (live_of w) name)).log
+  pub there : (table : List ℕ) → among stream.tables table ≡ true → has_table (primary_of primaries (written_side (live_of w) name)) table ≡ true
+
+-- so does that of a live workflow, if there is one; and the workflow stands under its own name
+pub record CanAdvance (primaries : Primaries) (workflows : Workflows) (workflow : List ℕ) (name : StreamName) : Type 0 where
+  pub named : (w : WorkflowState) → workflow_at workflows workflow ≡ Some w → w.name ≡ workflow
+  pub between : (w : WorkflowState) → workflow_at workflows workflow ≡ Some w → (stream : StreamValue) → slot_of w name ≡ Some stream → IsBetween primaries w name stream
+
+-- the workflow and the primaries behind an advance of a stream, if there is one
+abbrev pub AdvancesOne : Option StreamValue → Primaries → WorkflowState → StreamName → (at at_most : ℕ) → Answer → WorkflowState → Primaries → Type 0
+AdvancesOne None old w name at at_most answer after new = (answer ≡ refused stream_stopped) × (after ≡ w) × (new ≡ old)
+AdvancesOne (Some stream) old w name at at_most answer after new =
+    (result : Result Advanced StreamFault) × (advanced : StreamValue) × (sink : PrimaryState)
+    × Advances stream (primary_of old (read_side (live_of w) name)) (primary_of old (written_side (live_of w) name)) at at_most result advanced sink
+    × (answer ≡ answer_by_stream result) × (after ≡ with_slot w name (Some advanced))
+    × (new ≡ set_value (same_text (written_side (live_of w) name)) old sink)

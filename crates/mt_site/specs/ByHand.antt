@@ -1,0 +1,49 @@
+-- What the controller tells of the refusals of its layers, and what becomes of primaries and of the topology as a table is made and taken
+-- back (this profile's own).
+use Rattle.std.specs.Prelude.{◌≡◌, ⊤, ℕ, false, List, is_some, length, Result, Ok, Err}
+use Rattle.mt_model.specs.declared.entries.Entry.TheVariants.{Present}
+use Rattle.mt_model.specs.declared.entries.EntryKey.TheVariants as about
+use Rattle.mt_model.specs.declared.faults.PrimaryFault.{PrimaryFault}
+use Rattle.mt_model.specs.declared.faults.PrimaryFault.TheVariants as primary
+use Rattle.mt_model.specs.declared.faults.TopologyFault.{TopologyFault}
+use Rattle.mt_model.specs.declared.faults.TopologyFault.TheVariants as topology
+use Rattle.mt_model.specs.Topology.{TopologyState, has_place, is_present, keyspace_at, with_entry, with_keyspace_state, without_table_place}
+use Rattle.mt_event.specs.declared.refusal.Refusal.{Refusal}
+use Rattle.mt_event.specs.declared.refusal.Refusal.TheVariants as refusal
+use Rattle.mt_primary.specs.Primary.{has_table}
+use Rattle.mt_primary.specs.Writes.{with_new_table}
+use Rattle.mt_site_state.specs.Core.{Primaries, primary_at, primary_of, with_primary}
+
+abbrev pub refusal_by_topology : TopologyFault → Refusal
+refusal_by_topology topology.Memory = refusal.Memory
+refusal_by_topology topology.NoKeyspace = refusal.NoKeyspace
+refusal_by_topology topology.NoTable = refusal.NoTable
+refusal_by_topology topology.Exists = refusal.Exists
+refusal_by_topology other = refusal.Full
+
+abbrev pub refusal_by_primary : PrimaryFault → Refusal
+refusal_by_primary primary.Memory = refusal.Memory
+refusal_by_primary primary.NoTable = refusal.NoTable
+refusal_by_primary primary.Denied = refusal.Denied
+refusal_by_primary primary.RowExists = refusal.RowExists
+refusal_by_primary primary.NoRow = refusal.NoRow
+refusal_by_primary primary.TooLong = refusal.TooLong
+refusal_by_primary primary.LogFull = refusal.Full
+
+-- a table is made at the primary of its keyspace, or all is as it was
+abbrev pub CreatesTable : Primaries → (keyspace table : List ℕ) → Result ⊤ PrimaryFault → Primaries → Type 0
+CreatesTable old keyspace table (Ok done) new = new ≡ with_primary old keyspace (λ primary. with_new_table primary table)
+CreatesTable old keyspace table (Err fault) new = new ≡ old
+
+-- a topology without a table and its place
+abbrev pub without_table : TopologyState → (keyspace table : List ℕ) → TopologyState
+without_table t keyspace table =
+    let absent = with_entry t (Present keyspace table false) in
+    record absent { keyspaces = with_keyspace_state (without_table_place table) absent.keyspaces keyspace }
+
+-- the keyspaces of a topology are those that have a primary, which has the tables that are there, and just these have a place
+pub record AreTables (t : TopologyState) (primaries : Primaries) : Type 0 where
+  pub there : (keyspace : List ℕ) → is_some (primary_at primaries keyspace) ≡ is_some (keyspace_at t.keyspaces keyspace)
+  pub count : length primaries ≡ length t.keyspaces
+  pub tables : (keyspace table : List ℕ) → has_table (primary_of primaries keyspace) table ≡ is_present t.keyspaces keyspace table
+  pub places : (keyspace table : List ℕ) → has_place t (about.Present keyspace table) ≡ is_present t.keyspaces keyspace table

@@ -1,0 +1,317 @@
+//! The core of the controller: the topology, a primary for each of its keyspaces, and the live workflows.
+ghost use Rattle.std.specs.Prelude.{◌≡◌, ◌≤◌, ℕ, IfErr, IfOk, List, OnErr, length, string_bytes};
+ghost use Rattle.mt_names.specs.Tables.{most_tables};
+ghost use Rattle.mt_primary.specs.Primary.{IsPrimary};
+ghost use Rattle.mt_event.specs.Events.{answer_from, event_of};
+ghost use Rattle.mt_model.specs.declared.entries.Scope.{Scope};
+ghost use Rattle.mt_model.specs.Documents.{dump_text, rules_text};
+ghost use Rattle.mt_model.specs.Topology.{resolution};
+ghost use Rattle.mt_plain.specs.Events as plain;
+ghost use Rattle.mt_plain.specs.Plain.{Plain, opening};
+ghost use Rattle.mt_plain.specs.Serve.{served};
+ghost use Rattle.mt_site_state.specs.ByHand.{AddsKeyspace, AddsTable, EditsRule, ReadsRow, WritesRow};
+ghost use Rattle.mt_site_state.specs.Core.{empty_core, primary_of};
+ghost use Rattle.mt_site.specs.Applies.{Applies};
+ghost use Rattle.mt_site_state.specs.Stands.{Stands, StandsWith, Steps};
+ghost use Rattle.mt_site_state.specs.Workflows.{AdvancesWorkflow, Cancels, Creates, ShowsWorkflow};
+ghost use Rattle.mt_workflow.specs.Workflows.{stream_name};
+
+use crate::primaries::each_is_a_primary;
+use crate::{Primaries, Workflows, advance, by_hand, cancel, create, rows, show};
+use indexmap::IndexMap;
+use mt_event::{Event, Refusal, Reply};
+use mt_model::{Op, TopologyFault};
+use mt_names::{KeyspaceName, Position, RuleKey, RuleTarget, TableName, TabletType, WorkflowName};
+use mt_rules::RulesFault;
+use mt_site_create::{a_create_can_be_taken_back, a_create_leaves_a_core, a_create_steps};
+use mt_site_facts::{
+    a_core_stays_one, each_keyspace_of_a_core_has_a_primary,
+    primaries_of_a_core_have_the_tables_of_its_topology, streams_of_a_core_lie_in_their_logs,
+    workflows_of_a_core_stand_in_place,
+};
+use mt_site_hand::{
+    a_core_tells_what_its_state_serves, a_keyspace_steps, a_read_steps, a_rule_steps,
+    a_table_steps, a_write_steps, an_empty_core_stands_for_the_opening,
+};
+use mt_site_moves::{a_cancel_steps, a_show_steps, an_advance_steps};
+use mt_topology::Topology;
+use mt_watch::Asks;
+use mt_workflow::Slot;
+use std::alloc::Global;
+use std::marker::Model;
+
+/// The state of the controller: the topology, for each keyspace its primary, and the live workflows. Whoever asks it hands in
+/// the watchers. (Vitess: what MoveTables works on)
+#[derive(Drop)]
+pub struct Core {
+    alloc: Global,
+    topology: Topology,
+    primaries: Primaries,
+    workflows: Workflows,
+}
+
+impl Model for Core {
+    ghost use Rattle.mt_site_state.specs.Core.{CoreState};
+    ghost use Rattle.mt_site_state.specs.Stands.{IsCore};
+
+    ghost Value = { CoreState };
+
+    ghost view = { λ core. record { topology = core.topology; primaries = core.primaries.entries; workflows = core.workflows.entries } };
+
+    ghost invariant = { λ core. IsCore (record { topology = core.topology; primaries = core.primaries.entries; workflows = core.workflows.entries }) };
+}
+
+impl Core {
+    /// A core without keyspaces and workflows. It takes no memory.
+    pub fn new(alloc: Global) -> Self
+        ensures value { result ≡ empty_core }
+        ensures stands { (scopes : List Scope) → StandsWith (opening scopes) scopes result }
+    {
+        a_core_stays_one();
+        an_empty_core_stands_for_the_opening();
+        Core {
+            alloc,
+            topology: Topology::new(alloc),
+            primaries: IndexMap::new(alloc),
+            workflows: IndexMap::new(alloc),
+        }
+    }
+
+    /// The topology. It takes no memory.
+    pub fn topology(&self) -> &Topology
+        ensures { result.now ≡ self.now.topology }
+    {
+        &self.topology
+    }
+
+    /// Where a name leads for a type. It takes no memory.
+    pub fn resolve(
+        &self,
+        key: &RuleKey,
+        tablet_type: TabletType,
+    ) -> Result<RuleTarget, TopologyFault>
+        ensures value { result ≡ resolution self.now.topology key.now tablet_type }
+        ensures served { (p : Plain) → Stands p self.now → result ≡ resolution (served p) key.now tablet_type }
+    {
+        a_core_tells_what_its_state_serves();
+        self.topology.resolve(key, tablet_type)
+    }
+
+    /// The document of the rules, as the commands `rules` and `mt rules` write them: `R0 Memory`.
+    pub fn rules_json(&self) -> Result<String, RulesFault>
+        ensures text { IfOk result (λ text. string_bytes text ≡ rules_text self.now.topology.rules) }
+        ensures served { (p : Plain) → Stands p self.now → IfOk result (λ text. string_bytes text ≡ rules_text (served p).rules) }
+        ensures memory { IfErr result (λ fault. fault ≡ RulesFault.Memory) }
+    {
+        a_core_tells_what_its_state_serves();
+        self.topology.rules().to_json(self.alloc)
+    }
+
+    /// The document of the whole topology: `T0 Memory`.
+    pub fn dump(&self) -> Result<String, TopologyFault>
+        ensures text { IfOk result (λ text. string_bytes text ≡ dump_text self.now.topology) }
+        ensures served { (p : Plain) → Stands p self.now → IfOk result (λ text. string_bytes text ≡ dump_text (served p)) }
+        ensures memory { IfErr result (λ fault. fault ≡ TopologyFault.Memory) }
+    {
+        a_core_tells_what_its_state_serves();
+        self.topology.dump(self.alloc)
+    }
+
+    /// Adds a keyspace without tables: `F30 Exists`, `F27 Full`, `F0 Memory`.
+    fn add_keyspace(&mut self, name: &KeyspaceName) -> Result<Reply, Refusal>
+        ensures does { AddsKeyspace self.old name.now (answer_from result) self.new }
+        ensures unchanged { OnErr result (self.new ≡ self.old) }
+    {
+        each_keyspace_of_a_core_has_a_primary();
+        primaries_of_a_core_have_the_tables_of_its_topology();
+        a_core_stays_one();
+        a_keyspace_steps();
+        by_hand::add_keyspace(self.alloc, &mut self.topology, &mut self.primaries, name)
+    }
+
+    /// Adds a table without rows: `F1 NoKeyspace`, `F30 Exists`, `F27 Full`, `F0 Memory`.
+    fn add_table(&mut self, keyspace: &KeyspaceName, table: &TableName) -> Result<Reply, Refusal>
+        ensures does { AddsTable self.old keyspace.now table.now (answer_from result) self.new }
+        ensures unchanged { OnErr result (self.new ≡ self.old) }
+    {
+        each_keyspace_of_a_core_has_a_primary();
+        primaries_of_a_core_have_the_tables_of_its_topology();
+        a_core_stays_one();
+        a_table_steps();
+        by_hand::add_table(&mut self.topology, &mut self.primaries, keyspace, table)
+    }
+
+    /// Sets the rule of a key, or takes it away: `F22 RuleOwned`, `F27 Full`, `F0 Memory`.
+    fn edit_rule(&mut self, key: &RuleKey, target: Option<RuleTarget>) -> Result<Reply, Refusal>
+        ensures does { EditsRule self.old key.now target (answer_from result) self.new }
+        ensures unchanged { OnErr result (self.new ≡ self.old) }
+    {
+        a_core_stays_one();
+        a_rule_steps();
+        by_hand::edit_rule(&mut self.topology, &self.workflows, key, target)
+    }
+
+    /// Writes a row: `F1 NoKeyspace`, `F2 NoTable`, `F3 Denied`, `F4 RowExists` or `F5 NoRow`, `F29 TooLong`, `F27 Full`,
+    /// `F0 Memory`.
+    fn write(
+        &mut self,
+        keyspace: &KeyspaceName,
+        table: &TableName,
+        op: Op,
+    ) -> Result<Reply, Refusal>
+        ensures does { WritesRow self.old keyspace.now table.now op (answer_from result) self.new }
+        ensures unchanged { OnErr result (self.new ≡ self.old) }
+    {
+        a_core_stays_one();
+        a_write_steps();
+        rows::write_row(&mut self.primaries, keyspace, table, op)
+    }
+
+    /// Reads a row: `F1 NoKeyspace`, `F2 NoTable`, and of type primary `F3 Denied`. It takes no memory.
+    fn read(
+        &self,
+        keyspace: &KeyspaceName,
+        table: &TableName,
+        key: u64,
+        tablet_type: TabletType,
+    ) -> Result<Reply, Refusal>
+        ensures { ReadsRow self.now keyspace.now table.now key tablet_type (answer_from result) self.now }
+    {
+        rows::read_row(&self.primaries, keyspace, table, key, tablet_type)
+    }
+
+    /// Creates a workflow, as `create::create` tells.
+    fn create<W: Asks>(
+        &mut self,
+        watchers: &W,
+        name: &WorkflowName,
+        source: &KeyspaceName,
+        target: &KeyspaceName,
+        tables: &[TableName],
+    ) -> Result<Reply, Refusal>
+        requires { length tables.now ≤ most_tables }
+        ensures does { Creates self.old (W.scopes watchers.now) (W.may_answer watchers.now) name.now source.now target.now tables.now (answer_from result) self.new }
+        ensures unchanged { OnErr result (self.new ≡ self.old) }
+    {
+        create::names_are_names(source, target, tables);
+        a_create_can_be_taken_back(watchers);
+        a_create_leaves_a_core(watchers);
+        create::create(
+            self.alloc,
+            &mut self.topology,
+            &mut self.primaries,
+            &mut self.workflows,
+            watchers,
+            name,
+            source,
+            target,
+            tables,
+        )
+    }
+
+    /// Advances a stream of a workflow: `F7 NoWorkflow`, `F26 Stopped`, `F25 Stale`, `F27 Full`, `F0 Memory`.
+    fn advance(
+        &mut self,
+        name: &WorkflowName,
+        slot: Slot,
+        at: Position,
+        max: u16,
+    ) -> Result<Reply, Refusal>
+        ensures does { AdvancesWorkflow self.old name.now (stream_name slot) at max (answer_from result) self.new }
+        ensures unchanged { OnErr result (self.new ≡ self.old) }
+        ensures primaries { (keyspace : List ℕ) → IsPrimary (primary_of self.old.primaries keyspace) }
+    {
+        workflows_of_a_core_stand_in_place();
+        streams_of_a_core_lie_in_their_logs();
+        a_core_stays_one();
+        an_advance_steps();
+        each_is_a_primary(self.alloc, &self.primaries);
+        advance::advance(
+            self.alloc,
+            &mut self.primaries,
+            &mut self.workflows,
+            name,
+            slot,
+            at,
+            max,
+        )
+    }
+
+    /// Cancels a workflow: `F7 NoWorkflow`, `F13 UnderWay`, `F20 TrafficSwitched`. It takes no memory, and asks nobody.
+    fn cancel(&mut self, name: &WorkflowName) -> Result<Reply, Refusal>
+        ensures does { Cancels self.old name.now (answer_from result) self.new }
+        ensures unchanged { OnErr result (self.new ≡ self.old) }
+        ensures primaries { (keyspace : List ℕ) → IsPrimary (primary_of self.old.primaries keyspace) }
+    {
+        workflows_of_a_core_stand_in_place();
+        a_core_stays_one();
+        a_cancel_steps();
+        each_is_a_primary(self.alloc, &self.primaries);
+        cancel::cancel(
+            &mut self.topology,
+            &mut self.primaries,
+            &mut self.workflows,
+            name,
+        )
+    }
+
+    /// Tells of a workflow: `F7 NoWorkflow`. It takes no memory.
+    fn show(&self, name: &WorkflowName) -> Result<Reply, Refusal>
+        ensures { ShowsWorkflow self.now name.now (answer_from result) self.now }
+    {
+        streams_of_a_core_lie_in_their_logs();
+        show::show(&self.workflows, name)
+    }
+
+    /// Applies an event, which is done whole or refused; what is refused leaves the core as it was. The answer is one that the
+    /// definitions allow in each state that the core stands for, and the core then stands for the next one. Of the events Read,
+    /// Cancel and Show take no memory; Create alone asks watchers, those of its target's primary. (Vitess: MoveTables)
+    pub fn apply<W: Asks>(&mut self, watchers: &W, event: &Event) -> Result<Reply, Refusal>
+        ensures applies { Applies (W.scopes watchers.now) (W.may_answer watchers.now) self.old (event_of event.now) (answer_from result) self.new }
+        ensures steps { Steps (W.scopes watchers.now) self.old (event_of event.now) (answer_from result) self.new }
+        ensures unchanged { OnErr result (self.new ≡ self.old) }
+    {
+        a_keyspace_steps();
+        a_table_steps();
+        a_rule_steps();
+        a_write_steps();
+        a_read_steps();
+        an_advance_steps();
+        a_cancel_steps();
+        a_show_steps();
+        a_create_steps(watchers);
+        match event {
+            Event::AddKeyspace { keyspace } => self.add_keyspace(keyspace),
+            Event::AddTable { keyspace, table } => self.add_table(keyspace, table),
+            Event::EditRule { key, target } => self.edit_rule(
+                key,
+                target.as_ref().map(RuleTarget::copied),
+            ),
+            Event::Write {
+                keyspace,
+                table,
+                op,
+            } => self.write(keyspace, table, op.copied()),
+            Event::Read {
+                keyspace,
+                table,
+                key,
+                type_of,
+            } => self.read(keyspace, table, *key, *type_of),
+            Event::Create {
+                workflow,
+                source,
+                target,
+                tables,
+            } => self.create(watchers, workflow, source, target, tables.as_slice()),
+            Event::Advance {
+                workflow,
+                stream,
+                at,
+                max,
+            } => self.advance(workflow, *stream, *at, *max),
+            Event::Cancel { workflow } => self.cancel(workflow),
+            Event::Show { workflow } => self.show(workflow),
+        }
+    }
+}

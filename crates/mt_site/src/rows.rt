@@ -1,0 +1,67 @@
+//! Clients' rows: they are written and read at the primary of a keyspace.
+ghost use Rattle.std.specs.Prelude.{◌≡◌};
+ghost use Rattle.mt_event.specs.Events.{answer_from};
+ghost use Rattle.mt_model.specs.Topology.{TopologyState};
+ghost use Rattle.mt_site_state.specs.ByHand.{WritesRow, read_at};
+ghost use Rattle.mt_site_state.specs.Core.{primary_at};
+ghost use Rattle.mt_site_state.specs.Core as core;
+ghost use Rattle.mt_site.specs.ByHand.{refusal_by_primary};
+
+use crate::Primaries;
+use mt_event::{Refusal, Reply};
+use mt_model::{Op, PrimaryFault};
+use mt_names::{KeyspaceName, TableName, TabletType};
+
+/// The refusal of the core for one of a primary.
+fn refusal_by_primary(fault: PrimaryFault) -> Refusal
+    ensures { result ≡ refusal_by_primary fault }
+{
+    match fault {
+        PrimaryFault::Memory => Refusal::Memory,
+        PrimaryFault::NoTable => Refusal::NoTable,
+        PrimaryFault::Denied => Refusal::Denied,
+        PrimaryFault::RowExists => Refusal::RowExists,
+        PrimaryFault::NoRow => Refusal::NoRow,
+        PrimaryFault::TooLong => Refusal::TooLong,
+        PrimaryFault::LogFull => Refusal::Full,
+    }
+}
+
+/// Writes a row at the primary of its keyspace.
+pub(crate) fn write_row(
+    primaries: &mut Primaries,
+    keyspace: &KeyspaceName,
+    table: &TableName,
+    op: Op,
+) -> Result<Reply, Refusal>
+    ensures { (topology : TopologyState) (workflows : core.Workflows)
+        → WritesRow (record { topology = topology; primaries = primaries.old.entries; workflows = workflows }) keyspace.now table.now op (answer_from result)
+        (record { topology = topology; primaries = primaries.new.entries; workflows = workflows }) }
+{
+    match primaries.get_mut(keyspace) {
+        None => Err(Refusal::NoKeyspace),
+        Some(primary) => match primary.write(table, op) {
+            Ok(_) => Ok(Reply::Done),
+            Err(fault) => Err(refusal_by_primary(fault)),
+        },
+    }
+}
+
+/// Reads a row at the primary of its keyspace, as a tablet of this type has it.
+pub(crate) fn read_row(
+    primaries: &Primaries,
+    keyspace: &KeyspaceName,
+    table: &TableName,
+    key: u64,
+    tablet_type: TabletType,
+) -> Result<Reply, Refusal>
+    ensures { answer_from result ≡ read_at (primary_at primaries.now.entries keyspace.now) table.now key tablet_type }
+{
+    match primaries.get(keyspace) {
+        None => Err(Refusal::NoKeyspace),
+        Some(primary) => match primary.read(table, key, tablet_type) {
+            Ok(row) => Ok(Reply::Row(row)),
+            Err(fault) => Err(refusal_by_primary(fault)),
+        },
+    }
+}

@@ -1,0 +1,63 @@
+//! What is told of a workflow.
+ghost use Rattle.std.specs.Prelude.{◌≡◌, true, is_some, option_map};
+ghost use Rattle.mt_event.specs.Events.{answer_from, shown_from, shown_stream_from};
+ghost use Rattle.mt_workflow.specs.Workflows.{WorkflowState};
+ghost use Rattle.mt_site_state.specs.Core.{workflow_at};
+ghost use Rattle.mt_site_state.specs.Workflows.{show_at, shown_by, slot_from};
+ghost use Rattle.std.specs.Prelude.{Some};
+
+use crate::Workflows;
+use mt_event::{Refusal, Reply, Shown, ShownStream};
+use mt_names::WorkflowName;
+use mt_stream::Stream;
+use mt_workflow::{Slot, Workflow};
+
+/// What is told of a stream.
+fn shown_stream(stream: &Stream) -> ShownStream
+    ensures { shown_stream_from result ≡ slot_from stream.now }
+{
+    ShownStream {
+        state: stream.state(),
+        position: stream.position(),
+    }
+}
+
+/// What is told of a workflow, which has a forward stream.
+fn shown(workflow: &Workflow) -> Shown
+    requires { is_some workflow.now.forward ≡ true }
+    ensures { shown_from result ≡ shown_by workflow.now }
+{
+    let forward = workflow.slot(Slot::Forward).unwrap();
+    Shown {
+        workflow: workflow.name().copied(),
+        source: workflow.source().copied(),
+        target: workflow.target().copied(),
+        tables: workflow.table_list(),
+        switched: workflow.switched(),
+        way: workflow.way(),
+        forward: shown_stream(forward),
+        copied: forward.copied(),
+        back: shown_back(workflow),
+    }
+}
+
+/// What is told of a workflow's back stream, if it has one.
+fn shown_back(workflow: &Workflow) -> Option<ShownStream>
+    ensures { option_map shown_stream_from result ≡ option_map slot_from workflow.now.back }
+{
+    match workflow.slot(Slot::Back) {
+        None => None,
+        Some(stream) => Some(shown_stream(stream)),
+    }
+}
+
+/// Tells of a live workflow: `F7 NoWorkflow`. It takes no memory.
+pub(crate) fn show(workflows: &Workflows, name: &WorkflowName) -> Result<Reply, Refusal>
+    requires { (w : WorkflowState) → workflow_at workflows.now.entries name.now ≡ Some w → is_some w.forward ≡ true }
+    ensures { answer_from result ≡ show_at (workflow_at workflows.now.entries name.now) }
+{
+    match workflows.get(name) {
+        None => Err(Refusal::NoWorkflow),
+        Some(workflow) => Ok(Reply::Shown(shown(workflow))),
+    }
+}

@@ -1,0 +1,95 @@
+//! The site: the core of the controller beside the watchers that it asks.
+ghost use Rattle.std.specs.Prelude.{◌≡◌, IfErr, IfOk, OnErr, string_bytes};
+ghost use Rattle.mt_event.specs.Events.{answer_from, event_of};
+ghost use Rattle.mt_model.specs.Documents.{dump_text, rules_text};
+ghost use Rattle.mt_model.specs.Topology.{resolution};
+ghost use Rattle.mt_plain.specs.Plain.{Plain, opening};
+ghost use Rattle.mt_plain.specs.Serve.{served};
+ghost use Rattle.mt_site_state.specs.Core.{empty_core};
+ghost use Rattle.mt_site_state.specs.Stands.{Stands, StandsWith, Steps};
+ghost use Rattle.mt_site.specs.Applies.{Applies};
+
+use crate::Core;
+use mt_event::{Event, Refusal, Reply};
+use mt_model::TopologyFault;
+use mt_names::{RuleKey, RuleTarget, TabletType};
+use mt_rules::RulesFault;
+use mt_topology::Topology;
+use mt_watch::Asks;
+use std::alloc::Global;
+
+/// The controller: its core, and the watchers that it asks. (Vitess: the vtctld server, which runs MoveTables, and the routers
+/// and primaries that it keeps up to date)
+#[derive(Drop)]
+pub struct Site<W: Asks> {
+    core: Core,
+    watchers: W,
+}
+
+impl<W: Asks> Site<W> {
+    /// A site without keyspaces and workflows, which asks these watchers. It takes no memory.
+    pub fn open(alloc: Global, watchers: W) -> Self
+        ensures core { result.core ≡ empty_core }
+        ensures watchers { result.watchers ≡ watchers }
+        ensures stands { StandsWith (opening (W.scopes watchers)) (W.scopes watchers) result.core }
+    {
+        Site {
+            core: Core::new(alloc),
+            watchers,
+        }
+    }
+
+    /// Applies an event: see `Core::apply`. The watchers are those that the site was opened with.
+    pub fn apply(&mut self, event: &Event) -> Result<Reply, Refusal>
+        ensures watchers { self.new.watchers ≡ self.old.watchers }
+        ensures applies { Applies (W.scopes self.old.watchers) (W.may_answer self.old.watchers) self.old.core (event_of event.now) (answer_from result) self.new.core }
+        ensures steps { Steps (W.scopes self.old.watchers) self.old.core (event_of event.now) (answer_from result) self.new.core }
+        ensures unchanged { OnErr result (self.new.core ≡ self.old.core) }
+    {
+        self.core.apply(&self.watchers, event)
+    }
+
+    /// The topology. It takes no memory.
+    pub fn topology(&self) -> &Topology
+        ensures { result.now ≡ self.now.core.topology }
+    {
+        self.core.topology()
+    }
+
+    /// The watchers. It takes no memory.
+    pub fn watchers(&self) -> &W
+        ensures { result.now ≡ self.now.watchers }
+    {
+        &self.watchers
+    }
+
+    /// Where a name leads for a type. It takes no memory.
+    pub fn resolve(
+        &self,
+        key: &RuleKey,
+        tablet_type: TabletType,
+    ) -> Result<RuleTarget, TopologyFault>
+        ensures value { result ≡ resolution self.now.core.topology key.now tablet_type }
+        ensures served { (p : Plain) → Stands p self.now.core → result ≡ resolution (served p) key.now tablet_type }
+    {
+        self.core.resolve(key, tablet_type)
+    }
+
+    /// The document of the rules: `R0 Memory`.
+    pub fn rules_json(&self) -> Result<String, RulesFault>
+        ensures text { IfOk result (λ text. string_bytes text ≡ rules_text self.now.core.topology.rules) }
+        ensures served { (p : Plain) → Stands p self.now.core → IfOk result (λ text. string_bytes text ≡ rules_text (served p).rules) }
+        ensures memory { IfErr result (λ fault. fault ≡ RulesFault.Memory) }
+    {
+        self.core.rules_json()
+    }
+
+    /// The document of the whole topology: `T0 Memory`.
+    pub fn dump(&self) -> Result<String, TopologyFault>
+        ensures text { IfOk result (λ text. string_bytes text ≡ dump_text self.now.core.topology) }
+        ensures served { (p : Plain) → Stands p self.now.core → IfOk result (λ text. string_bytes text ≡ dump_text (served p)) }
+        ensures memory { IfErr result (λ fault. fault ≡ TopologyFault.Memory) }
+    {
+        self.core.dump()
+    }
+}
