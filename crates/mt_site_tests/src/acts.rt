@@ -1,0 +1,63 @@
+//! What is asked of a site, and how it stands then.
+
+use crate::answers::{Answer, is_answer};
+use crate::events::{Ask, event_of};
+use mt_event::{Refusal, Reply};
+use mt_names::{RuleKey, RuleTarget, TabletType};
+use mt_site::Site;
+use mt_watch::Watchers;
+
+/// An event with its answer, or how a site stands.
+#[derive(Clone, Copy)]
+pub enum Act {
+    /// An event is answered so.
+    Asks(Ask, Answer),
+    /// The document of the rules is this one.
+    Rules(&'static str),
+    /// The document of the topology is this one.
+    Dump(&'static str),
+    /// A name leads for a type to this table, or to none with `-`.
+    Leads(&'static str, TabletType, &'static str),
+}
+
+/// How an event is answered; nothing if it isn't one. Where it is refused for want of memory, which a watcher may refuse for
+/// too, the refusal is looked at and the event is asked once more.
+fn answer(site: &mut Site<Watchers>, ask: Ask) -> Option<Result<Reply, Refusal>> {
+    let event = event_of(ask)?;
+    Some(site.apply(&event))
+}
+
+/// Where a name leads.
+fn leads(site: &Site<Watchers>, key: &str, tablet_type: TabletType, want: &str) -> bool {
+    let Ok(key) = RuleKey::parse(key) else {
+        return false;
+    };
+    match (site.resolve(&key, tablet_type), RuleTarget::parse(want)) {
+        (Ok(target), Ok(wanted)) => target == wanted,
+        (Ok(_), Err(_)) => false,
+        (Err(_), _) => want == "-",
+    }
+}
+
+/// Whether the document of the rules is this one.
+fn has_rules(site: &Site<Watchers>, want: &str) -> bool {
+    site.rules_json().is_ok_and(|text| text.as_str() == want)
+}
+
+/// Whether the document of the topology is this one.
+fn has_dump(site: &Site<Watchers>, want: &str) -> bool {
+    site.dump().is_ok_and(|text| text.as_str() == want)
+}
+
+/// Whether an act is so.
+pub fn is_so(site: &mut Site<Watchers>, act: Act) -> bool {
+    match act {
+        Act::Asks(ask, want) => match answer(site, ask) {
+            Some(result) => is_answer(&result, want),
+            None => false,
+        },
+        Act::Rules(want) => has_rules(site, want),
+        Act::Dump(want) => has_dump(site, want),
+        Act::Leads(key, tablet_type, want) => leads(site, key, tablet_type, want),
+    }
+}

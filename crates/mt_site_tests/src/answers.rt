@@ -1,0 +1,98 @@
+//! Answers as tests write them down.
+
+use crate::events::{tables_of, value_of};
+use mt_event::{Refusal, Reply, Shown, ShownStream};
+use mt_names::{KeyspaceName, Position, RuleKey, TableName, TypeSet, WorkflowName};
+use mt_stream::{Advanced, StreamState};
+
+/// An answer, with its names as texts.
+#[derive(Clone, Copy)]
+pub enum Answer {
+    /// The event is done.
+    Done,
+    /// The row that was read.
+    Row(&'static str),
+    /// There is no such row.
+    NoRow,
+    /// How many entries were read, and how many rows copied.
+    Advanced(u16, u16),
+    /// What is told of a workflow that is created, and whose stream runs: its name, source, target and tables, the stream's
+    /// position, and whether the copy has ended.
+    Shown(&'static str, &'static str, &'static str, &'static [&'static str], Position, bool),
+    /// Refused, by a text that stands for no value beside.
+    Refused(&'static str),
+    /// The rule of this key leads elsewhere.
+    Conflict(&'static str),
+    /// The target has this table.
+    HasTable(&'static str),
+    /// The watcher of this number refused.
+    Watcher(usize),
+    /// The position that holds is this one.
+    Stale(Position),
+}
+
+/// What is told of a workflow with nothing switched and no way open.
+fn shown_of(
+    name: &str,
+    source: &str,
+    target: &str,
+    tables: &[&str],
+    position: Position,
+    copied: bool,
+) -> Option<Reply> {
+    Some(Reply::Shown(Shown {
+        workflow: WorkflowName::parse(name).ok()?,
+        source: KeyspaceName::parse(source).ok()?,
+        target: KeyspaceName::parse(target).ok()?,
+        tables: tables_of(tables)?,
+        switched: TypeSet::NONE,
+        way: None,
+        forward: ShownStream {
+            state: StreamState::Running,
+            position,
+        },
+        copied,
+        back: None,
+    }))
+}
+
+/// The reply, if the answer is one.
+pub fn reply_of(answer: Answer) -> Option<Reply> {
+    match answer {
+        Answer::Done => Some(Reply::Done),
+        Answer::Row(text) => Some(Reply::Row(Some(value_of(text)))),
+        Answer::NoRow => Some(Reply::Row(None)),
+        Answer::Advanced(events, rows) => Some(Reply::Advanced(Advanced { events, rows })),
+        Answer::Shown(name, source, target, tables, position, copied) => {
+            shown_of(name, source, target, tables, position, copied)
+        }
+        _ => None,
+    }
+}
+
+/// The refusal, if the answer is one that carries a value.
+fn refusal_of(answer: Answer) -> Option<Refusal> {
+    match answer {
+        Answer::Conflict(key) => Some(Refusal::RuleConflict(RuleKey::parse(key).ok()?)),
+        Answer::HasTable(table) => Some(Refusal::TargetHasTable(TableName::parse(table).ok()?)),
+        Answer::Watcher(index) => Some(Refusal::WatcherRefused(index)),
+        Answer::Stale(position) => Some(Refusal::Stale(position)),
+        _ => None,
+    }
+}
+
+/// Whether an event was answered so.
+pub fn is_answer(answer: &Result<Reply, Refusal>, want: Answer) -> bool {
+    match answer {
+        Ok(reply) => reply_of(want).is_some_and(|wanted| *reply == wanted),
+        Err(refusal) => is_refusal(refusal, want),
+    }
+}
+
+/// Whether a refusal is this answer.
+fn is_refusal(refusal: &Refusal, want: Answer) -> bool {
+    match want {
+        Answer::Refused(text) => refusal.as_str() == text,
+        other => refusal_of(other).is_some_and(|wanted| *refusal == wanted),
+    }
+}

@@ -1,0 +1,172 @@
+//! Copies of events and answers, and which of them are equal.
+
+use crate::answers::{Answer, reply_of};
+use crate::events::{Ask, event_of};
+use mt_event::{Event, Refusal, Reply};
+use mt_names::{NameFault, RuleKey, TableName, TabletType};
+use mt_workflow::Slot;
+use std::test::Fail;
+
+/// Each event, and of some a second one that differs in one place.
+const EVENTS: [Ask; 21] = [
+    Ask::Insert(("k", "t"), 1, "a"),
+    Ask::Insert(("k", "t"), 1, "b"),
+    Ask::Insert(("j", "t"), 1, "a"),
+    Ask::Update(("k", "t"), 1, "a"),
+    Ask::Append(("k", "t"), 1, "a"),
+    Ask::Delete(("k", "t"), 1),
+    Ask::Read(("k", "t"), 1, TabletType::Primary),
+    Ask::Read(("k", "t"), 1, TabletType::Rdonly),
+    Ask::Keyspace("k"),
+    Ask::Table(("k", "t")),
+    Ask::Rule("k.t@replica", "k.t"),
+    Ask::Rule("k.t@replica", "-"),
+    Ask::Create("m", "k", "j", &["t", "u"]),
+    Ask::Create("m", "k", "j", &["u", "t"]),
+    Ask::Create("m", "k", "j", &[]),
+    Ask::Advance("m", Slot::Forward, 1, 2),
+    Ask::Advance("m", Slot::Back, 1, 2),
+    Ask::Advance("m", Slot::Forward, 1, 3),
+    Ask::Cancel("m"),
+    Ask::Cancel("n"),
+    Ask::Show("m"),
+];
+
+/// The same of replies.
+const REPLIES: [Answer; 10] = [
+    Answer::Done,
+    Answer::NoRow,
+    Answer::Row(""),
+    Answer::Row("a"),
+    Answer::Advanced(0, 1),
+    Answer::Advanced(1, 0),
+    Answer::Shown("m", "k", "j", &["t"], 1, false),
+    Answer::Shown("m", "k", "j", &["t"], 1, true),
+    Answer::Shown("m", "k", "j", &["t"], 2, false),
+    Answer::Shown("m", "k", "j", &["u"], 1, false),
+];
+
+/// Whether two events are told apart, and a copy isn't.
+fn are_told_apart(a: &Event, b: &Event, is_same: bool) -> bool {
+    (a == b) == is_same && (a.copied() == *b) == is_same
+}
+
+/// Whether an event is equal to that of its own number alone.
+fn is_one_event(index: usize, ask: Ask) -> bool {
+    let Some(event) = event_of(ask) else {
+        return false;
+    };
+    for (other, asked) in EVENTS.iter().enumerate() {
+        let is_so = event_of(*asked).is_some_and(|second| are_told_apart(
+            &event,
+            &second,
+            index == other,
+        ));
+        if !is_so {
+            return false;
+        }
+    }
+    true
+}
+
+/// Whether a reply is equal to that of its own number alone.
+fn is_one_reply(index: usize, answer: Answer) -> bool {
+    let Some(reply) = reply_of(answer) else {
+        return false;
+    };
+    for (other, answered) in REPLIES.iter().enumerate() {
+        let is_same = index == other;
+        let is_so = reply_of(*answered).is_some_and(|second| {
+            (reply == second) == is_same && (reply.copied() == second) == is_same
+        });
+        if !is_so {
+            return false;
+        }
+    }
+    true
+}
+
+/// Refusals that carry a value.
+fn carrying() -> Result<[Refusal; 8], NameFault> {
+    Ok([
+        Refusal::RuleConflict(RuleKey::parse("t")?),
+        Refusal::RuleConflict(RuleKey::parse("k.t@replica")?),
+        Refusal::TargetHasTable(TableName::parse("t")?),
+        Refusal::TargetHasTable(TableName::parse("u")?),
+        Refusal::WatcherRefused(0),
+        Refusal::WatcherRefused(1),
+        Refusal::Stale(0),
+        Refusal::Stale(1),
+    ])
+}
+
+/// The others, in their order.
+fn plain() -> [Refusal; 27] {
+    [
+        Refusal::Memory,
+        Refusal::NoKeyspace,
+        Refusal::NoTable,
+        Refusal::Denied,
+        Refusal::RowExists,
+        Refusal::NoRow,
+        Refusal::WorkflowExists,
+        Refusal::NoWorkflow,
+        Refusal::TableInWorkflow,
+        Refusal::SameKeyspace,
+        Refusal::NoTables,
+        Refusal::UnderWay,
+        Refusal::NothingUnderWay,
+        Refusal::NothingToSwitch,
+        Refusal::NothingToReverse,
+        Refusal::Copying,
+        Refusal::NotLevel,
+        Refusal::PastJournal,
+        Refusal::TrafficSwitched,
+        Refusal::NotAllSwitched,
+        Refusal::RuleOwned,
+        Refusal::NoWatcher,
+        Refusal::StreamStopped,
+        Refusal::Full,
+        Refusal::Undoing,
+        Refusal::TooLong,
+        Refusal::Exists,
+    ]
+}
+
+/// How many of some refusals a refusal and its copy are equal to.
+fn equals(refusal: &Refusal, refusals: &[Refusal]) -> usize {
+    refusals
+        .iter()
+        .filter(|other| refusal == *other && refusal.copied() == **other)
+        .count()
+}
+
+#[test]
+fn events_are_told_apart(rt: HostRuntime) -> Result<(), Fail> {
+    for (index, ask) in EVENTS.iter().enumerate() {
+        assert!(rt; is_one_event(index, *ask), "event {index}");
+    }
+    Ok(())
+}
+
+#[test]
+fn replies_are_told_apart(rt: HostRuntime) -> Result<(), Fail> {
+    for (index, answer) in REPLIES.iter().enumerate() {
+        assert!(rt; is_one_reply(index, *answer), "reply {index}");
+    }
+    Ok(())
+}
+
+#[test]
+fn refusals_are_told_apart(rt: HostRuntime) -> Result<(), Fail> {
+    let (carrying, plain) = (carrying()?, plain());
+    for (index, refusal) in carrying.iter().enumerate() {
+        assert_eq!(rt; equals(refusal, &carrying), 1, "refusal {index}");
+        assert_eq!(rt; equals(refusal, &plain), 0, "refusal {index}");
+    }
+    for (index, refusal) in plain.iter().enumerate() {
+        assert_eq!(rt; equals(refusal, &plain), 1, "refusal {index}");
+        assert_eq!(rt; equals(refusal, &carrying), 0, "refusal {index}");
+    }
+    Ok(())
+}

@@ -1,0 +1,143 @@
+//! Events as tests write them down.
+
+use arrayvec::ArrayVec;
+use mt_event::Event;
+use mt_model::Op;
+use mt_names::{
+    KeyspaceName, MAX_TABLES, Position, RuleKey, RuleTarget, TableName, TabletType, Value,
+    WorkflowName,
+};
+use mt_workflow::Slot;
+
+/// A keyspace, and a table of it.
+pub type Place = (&'static str, &'static str);
+
+/// An event, with its names as texts.
+#[derive(Clone, Copy)]
+pub enum Ask {
+    /// A keyspace is made.
+    Keyspace(&'static str),
+    /// A table is made.
+    Table(Place),
+    /// A rule is set, or with `-` taken away.
+    Rule(&'static str, &'static str),
+    /// A row is inserted.
+    Insert(Place, u64, &'static str),
+    /// A row is updated.
+    Update(Place, u64, &'static str),
+    /// Bytes are appended to a row.
+    Append(Place, u64, &'static str),
+    /// A row is deleted.
+    Delete(Place, u64),
+    /// A row is read.
+    Read(Place, u64, TabletType),
+    /// A workflow is created: its name, its source, its target and its tables.
+    Create(&'static str, &'static str, &'static str, &'static [&'static str]),
+    /// A stream is advanced.
+    Advance(&'static str, Slot, Position, u16),
+    /// A workflow is cancelled.
+    Cancel(&'static str),
+    /// A workflow is shown.
+    Show(&'static str),
+}
+
+/// A row's value.
+pub fn value_of(text: &str) -> Value {
+    let mut value = Value::new();
+    let _fits = value.try_extend_from_slice(text.as_bytes());
+    value
+}
+
+/// Tables in the order named; none if one isn't a name, or if there are too many.
+pub fn tables_of(words: &[&str]) -> Option<ArrayVec<TableName, MAX_TABLES>> {
+    let mut tables = ArrayVec::new_in(());
+    for word in words {
+        let table = TableName::parse(word).ok()?;
+        if tables.is_full() {
+            return None;
+        }
+        tables.push(table);
+    }
+    Some(tables)
+}
+
+/// A client's write.
+fn write_of(place: Place, op: Op) -> Option<Event> {
+    Some(Event::Write {
+        keyspace: KeyspaceName::parse(place.0).ok()?,
+        table: TableName::parse(place.1).ok()?,
+        op,
+    })
+}
+
+/// A rule edited by hand.
+fn rule_of(key: &str, target: &str) -> Option<Event> {
+    let key = RuleKey::parse(key).ok()?;
+    if target == "-" {
+        return Some(Event::EditRule { key, target: None });
+    }
+    Some(Event::EditRule {
+        key,
+        target: Some(RuleTarget::parse(target).ok()?),
+    })
+}
+
+/// A Create.
+fn create_of(name: &str, source: &str, target: &str, tables: &[&str]) -> Option<Event> {
+    Some(Event::Create {
+        workflow: WorkflowName::parse(name).ok()?,
+        source: KeyspaceName::parse(source).ok()?,
+        target: KeyspaceName::parse(target).ok()?,
+        tables: tables_of(tables)?,
+    })
+}
+
+/// The event; none if one of its names isn't one.
+pub fn event_of(ask: Ask) -> Option<Event> {
+    match ask {
+        Ask::Keyspace(keyspace) => Some(Event::AddKeyspace {
+            keyspace: KeyspaceName::parse(keyspace).ok()?,
+        }),
+        Ask::Table(place) => Some(Event::AddTable {
+            keyspace: KeyspaceName::parse(place.0).ok()?,
+            table: TableName::parse(place.1).ok()?,
+        }),
+        Ask::Rule(key, target) => rule_of(key, target),
+        Ask::Insert(place, key, value) => write_of(place, Op::Insert(key, value_of(value))),
+        Ask::Update(place, key, value) => write_of(place, Op::Update(key, value_of(value))),
+        Ask::Append(place, key, value) => write_of(place, Op::Append(key, value_of(value))),
+        Ask::Delete(place, key) => write_of(place, Op::Delete(key)),
+        Ask::Read(place, key, type_of) => read_of(place, key, type_of),
+        Ask::Create(name, source, target, tables) => create_of(name, source, target, tables),
+        other => event_of_workflow(other),
+    }
+}
+
+/// A client's read.
+fn read_of(place: Place, key: u64, type_of: TabletType) -> Option<Event> {
+    Some(Event::Read {
+        keyspace: KeyspaceName::parse(place.0).ok()?,
+        table: TableName::parse(place.1).ok()?,
+        key,
+        type_of,
+    })
+}
+
+/// The event, if it is one on a workflow that is there.
+fn event_of_workflow(ask: Ask) -> Option<Event> {
+    match ask {
+        Ask::Advance(name, stream, at, max) => Some(Event::Advance {
+            workflow: WorkflowName::parse(name).ok()?,
+            stream,
+            at,
+            max,
+        }),
+        Ask::Cancel(name) => Some(Event::Cancel {
+            workflow: WorkflowName::parse(name).ok()?,
+        }),
+        Ask::Show(name) => Some(Event::Show {
+            workflow: WorkflowName::parse(name).ok()?,
+        }),
+        _ => None,
+    }
+}

@@ -1,0 +1,94 @@
+//! As many workflows as may be live.
+
+use crate::acts::Act;
+use crate::answers::Answer;
+use crate::events::Ask;
+use crate::play::{BOTH, Played, play_on, watchers_of};
+use mt_site::Site;
+use mt_watch::Watchers;
+use std::test::Fail;
+
+/// The tables of each workflow.
+type Moved = &'static [&'static str];
+
+/// Workflows that each move one table.
+const WORKFLOWS: [(&str, Moved); 16] = [
+    ("m0", &["t0"]),
+    ("m1", &["t1"]),
+    ("m2", &["t2"]),
+    ("m3", &["t3"]),
+    ("m4", &["t4"]),
+    ("m5", &["t5"]),
+    ("m6", &["t6"]),
+    ("m7", &["t7"]),
+    ("m8", &["t8"]),
+    ("m9", &["t9"]),
+    ("m10", &["t10"]),
+    ("m11", &["t11"]),
+    ("m12", &["t12"]),
+    ("m13", &["t13"]),
+    ("m14", &["t14"]),
+    ("m15", &["t15"]),
+];
+
+/// Three keyspaces, of which nobody watches `other`, and a table that no workflow moves yet.
+const BEGUN: [Act; 4] = [
+    Act::Asks(Ask::Keyspace("commerce"), Answer::Done),
+    Act::Asks(Ask::Keyspace("customer"), Answer::Done),
+    Act::Asks(Ask::Keyspace("other"), Answer::Done),
+    Act::Asks(Ask::Table(("commerce", "t16")), Answer::Done),
+];
+
+/// One more is refused, until one of them is taken back.
+const ONE_MORE: [Act; 8] = [
+    Act::Asks(
+        Ask::Create("m16", "commerce", "customer", &["t15"]),
+        Answer::Refused("F8 TableInWorkflow"),
+    ),
+    Act::Asks(
+        Ask::Create("m16", "commerce", "other", &["t16"]),
+        Answer::Refused("F24 NoWatcher"),
+    ),
+    Act::Asks(
+        Ask::Create("m16", "commerce", "customer", &["t16"]),
+        Answer::Refused("F27 Full"),
+    ),
+    Act::Asks(Ask::Show("m16"), Answer::Refused("F7 NoWorkflow")),
+    Act::Asks(Ask::Cancel("m7"), Answer::Done),
+    Act::Asks(
+        Ask::Create("m16", "commerce", "customer", &["t16"]),
+        Answer::Done,
+    ),
+    Act::Asks(
+        Ask::Show("m16"),
+        Answer::Shown("m16", "commerce", "customer", &["t16"], 0, false),
+    ),
+    Act::Asks(
+        Ask::Show("m15"),
+        Answer::Shown("m15", "commerce", "customer", &["t15"], 0, false),
+    ),
+];
+
+/// Whether a workflow is created, over tables that are made for it.
+fn is_created(site: &mut Site<Watchers>, name: &'static str, tables: Moved) -> bool {
+    for table in tables {
+        let made = Act::Asks(Ask::Table(("commerce", *table)), Answer::Done);
+        if play_on(site, &[made]) != Played::AllSo {
+            return false;
+        }
+    }
+    let create = Ask::Create(name, "commerce", "customer", tables);
+    play_on(site, &[Act::Asks(create, Answer::Done)]) == Played::AllSo
+}
+
+#[test]
+fn the_seventeenth_is_one_too_many(rt: HostRuntime) -> Result<(), Fail> {
+    let watchers = watchers_of(rt.alloc(), &BOTH).ok_or("no watchers")?;
+    let mut site = Site::open(rt.alloc(), watchers);
+    assert_eq!(rt; play_on(&mut site, &BEGUN), Played::AllSo);
+    for (name, tables) in WORKFLOWS {
+        assert!(rt; is_created(&mut site, name, tables));
+    }
+    assert_eq!(rt; play_on(&mut site, &ONE_MORE), Played::AllSo);
+    Ok(())
+}

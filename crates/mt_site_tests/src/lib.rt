@@ -1,0 +1,24 @@
+//! Tests of the controller by direct call: lists of events with their answers and documents, and those that pass whichever
+//! allocation fails.
+#![tactic(auto)]
+
+#[cfg(test)]
+mod acts;
+#[cfg(test)]
+mod answers;
+#[cfg(test)]
+mod asking;
+#[cfg(test)]
+mod copies;
+#[cfg(test)]
+mod events;
+#[cfg(test)]
+mod full;
+#[cfg(test)]
+mod memory;
+#[cfg(test)]
+mod moves;
+#[cfg(test)]
+mod play;
+#[cfg(test)]
+mod refusals;

@@ -1,0 +1,235 @@
+//! Where an allocation fails, an event answers `Memory` or what it answers without, a refused one changes nothing, and the next try
+//! does it. What takes no memory answers when none is left.
+
+use crate::acts::Act;
+use crate::answers::{Answer, is_answer};
+use crate::events::{Ask, event_of};
+use crate::play::{BOTH, Played, play_on, watchers_of};
+use mt_event::{Event, Refusal, Reply};
+use mt_names::TabletType;
+use mt_site::Site;
+use mt_watch::Watchers;
+use mt_workflow::Slot;
+use std::alloc::Global;
+use std::test::Fail;
+
+/// The tables of a workflow that moves as many as it may.
+const SIXTEEN: [&str; 16] = [
+    "a", "b", "c", "d", "e", "f", "g", "h", "i", "j", "k", "l", "m", "n", "o", "p",
+];
+
+/// Two keyspaces.
+const BEGUN: [(Ask, Answer); 2] = [
+    (Ask::Keyspace("commerce"), Answer::Done),
+    (Ask::Keyspace("customer"), Answer::Done),
+];
+
+/// Rules and a row of the tables, and a rule of another.
+const FILLED: [(Ask, Answer); 4] = [
+    (Ask::Rule("a", "commerce.a"), Answer::Done),
+    (Ask::Rule("commerce.p@replica", "commerce.p"), Answer::Done),
+    (Ask::Rule("x", "customer.x"), Answer::Done),
+    (Ask::Insert(("commerce", "c"), 1, "q"), Answer::Done),
+];
+
+/// A Create of all sixteen.
+const CREATE: Ask = Ask::Create("mv", "commerce", "customer", &SIXTEEN);
+
+/// What is answered as long as the workflow isn't created.
+const NOT_CREATED: [Act; 6] = [
+    Act::Asks(Ask::Show("mv"), Answer::Refused("F7 NoWorkflow")),
+    Act::Asks(
+        Ask::Insert(("customer", "a"), 1, "a"),
+        Answer::Refused("F2 NoTable"),
+    ),
+    Act::Asks(
+        Ask::Read(("customer", "p"), 1, TabletType::Rdonly),
+        Answer::Refused("F2 NoTable"),
+    ),
+    Act::Asks(
+        Ask::Read(("commerce", "c"), 1, TabletType::Primary),
+        Answer::Row("q"),
+    ),
+    Act::Leads("a", TabletType::Primary, "commerce.a"),
+    Act::Leads("customer.a", TabletType::Primary, "customer.a"),
+];
+
+/// What is answered once it is created.
+const CREATED: [Act; 5] = [
+    Act::Asks(
+        Ask::Show("mv"),
+        Answer::Shown("mv", "commerce", "customer", &SIXTEEN, 1, false),
+    ),
+    Act::Asks(
+        Ask::Insert(("customer", "a"), 1, "a"),
+        Answer::Refused("F3 Denied"),
+    ),
+    Act::Asks(
+        Ask::Read(("customer", "p"), 1, TabletType::Rdonly),
+        Answer::NoRow,
+    ),
+    Act::Asks(
+        Ask::Read(("commerce", "c"), 1, TabletType::Primary),
+        Answer::Row("q"),
+    ),
+    Act::Leads("customer.a", TabletType::Primary, "commerce.a"),
+];
+
+/// The documents of a site: its rules, and its whole topology.
+#[derive(Drop, PartialEq)]
+struct Written {
+    rules: String,
+    dump: String,
+}
+
+/// The documents, each at once or at a second try.
+fn documents(site: &Site<Watchers>) -> Option<Written> {
+    let rules = site.rules_json().or_else(|_| site.rules_json()).ok()?;
+    let dump = site.dump().or_else(|_| site.dump()).ok()?;
+    Some(Written { rules, dump })
+}
+
+/// Whether an answer may stand for want of memory: `Memory` itself, or the refusal of a watcher, which found none.
+fn is_want(answer: &Result<Reply, Refusal>) -> bool {
+    matches!(answer, Err(Refusal::Memory | Refusal::WatcherRefused(_)))
+}
+
+/// Whether an event is answered so, at once or at a second try.
+fn is_answered(site: &mut Site<Watchers>, ask: Ask, want: Answer) -> bool {
+    let Some(event) = event_of(ask) else {
+        return false;
+    };
+    let answer = site.apply(&event);
+    if is_want(&answer) {
+        return is_answer(&site.apply(&event), want);
+    }
+    is_answer(&answer, want)
+}
+
+/// The same of a list.
+fn are_answered(site: &mut Site<Watchers>, list: &[(Ask, Answer)]) -> bool {
+    for (ask, want) in list {
+        if !is_answered(site, *ask, *want) {
+            return false;
+        }
+    }
+    true
+}
+
+/// Whether the source gets all tables.
+fn has_tables(site: &mut Site<Watchers>) -> bool {
+    for table in SIXTEEN {
+        if !is_answered(site, Ask::Table(("commerce", table)), Answer::Done) {
+            return false;
+        }
+    }
+    true
+}
+
+/// Whether the workflow is created at once, or at a second try after a refusal that changed nothing.
+fn is_created(site: &mut Site<Watchers>, event: &Event) -> bool {
+    let before = documents(site);
+    let answer = site.apply(event);
+    if is_want(&answer) {
+        return before.is_some()
+            && documents(site) == before
+            && play_on(site, &NOT_CREATED) == Played::AllSo
+            && site.apply(event) == Ok(Reply::Done);
+    }
+    answer == Ok(Reply::Done)
+}
+
+/// Whether the workflow is created, stands as it is to, and is taken back. Answers the documents with it.
+fn there_and_back(site: &mut Site<Watchers>) -> Option<Written> {
+    let event = event_of(CREATE)?;
+    let before = documents(site)?;
+    if !is_created(site, &event) || play_on(site, &CREATED) != Played::AllSo {
+        return None;
+    }
+    let with = documents(site)?;
+    if play_on(site, &[Act::Asks(Ask::Cancel("mv"), Answer::Done)]) != Played::AllSo {
+        return None;
+    }
+    if documents(site)? != before || play_on(site, &NOT_CREATED) != Played::AllSo {
+        return None;
+    }
+    Some(with)
+}
+
+/// A site that begins with nothing, at once or at a second try.
+fn site_of(alloc: Global) -> Option<Site<Watchers>> {
+    let watchers = match watchers_of(alloc, &BOTH) {
+        Some(watchers) => watchers,
+        None => watchers_of(alloc, &BOTH)?,
+    };
+    Some(Site::open(alloc, watchers))
+}
+
+#[test]
+fn want_of_memory_is_no_other_answer(rt: HostRuntime) -> Result<(), Fail> {
+    let mut site = site_of(rt.alloc()).ok_or("no watchers")?;
+    assert!(rt; are_answered(&mut site, &BEGUN));
+    assert!(rt; has_tables(&mut site));
+    assert!(rt; are_answered(&mut site, &FILLED));
+    let once = there_and_back(&mut site).ok_or("not created")?;
+    let again = there_and_back(&mut site).ok_or("not created again")?;
+    assert!(rt; once == again);
+    Ok(())
+}
+
+/// What takes no memory, with a workflow that is created.
+const WITHOUT_MEMORY: [Act; 13] = [
+    Act::Asks(
+        Ask::Show("mv"),
+        Answer::Shown("mv", "commerce", "customer", &SIXTEEN, 1, false),
+    ),
+    Act::Asks(
+        Ask::Read(("commerce", "c"), 1, TabletType::Primary),
+        Answer::Row("q"),
+    ),
+    Act::Asks(
+        Ask::Read(("customer", "c"), 1, TabletType::Primary),
+        Answer::Refused("F3 Denied"),
+    ),
+    Act::Asks(
+        Ask::Read(("customer", "c"), 1, TabletType::Replica),
+        Answer::NoRow,
+    ),
+    Act::Leads("customer.p", TabletType::Rdonly, "commerce.p"),
+    Act::Asks(CREATE, Answer::Refused("F6 WorkflowExists")),
+    Act::Asks(
+        Ask::Create("m2", "commerce", "customer", &["a"]),
+        Answer::Refused("F8 TableInWorkflow"),
+    ),
+    Act::Asks(Ask::Advance("mv", Slot::Forward, 9, 1), Answer::Stale(1)),
+    Act::Asks(
+        Ask::Rule("a", "customer.a"),
+        Answer::Refused("F22 RuleOwned"),
+    ),
+    Act::Asks(Ask::Cancel("m2"), Answer::Refused("F7 NoWorkflow")),
+    Act::Asks(Ask::Cancel("mv"), Answer::Done),
+    Act::Asks(Ask::Cancel("mv"), Answer::Refused("F7 NoWorkflow")),
+    Act::Leads("x", TabletType::Replica, "customer.x"),
+];
+
+/// Whether the workflow is created over the sixteen tables. Where memory is wanting it isn't.
+fn is_begun(site: &mut Site<Watchers>) -> bool {
+    are_answered(site, &BEGUN)
+        && has_tables(site)
+        && are_answered(site, &FILLED)
+        && is_answered(site, CREATE, Answer::Done)
+}
+
+/// Passes as well where, from some allocation on, each fails.
+#[test]
+fn no_memory_is_asked_for(rt: HostRuntime) -> Result<(), Fail> {
+    let Some(mut site) = site_of(rt.alloc()) else {
+        return Ok(());
+    };
+    if !is_begun(&mut site) {
+        return Ok(());
+    }
+    assert_eq!(rt; play_on(&mut site, &WITHOUT_MEMORY), Played::AllSo);
+    assert_eq!(rt; play_on(&mut site, &NOT_CREATED), Played::AllSo);
+    Ok(())
+}

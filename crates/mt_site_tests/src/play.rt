@@ -1,0 +1,101 @@
+//! Lists of acts at a site that begins with nothing.
+ghost use Rattle.std.specs.Prelude.{◌≡◌, IfOk};
+ghost use Rattle.mt_watch.specs.Notices.{notice_of};
+
+use crate::acts::{Act, is_so};
+use mt_model::Entry;
+use mt_names::{KeyspaceName, TableName};
+use mt_site::Site;
+use mt_watch::{Callback, Change, Notice, Scope, WatchFault, Watcher, Watchers};
+use std::alloc::Global;
+
+/// How a list of acts went.
+#[derive(Clone, Copy, Debug, Eq, PartialEq)]
+pub enum Played {
+    /// Each act was so.
+    AllSo,
+    /// The act of this index was the first that wasn't.
+    Wrong(usize),
+    /// The watchers weren't made.
+    NotMade,
+}
+
+/// A watcher of the primary of a keyspace, and the table whose change it refuses; `-` for none.
+pub type Watch = (&'static str, &'static str);
+
+/// The watchers of the two keyspaces that tables move between.
+pub const BOTH: [Watch; 2] = [("commerce", "-"), ("customer", "-")];
+
+/// Whether a change denies a table somewhere.
+fn denies(change: &Change, table: &Option<TableName>) -> bool {
+    let Some(table) = table else {
+        return false;
+    };
+    for entry in change.as_slice() {
+        if let Entry::Denied(_, denied, true) = entry {
+            if denied == table {
+                return true;
+            }
+        }
+    }
+    false
+}
+
+/// A watcher.
+fn watcher_of(alloc: Global, watch: Watch) -> Option<Watcher> {
+    let scope = Scope::Primary(KeyspaceName::parse(watch.0).ok()?);
+    let own = scope.copied();
+    let refused = TableName::parse(watch.1).ok();
+    let call: Callback = match Box::new(
+        alloc,
+        move |change: &Change| -> Result<Notice, WatchFault>
+            ensures { IfOk result (λ notice. notice ≡ notice_of own change.now) }
+        {
+            if denies(change, &refused) {
+                return Err(WatchFault(1));
+            }
+            Notice::of(alloc, &own, change).map_err(|_| WatchFault(0))
+        },
+    ) {
+        Ok(call) => call,
+        Err(_) => return None,
+    };
+    Some(Watcher::new(scope, call))
+}
+
+/// Some watchers, in their order.
+pub fn watchers_of(alloc: Global, watches: &[Watch]) -> Option<Watchers> {
+    let mut watchers = Watchers::new(alloc);
+    for watch in watches {
+        let watcher = watcher_of(alloc, *watch)?;
+        if watchers.add(watcher).is_err() {
+            return None;
+        }
+    }
+    Some(watchers)
+}
+
+/// How acts go at a site that stands as it does, in their order up to the first that isn't so.
+pub fn play_on(site: &mut Site<Watchers>, acts: &[Act]) -> Played {
+    for (index, act) in acts.iter().enumerate() {
+        if !is_so(site, *act) {
+            return Played::Wrong(index);
+        }
+    }
+    Played::AllSo
+}
+
+/// How lists of acts go, one behind the other, at a site that begins with nothing and is watched so.
+pub fn play(alloc: Global, watches: &[Watch], lists: &[&[Act]]) -> Played {
+    let Some(watchers) = watchers_of(alloc, watches) else {
+        return Played::NotMade;
+    };
+    let mut site = Site::open(alloc, watchers);
+    for acts in lists {
+        match play_on(&mut site, acts) {
+            Played::AllSo => {}
+            other => return other,
+        }
+    }
+    Played::AllSo
+}
