@@ -5,11 +5,9 @@ use Rattle.std.proofs.KnownBytes.{Appends-nil, Appends-trans, Consumes-nil}
 use Rattle.std.specs.Io.KnownBytes.{Appends}
 use Rattle.std.specs.Prelude.{string_bytes}
 use Rattle.std.specs.Str.Lines.{lines}
-use Rattle.mt_model.specs.declared.answers.Refusal as code
-use Rattle.mt_model.specs.declared.answers.Reply.{Reply}
 use Rattle.mt_model.specs.declared.entries.Scope.{Scope}
 use Rattle.mt_model.specs.Documents.{dump_text, rules_text}
-use Rattle.mt_plain.specs.Events.{Event, answer_from}
+use Rattle.mt_plain.specs.Events.{Answer, Event}
 use Rattle.mt_plain.specs.Answers.{Answers}
 use Rattle.mt_plain.specs.Next.{next}
 use Rattle.mt_plain.specs.Output.{Adds, IsOutputBy, Output, Told, asks, drives, line_feed, nothing, output_from, says, told, told_request}
@@ -25,7 +23,8 @@ use Rattle.mt_io.specs.declared.fault.ScriptFault.{ScriptFault}
 use Rattle.mt_io.specs.declared.fault.ScriptFault.TheVariants as fault
 use Rattle.mt_io.specs.Bytes.{GoesOut, Known, Reads, Writes}
 use Rattle.mt_io.proofs.GoesLemmas.{cut_before, goes_on, nothing_out}
-use Rattle.mt_core.specs.Core.{CoreState, Stands}
+use Rattle.mt_site_state.specs.Core.{CoreState}
+use Rattle.mt_site_state.specs.Stands.{Stands, StandsWith, Steps}
 use Rattle.mt_run.specs.declared.script.LineOutput as answer
 use Rattle.mt_run.specs.declared.script.LineOutput.TheVariants as output
 use Rattle.mt_run.specs.Runs.{AsksDocument, IsLineOutput, Runs, RunsLine, RunsLines, Tells, bytes_of, is_document}
@@ -37,18 +36,22 @@ has_output : (p : Plain) (lines : List (List ℕ)) → Output Answers reading_so
 has_output p lines = output_from_memory reading_so_far lines p (output_from reading_so_far p lines) (output_from-is_written reading_so_far lines p)
 
 -- what a line tells adds its text to whatever the rest adds from the next state
-tells_adds : (q : Plain) (t : Told) (text : Option (List ℕ)) (core : CoreState) → Tells q t text core
-    → (r : Plain) × Stands r core × ((Rest : Plain → List ℕ → Type 0) (out : List ℕ) → Rest r out → Adds Answers q t Rest (bytes_of text ++ out))
-tells_adds q nothing text core (none, stands) = (q, stands, λ Rest out rest. rw none rest)
-tells_adds q (says words) text core (some, stands) = (q, stands, λ Rest out rest. (out, ap (λ o. bytes_of o ++ out) some, rest))
-tells_adds q (drives driving) text core impossible = absurd impossible
-tells_adds q (asks event) text core (answer, answers, some, stands) =
+tells_adds : (scopes : List Scope) (q : Plain) (t : Told) (text : Option (List ℕ)) (core : CoreState) → Tells scopes q t text core
+    → (r : Plain) × StandsWith r scopes core × ((Rest : Plain → List ℕ → Type 0) (out : List ℕ) → Rest r out → Adds Answers q t Rest (bytes_of text ++ out))
+tells_adds scopes q nothing text core (none, stands) = (q, stands, λ Rest out rest. rw none rest)
+tells_adds scopes q (says words) text core (some, stands) = (q, stands, λ Rest out rest. (out, ap (λ o. bytes_of o ++ out) some, rest))
+tells_adds scopes q (drives driving) text core impossible = absurd impossible
+tells_adds scopes q (asks event) text core (answer, answers, some, stands) =
     (next q event answer, stands, λ Rest out rest. (answer, out, answers, ap (λ o. bytes_of o ++ out) some, rest))
 
--- the core's answer to an event, told
-pub asks_told : (p : Plain) (event : Event) (answer : Result Reply code.Refusal) (text : List ℕ) (core : CoreState) → text ≡ plain.answer_text (answer_from answer) ++ line_feed
-    → Answers p event (answer_from answer) × Stands (next p event (answer_from answer)) core → Tells p (asks event) (Some text) core
-asks_told p event answer text core is steps = (answer_from answer, steps.0, ap Some is, steps.1)
+-- the answer to an event, told
+pub asks_told : (scopes : List Scope) (old new : CoreState) (event : Event) (answer : Answer) (text : List ℕ) → text ≡ plain.answer_text answer ++ line_feed → Steps scopes old event answer new
+    → (p : Plain) → StandsWith p scopes old → Tells scopes p (asks event) (Some text) new
+asks_told scopes old new event answer text is steps p stands = let then = steps p stands in (answer, then.0, ap Some is, then.1)
+
+-- a core with watchers of these scopes stands for a state with watchers of just these
+pub stands_as_it_is : (p : Plain) (scopes : List Scope) (core : CoreState) → StandsWith p scopes core → Stands p core
+stands_as_it_is p scopes core stands = subst (λ own. StandsWith p own core) (sym stands.scopes_are) stands
 
 -- ---- a document
 
@@ -62,66 +65,66 @@ document_says p (script.read_through key number tablet_type) is = absurd cc
 document_says p (script.drive workflow types backward) is = absurd cc
 
 -- what a line tells that asks for a document
-document_tells : (p : Plain) (line : List ℕ) (core : CoreState) → Stands p core → AsksDocument line → (text : List ℕ) × Tells p (told reading_so_far p line) (Some text) core
-document_tells p line core stands (request, is, same) =
+document_tells : (scopes : List Scope) (p : Plain) (line : List ℕ) (core : CoreState) → StandsWith p scopes core → AsksDocument line → (text : List ℕ) × Tells scopes p (told reading_so_far p line) (Some text) core
+document_tells scopes p line core stands (request, is, same) =
     let words = document_says p request is in
-    (words.0 ++ line_feed, subst (λ t. Tells p t (Some (words.0 ++ line_feed)) core) (sym words.1 ∙ told-meant p (reading_so_far line) (Some (Ok request)) same) (refl, stands))
+    (words.0 ++ line_feed, subst (λ t. Tells scopes p t (Some (words.0 ++ line_feed)) core) (sym words.1 ∙ told-meant p (reading_so_far line) (Some (Ok request)) same) (refl, stands))
 
 -- what the request of a line adds is what the line adds
-pub line_outputs : (p : Plain) (line : List ℕ) (request : Request) (r : answer.LineOutput) (core : CoreState) → Some (Ok request) ≡ meaning_of (reading_so_far line)
-    → IsLineOutput p (told_request p (Ok request)) (is_document request ≡ true) r core → IsLineOutput p (told reading_so_far p line) (AsksDocument line) r core
-line_outputs p line request r core same = by r
+pub line_outputs : (scopes : List Scope) (p : Plain) (line : List ℕ) (request : Request) (r : answer.LineOutput) (core : CoreState) → Some (Ok request) ≡ meaning_of (reading_so_far line)
+    → IsLineOutput scopes p (told_request p (Ok request)) (is_document request ≡ true) r core → IsLineOutput scopes p (told reading_so_far p line) (AsksDocument line) r core
+line_outputs scopes p line request r core same = by r
   where
     told-same : told_request p (Ok request) ≡ told reading_so_far p line
     told-same = told-meant p (reading_so_far line) (Some (Ok request)) same
 
-    by : (r : answer.LineOutput) → IsLineOutput p (told_request p (Ok request)) (is_document request ≡ true) r core → IsLineOutput p (told reading_so_far p line) (AsksDocument line) r core
-    by output.Silent is = subst (λ t. Tells p t None core) told-same is
-    by (output.Line text) is = subst (λ t. Tells p t (Some text.items) core) told-same is
-    by (output.Document text) is = subst (λ t. Tells p t (Some (string_bytes text ++ line_feed)) core) told-same is
+    by : (r : answer.LineOutput) → IsLineOutput scopes p (told_request p (Ok request)) (is_document request ≡ true) r core → IsLineOutput scopes p (told reading_so_far p line) (AsksDocument line) r core
+    by output.Silent is = subst (λ t. Tells scopes p t None core) told-same is
+    by (output.Line text) is = subst (λ t. Tells scopes p t (Some text.items) core) told-same is
+    by (output.Document text) is = subst (λ t. Tells scopes p t (Some (string_bytes text ++ line_feed)) core) told-same is
     by output.NoMemory (is, stands) = ((request, is, same), stands)
 
 -- a line of this meaning tells a text, or none
-pub line_tells : (p : Plain) (line : List ℕ) (meaning : LineMeaning) (text : Option (List ℕ)) (core : CoreState) → meaning ≡ meaning_of (reading_so_far line)
-    → Tells p (told_by p meaning) text core → Tells p (told reading_so_far p line) text core
-line_tells p line meaning text core same tells = subst (λ t. Tells p t text core) (told-meant p (reading_so_far line) meaning same) tells
+pub line_tells : (scopes : List Scope) (p : Plain) (line : List ℕ) (meaning : LineMeaning) (text : Option (List ℕ)) (core : CoreState) → meaning ≡ meaning_of (reading_so_far line)
+    → Tells scopes p (told_by p meaning) text core → Tells scopes p (told reading_so_far p line) text core
+line_tells scopes p line meaning text core same tells = subst (λ t. Tells scopes p t text core) (told-meant p (reading_so_far line) meaning same) tells
 
-module _ (p : Plain) (line : List ℕ) (core : CoreState) (held held' : Known) (waiting waiting' : List ℕ) where
+module _ (scopes : List Scope) (p : Plain) (line : List ℕ) (core : CoreState) (held held' : Known) (waiting waiting' : List ℕ) where
   -- a text goes behind what waits
-  pub line_written : (text : Option (List ℕ)) (result : Result Unit ScriptFault) → Tells p (told reading_so_far p line) text core → Writes held held' (waiting ++ bytes_of text) waiting' result
-      → RunsLine p line core held held' waiting waiting' result
+  pub line_written : (text : Option (List ℕ)) (result : Result Unit ScriptFault) → Tells scopes p (told reading_so_far p line) text core → Writes held held' (waiting ++ bytes_of text) waiting' result
+      → RunsLine scopes p line core held held' waiting waiting' result
   line_written text (Ok done) tells writes = (text, tells, writes)
-  line_written text (Err f) tells (is_write, none, out) = subst (λ g. RunsLine p line core held held' waiting waiting' (Err g)) (sym is_write) (text, tells, out)
+  line_written text (Err f) tells (is_write, none, out) = subst (λ g. RunsLine scopes p line core held held' waiting waiting' (Err g)) (sym is_write) (text, tells, out)
 
   -- a document finds no memory: what waits goes out, or doesn't
-  pub document_wanting : AsksDocument line → GoesOut held held' waiting waiting' → waiting' ≡ [] → RunsLine p line core held held' waiting waiting' (Err fault.Memory)
+  pub document_wanting : AsksDocument line → GoesOut held held' waiting waiting' → waiting' ≡ [] → RunsLine scopes p line core held held' waiting waiting' (Err fault.Memory)
   document_wanting wants (written, went, all) none = (wants, subst (Appends held held') (sym (all ∙ ap (λ (t : List ℕ). written ++ t) none ∙ append-nil written)) went)
 
-  pub document_unwritten : (f : ScriptFault) → AsksDocument line × Stands p core → Writes held held' waiting waiting' (Err f) → RunsLine p line core held held' waiting waiting' (Err f)
+  pub document_unwritten : (f : ScriptFault) → AsksDocument line × StandsWith p scopes core → Writes held held' waiting waiting' (Err f) → RunsLine scopes p line core held held' waiting waiting' (Err f)
   document_unwritten f (wants, stands) (is_write, none, out) =
-      let text = document_tells p line core stands wants in
-      subst (λ g. RunsLine p line core held held' waiting waiting' (Err g)) (sym is_write) (Some text.0, text.1, cut_before held held' waiting text.0 out)
+      let text = document_tells scopes p line core stands wants in
+      subst (λ g. RunsLine scopes p line core held held' waiting waiting' (Err g)) (sym is_write) (Some text.0, text.1, cut_before held held' waiting text.0 out)
 
 -- ---- a run so far
 
 -- a state that the core stands for; the lines that are done; what was to be written, of which some waits; and whatever
 -- completes more lines completes the lines that are done and these
-abbrev pub SoFar : Plain → (script rest : List ℕ) → CoreState → Known → Known → (waiting : List ℕ) → Type 0
-SoFar p script rest core held held' waiting =
-    (q : Plain) × Stands q core × ((before : List (List ℕ)) × (all : List ℕ) × (lines script ≡ before ++ lines rest) × GoesOut held held' all waiting
+abbrev pub SoFar : List Scope → Plain → (script rest : List ℕ) → CoreState → Known → Known → (waiting : List ℕ) → Type 0
+SoFar scopes p script rest core held held' waiting =
+    (q : Plain) × StandsWith q scopes core × ((before : List (List ℕ)) × (all : List ℕ) × (lines script ≡ before ++ lines rest) × GoesOut held held' all waiting
     × ((more : List (List ℕ)) (out : List ℕ) → Output Answers reading_so_far q more out → Output Answers reading_so_far p (before ++ more) (all ++ out)))
 
-pub begins : (p : Plain) (script : List ℕ) (core : CoreState) (held : Known) → Stands p core → SoFar p script script core held held []
-begins p script core held stands = (p, stands, ([], [], refl, nothing_out held [], λ more out is. is))
+pub begins : (scopes : List Scope) (p : Plain) (script : List ℕ) (core : CoreState) (held : Known) → StandsWith p scopes core → SoFar scopes p script script core held held []
+begins scopes p script core held stands = (p, stands, ([], [], refl, nothing_out held [], λ more out is. is))
 
-module _ (p : Plain) (script rest line after : List ℕ) (core core' : CoreState) (held held' held'' : Known) (waiting waiting' : List ℕ) (first : lines rest ≡ line ∷ lines after) where
-  pub line_done : SoFar p script rest core held held' waiting → ((q : Plain) → Stands q core → RunsLine q line core' held' held'' waiting waiting' (Ok tt)) → SoFar p script after core' held held'' waiting'
+module _ (scopes : List Scope) (p : Plain) (script rest line after : List ℕ) (core core' : CoreState) (held held' held'' : Known) (waiting waiting' : List ℕ) (first : lines rest ≡ line ∷ lines after) where
+  pub line_done : SoFar scopes p script rest core held held' waiting → ((q : Plain) → StandsWith q scopes core → RunsLine scopes q line core' held' held'' waiting waiting' (Ok tt)) → SoFar scopes p script after core' held held'' waiting'
   line_done (q, stands, (before, all, done, went, completes)) runs = by (runs q stands)
     where
-      by : RunsLine q line core' held' held'' waiting waiting' (Ok tt) → SoFar p script after core' held held'' waiting'
-      by (text, tells, writes) = from (tells_adds q (told reading_so_far q line) text core' tells)
+      by : RunsLine scopes q line core' held' held'' waiting waiting' (Ok tt) → SoFar scopes p script after core' held held'' waiting'
+      by (text, tells, writes) = from (tells_adds scopes q (told reading_so_far q line) text core' tells)
         where
-          from : (r : Plain) × Stands r core' × ((Rest : Plain → List ℕ → Type 0) (out : List ℕ) → Rest r out → Adds Answers q (told reading_so_far q line) Rest (bytes_of text ++ out)) → SoFar p script after core' held held'' waiting'
+          from : (r : Plain) × StandsWith r scopes core' × ((Rest : Plain → List ℕ → Type 0) (out : List ℕ) → Rest r out → Adds Answers q (told reading_so_far q line) Rest (bytes_of text ++ out)) → SoFar scopes p script after core' held held'' waiting'
           from (r, stands', adds) = (
             r,
             stands',
@@ -137,13 +140,13 @@ module _ (p : Plain) (script rest line after : List ℕ) (core core' : CoreState
             ),
           )
 
-  pub line_failed : (f : ScriptFault) → SoFar p script rest core held held' waiting → ((q : Plain) → Stands q core → RunsLine q line core' held' held'' waiting waiting' (Err f)) → RunsLines p script held held'' (Err f)
+  pub line_failed : (f : ScriptFault) → SoFar scopes p script rest core held held' waiting → ((q : Plain) → StandsWith q scopes core → RunsLine scopes q line core' held' held'' waiting waiting' (Err f)) → RunsLines p script held held'' (Err f)
   line_failed fault.Write (q, stands, (before, all, done, went, completes)) runs = by (runs q stands)
     where
-      by : RunsLine q line core' held' held'' waiting waiting' (Err fault.Write) → RunsLines p script held held'' (Err fault.Write)
-      by (text, tells, (left, some, writes)) = from (tells_adds q (told reading_so_far q line) text core' tells)
+      by : RunsLine scopes q line core' held' held'' waiting waiting' (Err fault.Write) → RunsLines p script held held'' (Err fault.Write)
+      by (text, tells, (left, some, writes)) = from (tells_adds scopes q (told reading_so_far q line) text core' tells)
         where
-          from : (r : Plain) × Stands r core' × ((Rest : Plain → List ℕ → Type 0) (out : List ℕ) → Rest r out → Adds Answers q (told reading_so_far q line) Rest (bytes_of text ++ out)) → RunsLines p script held held'' (Err fault.Write)
+          from : (r : Plain) × StandsWith r scopes core' × ((Rest : Plain → List ℕ → Type 0) (out : List ℕ) → Rest r out → Adds Answers q (told reading_so_far q line) Rest (bytes_of text ++ out)) → RunsLines p script held held'' (Err fault.Write)
           from (r, stands', adds) =
               let o : List ℕ = output_from reading_so_far r (lines after) in
               let added : Output Answers reading_so_far q (line ∷ lines after) (bytes_of text ++ o) = adds (λ s rest. Output Answers reading_so_far s (lines after) rest) o (has_output r (lines after)) in
@@ -155,7 +158,7 @@ module _ (p : Plain) (script rest line after : List ℕ) (core core' : CoreState
               )
   line_failed fault.Memory (q, stands, (before, all, done, (written, went, is_all), completes)) runs = by (runs q stands)
     where
-      by : RunsLine q line core' held' held'' waiting waiting' (Err fault.Memory) → RunsLines p script held held'' (Err fault.Memory)
+      by : RunsLine scopes q line core' held' held'' waiting waiting' (Err fault.Memory) → RunsLines p script held held'' (Err fault.Memory)
       by (wants, went_then) =
           let nil : Output Answers reading_so_far q [] [] = refl in
           let out : Output Answers reading_so_far p before (written ++ waiting) =
@@ -173,9 +176,9 @@ module _ (p : Plain) (script rest line after : List ℕ) (core core' : CoreState
 
 -- ---- the end
 
-pub ends : (p : Plain) (script rest : List ℕ) (core : CoreState) (held held' held'' : Known) (waiting waiting' : List ℕ) (result : Result Unit ScriptFault)
-    → SoFar p script rest core held held' waiting → lines rest ≡ [] → Writes held' held'' waiting waiting' result → waiting' ≡ [] → RunsLines p script held held'' result
-ends p script rest core held held' held'' waiting waiting' result (q, stands, (before, all, done, went, completes)) none writes empty = by result writes empty
+pub ends : (scopes : List Scope) (p : Plain) (script rest : List ℕ) (core : CoreState) (held held' held'' : Known) (waiting waiting' : List ℕ) (result : Result Unit ScriptFault)
+    → SoFar scopes p script rest core held held' waiting → lines rest ≡ [] → Writes held' held'' waiting waiting' result → waiting' ≡ [] → RunsLines p script held held'' result
+ends scopes p script rest core held held' held'' waiting waiting' result (q, stands, (before, all, done, went, completes)) none writes empty = by result writes empty
   where
     nil : Output Answers reading_so_far q [] []
     nil = refl

@@ -7,26 +7,28 @@ use Rattle.mt_plain.specs.Events.{Answer}
 use Rattle.mt_plain.specs.Answers.{Answers}
 use Rattle.mt_plain.specs.Next.{next}
 use Rattle.mt_plain.specs.Output as plain
-use Rattle.mt_plain.specs.Output.{IsOutputBy, Leaves, Told, answer_text, asks, drives, Output, line_feed, nothing, says, told}
+use Rattle.mt_plain.specs.Output.{IsOutputBy, Leaves, Told, answer_text, asks, drives, Output, line_feed, nothing, says, told, told_request}
 use Rattle.mt_plain.specs.Plain.{Plain, opening}
 use Rattle.mt_plain.specs.Script.{Request, dump_document, rules_document}
 use Rattle.mt_script.specs.Requests.{meaning_of, reading_so_far}
 use Rattle.mt_io.specs.declared.fault.ScriptFault.{ScriptFault}
 use Rattle.mt_io.specs.declared.fault.ScriptFault.TheVariants as fault
 use Rattle.mt_io.specs.Bytes.{GoesOut, HasRead, IsCutShort, IsWhole, Known}
-use Rattle.mt_core.specs.Core.{CoreState, Stands}
+use Rattle.mt_site_state.specs.Core.{CoreState}
+use Rattle.mt_site_state.specs.Stands.{StandsWith}
 use Rattle.mt_run.specs.declared.script.LineOutput as code
 use Rattle.mt_run.specs.declared.script.LineOutput.TheVariants as output
 
 -- ---- a line
 
--- what a line tells becomes a text, or none, and the core stands for the state after it. No line drives a switch yet
-abbrev pub Tells : Plain → Told → Option (List ℕ) → CoreState → Type 0
-Tells p nothing text core = (text ≡ None) × Stands p core
-Tells p (says words) text core = (text ≡ Some (words ++ line_feed)) × Stands p core
-Tells p (asks event) text core =
-    (answer : Answer) × Answers p event answer × (text ≡ Some (answer_text answer ++ line_feed)) × Stands (next p event answer) core
-Tells p (drives driving) text core = ⊥
+-- what a line tells becomes a text, or none, and the core, with watchers of these scopes, stands for the state after it. No line
+-- drives a switch yet
+abbrev pub Tells : List Scope → Plain → Told → Option (List ℕ) → CoreState → Type 0
+Tells scopes p nothing text core = (text ≡ None) × StandsWith p scopes core
+Tells scopes p (says words) text core = (text ≡ Some (words ++ line_feed)) × StandsWith p scopes core
+Tells scopes p (asks event) text core =
+    (answer : Answer) × Answers p event answer × (text ≡ Some (answer_text answer ++ line_feed)) × StandsWith (next p event answer) scopes core
+Tells scopes p (drives driving) text core = ⊥
 
 -- the bytes of a text, or none
 abbrev pub bytes_of : Option (List ℕ) → List ℕ
@@ -44,22 +46,27 @@ abbrev pub AsksDocument : List ℕ → Type 0
 AsksDocument line = (request : Request) × (is_document request ≡ true) × (Some (Ok request) ≡ meaning_of (reading_so_far line))
 
 -- what something that is told adds to the output. A document may find no memory, and then nothing changed
-abbrev pub IsLineOutput : Plain → Told → (IsDocument : Type 0) → code.LineOutput → CoreState → Type 0
-IsLineOutput p t IsDocument output.Silent core = Tells p t None core
-IsLineOutput p t IsDocument (output.Line text) core = Tells p t (Some text.items) core
-IsLineOutput p t IsDocument (output.Document text) core = Tells p t (Some (string_bytes text ++ line_feed)) core
-IsLineOutput p t IsDocument output.NoMemory core = IsDocument × Stands p core
+abbrev pub IsLineOutput : List Scope → Plain → Told → (IsDocument : Type 0) → code.LineOutput → CoreState → Type 0
+IsLineOutput scopes p t IsDocument output.Silent core = Tells scopes p t None core
+IsLineOutput scopes p t IsDocument (output.Line text) core = Tells scopes p t (Some text.items) core
+IsLineOutput scopes p t IsDocument (output.Document text) core = Tells scopes p t (Some (string_bytes text ++ line_feed)) core
+IsLineOutput scopes p t IsDocument output.NoMemory core = IsDocument × StandsWith p scopes core
+
+-- what a request adds to the output, where the core stood for a state before it
+abbrev pub IsRequestOutput : List Scope → CoreState → Request → code.LineOutput → CoreState → Type 0
+IsRequestOutput scopes old request result new =
+    (p : Plain) → StandsWith p scopes old → IsLineOutput scopes p (told_request p (Ok request)) (is_document request ≡ true) result new
 
 -- a line is answered, and its text is written behind what waited. Where a document finds no memory, all that waited is
 -- written, and nothing more
-abbrev pub RunsLine : Plain → (line : List ℕ) → CoreState → Known → Known → (waiting waiting' : List ℕ) → Result Unit ScriptFault → Type 0
-RunsLine p line core held held' waiting waiting' (Ok done) =
-    (text : Option (List ℕ)) × Tells p (told reading_so_far p line) text core × GoesOut held held' (waiting ++ bytes_of text) waiting'
-RunsLine p line core held held' waiting waiting' (Err fault.Memory) = AsksDocument line × Appends held held' waiting
-RunsLine p line core held held' waiting waiting' (Err fault.Write) =
-    (text : Option (List ℕ)) × Tells p (told reading_so_far p line) text core × IsCutShort held held' (waiting ++ bytes_of text)
-RunsLine p line core held held' waiting waiting' (Err fault.Read) = ⊥
-RunsLine p line core held held' waiting waiting' (Err fault.TooLong) = ⊥
+abbrev pub RunsLine : List Scope → Plain → (line : List ℕ) → CoreState → Known → Known → (waiting waiting' : List ℕ) → Result Unit ScriptFault → Type 0
+RunsLine scopes p line core held held' waiting waiting' (Ok done) =
+    (text : Option (List ℕ)) × Tells scopes p (told reading_so_far p line) text core × GoesOut held held' (waiting ++ bytes_of text) waiting'
+RunsLine scopes p line core held held' waiting waiting' (Err fault.Memory) = AsksDocument line × Appends held held' waiting
+RunsLine scopes p line core held held' waiting waiting' (Err fault.Write) =
+    (text : Option (List ℕ)) × Tells scopes p (told reading_so_far p line) text core × IsCutShort held held' (waiting ++ bytes_of text)
+RunsLine scopes p line core held held' waiting waiting' (Err fault.Read) = ⊥
+RunsLine scopes p line core held held' waiting waiting' (Err fault.TooLong) = ⊥
 
 -- a script ran up to a line that asks for a document, and what the lines before it tell is written
 abbrev pub RunsToDocument : Plain → (script written : List ℕ) → Type 0

@@ -5,12 +5,12 @@ use Rattle.mt_run.proofs.RunLemmas.{line_outputs, line_tells}
 use Rattle.mt_run.proofs.script.line_output.Goals as goal
 
 pub returns-in-Silent : goal.returns-in-Silent
-returns-in-Silent c = λ p stands. line_tells p c.args.line.now None None c.args.core.now c.in-Silent.ensures (refl, stands)
+returns-in-Silent g c = λ p stands. line_tells (g.A.Asks.scopes c.args.watchers.now) p c.args.line.now None None c.args.core.now c.in-Silent.ensures (refl, stands)
 
 pub returns-in-Refused : goal.returns-in-Refused
-returns-in-Refused c = λ p stands.
-    line_tells p c.args.line.now (Some (Err c.in-Refused.refusal)) (Some c.refusal_line.result.items) c.args.core.now c.in-Refused.ensures (ap Some c.refusal_line.ensures, stands)
+returns-in-Refused g c = λ p stands.
+    line_tells (g.A.Asks.scopes c.args.watchers.now) p c.args.line.now (Some (Err c.in-Refused.refusal)) (Some c.refusal_line.result.items) c.args.core.now c.in-Refused.ensures (ap Some c.refusal_line.ensures, stands)
 
 pub returns-in-Request : goal.returns-in-Request
-returns-in-Request c = λ p stands.
-    line_outputs p c.args.line.now (request_from c.in-Request.request) c.request_output.result c.request_output.new.core c.in-Request.ensures (c.request_output.ensures p stands)
+returns-in-Request g c = λ p stands.
+    line_outputs (g.A.Asks.scopes c.args.watchers.now) p c.args.line.now (request_from c.in-Request.request) c.request_output.result c.request_output.new.core c.in-Request.ensures (c.request_output.ensures p stands)
