@@ -1,6 +1,6 @@
 -- When a keyspace or a table is refused, and a table that is taken back.
-use Rattle.std.proofs.Common.{◌≡◌, ◌≢◌, ℕ, Bool, true, false, not, List, [], ◌∷◌, ◌++◌, length, Option, None, Some, Result, Ok, Err, is_some, unwrap_or, refl, sym, ap, ◌∙◌}
-use Rattle.std.proofs.lemmas.Bool.{eqb-true, true≢false}
+use Rattle.std.proofs.Common.{◌≡◌, ◌≢◌, ℕ, Bool, true, false, List, [], ◌∷◌, ◌++◌, length, Option, None, Some, is_some, unwrap_or, refl, sym, ap, ◌∙◌}
+use Rattle.std.proofs.lemmas.Bool.{eqb-true}
 use Rattle.std.proofs.lemmas.Map.Steps.{set_value_same}
 use Rattle.std.specs.Map.{lookup, set_value}
 use Rattle.std.specs.Option.{option_map, option_map_or}
@@ -16,7 +16,7 @@ use Rattle.mt_model.proofs.TopologyLemmas.{keyspace_at-changed_here, with_keyspa
 use Rattle.mt_topology.specs.Edits.{add_keyspace_refusal, add_table_refusal}
 use Rattle.mt_plain.specs.Events.{exists, full}
 use Rattle.mt_site_state.specs.ByHand.{refusal_by_topology}
-use Rattle.mt_site_state.specs.Core.{Primaries, primary_at, primary_of}
+use Rattle.mt_site_state.specs.Core.{Primaries, primary_at}
 use Rattle.mt_site.specs.ByHand.{AreTables, without_table}
 
 -- ---- keyspaces

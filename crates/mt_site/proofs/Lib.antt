@@ -2,8 +2,11 @@ pub mod AdvanceLemmas
 pub mod CoreLemmas
 pub mod CreateLemmas
 pub mod HandLemmas
+pub mod HeadlineLemmas
 pub mod LeaveLemmas
 pub mod MakeLemmas
+pub mod OwedLemmas
 pub mod PrimaryLemmas
+pub mod RunLemmas
 pub mod TargetLemmas
 pub mod WriteLemmas

@@ -1,9 +1,8 @@
 -- Lists of keys that are written one by one.
-use Rattle.std.proofs.Common.{◌≡◌, ◌≢◌, ℕ, zero, suc, ◌<◌, false, List, [], ◌∷◌, ◌++◌, filter, flat_map, get_or, length, map, take, slice_get, Some, append-nil, append_assoc, refl, sym, ap, ◌∙◌, arith}
+use Rattle.std.proofs.Common.{◌≡◌, ◌≢◌, ℕ, zero, suc, ◌<◌, List, [], ◌∷◌, ◌++◌, filter, flat_map, get_or, length, map, take, slice_get, Some, append-nil, append_assoc, refl, sym, ap, ◌∙◌, arith}
 use Rattle.std.proofs.lemmas.List.Sums.{fold-append}
 use Rattle.mt_model.specs.declared.entries.Entry.{Entry}
 use Rattle.mt_model.specs.declared.entries.EntryKey.{EntryKey}
-use Rattle.mt_model.specs.declared.entries.EntryKey.TheVariants as about
 use Rattle.mt_names.proofs.EntryLemmas.{apart}
 use Rattle.mt_names.proofs.SameLemmas.{same_text_decides}
 use Rattle.mt_names.specs.Names.{same_text}

@@ -3,5 +3,8 @@ pub mod Applies
 pub mod ByHand
 pub mod Cancel
 pub mod Create
+pub mod Headline
+pub mod Owed
 pub mod Parts
+pub mod Runs
 pub mod Target

@@ -1,5 +1,5 @@
 -- What becomes of the primary of a target as a workflow is created (this profile's own).
-use Rattle.std.specs.Prelude.{◌≡◌, ⊤, ℕ, List, Result, Ok, Err}
+use Rattle.std.specs.Prelude.{◌≡◌, ⊤, List, Result, Ok, Err}
 use Rattle.mt_model.specs.declared.entries.Entry.{Entry}
 use Rattle.mt_model.specs.declared.entries.Scope.{Scope}
 use Rattle.mt_model.specs.declared.entries.Scope.TheVariants as scope

@@ -8,16 +8,19 @@ ghost use Rattle.mt_model.specs.Documents.{dump_text, rules_text};
 ghost use Rattle.mt_model.specs.Topology.{resolution};
 ghost use Rattle.mt_plain.specs.Events as plain;
 ghost use Rattle.mt_plain.specs.Plain.{Plain, opening};
+ghost use Rattle.mt_plain.specs.Refuse.{owed};
 ghost use Rattle.mt_plain.specs.Serve.{served};
 ghost use Rattle.mt_site_state.specs.ByHand.{AddsKeyspace, AddsTable, EditsRule, ReadsRow, WritesRow};
 ghost use Rattle.mt_site_state.specs.Core.{empty_core, primary_of};
 ghost use Rattle.mt_site.specs.Applies.{Applies};
+ghost use Rattle.mt_site.specs.Owed.{owed_to};
 ghost use Rattle.mt_site_state.specs.Stands.{Stands, StandsWith, Steps};
 ghost use Rattle.mt_site_state.specs.Workflows.{AdvancesWorkflow, Cancels, Creates, ShowsWorkflow};
 ghost use Rattle.mt_workflow.specs.Workflows.{stream_name};
 
+use crate::owed::a_core_owes_what_its_state_owes;
 use crate::primaries::each_is_a_primary;
-use crate::{Primaries, Workflows, advance, by_hand, cancel, create, rows, show};
+use crate::{Primaries, Workflows, advance, by_hand, cancel, create, owed, rows, show};
 use indexmap::IndexMap;
 use mt_event::{Event, Refusal, Reply};
 use mt_model::{Op, TopologyFault};
@@ -115,6 +118,16 @@ impl Core {
     {
         a_core_tells_what_its_state_serves();
         self.topology.dump(self.alloc)
+    }
+
+    /// The events that are owed to the live workflows, so that each can be given up: to each its Cancel, and where a way is
+    /// open before its journal an undo of each step that stands done, or of the begin. It takes no memory.
+    pub fn owed(&self) -> usize
+        ensures value { result ≡ owed_to self.now.workflows }
+        ensures served { (p : Plain) → Stands p self.now → result ≡ owed p }
+    {
+        a_core_owes_what_its_state_owes();
+        owed::owed(&self.workflows)
     }
 
     /// Adds a keyspace without tables: `F30 Exists`, `F27 Full`, `F0 Memory`.

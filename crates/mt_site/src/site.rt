@@ -4,10 +4,12 @@ ghost use Rattle.mt_event.specs.Events.{answer_from, event_of};
 ghost use Rattle.mt_model.specs.Documents.{dump_text, rules_text};
 ghost use Rattle.mt_model.specs.Topology.{resolution};
 ghost use Rattle.mt_plain.specs.Plain.{Plain, opening};
+ghost use Rattle.mt_plain.specs.Refuse.{owed};
 ghost use Rattle.mt_plain.specs.Serve.{served};
 ghost use Rattle.mt_site_state.specs.Core.{empty_core};
 ghost use Rattle.mt_site_state.specs.Stands.{Stands, StandsWith, Steps};
 ghost use Rattle.mt_site.specs.Applies.{Applies};
+ghost use Rattle.mt_site.specs.Owed.{owed_to};
 
 use crate::Core;
 use mt_event::{Event, Refusal, Reply};
@@ -91,5 +93,13 @@ impl<W: Asks> Site<W> {
         ensures memory { IfErr result (λ fault. fault ≡ TopologyFault.Memory) }
     {
         self.core.dump()
+    }
+
+    /// The events that are owed to the live workflows, so that each can be given up: see `Core::owed`. It takes no memory.
+    pub fn owed(&self) -> usize
+        ensures value { result ≡ owed_to self.now.core.workflows }
+        ensures served { (p : Plain) → Stands p self.now.core → result ≡ owed p }
+    {
+        self.core.owed()
     }
 }

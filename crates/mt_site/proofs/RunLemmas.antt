@@ -1,0 +1,46 @@
+-- Events that are applied one after the other are a run.
+use Rattle.std.proofs.Common.{◌≡◌, ℕ, zero, suc, ◌<◌, List, [], ◌∷◌, ◌++◌, get_or, length, map, take, Result, refl, sym, ap, subst, arith}
+use Rattle.std.proofs.lemmas.List.{map-append}
+use Rattle.mt_event.specs.declared.event.Event.{Event}
+use Rattle.mt_event.specs.declared.refusal.Refusal.{Refusal}
+use Rattle.mt_event.specs.declared.reply.Reply.{Reply}
+use Rattle.mt_event.specs.Events.{answer_from, event_of}
+use Rattle.mt_model.specs.declared.entries.Scope.{Scope}
+use Rattle.mt_plain.specs.Answers.{Answers, Run, after}
+use Rattle.mt_plain.specs.Events as plain
+use Rattle.mt_plain.specs.Next.{next}
+use Rattle.mt_plain.specs.Plain.{Plain}
+use Rattle.mt_site_state.specs.Core.{CoreState}
+use Rattle.mt_site_state.specs.Stands.{StandsWith, Steps}
+use Rattle.mt_site.specs.Runs.{Runs}
+
+-- a run goes on with one event more
+run_push : (events : List plain.Event) (answers : List plain.Answer) (p : Plain) (event : plain.Event) (answer : plain.Answer) → Run p events answers
+    → Answers (after p events answers) event answer
+    → Run p (events ++ event ∷ []) (answers ++ answer ∷ []) × (after p (events ++ event ∷ []) (answers ++ answer ∷ []) ≡ next (after p events answers) event answer)
+run_push [] [] p event answer run given = ((given, tt), refl)
+run_push [] (a ∷ answers) p event answer run given = absurd run
+run_push (e ∷ events) [] p event answer run given = absurd run
+run_push (e ∷ events) (a ∷ answers) p event answer run given =
+    let r = run_push events answers (next p e a) event answer run.1 given in
+    ((run.0, r.0), r.1)
+
+-- one item more of a list
+map_next : {X Y : Type 0} (f : X → Y) (xs : List X) (i : ℕ) (x : X) → i < length xs → x ≡ get_or xs i x → map f (take i xs) ++ f x ∷ [] ≡ map f (take (suc i) xs)
+map_next f [] i x inside is = absurd (omega (arith, inside))
+map_next f (y ∷ ys) zero x inside is = rw is refl
+map_next f (y ∷ ys) (suc i) x inside is = ap (λ l. f y ∷ l) (map_next f ys i x (omega (arith, inside)) is)
+
+-- one event more is applied
+pub runs_more : (scopes : List Scope) (old now new : CoreState) (events : List Event) (results : List (Result Reply Refusal)) (i : ℕ) (e : Event) (r : Result Reply Refusal)
+    → i < length events → e ≡ get_or events i e → Runs scopes old (take i events) results now → Steps scopes now (event_of e) (answer_from r) new
+    → Runs scopes old (take (suc i) events) (results ++ r ∷ []) new
+runs_more scopes old now new events results i e r inside at before step = λ p stands.
+    let es = map event_of (take i events) in
+    let told = map answer_from results in
+    let was = before p stands in
+    let stepped = step (after p es told) was.1 in
+    let pushed = run_push es told p (event_of e) (answer_from r) was.0 stepped.0 in
+    subst (λ l. Run p l (map answer_from (results ++ r ∷ [])) × StandsWith (after p l (map answer_from (results ++ r ∷ []))) scopes new) (map_next event_of events i e inside at)
+    (subst (λ l. Run p (es ++ event_of e ∷ []) l × StandsWith (after p (es ++ event_of e ∷ []) l) scopes new) (sym (map-append answer_from results (r ∷ [])))
+    (pushed.0, subst (λ q. StandsWith q scopes new) (sym pushed.1) stepped.1))

@@ -1,0 +1,25 @@
+-- One event more is applied, and its answer is the next one.
+use Rattle.std.proofs.Common.{◌≤◌, ◌∙◌, add-one, length, rules, subst, suc, sym, take}
+use Rattle.mt_event.specs.Events.{answer_from, event_of}
+use Rattle.mt_site_state.specs.Stands.{Steps}
+use Rattle.mt_site.proofs.RunLemmas.{runs_more}
+use Rattle.mt_site.proofs.run.run_events.Goals as goal
+use Rattle.mt_site.specs.Runs.{Runs}
+
+pub loop-event-preserved : goal.loop-event-preserved
+loop-event-preserved g c =
+    let i = c.loop-event.event-index in
+    let events = c.args.events.now in
+    let scopes = g.W.Asks.scopes c.args.site.now.watchers in
+    let old = c.args.site.now.core in
+    let new = c.apply.new.self.core in
+    let step : Steps scopes c.loop-event.site.core (event_of c.event-item.result) (answer_from c.apply.result) new
+    = subst (λ w. Steps (g.W.Asks.scopes w) c.loop-event.site.core (event_of c.event-item.result) (answer_from c.apply.result) new) c.loop-event.invariant.watchers c.apply.ensures.steps in
+    record {
+      room = subst (λ n. length events ≤ n) (sym c.push_reserved.ensures.capacity) c.loop-event.invariant.room;
+      count = search rules;
+      watchers = c.apply.ensures.watchers ∙ c.loop-event.invariant.watchers;
+      runs = subst (λ n. Runs scopes old (take n events) c.push_reserved.new.self.items new) (sym (add-one i))
+          (subst (λ rs. Runs scopes old (take (suc i) events) rs new) (sym c.push_reserved.ensures.items)
+          (runs_more scopes old c.loop-event.site.core new events c.loop-event.answers.items i c.event-item.result c.apply.result c.loop-event-test.true c.event-item.is c.loop-event.invariant.runs step));
+    }

@@ -1,0 +1,69 @@
+//! The headline, said of cores: what Cancel gives back, what reads answer, and where a moved table can be written.
+ghost use Rattle.std.specs.Prelude.{◌≡◌, ℕ, false, true, List, Some};
+ghost use Rattle.mt_laws.specs.Acknowledged.{acknowledged, row_by};
+ghost use Rattle.mt_laws.specs.WayBack.{SinceCreate, in_part};
+ghost use Rattle.mt_model.specs.declared.entries.EntryKey.{EntryKey};
+ghost use Rattle.mt_model.specs.declared.entries.Scope.{Scope};
+ghost use Rattle.mt_model.specs.Rows.{Row};
+ghost use Rattle.mt_model.specs.Topology.{value_of};
+ghost use Rattle.mt_names.specs.declared.types.TabletType.TheVariants.{Primary};
+ghost use Rattle.mt_plain.specs.Answers.{Answers, Run, after};
+ghost use Rattle.mt_plain.specs.Events.{Event, cancel, Answer, done, row};
+ghost use Rattle.mt_plain.specs.Next.{next};
+ghost use Rattle.mt_plain.specs.Plain.{Plain, among, opening};
+ghost use Rattle.mt_plain.specs.Writes.{client_number, client_row};
+ghost use Rattle.mt_site_state.specs.ByHand.{ReadsRow};
+ghost use Rattle.mt_site_state.specs.Core.{CoreState, workflow_at};
+ghost use Rattle.mt_site_state.specs.Stands.{IsCore, StandsWith};
+ghost use Rattle.mt_workflow.specs.Workflows.{WorkflowState};
+ghost use Rattle.mt_site.specs.Headline.{TakesWrites};
+
+use mt_laws::{
+    a_live_workflow_is_found_by_its_part, a_moved_table_is_never_writable_in_two,
+    cancel_gives_the_part_back, each_primary_read_answers_from_the_acknowledged_writes,
+};
+use mt_site_hand::a_read_steps;
+
+/// After a Cancel that is taken the topology says of each entry of the workflow's part what it said before the Create that
+/// made the workflow, whatever events came between, and of each other entry what it said just before the Cancel.
+pub fn cancel_gives_back_what_create_found()
+    ensures part { (scopes : List Scope) (before last now : CoreState) (name source target : List ℕ) (tables : List (List ℕ)) (p q : Plain)
+        → StandsWith p scopes before → SinceCreate name source target tables p q → StandsWith q scopes last
+        → Answers q (cancel name) done → StandsWith (next q (cancel name) done) scopes now → (key : EntryKey)
+        → in_part q name key ≡ true → value_of now.topology key ≡ value_of before.topology key }
+    ensures others { (scopes : List Scope) (before last now : CoreState) (name source target : List ℕ) (tables : List (List ℕ)) (p q : Plain)
+        → StandsWith p scopes before → SinceCreate name source target tables p q → StandsWith q scopes last
+        → Answers q (cancel name) done → StandsWith (next q (cancel name) done) scopes now → (key : EntryKey)
+        → in_part q name key ≡ false → value_of now.topology key ≡ value_of last.topology key }
+{
+    cancel_gives_the_part_back();
+}
+
+/// A row that a core answers to a read of type primary is, after any run, what the operations acknowledged on it make, each
+/// applied once, in their order, in either keyspace of a move, whatever steps of a switch or of a reversal stand done.
+pub fn reads_of_a_core_answer_the_acknowledged_writes()
+    ensures each_once { (scopes : List Scope) (events : List Event) (answers : List Answer) (core : CoreState)
+        → Run (opening scopes) events answers → StandsWith (after (opening scopes) events answers) scopes core
+        → (keyspace table : List ℕ) (key : ℕ) (r : Row) → ReadsRow core keyspace table key Primary (row r) core
+        → r ≡ row_by (acknowledged (opening scopes) (client_number (after (opening scopes) events answers) keyspace table) key events answers) }
+    ensures as_it_is { (scopes : List Scope) (p : Plain) (core : CoreState) → StandsWith p scopes core
+        → (keyspace table : List ℕ) (key : ℕ) (r : Row) → ReadsRow core keyspace table key Primary (row r) core
+        → r ≡ client_row p keyspace table key }
+{
+    a_read_steps();
+    each_primary_read_answers_from_the_acknowledged_writes();
+}
+
+/// The primaries of the two keyspaces of a live workflow never both take writes to a table that it moves, whatever steps
+/// stand done.
+pub fn a_moved_table_of_a_core_is_never_writable_in_two()
+    ensures stands { (scopes : List Scope) (p : Plain) (core : CoreState) → StandsWith p scopes core
+        → (name : List ℕ) (w : WorkflowState) → workflow_at core.workflows name ≡ Some w → (table : List ℕ)
+        → among w.tables table ≡ true → TakesWrites core w.source table → TakesWrites core w.target table → ⊥ }
+    ensures each_core { (core : CoreState) → IsCore core
+        → (name : List ℕ) (w : WorkflowState) → workflow_at core.workflows name ≡ Some w → (table : List ℕ)
+        → among w.tables table ≡ true → TakesWrites core w.source table → TakesWrites core w.target table → ⊥ }
+{
+    a_live_workflow_is_found_by_its_part();
+    a_moved_table_is_never_writable_in_two();
+}

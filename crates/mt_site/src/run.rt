@@ -1,0 +1,34 @@
+//! Events, one after the other.
+ghost use Rattle.std.specs.Prelude.{◌≡◌, IfOk, OnErr};
+ghost use Rattle.mt_site.specs.Runs.{Runs};
+
+use crate::Site;
+use mt_event::{Event, Refusal, Reply};
+use mt_watch::Asks;
+use std::alloc::Global;
+use thiserror::Error;
+
+/// Events that weren't applied, since there was no memory for the list of their answers.
+#[derive(Clone, Copy, Debug, Eq, Error, PartialEq)]
+#[error("no memory for the answers")]
+pub struct RunStopped;
+
+/// Applies some events, one after the other, and answers what each was answered, in their order. `RunStopped` if the list of
+/// answers finds no memory: then no event was applied.
+pub fn run_events<W: Asks>(
+    alloc: Global,
+    site: &mut Site<W>,
+    events: &[Event],
+) -> Result<Vec<Result<Reply, Refusal>>, RunStopped>
+    ensures watchers { site.new.watchers ≡ site.old.watchers }
+    ensures runs { IfOk result (λ answers. Runs (W.scopes site.old.watchers) site.old.core events.now answers.items site.new.core) }
+    ensures stopped { OnErr result (site.new.core ≡ site.old.core) }
+{
+    let Ok(mut answers) = Vec::with_capacity(alloc, events.len()) else {
+        return Err(RunStopped);
+    };
+    for event in events {
+        answers.push_reserved(site.apply(event));
+    }
+    Ok(answers)
+}
