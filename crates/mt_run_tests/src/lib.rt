@@ -17,3 +17,5 @@ mod operations;
 mod refusals;
 #[cfg(test)]
 mod scripts;
+#[cfg(test)]
+mod workflows;

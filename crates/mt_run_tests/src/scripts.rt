@@ -1,7 +1,8 @@
 //! Scripts and what they print.
 
+use mt_choice::keyspaces;
 use mt_io::ScriptFault;
-use mt_run::run_script;
+use mt_run::{run_script, run_watched};
 use mt_watch::Watchers;
 use std::alloc::Global;
 use std::io::Read;
@@ -83,6 +84,23 @@ pub fn answers(alloc: Global, lines: &[(&str, &str)]) -> Result<bool, Fail> {
 /// Whether a script ends well, having printed a text.
 pub fn prints(alloc: Global, mut script: &[u8], want: &[u8]) -> bool {
     ends(alloc, &mut script, Ok(()), want)
+}
+
+/// Whether lines are answered so, each of which has an answer, where watchers stand for the primaries of these keyspaces.
+pub fn answers_watched(
+    alloc: Global,
+    watched: &[&str],
+    lines: &[(&str, &str)],
+) -> Result<bool, Fail> {
+    let Ok(names) = keyspaces(watched) else {
+        return Ok(false);
+    };
+    let mut case = Case::new(alloc);
+    case.lines(lines)?;
+    let mut script = case.script();
+    let mut written = Vec::new(alloc);
+    let result = run_watched(alloc, &mut script, &mut written, &names);
+    Ok(result == Ok(()) && written.as_slice() == case.want())
 }
 
 /// Whether a script that a reader gives ends so, having printed a text.

@@ -45,7 +45,7 @@ MakesAtTarget scopes may_answer w change old result new =
     (primary : PrimaryState) × MakesTarget scopes may_answer w change (primary_of old w.target) result primary
     × (new ≡ set_value (same_text w.target) old primary)
 
--- a workflow is made, and the primary of its target has its tables; or primaries are as they were, for want of memory or as the watchers
+-- a workflow is made, and the primary of its target has its tables; or primaries are as they were, if there is no memory or the watchers
 -- refuse
 abbrev pub Prepares : List Scope → Answering → (made : WorkflowState) → Primaries → Result WorkflowState Refusal → Primaries → Type 0
 Prepares scopes may_answer made old (Ok w) new =

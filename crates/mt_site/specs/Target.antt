@@ -18,7 +18,7 @@ refusal_by_watchers (watchers.Refused index) = refusal.WatcherRefused index
 refusal_by_watchers watchers.NoWatcher = refusal.NoWatcher
 refusal_by_watchers other = refusal.Memory
 
--- the tables are there, and the watchers' notice is taken over; or nothing changed, for want of memory or as the watchers refuse
+-- the tables are there, and the watchers' notice is taken over; or nothing changed, if there is no memory or the watchers refuse
 abbrev pub MakesTarget : List Scope → Answering → WorkflowState → (change : List Entry) → PrimaryState → Result ⊤ Refusal → PrimaryState → Type 0
 MakesTarget scopes may_answer w change old (Ok done) new =
     (notice : List Entry) × AsksEach scopes may_answer (scope.Primary w.target) change (Ok notice) × (new ≡ target_made w notice old)

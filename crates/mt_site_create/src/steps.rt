@@ -57,7 +57,7 @@ pub fn what_a_create_makes_stands_for_the_next_state()
 }
 
 /// A Create of a core leads from each state that the core stands for to the next one, whatever it answers: done, refused by a
-/// test or by a watcher, or for want of memory.
+/// test or by a watcher, or if no memory is left.
 pub fn a_create_steps<W: Asks>(watchers: &W)
     ensures { (old new : CoreState) (workflow source target : List ℕ) (tables : List (List ℕ)) (answer : Answer)
         → Creates old (W.scopes watchers.now) (W.may_answer watchers.now) workflow source target tables answer new
