@@ -1,9 +1,10 @@
 //! The scripts of `examples/`, computed from the definitions. `checks/examples --rows` writes this file.
-ghost use Rattle.mt_rows.specs.ExampleFiles.{ambiguous_name, documents, first_table, replica_reads};
+ghost use Rattle.mt_rows.specs.ExampleFiles.{ambiguous_name, cancel_a_move, documents, first_table, replica_reads};
 
 /// Each script of `examples/` has the output that stands beside it.
 pub fn each_example_prints_its_output()
     ensures ambiguous_name { ambiguous_name }
+    ensures cancel_a_move { cancel_a_move }
     ensures documents { documents }
     ensures first_table { first_table }
     ensures replica_reads { replica_reads }
