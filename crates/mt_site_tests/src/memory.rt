@@ -89,7 +89,7 @@ fn documents(site: &Site<Watchers>) -> Option<Written> {
     Some(Written { rules, dump })
 }
 
-/// Whether an answer may stand for want of memory: `Memory` itself, or the refusal of a watcher, which found none.
+/// Whether an answer may stand where no memory is left: `Memory` itself, or the refusal of a watcher, which found none.
 fn is_want(answer: &Result<Reply, Refusal>) -> bool {
     matches!(answer, Err(Refusal::Memory | Refusal::WatcherRefused(_)))
 }
