@@ -113,7 +113,22 @@ same_event_decides =
                 pair_decides same_text _ same_text_decides (pair_decides same_text _ same_text_decides (pair_decides same_text _ same_text_decides (last_decides (same_items same_text) (items_decide same_text same_text_decides)))),
                 (
                   pair_decides same_text _ same_text_decides (pair_decides same_slot _ same_slot_decides (pair_decides same_number _ same_number_decides (last_decides same_number same_number_decides))),
-                  (last_decides same_text same_text_decides, (last_decides same_text same_text_decides, tt)),
+                  (
+                    pair_decides same_text _ same_text_decides (last_decides same_types same_types_decides),
+                    (
+                      pair_decides same_text _ same_text_decides (last_decides same_types same_types_decides),
+                      (
+                        pair_decides same_text _ same_text_decides (last_decides same_number same_number_decides),
+                        (
+                          pair_decides same_text _ same_text_decides (last_decides same_number same_number_decides),
+                          (
+                            last_decides same_text same_text_decides,
+                            (last_decides same_text same_text_decides, (last_decides same_text same_text_decides, tt)),
+                          ),
+                        ),
+                      ),
+                    ),
+                  ),
                 ),
               ),
             ),

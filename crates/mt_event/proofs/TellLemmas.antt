@@ -28,7 +28,7 @@ abbrev back_slot : plain.StreamName → Slot
 back_slot plain.forward = slot.Forward
 back_slot plain.back = slot.Back
 
--- the event that is asked of the code; of a command that the code doesn't have yet it says nothing
+-- the event that is asked of the code
 abbrev back_event : plain.Event → Event
 back_event (plain.write keyspace table op) = event.Write keyspace table op
 back_event (plain.read keyspace table key type_of) = event.Read keyspace table key type_of
@@ -37,13 +37,13 @@ back_event (plain.add_table keyspace table) = event.AddTable keyspace table
 back_event (plain.edit_rule key target) = event.EditRule key target
 back_event (plain.create workflow source target tables) = event.Create workflow source target (record { items = tables })
 back_event (plain.advance workflow stream at max) = event.Advance workflow (back_slot stream) at max
+back_event (plain.begin_switch workflow types) = event.BeginSwitch workflow types
+back_event (plain.begin_reverse workflow types) = event.BeginReverse workflow types
+back_event (plain.step workflow at) = event.Step workflow at
+back_event (plain.undo workflow at) = event.Undo workflow at
 back_event (plain.cancel workflow) = event.Cancel workflow
+back_event (plain.complete workflow) = event.Complete workflow
 back_event (plain.show workflow) = event.Show workflow
-back_event (plain.begin_switch workflow types) = event.Show workflow
-back_event (plain.begin_reverse workflow types) = event.Show workflow
-back_event (plain.step workflow at) = event.Show workflow
-back_event (plain.undo workflow at) = event.Show workflow
-back_event (plain.complete workflow) = event.Show workflow
 
 event-returns : (e : Event) → back_event (event_of e) ≡ e
 event-returns (event.Write keyspace table op) = refl
@@ -54,7 +54,12 @@ event-returns (event.EditRule key target) = refl
 event-returns (event.Create workflow source target tables) = refl
 event-returns (event.Advance workflow slot.Forward at max) = refl
 event-returns (event.Advance workflow slot.Back at max) = refl
+event-returns (event.BeginSwitch workflow types) = refl
+event-returns (event.BeginReverse workflow types) = refl
+event-returns (event.Step workflow at) = refl
+event-returns (event.Undo workflow at) = refl
 event-returns (event.Cancel workflow) = refl
+event-returns (event.Complete workflow) = refl
 event-returns (event.Show workflow) = refl
 
 pub told_events_are_one : (a b : Event) → event_of a ≡ event_of b → a ≡ b

@@ -21,7 +21,12 @@ event_of (event.AddTable keyspace table) = plain.add_table keyspace table
 event_of (event.EditRule key target) = plain.edit_rule key target
 event_of (event.Create workflow source target tables) = plain.create workflow source target tables.items
 event_of (event.Advance workflow stream at max) = plain.advance workflow (stream_name stream) at max
+event_of (event.BeginSwitch workflow types) = plain.begin_switch workflow types
+event_of (event.BeginReverse workflow types) = plain.begin_reverse workflow types
+event_of (event.Step workflow at) = plain.step workflow at
+event_of (event.Undo workflow at) = plain.undo workflow at
 event_of (event.Cancel workflow) = plain.cancel workflow
+event_of (event.Complete workflow) = plain.complete workflow
 event_of (event.Show workflow) = plain.show workflow
 
 -- why an event is refused (this profile's own)

@@ -3,7 +3,8 @@ use crate::tables::copied_tables;
 use arrayvec::ArrayVec;
 use mt_model::Op;
 use mt_names::{
-    KeyspaceName, MAX_TABLES, Position, RuleKey, RuleTarget, TableName, TabletType, WorkflowName,
+    KeyspaceName, MAX_TABLES, Position, RuleKey, RuleTarget, TableName, TabletType, TypeSet,
+    WorkflowName,
 };
 use mt_workflow::Slot;
 
@@ -71,8 +72,43 @@ pub enum Event {
         /// How many rows or entries at most.
         max: u16,
     },
+    /// Begins to switch the traffic of some types to the target. (Vitess: SwitchTraffic of MoveTables)
+    BeginSwitch {
+        /// The workflow.
+        workflow: WorkflowName,
+        /// The types.
+        types: TypeSet,
+    },
+    /// Begins to send the traffic of some types back to the source. (Vitess: ReverseTraffic of MoveTables)
+    BeginReverse {
+        /// The workflow.
+        workflow: WorkflowName,
+        /// The types.
+        types: TypeSet,
+    },
+    /// Does the next step of the switch or reversal of traffic that is open. (Vitess: the actions of SwitchTraffic and of
+    /// ReverseTraffic, one after the other)
+    Step {
+        /// The workflow.
+        workflow: WorkflowName,
+        /// How many of the steps are expected to stand done.
+        at: u64,
+    },
+    /// Undoes the last step that stands done of the switch or reversal of traffic that is open, which ends where none is left.
+    /// (Vitess: what a SwitchTraffic or a ReverseTraffic that fails undoes)
+    Undo {
+        /// The workflow.
+        workflow: WorkflowName,
+        /// How many of the steps are expected to stand done.
+        at: u64,
+    },
     /// Takes a workflow back. (Vitess: Cancel of MoveTables)
     Cancel {
+        /// The workflow.
+        workflow: WorkflowName,
+    },
+    /// Ends a workflow whose traffic is switched as a whole. (Vitess: Complete of MoveTables)
+    Complete {
         /// The workflow.
         workflow: WorkflowName,
     },
@@ -144,7 +180,26 @@ impl Event {
                 at: *at,
                 max: *max,
             },
+            Event::BeginSwitch { workflow, types } => Event::BeginSwitch {
+                workflow: workflow.copied(),
+                types: *types,
+            },
+            Event::BeginReverse { workflow, types } => Event::BeginReverse {
+                workflow: workflow.copied(),
+                types: *types,
+            },
+            Event::Step { workflow, at } => Event::Step {
+                workflow: workflow.copied(),
+                at: *at,
+            },
+            Event::Undo { workflow, at } => Event::Undo {
+                workflow: workflow.copied(),
+                at: *at,
+            },
             Event::Cancel { workflow } => Event::Cancel {
+                workflow: workflow.copied(),
+            },
+            Event::Complete { workflow } => Event::Complete {
                 workflow: workflow.copied(),
             },
             Event::Show { workflow } => Event::Show {

@@ -23,8 +23,7 @@ use Rattle.mt_io.specs.declared.fault.ScriptFault.{ScriptFault}
 use Rattle.mt_io.specs.declared.fault.ScriptFault.TheVariants as fault
 use Rattle.mt_io.specs.Bytes.{GoesOut, Known, Reads, Writes}
 use Rattle.mt_io.proofs.GoesLemmas.{cut_before, goes_on, nothing_out}
-use Rattle.mt_site_state.specs.Core.{CoreState}
-use Rattle.mt_site_state.specs.Stands.{Stands, StandsWith, Steps}
+use Rattle.mt_site_state.specs.Ways.{SiteStands, SiteState, SiteSteps}
 use Rattle.mt_run.specs.declared.script.LineOutput as answer
 use Rattle.mt_run.specs.declared.script.LineOutput.TheVariants as output
 use Rattle.mt_run.specs.Runs.{AsksDocument, IsLineOutput, Runs, RunsLine, RunsLines, Tells, bytes_of, is_document}
@@ -36,8 +35,8 @@ has_output : (p : Plain) (lines : List (List ℕ)) → Output Answers reading_so
 has_output p lines = output_from_memory reading_so_far lines p (output_from reading_so_far p lines) (output_from-is_written reading_so_far lines p)
 
 -- what a line tells adds its text to whatever the rest adds from the next state
-tells_adds : (scopes : List Scope) (q : Plain) (t : Told) (text : Option (List ℕ)) (core : CoreState) → Tells scopes q t text core
-    → (r : Plain) × StandsWith r scopes core × ((Rest : Plain → List ℕ → Type 0) (out : List ℕ) → Rest r out → Adds Answers q t Rest (bytes_of text ++ out))
+tells_adds : (scopes : List Scope) (q : Plain) (t : Told) (text : Option (List ℕ)) (core : SiteState) → Tells scopes q t text core
+    → (r : Plain) × SiteStands r scopes core × ((Rest : Plain → List ℕ → Type 0) (out : List ℕ) → Rest r out → Adds Answers q t Rest (bytes_of text ++ out))
 tells_adds scopes q nothing text core (none, stands) = (q, stands, λ Rest out rest. rw none rest)
 tells_adds scopes q (says words) text core (some, stands) = (q, stands, λ Rest out rest. (out, ap (λ o. bytes_of o ++ out) some, rest))
 tells_adds scopes q (drives driving) text core impossible = absurd impossible
@@ -45,13 +44,9 @@ tells_adds scopes q (asks event) text core (answer, answers, some, stands) =
     (next q event answer, stands, λ Rest out rest. (answer, out, answers, ap (λ o. bytes_of o ++ out) some, rest))
 
 -- the answer to an event, told
-pub asks_told : (scopes : List Scope) (old new : CoreState) (event : Event) (answer : Answer) (text : List ℕ) → text ≡ plain.answer_text answer ++ line_feed → Steps scopes old event answer new
-    → (p : Plain) → StandsWith p scopes old → Tells scopes p (asks event) (Some text) new
+pub asks_told : (scopes : List Scope) (old new : SiteState) (event : Event) (answer : Answer) (text : List ℕ) → text ≡ plain.answer_text answer ++ line_feed → SiteSteps scopes old event answer new
+    → (p : Plain) → SiteStands p scopes old → Tells scopes p (asks event) (Some text) new
 asks_told scopes old new event answer text is steps p stands = let then = steps p stands in (answer, then.0, ap Some is, then.1)
-
--- a core with watchers of these scopes stands for a state with watchers of just these
-pub stands_as_it_is : (p : Plain) (scopes : List Scope) (core : CoreState) → StandsWith p scopes core → Stands p core
-stands_as_it_is p scopes core stands = subst (λ own. StandsWith p own core) (sym stands.scopes_are) stands
 
 -- ---- a document
 
@@ -65,13 +60,13 @@ document_says p (script.read_through key number tablet_type) is = absurd cc
 document_says p (script.drive workflow types backward) is = absurd cc
 
 -- what a line tells that asks for a document
-document_tells : (scopes : List Scope) (p : Plain) (line : List ℕ) (core : CoreState) → StandsWith p scopes core → AsksDocument line → (text : List ℕ) × Tells scopes p (told reading_so_far p line) (Some text) core
+document_tells : (scopes : List Scope) (p : Plain) (line : List ℕ) (core : SiteState) → SiteStands p scopes core → AsksDocument line → (text : List ℕ) × Tells scopes p (told reading_so_far p line) (Some text) core
 document_tells scopes p line core stands (request, is, same) =
     let words = document_says p request is in
     (words.0 ++ line_feed, subst (λ t. Tells scopes p t (Some (words.0 ++ line_feed)) core) (sym words.1 ∙ told-meant p (reading_so_far line) (Some (Ok request)) same) (refl, stands))
 
 -- what the request of a line adds is what the line adds
-pub line_outputs : (scopes : List Scope) (p : Plain) (line : List ℕ) (request : Request) (r : answer.LineOutput) (core : CoreState) → Some (Ok request) ≡ meaning_of (reading_so_far line)
+pub line_outputs : (scopes : List Scope) (p : Plain) (line : List ℕ) (request : Request) (r : answer.LineOutput) (core : SiteState) → Some (Ok request) ≡ meaning_of (reading_so_far line)
     → IsLineOutput scopes p (told_request p (Ok request)) (is_document request ≡ true) r core → IsLineOutput scopes p (told reading_so_far p line) (AsksDocument line) r core
 line_outputs scopes p line request r core same = by r
   where
@@ -85,11 +80,11 @@ line_outputs scopes p line request r core same = by r
     by output.NoMemory (is, stands) = ((request, is, same), stands)
 
 -- a line of this meaning tells a text, or none
-pub line_tells : (scopes : List Scope) (p : Plain) (line : List ℕ) (meaning : LineMeaning) (text : Option (List ℕ)) (core : CoreState) → meaning ≡ meaning_of (reading_so_far line)
+pub line_tells : (scopes : List Scope) (p : Plain) (line : List ℕ) (meaning : LineMeaning) (text : Option (List ℕ)) (core : SiteState) → meaning ≡ meaning_of (reading_so_far line)
     → Tells scopes p (told_by p meaning) text core → Tells scopes p (told reading_so_far p line) text core
 line_tells scopes p line meaning text core same tells = subst (λ t. Tells scopes p t text core) (told-meant p (reading_so_far line) meaning same) tells
 
-module _ (scopes : List Scope) (p : Plain) (line : List ℕ) (core : CoreState) (held held' : Known) (waiting waiting' : List ℕ) where
+module _ (scopes : List Scope) (p : Plain) (line : List ℕ) (core : SiteState) (held held' : Known) (waiting waiting' : List ℕ) where
   -- a text goes behind what waits
   pub line_written : (text : Option (List ℕ)) (result : Result Unit ScriptFault) → Tells scopes p (told reading_so_far p line) text core → Writes held held' (waiting ++ bytes_of text) waiting' result
       → RunsLine scopes p line core held held' waiting waiting' result
@@ -100,7 +95,7 @@ module _ (scopes : List Scope) (p : Plain) (line : List ℕ) (core : CoreState) 
   pub document_wanting : AsksDocument line → GoesOut held held' waiting waiting' → waiting' ≡ [] → RunsLine scopes p line core held held' waiting waiting' (Err fault.Memory)
   document_wanting wants (written, went, all) none = (wants, subst (Appends held held') (sym (all ∙ ap (λ (t : List ℕ). written ++ t) none ∙ append-nil written)) went)
 
-  pub document_unwritten : (f : ScriptFault) → AsksDocument line × StandsWith p scopes core → Writes held held' waiting waiting' (Err f) → RunsLine scopes p line core held held' waiting waiting' (Err f)
+  pub document_unwritten : (f : ScriptFault) → AsksDocument line × SiteStands p scopes core → Writes held held' waiting waiting' (Err f) → RunsLine scopes p line core held held' waiting waiting' (Err f)
   document_unwritten f (wants, stands) (is_write, none, out) =
       let text = document_tells scopes p line core stands wants in
       subst (λ g. RunsLine scopes p line core held held' waiting waiting' (Err g)) (sym is_write) (Some text.0, text.1, cut_before held held' waiting text.0 out)
@@ -109,22 +104,22 @@ module _ (scopes : List Scope) (p : Plain) (line : List ℕ) (core : CoreState) 
 
 -- a state that the core stands for; the lines that are done; what was to be written, of which some waits; and whatever
 -- completes more lines completes the lines that are done and these
-abbrev pub SoFar : List Scope → Plain → (script rest : List ℕ) → CoreState → Known → Known → (waiting : List ℕ) → Type 0
+abbrev pub SoFar : List Scope → Plain → (script rest : List ℕ) → SiteState → Known → Known → (waiting : List ℕ) → Type 0
 SoFar scopes p script rest core held held' waiting =
-    (q : Plain) × StandsWith q scopes core × ((before : List (List ℕ)) × (all : List ℕ) × (lines script ≡ before ++ lines rest) × GoesOut held held' all waiting
+    (q : Plain) × SiteStands q scopes core × ((before : List (List ℕ)) × (all : List ℕ) × (lines script ≡ before ++ lines rest) × GoesOut held held' all waiting
     × ((more : List (List ℕ)) (out : List ℕ) → Output Answers reading_so_far q more out → Output Answers reading_so_far p (before ++ more) (all ++ out)))
 
-pub begins : (scopes : List Scope) (p : Plain) (script : List ℕ) (core : CoreState) (held : Known) → StandsWith p scopes core → SoFar scopes p script script core held held []
+pub begins : (scopes : List Scope) (p : Plain) (script : List ℕ) (core : SiteState) (held : Known) → SiteStands p scopes core → SoFar scopes p script script core held held []
 begins scopes p script core held stands = (p, stands, ([], [], refl, nothing_out held [], λ more out is. is))
 
-module _ (scopes : List Scope) (p : Plain) (script rest line after : List ℕ) (core core' : CoreState) (held held' held'' : Known) (waiting waiting' : List ℕ) (first : lines rest ≡ line ∷ lines after) where
-  pub line_done : SoFar scopes p script rest core held held' waiting → ((q : Plain) → StandsWith q scopes core → RunsLine scopes q line core' held' held'' waiting waiting' (Ok tt)) → SoFar scopes p script after core' held held'' waiting'
+module _ (scopes : List Scope) (p : Plain) (script rest line after : List ℕ) (core core' : SiteState) (held held' held'' : Known) (waiting waiting' : List ℕ) (first : lines rest ≡ line ∷ lines after) where
+  pub line_done : SoFar scopes p script rest core held held' waiting → ((q : Plain) → SiteStands q scopes core → RunsLine scopes q line core' held' held'' waiting waiting' (Ok tt)) → SoFar scopes p script after core' held held'' waiting'
   line_done (q, stands, (before, all, done, went, completes)) runs = by (runs q stands)
     where
       by : RunsLine scopes q line core' held' held'' waiting waiting' (Ok tt) → SoFar scopes p script after core' held held'' waiting'
       by (text, tells, writes) = from (tells_adds scopes q (told reading_so_far q line) text core' tells)
         where
-          from : (r : Plain) × StandsWith r scopes core' × ((Rest : Plain → List ℕ → Type 0) (out : List ℕ) → Rest r out → Adds Answers q (told reading_so_far q line) Rest (bytes_of text ++ out)) → SoFar scopes p script after core' held held'' waiting'
+          from : (r : Plain) × SiteStands r scopes core' × ((Rest : Plain → List ℕ → Type 0) (out : List ℕ) → Rest r out → Adds Answers q (told reading_so_far q line) Rest (bytes_of text ++ out)) → SoFar scopes p script after core' held held'' waiting'
           from (r, stands', adds) = (
             r,
             stands',
@@ -140,13 +135,13 @@ module _ (scopes : List Scope) (p : Plain) (script rest line after : List ℕ) (
             ),
           )
 
-  pub line_failed : (f : ScriptFault) → SoFar scopes p script rest core held held' waiting → ((q : Plain) → StandsWith q scopes core → RunsLine scopes q line core' held' held'' waiting waiting' (Err f)) → RunsLines p script held held'' (Err f)
+  pub line_failed : (f : ScriptFault) → SoFar scopes p script rest core held held' waiting → ((q : Plain) → SiteStands q scopes core → RunsLine scopes q line core' held' held'' waiting waiting' (Err f)) → RunsLines p script held held'' (Err f)
   line_failed fault.Write (q, stands, (before, all, done, went, completes)) runs = by (runs q stands)
     where
       by : RunsLine scopes q line core' held' held'' waiting waiting' (Err fault.Write) → RunsLines p script held held'' (Err fault.Write)
       by (text, tells, (left, some, writes)) = from (tells_adds scopes q (told reading_so_far q line) text core' tells)
         where
-          from : (r : Plain) × StandsWith r scopes core' × ((Rest : Plain → List ℕ → Type 0) (out : List ℕ) → Rest r out → Adds Answers q (told reading_so_far q line) Rest (bytes_of text ++ out)) → RunsLines p script held held'' (Err fault.Write)
+          from : (r : Plain) × SiteStands r scopes core' × ((Rest : Plain → List ℕ → Type 0) (out : List ℕ) → Rest r out → Adds Answers q (told reading_so_far q line) Rest (bytes_of text ++ out)) → RunsLines p script held held'' (Err fault.Write)
           from (r, stands', adds) =
               let o : List ℕ = output_from reading_so_far r (lines after) in
               let added : Output Answers reading_so_far q (line ∷ lines after) (bytes_of text ++ o) = adds (λ s rest. Output Answers reading_so_far s (lines after) rest) o (has_output r (lines after)) in
@@ -176,7 +171,7 @@ module _ (scopes : List Scope) (p : Plain) (script rest line after : List ℕ) (
 
 -- ---- the end
 
-pub ends : (scopes : List Scope) (p : Plain) (script rest : List ℕ) (core : CoreState) (held held' held'' : Known) (waiting waiting' : List ℕ) (result : Result Unit ScriptFault)
+pub ends : (scopes : List Scope) (p : Plain) (script rest : List ℕ) (core : SiteState) (held held' held'' : Known) (waiting waiting' : List ℕ) (result : Result Unit ScriptFault)
     → SoFar scopes p script rest core held held' waiting → lines rest ≡ [] → Writes held' held'' waiting waiting' result → waiting' ≡ [] → RunsLines p script held held'' result
 ends scopes p script rest core held held' held'' waiting waiting' result (q, stands, (before, all, done, went, completes)) none writes empty = by result writes empty
   where

@@ -14,8 +14,7 @@ use Rattle.mt_script.specs.Requests.{meaning_of, reading_so_far}
 use Rattle.mt_io.specs.declared.fault.ScriptFault.{ScriptFault}
 use Rattle.mt_io.specs.declared.fault.ScriptFault.TheVariants as fault
 use Rattle.mt_io.specs.Bytes.{GoesOut, HasRead, IsCutShort, IsWhole, Known}
-use Rattle.mt_site_state.specs.Core.{CoreState}
-use Rattle.mt_site_state.specs.Stands.{StandsWith}
+use Rattle.mt_site_state.specs.Ways.{SiteStands, SiteState}
 use Rattle.mt_run.specs.declared.script.LineOutput as code
 use Rattle.mt_run.specs.declared.script.LineOutput.TheVariants as output
 
@@ -23,11 +22,11 @@ use Rattle.mt_run.specs.declared.script.LineOutput.TheVariants as output
 
 -- what a line tells becomes a text, or none, and the core, with watchers of these scopes, stands for the state after it. No line
 -- drives a switch yet
-abbrev pub Tells : List Scope → Plain → Told → Option (List ℕ) → CoreState → Type 0
-Tells scopes p nothing text core = (text ≡ None) × StandsWith p scopes core
-Tells scopes p (says words) text core = (text ≡ Some (words ++ line_feed)) × StandsWith p scopes core
+abbrev pub Tells : List Scope → Plain → Told → Option (List ℕ) → SiteState → Type 0
+Tells scopes p nothing text core = (text ≡ None) × SiteStands p scopes core
+Tells scopes p (says words) text core = (text ≡ Some (words ++ line_feed)) × SiteStands p scopes core
 Tells scopes p (asks event) text core =
-    (answer : Answer) × Answers p event answer × (text ≡ Some (answer_text answer ++ line_feed)) × StandsWith (next p event answer) scopes core
+    (answer : Answer) × Answers p event answer × (text ≡ Some (answer_text answer ++ line_feed)) × SiteStands (next p event answer) scopes core
 Tells scopes p (drives driving) text core = ⊥
 
 -- the bytes of a text, or none
@@ -46,20 +45,20 @@ abbrev pub AsksDocument : List ℕ → Type 0
 AsksDocument line = (request : Request) × (is_document request ≡ true) × (Some (Ok request) ≡ meaning_of (reading_so_far line))
 
 -- what something that is told adds to the output. A document may find no memory, and then nothing changed
-abbrev pub IsLineOutput : List Scope → Plain → Told → (IsDocument : Type 0) → code.LineOutput → CoreState → Type 0
+abbrev pub IsLineOutput : List Scope → Plain → Told → (IsDocument : Type 0) → code.LineOutput → SiteState → Type 0
 IsLineOutput scopes p t IsDocument output.Silent core = Tells scopes p t None core
 IsLineOutput scopes p t IsDocument (output.Line text) core = Tells scopes p t (Some text.items) core
 IsLineOutput scopes p t IsDocument (output.Document text) core = Tells scopes p t (Some (string_bytes text ++ line_feed)) core
-IsLineOutput scopes p t IsDocument output.NoMemory core = IsDocument × StandsWith p scopes core
+IsLineOutput scopes p t IsDocument output.NoMemory core = IsDocument × SiteStands p scopes core
 
 -- what a request adds to the output, where the core stood for a state before it
-abbrev pub IsRequestOutput : List Scope → CoreState → Request → code.LineOutput → CoreState → Type 0
+abbrev pub IsRequestOutput : List Scope → SiteState → Request → code.LineOutput → SiteState → Type 0
 IsRequestOutput scopes old request result new =
-    (p : Plain) → StandsWith p scopes old → IsLineOutput scopes p (told_request p (Ok request)) (is_document request ≡ true) result new
+    (p : Plain) → SiteStands p scopes old → IsLineOutput scopes p (told_request p (Ok request)) (is_document request ≡ true) result new
 
 -- a line is answered, and its text is written behind what waited. Where a document finds no memory, all that waited is
 -- written, and nothing more
-abbrev pub RunsLine : List Scope → Plain → (line : List ℕ) → CoreState → Known → Known → (waiting waiting' : List ℕ) → Result Unit ScriptFault → Type 0
+abbrev pub RunsLine : List Scope → Plain → (line : List ℕ) → SiteState → Known → Known → (waiting waiting' : List ℕ) → Result Unit ScriptFault → Type 0
 RunsLine scopes p line core held held' waiting waiting' (Ok done) =
     (text : Option (List ℕ)) × Tells scopes p (told reading_so_far p line) text core × GoesOut held held' (waiting ++ bytes_of text) waiting'
 RunsLine scopes p line core held held' waiting waiting' (Err fault.Memory) = AsksDocument line × Appends held held' waiting

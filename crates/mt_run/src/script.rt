@@ -7,19 +7,23 @@ ghost use Rattle.mt_plain.specs.Plain.{Plain};
 ghost use Rattle.mt_plain.specs.Script.{dump_document, event, read_through, rules_document, write_through};
 ghost use Rattle.mt_script.specs.Requests.{reading_so_far, request_from};
 ghost use Rattle.mt_event.specs.Events.{event_of};
-ghost use Rattle.mt_site_state.specs.Stands.{StandsWith};
+ghost use Rattle.mt_site_state.specs.Ways.{SiteStands};
+ghost use Rattle.mt_workflow.specs.Workflows.{stream_name};
 ghost use Rattle.mt_run.specs.Runs.{AsksDocument, IsLineOutput, IsRequestOutput, Runs, RunsLine, RunsLines};
 
 use arrayvec::ArrayVec;
 use mt_event::Event;
 use mt_io::{ScriptFault, Waiting, flush, put_document, put_line, read_script};
 use mt_model::Op;
-use mt_names::{KeyspaceName, MAX_TABLES, RuleKey, TableName, TabletType, WorkflowName};
+use mt_names::{
+    KeyspaceName, MAX_TABLES, Position, RuleKey, TableName, TabletType, TypeSet, WorkflowName,
+};
 use mt_script::{
     Line, LineText, Request, answer_line, first_line, look_up_line, read_line, refusal_line,
 };
 use mt_site::Core;
 use mt_watch::Asks;
+use mt_workflow::Slot;
 use std::alloc::Global;
 use std::io::{Read, Write};
 
@@ -136,6 +140,53 @@ fn create<A: Asks>(
     )
 }
 
+/// Advances a stream of a workflow.
+fn advance<A: Asks>(
+    core: &mut Core,
+    watchers: &A,
+    workflow: WorkflowName,
+    stream: Slot,
+    at: Position,
+    max: u16,
+) -> LineOutput
+    ensures { IsRequestOutput (A.scopes watchers.now) core.old (event (plain.advance workflow (stream_name stream) at max)) result core.new }
+{
+    ask(
+        core,
+        watchers,
+        Event::Advance {
+            workflow,
+            stream,
+            at,
+            max,
+        },
+    )
+}
+
+/// Begins to switch traffic to the target of a workflow.
+fn begin_switch<A: Asks>(
+    core: &mut Core,
+    watchers: &A,
+    workflow: WorkflowName,
+    types: TypeSet,
+) -> LineOutput
+    ensures { IsRequestOutput (A.scopes watchers.now) core.old (event (plain.begin_switch workflow types)) result core.new }
+{
+    ask(core, watchers, Event::BeginSwitch { workflow, types })
+}
+
+/// Begins to send traffic back to the source of a workflow.
+fn begin_reverse<A: Asks>(
+    core: &mut Core,
+    watchers: &A,
+    workflow: WorkflowName,
+    types: TypeSet,
+) -> LineOutput
+    ensures { IsRequestOutput (A.scopes watchers.now) core.old (event (plain.begin_reverse workflow types)) result core.new }
+{
+    ask(core, watchers, Event::BeginReverse { workflow, types })
+}
+
 /// What the document of the rules adds to the output.
 fn rules(core: &Core) -> LineOutput
     ensures { (scopes : List Scope) → IsRequestOutput scopes core.now rules_document result core.now }
@@ -177,17 +228,15 @@ fn request_output<A: Asks>(core: &mut Core, watchers: &A, request: Request) -> L
         Request::Create(workflow, source, target, tables) => create(
             core, watchers, workflow, source, target, tables,
         ),
-        Request::Advance(workflow, stream, at, max) => ask(
-            core,
-            watchers,
-            Event::Advance {
-                workflow,
-                stream,
-                at,
-                max,
-            },
+        Request::Advance(workflow, stream, at, max) => advance(
+            core, watchers, workflow, stream, at, max,
         ),
+        Request::BeginSwitch(workflow, types) => begin_switch(core, watchers, workflow, types),
+        Request::BeginReverse(workflow, types) => begin_reverse(core, watchers, workflow, types),
+        Request::Step(workflow, at) => ask(core, watchers, Event::Step { workflow, at }),
+        Request::Undo(workflow, at) => ask(core, watchers, Event::Undo { workflow, at }),
         Request::Cancel(workflow) => ask(core, watchers, Event::Cancel { workflow }),
+        Request::Complete(workflow) => ask(core, watchers, Event::Complete { workflow }),
         Request::Show(workflow) => ask(core, watchers, Event::Show { workflow }),
         Request::Rules => rules(core),
         Request::Dump => dump(core),
@@ -196,7 +245,7 @@ fn request_output<A: Asks>(core: &mut Core, watchers: &A, request: Request) -> L
 
 /// What a line of a script adds to the output.
 fn line_output<A: Asks>(core: &mut Core, watchers: &A, line: &[u8]) -> LineOutput
-    ensures { (p : Plain) → StandsWith p (A.scopes watchers.now) core.old
+    ensures { (p : Plain) → SiteStands p (A.scopes watchers.now) core.old
         → IsLineOutput (A.scopes watchers.now) p (told reading_so_far p line.now) (AsksDocument line.now) result core.new }
 {
     match read_line(line) {
@@ -215,7 +264,7 @@ fn run_line<W: Write, A: Asks>(
     writer: &mut W,
     line: &[u8],
 ) -> Result<(), ScriptFault>
-    ensures { (p : Plain) → StandsWith p (A.scopes watchers.now) core.old
+    ensures { (p : Plain) → SiteStands p (A.scopes watchers.now) core.old
         → RunsLine (A.scopes watchers.now) p line.now core.new (W.contents writer.old) (W.contents writer.new) waiting.old.items waiting.new.items result }
 {
     match line_output(core, watchers, line) {
@@ -236,7 +285,7 @@ fn run_lines<W: Write, A: Asks>(
     script: &[u8],
     writer: &mut W,
 ) -> Result<(), ScriptFault>
-    ensures { (p : Plain) → StandsWith p (A.scopes watchers.now) core.old → RunsLines p script.now (W.contents writer.old) (W.contents writer.new) result }
+    ensures { (p : Plain) → SiteStands p (A.scopes watchers.now) core.old → RunsLines p script.now (W.contents writer.old) (W.contents writer.new) result }
 {
     let mut waiting = Waiting::new();
     let mut rest = script;
@@ -251,7 +300,7 @@ fn run_lines<W: Write, A: Asks>(
 /// of its lines that isn't silent. It begins with a topology without keyspaces, and ends with the last line. An event that
 /// finds no memory is answered `refused F0 Memory`; a fault ends the run, and `ScriptFault` says what each leaves written.
 /// Where a document finds no memory, the lines before it are answered and the run ends as `Memory`. An event that asks,
-/// which of the commands read so far is `create` alone, asks these watchers.
+/// as `create` and a step that refreshes a primary do, asks these watchers.
 pub fn run_script<R: Read, W: Write, A: Asks>(
     alloc: Global,
     reader: &mut R,

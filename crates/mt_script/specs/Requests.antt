@@ -1,5 +1,5 @@
 -- The code's words for what lines ask, and the definitions' words.
-use Rattle.std.specs.Prelude.{ℕ, Bool, ◌==◌, ◌||◌, if◌then◌else◌, List, [], ◌∷◌, codes, Option, None, Some, Result, Ok, Err, option_and_then, option_map}
+use Rattle.std.specs.Prelude.{ℕ, Bool, not, ◌==◌, ◌||◌, if◌then◌else◌, List, [], ◌∷◌, codes, Option, None, Some, Result, Ok, Err, option_and_then, option_map}
 use Rattle.mt_names.specs.declared.fault.NameFault.{NameFault}
 use Rattle.mt_names.specs.Faults.{fault_text}
 use Rattle.mt_names.specs.Names.{same_text}
@@ -18,20 +18,13 @@ use Rattle.mt_model.specs.Rows.{RowValue}
 use Rattle.mt_plain.specs.Events.{add_keyspace, add_table, edit_rule, read, write}
 use Rattle.mt_plain.specs.Events as core
 use Rattle.mt_plain.specs.Output.{Reading}
-use Rattle.mt_plain.specs.Script.{Command, Request, event, write_through, read_through, rules_document, dump_document, advance, cancel, change, create, four_words, get, is_for_reads, is_row_verb, one_word, read_advance, read_command, read_line_by, read_number, read_row_command, read_value, request_of, show, two_words}
+use Rattle.mt_plain.specs.Script.{Command, Request, event, write_through, read_through, rules_document, dump_document, advance, begin_reverse, begin_switch, cancel, change, complete, create, four_words, get, is_for_reads, is_row_verb, one_word, read_advance, read_command, read_line_by, read_number, read_row_command, read_value, request_of, show, step, two_words, undo, with_number, with_types}
 use Rattle.mt_plain.specs.Script as plain
 use Rattle.mt_workflow.specs.Workflows.{stream_name}
 
--- the verbs of the commands on workflows that are read up to now
-abbrev pub is_workflow_verb : List ℕ → Bool
-is_workflow_verb verb =
-    same_text verb (codes "create") || same_text verb (codes "advance") || same_text verb (codes "cancel") || same_text verb (codes "show")
-
--- the verbs of the commands that are read up to now
+-- whether the command of a verb is read up to now: all are but those that switch or reverse traffic as a whole
 abbrev pub has_come : List ℕ → Bool
-has_come verb =
-    same_text verb (codes "keyspace") || same_text verb (codes "table") || same_text verb (codes "rule") || same_text verb (codes "rules")
-    || same_text verb (codes "dump") || same_text verb (codes "at") || is_row_verb verb || is_workflow_verb verb
+has_come verb = not (same_text verb (codes "switch") || same_text verb (codes "reverse"))
 
 -- the command of some words, of which the first is its verb; a command that isn't implemented is a bad line
 abbrev pub command_so_far : List (List ℕ) → Option Command
@@ -51,7 +44,12 @@ abbrev pub workflow_command : (verb : List ℕ) → List (List ℕ) → Option C
 workflow_command verb words =
     if same_text verb (codes "create") then read_create words
     else if same_text verb (codes "advance") then read_advance words
+    else if same_text verb (codes "begin-switch") then with_types begin_switch words
+    else if same_text verb (codes "begin-reverse") then with_types begin_reverse words
+    else if same_text verb (codes "step") then with_number step words
+    else if same_text verb (codes "undo") then with_number undo words
     else if same_text verb (codes "cancel") then option_map cancel (one_word words)
+    else if same_text verb (codes "complete") then option_map complete (one_word words)
     else if same_text verb (codes "show") then option_map show (one_word words)
     else None
 
@@ -102,7 +100,12 @@ request_from (request.WriteAt keyspace table op) = event (write keyspace table o
 request_from (request.ReadAt keyspace table number tablet_type) = event (read keyspace table number tablet_type)
 request_from (request.Create workflow source target tables) = event (core.create workflow source target tables.items)
 request_from (request.Advance workflow stream at max) = event (core.advance workflow (stream_name stream) at max)
+request_from (request.BeginSwitch workflow types) = event (core.begin_switch workflow types)
+request_from (request.BeginReverse workflow types) = event (core.begin_reverse workflow types)
+request_from (request.Step workflow at) = event (core.step workflow at)
+request_from (request.Undo workflow at) = event (core.undo workflow at)
 request_from (request.Cancel workflow) = event (core.cancel workflow)
+request_from (request.Complete workflow) = event (core.complete workflow)
 request_from (request.Show workflow) = event (core.show workflow)
 request_from request.Rules = rules_document
 request_from request.Dump = dump_document

@@ -10,7 +10,7 @@ use arrayvec::ArrayVec;
 use mt_model::Op;
 use mt_names::{
     KeyspaceName, MAX_TABLES, NameFault, Position, RuleKey, RuleTarget, TableName, TabletType,
-    WorkflowName,
+    TypeSet, WorkflowName,
 };
 use mt_workflow::Slot;
 
@@ -39,8 +39,18 @@ pub enum Request {
     /// `advance W forward AT MAX`, or `back`: the workflow's stream at this position copies rows or reads entries, so many at
     /// most.
     Advance(WorkflowName, Slot, Position, u16),
+    /// `begin-switch W TYPES`: begins to switch the traffic of these types to the target.
+    BeginSwitch(WorkflowName, TypeSet),
+    /// `begin-reverse W TYPES`: begins to send the traffic of these types back to the source.
+    BeginReverse(WorkflowName, TypeSet),
+    /// `step W N`: does the next step of the switch or reversal that is open, of which N stand done.
+    Step(WorkflowName, u64),
+    /// `undo W N`: undoes the last step of it, of which N stand done.
+    Undo(WorkflowName, u64),
     /// `cancel W`: takes a workflow back.
     Cancel(WorkflowName),
+    /// `complete W`: ends a workflow whose traffic is switched as a whole.
+    Complete(WorkflowName),
     /// `show W`: tells of a workflow.
     Show(WorkflowName),
     /// `rules`: the document of the routing rules.

@@ -1,13 +1,13 @@
 //! Commands on workflows.
 ghost use Rattle.std.specs.Prelude.{◌≡◌, true, option_map};
-ghost use Rattle.mt_plain.specs.Script.{advance, cancel, create, is_readable, read_advance, read_stream, request_of, show, words_of};
+ghost use Rattle.mt_plain.specs.Script.{advance, begin_reverse, begin_switch, cancel, complete, create, is_readable, read_advance, read_stream, request_of, show, step, undo, words_of};
 ghost use Rattle.mt_workflow.specs.Workflows.{stream_name};
 ghost use Rattle.mt_script.specs.Requests.{read_create, read_from, workflow_command};
 
 use crate::lines::Request;
 use crate::numbers::{read_number, read_small_number};
-use crate::words::{four_words, one_word};
-use mt_names::{KeyspaceName, NameFault, Position, WorkflowName, table_list};
+use crate::words::{four_words, one_word, two_words};
+use mt_names::{KeyspaceName, NameFault, Position, TypeSet, WorkflowName, table_list};
 use mt_workflow::Slot;
 
 /// Reads which stream is meant: `forward` or `back`.
@@ -48,10 +48,44 @@ fn advance_request(
     Ok(Request::Advance(workflow, stream, at, max))
 }
 
+fn begin_switch_request(workflow: &str, types: &str) -> Result<Request, NameFault>
+    ensures { read_from result ≡ request_of (begin_switch workflow.now types.now) }
+{
+    let workflow = WorkflowName::parse(workflow)?;
+    let types = TypeSet::parse(types)?;
+    Ok(Request::BeginSwitch(workflow, types))
+}
+
+fn begin_reverse_request(workflow: &str, types: &str) -> Result<Request, NameFault>
+    ensures { read_from result ≡ request_of (begin_reverse workflow.now types.now) }
+{
+    let workflow = WorkflowName::parse(workflow)?;
+    let types = TypeSet::parse(types)?;
+    Ok(Request::BeginReverse(workflow, types))
+}
+
+fn step_request(workflow: &str, at: u64) -> Result<Request, NameFault>
+    ensures { read_from result ≡ request_of (step workflow.now at) }
+{
+    Ok(Request::Step(WorkflowName::parse(workflow)?, at))
+}
+
+fn undo_request(workflow: &str, at: u64) -> Result<Request, NameFault>
+    ensures { read_from result ≡ request_of (undo workflow.now at) }
+{
+    Ok(Request::Undo(WorkflowName::parse(workflow)?, at))
+}
+
 fn cancel_request(workflow: &str) -> Result<Request, NameFault>
     ensures { read_from result ≡ request_of (cancel workflow.now) }
 {
     Ok(Request::Cancel(WorkflowName::parse(workflow)?))
+}
+
+fn complete_request(workflow: &str) -> Result<Request, NameFault>
+    ensures { read_from result ≡ request_of (complete workflow.now) }
+{
+    Ok(Request::Complete(WorkflowName::parse(workflow)?))
 }
 
 fn show_request(workflow: &str) -> Result<Request, NameFault>
@@ -89,7 +123,24 @@ pub fn workflow_command(verb: &str, words: &[u8]) -> Option<Result<Request, Name
     match verb {
         "create" => create_command(words),
         "advance" => advance_command(words),
+        "begin-switch" => {
+            let (workflow, types) = two_words(words)?;
+            Some(begin_switch_request(workflow, types))
+        }
+        "begin-reverse" => {
+            let (workflow, types) = two_words(words)?;
+            Some(begin_reverse_request(workflow, types))
+        }
+        "step" => {
+            let (workflow, at) = two_words(words)?;
+            Some(step_request(workflow, read_number(at)?))
+        }
+        "undo" => {
+            let (workflow, at) = two_words(words)?;
+            Some(undo_request(workflow, read_number(at)?))
+        }
         "cancel" => Some(cancel_request(one_word(words)?)),
+        "complete" => Some(complete_request(one_word(words)?)),
         "show" => Some(show_request(one_word(words)?)),
         _ => None,
     }

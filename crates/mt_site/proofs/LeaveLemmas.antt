@@ -1,5 +1,5 @@
 -- What is refused leaves the core as it was.
-use Rattle.std.proofs.Common.{◌≡◌, ℕ, Bool, true, List, Option, None, Some, Result, Ok, Err, is_some, unwrap_or, refl, sym, ap, ◌∙◌}
+use Rattle.std.proofs.Common.{◌≡◌, ℕ, Bool, true, false, List, Option, None, Some, Result, Ok, Err, is_some, unwrap_or, refl, sym, ap, ◌∙◌}
 use Rattle.std.proofs.lemmas.Bool.{true≢false}
 use Rattle.std.proofs.lemmas.Map.Steps.{set_value_same}
 use Rattle.std.specs.Map.{set_value}
@@ -12,6 +12,7 @@ use Rattle.mt_event.specs.declared.refusal.Refusal as code
 use Rattle.mt_event.specs.declared.reply.Reply.{Reply}
 use Rattle.mt_event.specs.Events.{answer_from, refusal_from}
 use Rattle.mt_plain.specs.Events.{StreamName, forward, back, Refusal, memory, refused}
+use Rattle.mt_plain.specs.Refuse.{cancel_refusal}
 use Rattle.mt_plain.specs.Slots.{written_side}
 use Rattle.mt_primary.specs.Primary.{PrimaryState, empty_primary}
 use Rattle.mt_primary.specs.Writes.{Writes}
@@ -22,7 +23,7 @@ use Rattle.mt_stream.specs.Streams.{StreamValue}
 use Rattle.mt_workflow.specs.Workflows.{WorkflowState, live_of, slot_of, with_slot}
 use Rattle.mt_site_state.specs.ByHand.{WritesAt}
 use Rattle.mt_site_state.specs.Core.{CoreState, Does, Primaries, Workflows, primary_at, primary_of, workflow_at}
-use Rattle.mt_site_state.specs.Workflows.{AdvancesAt, AdvancesStream}
+use Rattle.mt_site_state.specs.Workflows.{AdvancesAt, AdvancesStream, CancelsAt, cancelled}
 
 -- ---- what is decided by one test
 
@@ -86,3 +87,10 @@ module _ (old new : CoreState) (workflow : List ℕ) (name : StreamName) (at at_
   advances_leave (Ok reply) o found is = tt
   advances_leave (Err r) None found is = is.1
   advances_leave (Err r) (Some w) found is = stream_leaves w found r (slot_of w name) refl is
+
+-- ---- Cancel
+
+pub cancels_leave : (old new : CoreState) (workflow : List ℕ) (result : Result Reply code.Refusal) (o : Option WorkflowState) → workflow_at old.workflows workflow ≡ o → CancelsAt o old (answer_from result) new → OnErr result (new ≡ old)
+cancels_leave old new workflow (Ok reply) o found is = tt
+cancels_leave old new workflow (Err r) None found is = is.1
+cancels_leave old new workflow (Err r) (Some w) found is = refused_leaves old new (cancel_refusal (live_of w)) false (cancelled old w) (refusal_from r) is

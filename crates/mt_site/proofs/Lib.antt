@@ -1,6 +1,7 @@
 pub mod AdvanceLemmas
 pub mod CoreLemmas
 pub mod CreateLemmas
+pub mod GivenUpLemmas
 pub mod HandLemmas
 pub mod HeadlineLemmas
 pub mod LeaveLemmas
@@ -8,5 +9,6 @@ pub mod MakeLemmas
 pub mod OwedLemmas
 pub mod PrimaryLemmas
 pub mod RunLemmas
+pub mod SiteLemmas
 pub mod TargetLemmas
 pub mod WriteLemmas

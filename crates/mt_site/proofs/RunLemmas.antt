@@ -10,8 +10,7 @@ use Rattle.mt_plain.specs.Answers.{Answers, Run, after}
 use Rattle.mt_plain.specs.Events as plain
 use Rattle.mt_plain.specs.Next.{next}
 use Rattle.mt_plain.specs.Plain.{Plain}
-use Rattle.mt_site_state.specs.Core.{CoreState}
-use Rattle.mt_site_state.specs.Stands.{StandsWith, Steps}
+use Rattle.mt_site_state.specs.Ways.{SiteStands, SiteState, SiteSteps}
 use Rattle.mt_site.specs.Runs.{Runs}
 
 -- a run goes on with one event more
@@ -32,8 +31,8 @@ map_next f (y ∷ ys) zero x inside is = rw is refl
 map_next f (y ∷ ys) (suc i) x inside is = ap (λ l. f y ∷ l) (map_next f ys i x (omega (arith, inside)) is)
 
 -- one event more is applied
-pub runs_more : (scopes : List Scope) (old now new : CoreState) (events : List Event) (results : List (Result Reply Refusal)) (i : ℕ) (e : Event) (r : Result Reply Refusal)
-    → i < length events → e ≡ get_or events i e → Runs scopes old (take i events) results now → Steps scopes now (event_of e) (answer_from r) new
+pub runs_more : (scopes : List Scope) (old now new : SiteState) (events : List Event) (results : List (Result Reply Refusal)) (i : ℕ) (e : Event) (r : Result Reply Refusal)
+    → i < length events → e ≡ get_or events i e → Runs scopes old (take i events) results now → SiteSteps scopes now (event_of e) (answer_from r) new
     → Runs scopes old (take (suc i) events) (results ++ r ∷ []) new
 runs_more scopes old now new events results i e r inside at before step = λ p stands.
     let es = map event_of (take i events) in
@@ -41,6 +40,6 @@ runs_more scopes old now new events results i e r inside at before step = λ p s
     let was = before p stands in
     let stepped = step (after p es told) was.1 in
     let pushed = run_push es told p (event_of e) (answer_from r) was.0 stepped.0 in
-    subst (λ l. Run p l (map answer_from (results ++ r ∷ [])) × StandsWith (after p l (map answer_from (results ++ r ∷ []))) scopes new) (map_next event_of events i e inside at)
-    (subst (λ l. Run p (es ++ event_of e ∷ []) l × StandsWith (after p (es ++ event_of e ∷ []) l) scopes new) (sym (map-append answer_from results (r ∷ [])))
-    (pushed.0, subst (λ q. StandsWith q scopes new) (sym pushed.1) stepped.1))
+    subst (λ l. Run p l (map answer_from (results ++ r ∷ [])) × SiteStands (after p l (map answer_from (results ++ r ∷ []))) scopes new) (map_next event_of events i e inside at)
+    (subst (λ l. Run p (es ++ event_of e ∷ []) l × SiteStands (after p (es ++ event_of e ∷ []) l) scopes new) (sym (map-append answer_from results (r ∷ [])))
+    (pushed.0, subst (λ q. SiteStands q scopes new) (sym pushed.1) stepped.1))

@@ -1,21 +1,32 @@
--- What an event does to a core (this profile's own).
-use Rattle.std.specs.Prelude.{List}
+-- What an event does to the controller (this profile's own).
+use Rattle.std.specs.Prelude.{◌≡◌, List}
 use Rattle.mt_model.specs.declared.entries.Scope.{Scope}
 use Rattle.mt_watch.specs.Asking.{Answering}
-use Rattle.mt_plain.specs.Events.{Event, write, read, add_keyspace, add_table, edit_rule, create, advance, cancel, show, Answer}
+use Rattle.mt_plain.specs.Events.{Event, write, read, add_keyspace, add_table, edit_rule, create, advance, begin_switch, begin_reverse, step, undo, cancel, complete, show, Answer}
 use Rattle.mt_site_state.specs.ByHand.{AddsKeyspace, AddsTable, EditsRule, ReadsRow, WritesRow}
-use Rattle.mt_site_state.specs.Core.{CoreState}
+use Rattle.mt_site_state.specs.Switching.{BeginsReverse, BeginsSwitch, Completes, StepsWorkflow, UndoesWorkflow}
+use Rattle.mt_site_state.specs.Ways.{SiteState}
 use Rattle.mt_site_state.specs.Workflows.{AdvancesWorkflow, Cancels, Creates, ShowsWorkflow}
 
--- each event does what it does; the others are no events of the code
-abbrev pub Applies : List Scope → Answering → CoreState → Event → Answer → CoreState → Type 0
-Applies scopes may_answer old (write keyspace table op) answer new = WritesRow old keyspace table op answer new
-Applies scopes may_answer old (read keyspace table key tablet_type) answer new = ReadsRow old keyspace table key tablet_type answer new
-Applies scopes may_answer old (add_keyspace keyspace) answer new = AddsKeyspace old keyspace answer new
-Applies scopes may_answer old (add_table keyspace table) answer new = AddsTable old keyspace table answer new
-Applies scopes may_answer old (edit_rule key target) answer new = EditsRule old key target answer new
-Applies scopes may_answer old (create workflow source target tables) answer new = Creates old scopes may_answer workflow source target tables answer new
-Applies scopes may_answer old (advance workflow name at at_most) answer new = AdvancesWorkflow old workflow name at at_most answer new
-Applies scopes may_answer old (cancel workflow) answer new = Cancels old workflow answer new
-Applies scopes may_answer old (show workflow) answer new = ShowsWorkflow old workflow answer new
-Applies scopes may_answer old other answer new = ⊥
+-- an event that is of no way does what it does to the core, and leaves what is kept of the ways as it is
+abbrev pub LeavesWays : (old new : SiteState) → Type 0
+LeavesWays old new = new.ways ≡ old.ways
+
+-- each event does what it does
+abbrev pub Applies : List Scope → Answering → SiteState → Event → Answer → SiteState → Type 0
+Applies scopes may_answer old (write keyspace table op) answer new = WritesRow old.core keyspace table op answer new.core × LeavesWays old new
+Applies scopes may_answer old (read keyspace table key tablet_type) answer new = ReadsRow old.core keyspace table key tablet_type answer new.core × LeavesWays old new
+Applies scopes may_answer old (add_keyspace keyspace) answer new = AddsKeyspace old.core keyspace answer new.core × LeavesWays old new
+Applies scopes may_answer old (add_table keyspace table) answer new = AddsTable old.core keyspace table answer new.core × LeavesWays old new
+Applies scopes may_answer old (edit_rule key target) answer new = EditsRule old.core key target answer new.core × LeavesWays old new
+Applies scopes may_answer old (create workflow source target tables) answer new =
+    Creates old.core scopes may_answer workflow source target tables answer new.core × LeavesWays old new
+Applies scopes may_answer old (advance workflow name at at_most) answer new =
+    AdvancesWorkflow old.core workflow name at at_most answer new.core × LeavesWays old new
+Applies scopes may_answer old (begin_switch workflow types) answer new = BeginsSwitch old workflow types answer new
+Applies scopes may_answer old (begin_reverse workflow types) answer new = BeginsReverse old workflow types answer new
+Applies scopes may_answer old (step workflow at) answer new = StepsWorkflow old scopes may_answer workflow at answer new
+Applies scopes may_answer old (undo workflow at) answer new = UndoesWorkflow old workflow at answer new
+Applies scopes may_answer old (cancel workflow) answer new = Cancels old.core workflow answer new.core × LeavesWays old new
+Applies scopes may_answer old (complete workflow) answer new = Completes old workflow answer new
+Applies scopes may_answer old (show workflow) answer new = ShowsWorkflow old.core workflow answer new.core × LeavesWays old new

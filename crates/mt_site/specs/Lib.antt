@@ -3,6 +3,7 @@ pub mod Applies
 pub mod ByHand
 pub mod Cancel
 pub mod Create
+pub mod GivenUp
 pub mod Headline
 pub mod Owed
 pub mod Parts

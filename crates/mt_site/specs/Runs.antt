@@ -1,4 +1,4 @@
--- What some events, one after the other, make of a core (this profile's own).
+-- What some events, one after the other, make of the controller (this profile's own).
 use Rattle.std.specs.Prelude.{List, map, Result}
 use Rattle.mt_event.specs.declared.event.Event.{Event}
 use Rattle.mt_event.specs.declared.refusal.Refusal.{Refusal}
@@ -7,11 +7,10 @@ use Rattle.mt_event.specs.Events.{answer_from, event_of}
 use Rattle.mt_model.specs.declared.entries.Scope.{Scope}
 use Rattle.mt_plain.specs.Answers.{Run, after}
 use Rattle.mt_plain.specs.Plain.{Plain}
-use Rattle.mt_site_state.specs.Core.{CoreState}
-use Rattle.mt_site_state.specs.Stands.{StandsWith}
+use Rattle.mt_site_state.specs.Ways.{SiteStands, SiteState}
 
--- they are a run, with what each was answered, from each state that the core stands for, and the core then stands for the state after it
-abbrev pub Runs : List Scope → CoreState → List Event → List (Result Reply Refusal) → CoreState → Type 0
-Runs scopes old events results new = (p : Plain) → StandsWith p scopes old
+-- they are a run, with what each was answered, from each state that it stands for, and it then stands for the state after it
+abbrev pub Runs : List Scope → SiteState → List Event → List (Result Reply Refusal) → SiteState → Type 0
+Runs scopes old events results new = (p : Plain) → SiteStands p scopes old
     → Run p (map event_of events) (map answer_from results)
-    × StandsWith (after p (map event_of events) (map answer_from results)) scopes new
+    × SiteStands (after p (map event_of events) (map answer_from results)) scopes new

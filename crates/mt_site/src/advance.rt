@@ -18,10 +18,10 @@ use crate::{Primaries, Workflows};
 use mt_event::{Refusal, Reply};
 use mt_names::{KeyspaceName, Position, WorkflowName};
 use mt_primary::Primary;
+use mt_site_switch::exchange;
 use mt_stream::{Advanced, Stream, StreamFault};
 use mt_workflow::{Slot, Workflow};
 use std::alloc::Global;
-use std::mem;
 
 /// The refusal of the controller for one of a stream.
 fn refusal_by_stream(fault: StreamFault) -> Refusal
@@ -32,18 +32,6 @@ fn refusal_by_stream(fault: StreamFault) -> Refusal
         StreamFault::Stale(position) => Refusal::Stale(position),
         StreamFault::Stopped | StreamFault::Frozen => Refusal::StreamStopped,
         StreamFault::LogFull => Refusal::Full,
-    }
-}
-
-/// Puts a primary in place of that of a keyspace, and answers which stood there. It takes no memory.
-fn exchange(primaries: &mut Primaries, keyspace: &KeyspaceName, primary: Primary) -> Primary
-    requires { is_some (primary_at primaries.old.entries keyspace.now) ≡ true }
-    ensures before { result ≡ primary_of primaries.old.entries keyspace.now }
-    ensures after { primaries.new.entries ≡ set_value (same_text keyspace.now) primaries.old.entries primary }
-{
-    match primaries.get_mut(keyspace) {
-        None => unreachable!(),
-        Some(place) => mem::replace(place, primary),
     }
 }
 

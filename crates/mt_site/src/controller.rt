@@ -1,4 +1,4 @@
-//! The core of the controller: the topology, a primary for each of its keyspaces, and the live workflows.
+//! The core of the controller: the topology, a primary for each of its keyspaces, the live workflows, and what is kept of ways.
 ghost use Rattle.std.specs.Prelude.{◌≡◌, ◌≤◌, ℕ, IfErr, IfOk, List, OnErr, length, string_bytes};
 ghost use Rattle.mt_names.specs.Tables.{most_tables};
 ghost use Rattle.mt_primary.specs.Primary.{IsPrimary};
@@ -11,78 +11,97 @@ ghost use Rattle.mt_plain.specs.Plain.{Plain, opening};
 ghost use Rattle.mt_plain.specs.Refuse.{owed};
 ghost use Rattle.mt_plain.specs.Serve.{served};
 ghost use Rattle.mt_site_state.specs.ByHand.{AddsKeyspace, AddsTable, EditsRule, ReadsRow, WritesRow};
-ghost use Rattle.mt_site_state.specs.Core.{empty_core, primary_of};
+ghost use Rattle.mt_site_state.specs.Core.{primary_of};
 ghost use Rattle.mt_site.specs.Applies.{Applies};
+ghost use Rattle.mt_site.specs.GivenUp.{CanBeGivenUp};
 ghost use Rattle.mt_site.specs.Owed.{owed_to};
-ghost use Rattle.mt_site_state.specs.Stands.{Stands, StandsWith, Steps};
+ghost use Rattle.mt_site_state.specs.Switching.{BeginsReverse, BeginsSwitch, Completes, StepsWorkflow, UndoesWorkflow};
+ghost use Rattle.mt_site_state.specs.Ways.{SiteStands, SiteSteps, empty_site};
 ghost use Rattle.mt_site_state.specs.Workflows.{AdvancesWorkflow, Cancels, Creates, ShowsWorkflow};
 ghost use Rattle.mt_workflow.specs.Workflows.{stream_name};
 
+use crate::given_up::a_move_can_be_given_up;
 use crate::owed::a_core_owes_what_its_state_owes;
 use crate::primaries::each_is_a_primary;
-use crate::{Primaries, Workflows, advance, by_hand, cancel, create, owed, rows, show};
+use crate::{OpenWays, Primaries, Workflows, advance, by_hand, cancel, create, owed, rows, show};
 use indexmap::IndexMap;
 use mt_event::{Event, Refusal, Reply};
+use mt_journal::Journal;
 use mt_model::{Op, TopologyFault};
-use mt_names::{KeyspaceName, Position, RuleKey, RuleTarget, TableName, TabletType, WorkflowName};
+use mt_names::{
+    KeyspaceName, Position, RuleKey, RuleTarget, TableName, TabletType, TypeSet, WorkflowName,
+};
 use mt_rules::RulesFault;
-use mt_site_create::{a_create_can_be_taken_back, a_create_leaves_a_core, a_create_steps};
+use mt_site_create::a_create_can_be_taken_back;
 use mt_site_facts::{
-    a_core_stays_one, each_keyspace_of_a_core_has_a_primary,
-    primaries_of_a_core_have_the_tables_of_its_topology, streams_of_a_core_lie_in_their_logs,
-    workflows_of_a_core_stand_in_place,
+    each_keyspace_of_a_core_has_a_primary, primaries_of_a_core_have_the_tables_of_its_topology,
+    streams_of_a_core_lie_in_their_logs, workflows_of_a_core_stand_in_place,
 };
-use mt_site_hand::{
-    a_core_tells_what_its_state_serves, a_keyspace_steps, a_read_steps, a_rule_steps,
-    a_table_steps, a_write_steps, an_empty_core_stands_for_the_opening,
+use mt_site_hand::a_core_tells_what_its_state_serves;
+use mt_site_switch::{begin_reverse, begin_switch, complete, step, undo};
+use mt_site_ways::{a_begin_steps, a_complete_steps, a_step_steps, an_undo_steps};
+use mt_site_whole::{
+    a_create_leaves_a_site, a_create_steps_and_leaves_the_ways, a_site_stays_one,
+    each_open_way_has_a_record, events_by_hand_step_and_leave_the_ways,
+    events_on_workflows_step_and_leave_the_ways,
 };
-use mt_site_moves::{a_cancel_steps, a_show_steps, an_advance_steps};
 use mt_topology::Topology;
 use mt_watch::Asks;
 use mt_workflow::Slot;
 use std::alloc::Global;
 use std::marker::Model;
 
-/// The state of the controller: the topology, for each keyspace its primary, and the live workflows. Whoever asks it hands in
-/// the watchers. (Vitess: what MoveTables works on)
+/// The state of the controller: the topology, for each keyspace its primary, the live workflows, the ways that are open with what
+/// their undo needs, the journal, and how many ways were begun. Whoever asks it hands in the watchers. (Vitess: what MoveTables
+/// works on)
 #[derive(Drop)]
 pub struct Core {
     alloc: Global,
     topology: Topology,
     primaries: Primaries,
     workflows: Workflows,
+    opened: OpenWays,
+    journal: Journal,
+    begun: u64,
 }
 
 impl Model for Core {
-    ghost use Rattle.mt_site_state.specs.Core.{CoreState};
-    ghost use Rattle.mt_site_state.specs.Stands.{IsCore};
+    ghost use Rattle.mt_site_state.specs.Ways.{IsSite, SiteState};
 
-    ghost Value = { CoreState };
+    ghost Value = { SiteState };
 
-    ghost view = { λ core. record { topology = core.topology; primaries = core.primaries.entries; workflows = core.workflows.entries } };
+    ghost view = { λ core. record {
+        core = record { topology = core.topology; primaries = core.primaries.entries; workflows = core.workflows.entries };
+        ways = record { opened = core.opened.entries; journal = core.journal; begun = core.begun };
+    } };
 
-    ghost invariant = { λ core. IsCore (record { topology = core.topology; primaries = core.primaries.entries; workflows = core.workflows.entries }) };
+    ghost invariant = { λ core. IsSite (record {
+        core = record { topology = core.topology; primaries = core.primaries.entries; workflows = core.workflows.entries };
+        ways = record { opened = core.opened.entries; journal = core.journal; begun = core.begun };
+    }) };
 }
 
 impl Core {
     /// A core without keyspaces and workflows. It takes no memory.
     pub fn new(alloc: Global) -> Self
-        ensures value { result ≡ empty_core }
-        ensures stands { (scopes : List Scope) → StandsWith (opening scopes) scopes result }
+        ensures value { result ≡ empty_site }
+        ensures stands { (scopes : List Scope) → SiteStands (opening scopes) scopes result }
     {
-        a_core_stays_one();
-        an_empty_core_stands_for_the_opening();
+        a_site_stays_one();
         Core {
             alloc,
             topology: Topology::new(alloc),
             primaries: IndexMap::new(alloc),
             workflows: IndexMap::new(alloc),
+            opened: IndexMap::new(alloc),
+            journal: Journal::new(alloc),
+            begun: 0,
         }
     }
 
     /// The topology. It takes no memory.
     pub fn topology(&self) -> &Topology
-        ensures { result.now ≡ self.now.topology }
+        ensures { result.now ≡ self.now.core.topology }
     {
         &self.topology
     }
@@ -93,8 +112,8 @@ impl Core {
         key: &RuleKey,
         tablet_type: TabletType,
     ) -> Result<RuleTarget, TopologyFault>
-        ensures value { result ≡ resolution self.now.topology key.now tablet_type }
-        ensures served { (p : Plain) → Stands p self.now → result ≡ resolution (served p) key.now tablet_type }
+        ensures value { result ≡ resolution self.now.core.topology key.now tablet_type }
+        ensures served { (p : Plain) (scopes : List Scope) → SiteStands p scopes self.now → result ≡ resolution (served p) key.now tablet_type }
     {
         a_core_tells_what_its_state_serves();
         self.topology.resolve(key, tablet_type)
@@ -102,20 +121,22 @@ impl Core {
 
     /// The document of the rules, as the commands `rules` and `mt rules` write them: `R0 Memory`.
     pub fn rules_json(&self) -> Result<String, RulesFault>
-        ensures text { IfOk result (λ text. string_bytes text ≡ rules_text self.now.topology.rules) }
-        ensures served { (p : Plain) → Stands p self.now → IfOk result (λ text. string_bytes text ≡ rules_text (served p).rules) }
+        ensures text { IfOk result (λ text. string_bytes text ≡ rules_text self.now.core.topology.rules) }
+        ensures served { (p : Plain) (scopes : List Scope) → SiteStands p scopes self.now → IfOk result (λ text. string_bytes text ≡ rules_text (served p).rules) }
         ensures memory { IfErr result (λ fault. fault ≡ RulesFault.Memory) }
     {
+        a_site_stays_one();
         a_core_tells_what_its_state_serves();
         self.topology.rules().to_json(self.alloc)
     }
 
     /// The document of the whole topology: `T0 Memory`.
     pub fn dump(&self) -> Result<String, TopologyFault>
-        ensures text { IfOk result (λ text. string_bytes text ≡ dump_text self.now.topology) }
-        ensures served { (p : Plain) → Stands p self.now → IfOk result (λ text. string_bytes text ≡ dump_text (served p)) }
+        ensures text { IfOk result (λ text. string_bytes text ≡ dump_text self.now.core.topology) }
+        ensures served { (p : Plain) (scopes : List Scope) → SiteStands p scopes self.now → IfOk result (λ text. string_bytes text ≡ dump_text (served p)) }
         ensures memory { IfErr result (λ fault. fault ≡ TopologyFault.Memory) }
     {
+        a_site_stays_one();
         a_core_tells_what_its_state_serves();
         self.topology.dump(self.alloc)
     }
@@ -123,44 +144,48 @@ impl Core {
     /// The events that are owed to the live workflows, so that each can be given up: to each its Cancel, and where a way is
     /// open before its journal an undo of each step that stands done, or of the begin. It takes no memory.
     pub fn owed(&self) -> usize
-        ensures value { result ≡ owed_to self.now.workflows }
-        ensures served { (p : Plain) → Stands p self.now → result ≡ owed p }
+        ensures value { result ≡ owed_to self.now.core.workflows }
+        ensures served { (p : Plain) (scopes : List Scope) → SiteStands p scopes self.now → result ≡ owed p }
     {
+        a_site_stays_one();
         a_core_owes_what_its_state_owes();
         owed::owed(&self.workflows)
     }
 
     /// Adds a keyspace without tables: `F30 Exists`, `F27 Full`, `F0 Memory`.
     fn add_keyspace(&mut self, name: &KeyspaceName) -> Result<Reply, Refusal>
-        ensures does { AddsKeyspace self.old name.now (answer_from result) self.new }
+        ensures does { AddsKeyspace self.old.core name.now (answer_from result) self.new.core }
+        ensures ways { self.new.ways ≡ self.old.ways }
         ensures unchanged { OnErr result (self.new ≡ self.old) }
     {
         each_keyspace_of_a_core_has_a_primary();
         primaries_of_a_core_have_the_tables_of_its_topology();
-        a_core_stays_one();
-        a_keyspace_steps();
+        a_site_stays_one();
+        events_by_hand_step_and_leave_the_ways();
         by_hand::add_keyspace(self.alloc, &mut self.topology, &mut self.primaries, name)
     }
 
     /// Adds a table without rows: `F1 NoKeyspace`, `F30 Exists`, `F27 Full`, `F0 Memory`.
     fn add_table(&mut self, keyspace: &KeyspaceName, table: &TableName) -> Result<Reply, Refusal>
-        ensures does { AddsTable self.old keyspace.now table.now (answer_from result) self.new }
+        ensures does { AddsTable self.old.core keyspace.now table.now (answer_from result) self.new.core }
+        ensures ways { self.new.ways ≡ self.old.ways }
         ensures unchanged { OnErr result (self.new ≡ self.old) }
     {
         each_keyspace_of_a_core_has_a_primary();
         primaries_of_a_core_have_the_tables_of_its_topology();
-        a_core_stays_one();
-        a_table_steps();
+        a_site_stays_one();
+        events_by_hand_step_and_leave_the_ways();
         by_hand::add_table(&mut self.topology, &mut self.primaries, keyspace, table)
     }
 
     /// Sets the rule of a key, or takes it away: `F22 RuleOwned`, `F27 Full`, `F0 Memory`.
     fn edit_rule(&mut self, key: &RuleKey, target: Option<RuleTarget>) -> Result<Reply, Refusal>
-        ensures does { EditsRule self.old key.now target (answer_from result) self.new }
+        ensures does { EditsRule self.old.core key.now target (answer_from result) self.new.core }
+        ensures ways { self.new.ways ≡ self.old.ways }
         ensures unchanged { OnErr result (self.new ≡ self.old) }
     {
-        a_core_stays_one();
-        a_rule_steps();
+        a_site_stays_one();
+        events_by_hand_step_and_leave_the_ways();
         by_hand::edit_rule(&mut self.topology, &self.workflows, key, target)
     }
 
@@ -172,11 +197,12 @@ impl Core {
         table: &TableName,
         op: Op,
     ) -> Result<Reply, Refusal>
-        ensures does { WritesRow self.old keyspace.now table.now op (answer_from result) self.new }
+        ensures does { WritesRow self.old.core keyspace.now table.now op (answer_from result) self.new.core }
+        ensures ways { self.new.ways ≡ self.old.ways }
         ensures unchanged { OnErr result (self.new ≡ self.old) }
     {
-        a_core_stays_one();
-        a_write_steps();
+        a_site_stays_one();
+        events_by_hand_step_and_leave_the_ways();
         rows::write_row(&mut self.primaries, keyspace, table, op)
     }
 
@@ -188,7 +214,7 @@ impl Core {
         key: u64,
         tablet_type: TabletType,
     ) -> Result<Reply, Refusal>
-        ensures { ReadsRow self.now keyspace.now table.now key tablet_type (answer_from result) self.now }
+        ensures { ReadsRow self.now.core keyspace.now table.now key tablet_type (answer_from result) self.now.core }
     {
         rows::read_row(&self.primaries, keyspace, table, key, tablet_type)
     }
@@ -203,12 +229,14 @@ impl Core {
         tables: &[TableName],
     ) -> Result<Reply, Refusal>
         requires { length tables.now ≤ most_tables }
-        ensures does { Creates self.old (W.scopes watchers.now) (W.may_answer watchers.now) name.now source.now target.now tables.now (answer_from result) self.new }
+        ensures does { Creates self.old.core (W.scopes watchers.now) (W.may_answer watchers.now) name.now source.now target.now tables.now (answer_from result) self.new.core }
+        ensures ways { self.new.ways ≡ self.old.ways }
         ensures unchanged { OnErr result (self.new ≡ self.old) }
     {
         create::names_are_names(source, target, tables);
+        a_site_stays_one();
         a_create_can_be_taken_back(watchers);
-        a_create_leaves_a_core(watchers);
+        a_create_leaves_a_site(watchers);
         create::create(
             self.alloc,
             &mut self.topology,
@@ -230,14 +258,15 @@ impl Core {
         at: Position,
         max: u16,
     ) -> Result<Reply, Refusal>
-        ensures does { AdvancesWorkflow self.old name.now (stream_name slot) at max (answer_from result) self.new }
+        ensures does { AdvancesWorkflow self.old.core name.now (stream_name slot) at max (answer_from result) self.new.core }
+        ensures ways { self.new.ways ≡ self.old.ways }
         ensures unchanged { OnErr result (self.new ≡ self.old) }
-        ensures primaries { (keyspace : List ℕ) → IsPrimary (primary_of self.old.primaries keyspace) }
+        ensures primaries { (keyspace : List ℕ) → IsPrimary (primary_of self.old.core.primaries keyspace) }
     {
         workflows_of_a_core_stand_in_place();
         streams_of_a_core_lie_in_their_logs();
-        a_core_stays_one();
-        an_advance_steps();
+        a_site_stays_one();
+        events_on_workflows_step_and_leave_the_ways();
         each_is_a_primary(self.alloc, &self.primaries);
         advance::advance(
             self.alloc,
@@ -252,13 +281,14 @@ impl Core {
 
     /// Cancels a workflow: `F7 NoWorkflow`, `F13 UnderWay`, `F20 TrafficSwitched`. It takes no memory, and asks nobody.
     fn cancel(&mut self, name: &WorkflowName) -> Result<Reply, Refusal>
-        ensures does { Cancels self.old name.now (answer_from result) self.new }
+        ensures does { Cancels self.old.core name.now (answer_from result) self.new.core }
+        ensures ways { self.new.ways ≡ self.old.ways }
         ensures unchanged { OnErr result (self.new ≡ self.old) }
-        ensures primaries { (keyspace : List ℕ) → IsPrimary (primary_of self.old.primaries keyspace) }
+        ensures primaries { (keyspace : List ℕ) → IsPrimary (primary_of self.old.core.primaries keyspace) }
     {
         workflows_of_a_core_stand_in_place();
-        a_core_stays_one();
-        a_cancel_steps();
+        a_site_stays_one();
+        events_on_workflows_step_and_leave_the_ways();
         each_is_a_primary(self.alloc, &self.primaries);
         cancel::cancel(
             &mut self.topology,
@@ -270,29 +300,154 @@ impl Core {
 
     /// Tells of a workflow: `F7 NoWorkflow`. It takes no memory.
     fn show(&self, name: &WorkflowName) -> Result<Reply, Refusal>
-        ensures { ShowsWorkflow self.now name.now (answer_from result) self.now }
+        ensures { ShowsWorkflow self.now.core name.now (answer_from result) self.now.core }
     {
+        a_site_stays_one();
         streams_of_a_core_lie_in_their_logs();
         show::show(&self.workflows, name)
     }
 
-    /// Applies an event, which is done whole or refused; what is refused leaves the core as it was. The answer is one that the
-    /// definitions allow in each state that the core stands for, and the core then stands for the next one. Of the events Read,
-    /// Cancel and Show take no memory; Create alone asks watchers, those of its target's primary. (Vitess: MoveTables)
-    pub fn apply<W: Asks>(&mut self, watchers: &W, event: &Event) -> Result<Reply, Refusal>
-        ensures applies { Applies (W.scopes watchers.now) (W.may_answer watchers.now) self.old (event_of event.now) (answer_from result) self.new }
-        ensures steps { Steps (W.scopes watchers.now) self.old (event_of event.now) (answer_from result) self.new }
+    /// Begins a way forward on a workflow: `F7 NoWorkflow`, `F13 UnderWay`, `F15 NothingToSwitch`, `F17 Copying`, `F27 Full`,
+    /// `F0 Memory`.
+    fn begin_switch(&mut self, name: &WorkflowName, types: TypeSet) -> Result<Reply, Refusal>
+        ensures does { BeginsSwitch self.old name.now types (answer_from result) self.new }
         ensures unchanged { OnErr result (self.new ≡ self.old) }
     {
-        a_keyspace_steps();
-        a_table_steps();
-        a_rule_steps();
-        a_write_steps();
-        a_read_steps();
-        an_advance_steps();
-        a_cancel_steps();
-        a_show_steps();
-        a_create_steps(watchers);
+        a_site_stays_one();
+        workflows_of_a_core_stand_in_place();
+        each_open_way_has_a_record();
+        a_begin_steps();
+        begin_switch(
+            self.alloc,
+            &mut self.workflows,
+            &mut self.opened,
+            &mut self.begun,
+            name,
+            types,
+        )
+    }
+
+    /// Begins a way back on a workflow: `F7 NoWorkflow`, `F13 UnderWay`, `F16 NothingToReverse`, `F27 Full`, `F0 Memory`.
+    fn begin_reverse(&mut self, name: &WorkflowName, types: TypeSet) -> Result<Reply, Refusal>
+        ensures does { BeginsReverse self.old name.now types (answer_from result) self.new }
+        ensures unchanged { OnErr result (self.new ≡ self.old) }
+    {
+        a_site_stays_one();
+        workflows_of_a_core_stand_in_place();
+        each_open_way_has_a_record();
+        a_begin_steps();
+        begin_reverse(
+            self.alloc,
+            &mut self.workflows,
+            &mut self.opened,
+            &mut self.begun,
+            name,
+            types,
+        )
+    }
+
+    /// Does the next step of the way that is open on a workflow: `F7 NoWorkflow`, `F14 NothingUnderWay`, `F28 Undoing`,
+    /// `F25 Stale`, and what the step itself is refused by.
+    fn step<W: Asks>(
+        &mut self,
+        watchers: &W,
+        name: &WorkflowName,
+        at: u64,
+    ) -> Result<Reply, Refusal>
+        ensures does { StepsWorkflow self.old (W.scopes watchers.now) (W.may_answer watchers.now) name.now at (answer_from result) self.new }
+        ensures unchanged { OnErr result (self.new ≡ self.old) }
+    {
+        a_site_stays_one();
+        workflows_of_a_core_stand_in_place();
+        each_open_way_has_a_record();
+        a_step_steps(watchers);
+        step(
+            self.alloc,
+            &mut self.topology,
+            &mut self.primaries,
+            &mut self.workflows,
+            &mut self.opened,
+            &mut self.journal,
+            watchers,
+            name,
+            at,
+        )
+    }
+
+    /// Undoes the last step of the way that is open on a workflow: `F7 NoWorkflow`, `F14 NothingUnderWay`, `F19 PastJournal`,
+    /// `F25 Stale`. It takes no memory, and asks nobody.
+    fn undo<W: Asks>(
+        &mut self,
+        watchers: &W,
+        name: &WorkflowName,
+        at: u64,
+    ) -> Result<Reply, Refusal>
+        ensures does { UndoesWorkflow self.old name.now at (answer_from result) self.new }
+        ensures unchanged { OnErr result (self.new ≡ self.old) }
+    {
+        a_site_stays_one();
+        workflows_of_a_core_stand_in_place();
+        each_open_way_has_a_record();
+        an_undo_steps(watchers);
+        undo(
+            self.alloc,
+            &mut self.topology,
+            &mut self.primaries,
+            &mut self.workflows,
+            &mut self.opened,
+            &mut self.journal,
+            watchers,
+            name,
+            at,
+        )
+    }
+
+    /// Completes a workflow: `F7 NoWorkflow`, `F13 UnderWay`, `F21 NotAllSwitched`. It takes no memory, and asks nobody.
+    fn complete(&mut self, name: &WorkflowName) -> Result<Reply, Refusal>
+        ensures does { Completes self.old name.now (answer_from result) self.new }
+        ensures unchanged { OnErr result (self.new ≡ self.old) }
+        ensures primaries { (keyspace : List ℕ) → IsPrimary (primary_of self.old.core.primaries keyspace) }
+    {
+        a_site_stays_one();
+        workflows_of_a_core_stand_in_place();
+        primaries_of_a_core_have_the_tables_of_its_topology();
+        a_complete_steps();
+        each_is_a_primary(self.alloc, &self.primaries);
+        complete(
+            &mut self.topology,
+            &mut self.primaries,
+            &mut self.workflows,
+            name,
+        )
+    }
+
+    /// Applies an event, which is done whole or refused; what is refused leaves the core as it was. The answer is one that the
+    /// definitions allow in each state that the core stands for, and the core then stands for the next one. Of the events Read,
+    /// Undo, Cancel, Complete and Show take no memory. Create asks the watchers of its target's primary, and of the steps a refresh
+    /// those of the primary that it is about; no other event asks anybody. (Vitess: MoveTables)
+    pub fn apply<W: Asks>(&mut self, watchers: &W, event: &Event) -> Result<Reply, Refusal>
+        ensures applies { Applies (W.scopes watchers.now) (W.may_answer watchers.now) self.old (event_of event.now) (answer_from result) self.new }
+        ensures steps { SiteSteps (W.scopes watchers.now) self.old (event_of event.now) (answer_from result) self.new }
+        ensures unchanged { OnErr result (self.new ≡ self.old) }
+        ensures given_up { CanBeGivenUp self.old (event_of event.now) → answer_from result ≡ plain.done }
+    {
+        a_move_can_be_given_up(watchers);
+        self.apply_event(watchers, event)
+    }
+
+    /// The same, event by event.
+    fn apply_event<W: Asks>(&mut self, watchers: &W, event: &Event) -> Result<Reply, Refusal>
+        ensures applies { Applies (W.scopes watchers.now) (W.may_answer watchers.now) self.old (event_of event.now) (answer_from result) self.new }
+        ensures steps { SiteSteps (W.scopes watchers.now) self.old (event_of event.now) (answer_from result) self.new }
+        ensures unchanged { OnErr result (self.new ≡ self.old) }
+    {
+        events_by_hand_step_and_leave_the_ways();
+        events_on_workflows_step_and_leave_the_ways();
+        a_create_steps_and_leaves_the_ways(watchers);
+        a_begin_steps();
+        a_step_steps(watchers);
+        an_undo_steps(watchers);
+        a_complete_steps();
         match event {
             Event::AddKeyspace { keyspace } => self.add_keyspace(keyspace),
             Event::AddTable { keyspace, table } => self.add_table(keyspace, table),
@@ -323,7 +478,12 @@ impl Core {
                 at,
                 max,
             } => self.advance(workflow, *stream, *at, *max),
+            Event::BeginSwitch { workflow, types } => self.begin_switch(workflow, *types),
+            Event::BeginReverse { workflow, types } => self.begin_reverse(workflow, *types),
+            Event::Step { workflow, at } => self.step(watchers, workflow, *at),
+            Event::Undo { workflow, at } => self.undo(watchers, workflow, *at),
             Event::Cancel { workflow } => self.cancel(workflow),
+            Event::Complete { workflow } => self.complete(workflow),
             Event::Show { workflow } => self.show(workflow),
         }
     }

@@ -1,16 +1,18 @@
 //! The headline, said of cores: what Cancel gives back, what reads answer, and where a moved table can be written.
-ghost use Rattle.std.specs.Prelude.{◌≡◌, ℕ, false, true, List, Some};
+ghost use Rattle.std.specs.Prelude.{◌≡◌, ℕ, false, true, List, Some, option_map};
 ghost use Rattle.mt_laws.specs.Acknowledged.{acknowledged, row_by};
-ghost use Rattle.mt_laws.specs.WayBack.{SinceCreate, in_part};
+ghost use Rattle.mt_laws.specs.WayBack.{IsBegin, NoWayBetween, SinceCreate, WayFrom, in_part};
 ghost use Rattle.mt_model.specs.declared.entries.EntryKey.{EntryKey};
 ghost use Rattle.mt_model.specs.declared.entries.Scope.{Scope};
 ghost use Rattle.mt_model.specs.Rows.{Row};
 ghost use Rattle.mt_model.specs.Topology.{value_of};
 ghost use Rattle.mt_names.specs.declared.types.TabletType.TheVariants.{Primary};
+ghost use Rattle.mt_names.specs.declared.types.TypeSet.{TypeSet};
 ghost use Rattle.mt_plain.specs.Answers.{Answers, Run, after};
-ghost use Rattle.mt_plain.specs.Events.{Event, cancel, Answer, done, row};
+ghost use Rattle.mt_plain.specs.Drive.{way_of};
+ghost use Rattle.mt_plain.specs.Events.{Event, begin_reverse, begin_switch, cancel, step, undo, Answer, done, row};
 ghost use Rattle.mt_plain.specs.Next.{next};
-ghost use Rattle.mt_plain.specs.Plain.{Plain, among, opening};
+ghost use Rattle.mt_plain.specs.Plain.{Plain, among, changed_types, opening};
 ghost use Rattle.mt_plain.specs.Writes.{client_number, client_row};
 ghost use Rattle.mt_site_state.specs.ByHand.{ReadsRow};
 ghost use Rattle.mt_site_state.specs.Core.{CoreState, workflow_at};
@@ -20,6 +22,7 @@ ghost use Rattle.mt_site.specs.Headline.{TakesWrites};
 
 use mt_laws::{
     a_live_workflow_is_found_by_its_part, a_moved_table_is_never_writable_in_two,
+    a_reversal_gives_the_part_back, an_abandoned_way_gives_the_part_back,
     cancel_gives_the_part_back, each_primary_read_answers_from_the_acknowledged_writes,
 };
 use mt_site_hand::a_read_steps;
@@ -37,6 +40,29 @@ pub fn cancel_gives_back_what_create_found()
         → in_part q name key ≡ false → value_of now.topology key ≡ value_of last.topology key }
 {
     cancel_gives_the_part_back();
+}
+
+/// After an undo that closes a way, forward or back, the topology says of each entry of the workflow's part what it said before
+/// the begin of that way, whatever events came between.
+pub fn an_abandoned_way_gives_back_what_its_begin_found()
+    ensures { (scopes : List Scope) (before now : CoreState) (name : List ℕ) (begin : Event) (at : ℕ) (p q : Plain)
+        → StandsWith p scopes before → IsBegin name begin → WayFrom name begin (undo name at) p q → StandsWith q scopes now
+        → (key : EntryKey) → in_part p name key ≡ true → value_of now.topology key ≡ value_of before.topology key }
+{
+    an_abandoned_way_gives_the_part_back();
+}
+
+/// After a reversal of just the types that a switch changed the topology says of each entry of the workflow's part what it said
+/// before the switch, whatever events came between, as long as no other traffic command of that workflow came to its end.
+pub fn a_reversal_gives_back_what_its_switch_found()
+    ensures { (scopes : List Scope) (before now : CoreState) (name : List ℕ) (types back_types : TypeSet) (at at_back : ℕ) (p q r s : Plain)
+        → StandsWith p scopes before → WayFrom name (begin_switch name types) (step name at) p q → NoWayBetween name q r
+        → WayFrom name (begin_reverse name back_types) (step name at_back) r s
+        → option_map changed_types (way_of (next p (begin_switch name types) done) name)
+        ≡ option_map changed_types (way_of (next r (begin_reverse name back_types) done) name)
+        → StandsWith s scopes now → (key : EntryKey) → in_part p name key ≡ true → value_of now.topology key ≡ value_of before.topology key }
+{
+    a_reversal_gives_the_part_back();
 }
 
 /// A row that a core answers to a read of type primary is, after any run, what the operations acknowledged on it make, each

@@ -6,6 +6,7 @@ mod by_hand;
 mod cancel;
 mod controller;
 mod create;
+mod given_up;
 mod headline;
 mod owed;
 mod parts;
@@ -17,20 +18,13 @@ mod site;
 mod target;
 
 pub use controller::Core;
+pub use given_up::a_move_can_be_given_up;
 pub use headline::{
-    a_moved_table_of_a_core_is_never_writable_in_two, cancel_gives_back_what_create_found,
+    a_moved_table_of_a_core_is_never_writable_in_two, a_reversal_gives_back_what_its_switch_found,
+    an_abandoned_way_gives_back_what_its_begin_found, cancel_gives_back_what_create_found,
     reads_of_a_core_answer_the_acknowledged_writes,
 };
-use indexmap::IndexMap;
-use mt_names::{KeyspaceName, WorkflowName};
-use mt_primary::Primary;
-use mt_workflow::Workflow;
+pub(crate) use mt_site_switch::{OpenWays, Primaries, Workflows};
 pub use owed::a_core_owes_what_its_state_owes;
 pub use run::{RunStopped, run_events};
 pub use site::Site;
-
-/// Primaries by the names of their keyspaces.
-pub(crate) type Primaries = IndexMap<KeyspaceName, Primary>;
-
-/// The live workflows by their names, in the order in which they were created.
-pub(crate) type Workflows = IndexMap<WorkflowName, Workflow>;

@@ -1,14 +1,16 @@
 //! The site: the core of the controller beside the watchers that it asks.
-ghost use Rattle.std.specs.Prelude.{◌≡◌, IfErr, IfOk, OnErr, string_bytes};
+ghost use Rattle.std.specs.Prelude.{◌≡◌, IfErr, IfOk, List, OnErr, string_bytes};
 ghost use Rattle.mt_event.specs.Events.{answer_from, event_of};
 ghost use Rattle.mt_model.specs.Documents.{dump_text, rules_text};
 ghost use Rattle.mt_model.specs.Topology.{resolution};
+ghost use Rattle.mt_plain.specs.Events as plain;
 ghost use Rattle.mt_plain.specs.Plain.{Plain, opening};
 ghost use Rattle.mt_plain.specs.Refuse.{owed};
 ghost use Rattle.mt_plain.specs.Serve.{served};
-ghost use Rattle.mt_site_state.specs.Core.{empty_core};
-ghost use Rattle.mt_site_state.specs.Stands.{Stands, StandsWith, Steps};
+ghost use Rattle.mt_model.specs.declared.entries.Scope.{Scope};
+ghost use Rattle.mt_site_state.specs.Ways.{SiteStands, SiteSteps, empty_site};
 ghost use Rattle.mt_site.specs.Applies.{Applies};
+ghost use Rattle.mt_site.specs.GivenUp.{CanBeGivenUp};
 ghost use Rattle.mt_site.specs.Owed.{owed_to};
 
 use crate::Core;
@@ -31,9 +33,9 @@ pub struct Site<W: Asks> {
 impl<W: Asks> Site<W> {
     /// A site without keyspaces and workflows, which asks these watchers. It takes no memory.
     pub fn open(alloc: Global, watchers: W) -> Self
-        ensures core { result.core ≡ empty_core }
+        ensures core { result.core ≡ empty_site }
         ensures watchers { result.watchers ≡ watchers }
-        ensures stands { StandsWith (opening (W.scopes watchers)) (W.scopes watchers) result.core }
+        ensures stands { SiteStands (opening (W.scopes watchers)) (W.scopes watchers) result.core }
     {
         Site {
             core: Core::new(alloc),
@@ -45,15 +47,16 @@ impl<W: Asks> Site<W> {
     pub fn apply(&mut self, event: &Event) -> Result<Reply, Refusal>
         ensures watchers { self.new.watchers ≡ self.old.watchers }
         ensures applies { Applies (W.scopes self.old.watchers) (W.may_answer self.old.watchers) self.old.core (event_of event.now) (answer_from result) self.new.core }
-        ensures steps { Steps (W.scopes self.old.watchers) self.old.core (event_of event.now) (answer_from result) self.new.core }
+        ensures steps { SiteSteps (W.scopes self.old.watchers) self.old.core (event_of event.now) (answer_from result) self.new.core }
         ensures unchanged { OnErr result (self.new.core ≡ self.old.core) }
+        ensures given_up { CanBeGivenUp self.old.core (event_of event.now) → answer_from result ≡ plain.done }
     {
         self.core.apply(&self.watchers, event)
     }
 
     /// The topology. It takes no memory.
     pub fn topology(&self) -> &Topology
-        ensures { result.now ≡ self.now.core.topology }
+        ensures { result.now ≡ self.now.core.core.topology }
     {
         self.core.topology()
     }
@@ -71,16 +74,16 @@ impl<W: Asks> Site<W> {
         key: &RuleKey,
         tablet_type: TabletType,
     ) -> Result<RuleTarget, TopologyFault>
-        ensures value { result ≡ resolution self.now.core.topology key.now tablet_type }
-        ensures served { (p : Plain) → Stands p self.now.core → result ≡ resolution (served p) key.now tablet_type }
+        ensures value { result ≡ resolution self.now.core.core.topology key.now tablet_type }
+        ensures served { (p : Plain) (scopes : List Scope) → SiteStands p scopes self.now.core → result ≡ resolution (served p) key.now tablet_type }
     {
         self.core.resolve(key, tablet_type)
     }
 
     /// The document of the rules: `R0 Memory`.
     pub fn rules_json(&self) -> Result<String, RulesFault>
-        ensures text { IfOk result (λ text. string_bytes text ≡ rules_text self.now.core.topology.rules) }
-        ensures served { (p : Plain) → Stands p self.now.core → IfOk result (λ text. string_bytes text ≡ rules_text (served p).rules) }
+        ensures text { IfOk result (λ text. string_bytes text ≡ rules_text self.now.core.core.topology.rules) }
+        ensures served { (p : Plain) (scopes : List Scope) → SiteStands p scopes self.now.core → IfOk result (λ text. string_bytes text ≡ rules_text (served p).rules) }
         ensures memory { IfErr result (λ fault. fault ≡ RulesFault.Memory) }
     {
         self.core.rules_json()
@@ -88,8 +91,8 @@ impl<W: Asks> Site<W> {
 
     /// The document of the whole topology: `T0 Memory`.
     pub fn dump(&self) -> Result<String, TopologyFault>
-        ensures text { IfOk result (λ text. string_bytes text ≡ dump_text self.now.core.topology) }
-        ensures served { (p : Plain) → Stands p self.now.core → IfOk result (λ text. string_bytes text ≡ dump_text (served p)) }
+        ensures text { IfOk result (λ text. string_bytes text ≡ dump_text self.now.core.core.topology) }
+        ensures served { (p : Plain) (scopes : List Scope) → SiteStands p scopes self.now.core → IfOk result (λ text. string_bytes text ≡ dump_text (served p)) }
         ensures memory { IfErr result (λ fault. fault ≡ TopologyFault.Memory) }
     {
         self.core.dump()
@@ -97,8 +100,8 @@ impl<W: Asks> Site<W> {
 
     /// The events that are owed to the live workflows, so that each can be given up: see `Core::owed`. It takes no memory.
     pub fn owed(&self) -> usize
-        ensures value { result ≡ owed_to self.now.core.workflows }
-        ensures served { (p : Plain) → Stands p self.now.core → result ≡ owed p }
+        ensures value { result ≡ owed_to self.now.core.core.workflows }
+        ensures served { (p : Plain) (scopes : List Scope) → SiteStands p scopes self.now.core → result ≡ owed p }
     {
         self.core.owed()
     }

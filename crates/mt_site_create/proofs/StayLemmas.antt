@@ -59,9 +59,9 @@ module _ (scopes : List Scope) (may_answer : Answering) (old new : CoreState) (w
     (same : (p : Plain) (wide : List Scope) → StandsWith p wide old → create_refusal old wide workflow source target (each_once tables) ≡ refusal_of p (create workflow source target tables))
     (made : (p : Plain) (wide : List Scope) → StandsWith p wide old → refusal_of p (create workflow source target tables) ≡ None
     → StandsWith (next p (create workflow source target tables) done) wide
-    (with_created old (new_of old workflow source target (each_once tables)) (notice_of (scope.Primary target) (change_of (new_of old workflow source target (each_once tables))))))
-    (stays : ((more : List Scope) → Steps (more ++ scopes) old (create workflow source target tables) done new) → IsCore old → IsCore new) where
-  taken_steps : (notice : List Entry) → notice ≡ notice_of (scope.Primary target) (change_of (new_of old workflow source target (each_once tables)))
+    (with_created old (new_of old workflow source target (each_once tables)) (notice_of (scope.Primary target) (change_of (new_of old workflow source target (each_once tables)))))) where
+  -- a Create that is taken steps with more watchers before these too
+  pub taken_steps : (notice : List Entry) → notice ≡ notice_of (scope.Primary target) (change_of (new_of old workflow source target (each_once tables)))
       → new ≡ with_created old (new_of old workflow source target (each_once tables)) notice → create_refusal old scopes workflow source target (each_once tables) ≡ None
       → (more : List Scope) → Steps (more ++ scopes) old (create workflow source target tables) done new
   taken_steps notice told is none more p stands = (
@@ -75,19 +75,20 @@ module _ (scopes : List Scope) (may_answer : Answering) (old new : CoreState) (w
           sym (same p (more ++ scopes) stands)
           ∙ still_taken old more scopes workflow source target (each_once tables) none
 
-  unchanged : new ≡ old → IsCore old → IsCore new
-  unchanged is = subst IsCore (sym is)
+  module _ (stays : ((more : List Scope) → Steps (more ++ scopes) old (create workflow source target tables) done new) → IsCore old → IsCore new) where
+    unchanged : new ≡ old → IsCore old → IsCore new
+    unchanged is = subst IsCore (sym is)
 
-  pub leaves_a_core : (answer : Answer) → CreatesSet old scopes may_answer workflow source target (each_once tables) answer new → IsCore old → IsCore new
-  leaves_a_core done creates = at creates.1
-    where
-      at : (notice : List Entry) × AsksEach scopes may_answer (scope.Primary target) (change_of (new_of old workflow source target (each_once tables))) (Ok notice)
-          × (new ≡ with_created old (new_of old workflow source target (each_once tables)) notice)
-          → IsCore old → IsCore new
-      at (notice, asks, is) = stays (taken_steps notice asks.notice is creates.0)
-  leaves_a_core (refused memory) creates = unchanged creates.1
-  leaves_a_core (refused (watcher_refused index)) creates = unchanged creates.2
-  leaves_a_core (refused other) creates = unchanged creates.1
-  leaves_a_core (row r) creates = absurd creates
-  leaves_a_core (advanced events rows) creates = absurd creates
-  leaves_a_core (shown s) creates = absurd creates
+    pub leaves_a_core : (answer : Answer) → CreatesSet old scopes may_answer workflow source target (each_once tables) answer new → IsCore old → IsCore new
+    leaves_a_core done creates = at creates.1
+      where
+        at : (notice : List Entry) × AsksEach scopes may_answer (scope.Primary target) (change_of (new_of old workflow source target (each_once tables))) (Ok notice)
+            × (new ≡ with_created old (new_of old workflow source target (each_once tables)) notice)
+            → IsCore old → IsCore new
+        at (notice, asks, is) = stays (taken_steps notice asks.notice is creates.0)
+    leaves_a_core (refused memory) creates = unchanged creates.1
+    leaves_a_core (refused (watcher_refused index)) creates = unchanged creates.2
+    leaves_a_core (refused other) creates = unchanged creates.1
+    leaves_a_core (row r) creates = absurd creates
+    leaves_a_core (advanced events rows) creates = absurd creates
+    leaves_a_core (shown s) creates = absurd creates

@@ -26,7 +26,7 @@ module _ (more : List Scope) (p : Plain) where
   any_wide (Some live) None stands = stands
   any_wide (Some live) (Some w) stands = record { sides = stands.sides; switched = stands.switched; way = stands.way; kept = stands.kept; forward = stands.forward; back = stands.back }
 
-  stands_wide : (core : CoreState) → IsReached (wider more p) → Stands p core → Stands (wider more p) core
+  pub stands_wide : (core : CoreState) → IsReached (wider more p) → Stands p core → Stands (wider more p) core
   stands_wide core reached stands = record {
     reached = reached;
     scopes_are = refl;
@@ -43,20 +43,28 @@ module _ (more : List Scope) (p : Plain) where
     workflows = record { each = λ name. any_wide (live_at p name) (workflow_at core.workflows name) (stands.workflows.each name); names = stands.workflows.names };
   }
 
-pub more_watchers : (core : CoreState) (scopes : List Scope) (h : HasState core) → (g : HasState core) × (g.state.scopes ≡ h.state.scopes ++ scopes)
-more_watchers core scopes h = (record { state = wider scopes h.state; reached = reached; named = wide.named; stands = stands_wide scopes h.state core reached h.stands }, refl)
-  where
-    wide : IsWide scopes (opening h.reached.scopes) (after (opening h.reached.scopes) h.reached.events h.reached.answers)
-    wide = widened scopes (opening h.reached.scopes) h.reached.events h.reached.answers h.reached.run h.named
+-- a state that is reached by events that bring names alone is so with more watchers too
+module _ (more : List Scope) (p : Plain) (reached : IsReached p) (named : AllByRecursion BringsNames reached.events) where
+  wide : IsWide more (opening reached.scopes) (after (opening reached.scopes) reached.events reached.answers)
+  wide = widened more (opening reached.scopes) reached.events reached.answers reached.run named
 
-    reached : IsReached (wider scopes h.state)
-    reached = record {
-      scopes = h.reached.scopes ++ scopes;
-      events = wide.events;
-      answers = wide.answers;
-      run = wide.run;
-      is = wide.is ∙ ap (wider scopes) h.reached.is;
-    }
+  pub reached_wide : IsReached (wider more p)
+  reached_wide = record {
+    scopes = reached.scopes ++ more;
+    events = wide.events;
+    answers = wide.answers;
+    run = wide.run;
+    is = wide.is ∙ ap (wider more) reached.is;
+  }
+
+  pub named_wide : AllByRecursion BringsNames reached_wide.events
+  unfolding reached_wide wide
+  named_wide = wide.named
+
+pub more_watchers : (core : CoreState) (scopes : List Scope) (h : HasState core) → (g : HasState core) × (g.state.scopes ≡ h.state.scopes ++ scopes)
+more_watchers core scopes h =
+    let reached = reached_wide scopes h.state h.reached h.named in
+    (record { state = wider scopes h.state; reached = reached; named = named_wide scopes h.state h.reached h.named; stands = stands_wide scopes h.state core reached h.stands }, refl)
 
 pushed : (events : List Event) (event : Event) → AllByRecursion BringsNames events → BringsNames event → AllByRecursion BringsNames (events ++ event ∷ [])
 pushed [] event all named = (named, tt)
@@ -72,23 +80,35 @@ run_on (e ∷ events) (a ∷ answers) p event answer run given =
     let (further, is) = run_on events answers (next p e a) event answer run.1 given in
     ((run.0, further), is)
 
+-- a state that is reached by events that bring names alone, and one event more
+module _ (p : Plain) (reached : IsReached p) (event : Event) (answer : Answer) (given : Answers p event answer) where
+  further : Run (opening reached.scopes) (reached.events ++ event ∷ []) (reached.answers ++ answer ∷ [])
+      × (after (opening reached.scopes) (reached.events ++ event ∷ []) (reached.answers ++ answer ∷ []) ≡ next (after (opening reached.scopes) reached.events reached.answers) event answer)
+  further = run_on reached.events reached.answers (opening reached.scopes) event answer reached.run (subst (λ q. Answers q event answer) (sym reached.is) given)
+
+  pub reached_next : IsReached (next p event answer)
+  reached_next = record {
+    scopes = reached.scopes;
+    events = reached.events ++ event ∷ [];
+    answers = reached.answers ++ answer ∷ [];
+    run = further.0;
+    is = further.1 ∙ ap (λ q. next q event answer) reached.is;
+  }
+
+  pub named_next : AllByRecursion BringsNames reached.events → BringsNames event → AllByRecursion BringsNames reached_next.events
+  unfolding reached_next
+  named_next named brings = pushed reached.events event named brings
+
 -- the next state of a core with these watchers too
 pub next_state : (scopes : List Scope) (old new : CoreState) (event : Event) (answer : Answer) → BringsNames event → ((more : List Scope) → Steps (more ++ scopes) old event answer new) → HasState old → HasState new
 next_state scopes old new event answer named steps h =
     let (g, are) = more_watchers old scopes h in
     let stands : StandsWith g.state (h.state.scopes ++ scopes) old = subst (λ s. StandsWith g.state s old) are g.stands in
     let (given, after_it) = steps h.state.scopes g.state stands in
-    let (run, is) = run_on g.reached.events g.reached.answers (opening g.reached.scopes) event answer g.reached.run (subst (λ q. Answers q event answer) (sym g.reached.is) given) in
     record {
       state = next g.state event answer;
-      reached = record {
-        scopes = g.reached.scopes;
-        events = g.reached.events ++ event ∷ [];
-        answers = g.reached.answers ++ answer ∷ [];
-        run = run;
-        is = is ∙ ap (λ q. next q event answer) g.reached.is;
-      };
-      named = pushed g.reached.events event g.named named;
+      reached = reached_next g.state g.reached event answer given;
+      named = named_next g.state g.reached event answer given g.named named;
       stands = subst (λ s. StandsWith (next g.state event answer) s new) (sym after_it.scopes_are) after_it;
     }
 

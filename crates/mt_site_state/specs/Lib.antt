@@ -2,3 +2,5 @@ pub mod Core
 pub mod Stands
 pub mod ByHand
 pub mod Workflows
+pub mod Ways
+pub mod Switching

@@ -18,6 +18,8 @@ pub enum Act {
     Dump(&'static str),
     /// A name leads for a type to this table, or to none with `-`.
     Leads(&'static str, TabletType, &'static str),
+    /// So many events are owed to the live workflows.
+    Owes(usize),
 }
 
 /// How an event is answered; nothing if one of its names isn't one.
@@ -58,5 +60,6 @@ pub fn is_so(site: &mut Site<Watchers>, act: Act) -> bool {
         Act::Rules(want) => has_rules(site, want),
         Act::Dump(want) => has_dump(site, want),
         Act::Leads(key, tablet_type, want) => leads(site, key, tablet_type, want),
+        Act::Owes(want) => site.owed() == want,
     }
 }

@@ -4,6 +4,10 @@ use crate::events::{tables_of, value_of};
 use mt_event::{Refusal, Reply, Shown, ShownStream};
 use mt_names::{KeyspaceName, Position, RuleKey, TableName, TypeSet, WorkflowName};
 use mt_stream::{Advanced, StreamState};
+use mt_workflow::Way;
+
+/// A stream: what it does, and its position.
+pub type StreamAt = (StreamState, Position);
 
 /// An answer, with its names as texts.
 #[derive(Clone, Copy)]
@@ -19,6 +23,9 @@ pub enum Answer {
     /// What is told of a workflow that is created, and whose stream runs: its name, source, target and tables, the stream's
     /// position, and whether the copy has ended.
     Shown(&'static str, &'static str, &'static str, &'static [&'static str], Position, bool),
+    /// What is told of the workflow `mv`, which moves `corder` from `commerce` to `customer`, once its copy has ended: the types
+    /// that are switched, the way that is open, and its streams, forward and back.
+    Stands(TypeSet, Option<Way>, StreamAt, Option<StreamAt>),
     /// Refused, by a text that stands for no value beside.
     Refused(&'static str),
     /// The rule of this key leads elsewhere.
@@ -31,6 +38,14 @@ pub enum Answer {
     Stale(Position),
 }
 
+/// What is told of a stream.
+fn stream_of(stream: StreamAt) -> ShownStream {
+    ShownStream {
+        state: stream.0,
+        position: stream.1,
+    }
+}
+
 /// What is told of a workflow with nothing switched and no way open.
 fn shown_of(
     name: &str,
@@ -39,21 +54,33 @@ fn shown_of(
     tables: &[&str],
     position: Position,
     copied: bool,
-) -> Option<Reply> {
-    Some(Reply::Shown(Shown {
+) -> Option<Shown> {
+    Some(Shown {
         workflow: WorkflowName::parse(name).ok()?,
         source: KeyspaceName::parse(source).ok()?,
         target: KeyspaceName::parse(target).ok()?,
         tables: tables_of(tables)?,
         switched: TypeSet::NONE,
         way: None,
-        forward: ShownStream {
-            state: StreamState::Running,
-            position,
-        },
+        forward: stream_of((StreamState::Running, position)),
         copied,
         back: None,
-    }))
+    })
+}
+
+/// What is told of the workflow `mv`, once its copy has ended.
+fn stands(
+    switched: TypeSet,
+    way: Option<Way>,
+    forward: StreamAt,
+    back: Option<StreamAt>,
+) -> Option<Shown> {
+    let mut shown = shown_of("mv", "commerce", "customer", &["corder"], 0, true)?;
+    shown.switched = switched;
+    shown.way = way;
+    shown.forward = stream_of(forward);
+    shown.back = back.map(stream_of);
+    Some(shown)
 }
 
 /// The reply, if the answer is one.
@@ -64,7 +91,10 @@ pub fn reply_of(answer: Answer) -> Option<Reply> {
         Answer::NoRow => Some(Reply::Row(None)),
         Answer::Advanced(events, rows) => Some(Reply::Advanced(Advanced { events, rows })),
         Answer::Shown(name, source, target, tables, position, copied) => {
-            shown_of(name, source, target, tables, position, copied)
+            shown_of(name, source, target, tables, position, copied).map(Reply::Shown)
+        }
+        Answer::Stands(switched, way, forward, back) => {
+            stands(switched, way, forward, back).map(Reply::Shown)
         }
         _ => None,
     }

@@ -3,7 +3,7 @@
 use crate::acts::Act;
 use crate::answers::Answer;
 use crate::events::Ask;
-use crate::play::{BOTH, Played, play};
+use crate::play::{BOTH, Played, Refuses, play};
 use mt_names::TabletType;
 use mt_workflow::Slot;
 use std::test::Fail;
@@ -283,14 +283,18 @@ fn a_table_counts_once(rt: HostRuntime) -> Result<(), Fail> {
 #[test]
 fn a_watcher_refuses(rt: HostRuntime) -> Result<(), Fail> {
     let watches = [
-        ("commerce", "corder"),
-        ("customer", "-"),
-        ("customer", "corder"),
-        ("customer", "corder"),
+        ("commerce", Refuses::Denying("corder")),
+        ("customer", Refuses::Nothing),
+        ("customer", Refuses::Denying("corder")),
+        ("customer", Refuses::Denying("corder")),
     ];
     assert_eq!(rt; play(rt.alloc(), &watches, &[&REFUSED]), Played::AllSo);
     assert_eq!(rt;
-        play(rt.alloc(), &[("commerce", "-")], &[&NO_WATCHER]),
+        play(
+            rt.alloc(),
+            &[("commerce", Refuses::Nothing)],
+            &[&NO_WATCHER]
+        ),
         Played::AllSo
     );
     Ok(())

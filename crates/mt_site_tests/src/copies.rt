@@ -3,12 +3,13 @@
 use crate::answers::{Answer, reply_of};
 use crate::events::{Ask, event_of};
 use mt_event::{Event, Refusal, Reply};
-use mt_names::{NameFault, RuleKey, TableName, TabletType};
-use mt_workflow::Slot;
+use mt_names::{NameFault, RuleKey, TableName, TabletType, TypeSet};
+use mt_stream::StreamState;
+use mt_workflow::{Slot, Way};
 use std::test::Fail;
 
 /// Each event, and of some a second one that differs in one place.
-const EVENTS: [Ask; 21] = [
+const EVENTS: [Ask; 33] = [
     Ask::Insert(("k", "t"), 1, "a"),
     Ask::Insert(("k", "t"), 1, "b"),
     Ask::Insert(("j", "t"), 1, "a"),
@@ -27,13 +28,43 @@ const EVENTS: [Ask; 21] = [
     Ask::Advance("m", Slot::Forward, 1, 2),
     Ask::Advance("m", Slot::Back, 1, 2),
     Ask::Advance("m", Slot::Forward, 1, 3),
+    Ask::BeginSwitch("m", TypeSet::ALL),
+    Ask::BeginSwitch("m", TypeSet::NONE),
+    Ask::BeginSwitch("n", TypeSet::ALL),
+    Ask::BeginReverse("m", TypeSet::ALL),
+    Ask::BeginReverse("m", TypeSet::NONE),
+    Ask::Step("m", 1),
+    Ask::Step("m", 2),
+    Ask::Step("n", 1),
+    Ask::Undo("m", 1),
+    Ask::Undo("m", 2),
     Ask::Cancel("m"),
     Ask::Cancel("n"),
+    Ask::Complete("m"),
+    Ask::Complete("n"),
     Ask::Show("m"),
 ];
 
+/// A way with a step done.
+const STEPPED: Way = Way {
+    back: false,
+    before: TypeSet::NONE,
+    after: TypeSet::ALL,
+    done: 1,
+    undoing: false,
+};
+
+/// The same way once a step was undone.
+const UNDOING: Way = Way {
+    back: false,
+    before: TypeSet::NONE,
+    after: TypeSet::ALL,
+    done: 1,
+    undoing: true,
+};
+
 /// The same of replies.
-const REPLIES: [Answer; 10] = [
+const REPLIES: [Answer; 16] = [
     Answer::Done,
     Answer::NoRow,
     Answer::Row(""),
@@ -44,6 +75,27 @@ const REPLIES: [Answer; 10] = [
     Answer::Shown("m", "k", "j", &["t"], 1, true),
     Answer::Shown("m", "k", "j", &["t"], 2, false),
     Answer::Shown("m", "k", "j", &["u"], 1, false),
+    Answer::Stands(TypeSet::NONE, None, (StreamState::Running, 1), None),
+    Answer::Stands(TypeSet::ALL, None, (StreamState::Running, 1), None),
+    Answer::Stands(TypeSet::NONE, None, (StreamState::Frozen, 1), None),
+    Answer::Stands(
+        TypeSet::NONE,
+        None,
+        (StreamState::Running, 1),
+        Some((StreamState::Running, 1)),
+    ),
+    Answer::Stands(
+        TypeSet::NONE,
+        Some(STEPPED),
+        (StreamState::Running, 1),
+        None,
+    ),
+    Answer::Stands(
+        TypeSet::NONE,
+        Some(UNDOING),
+        (StreamState::Running, 1),
+        None,
+    ),
 ];
 
 /// Whether two events are told apart, and a copy isn't.

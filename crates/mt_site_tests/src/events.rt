@@ -4,7 +4,7 @@ use arrayvec::ArrayVec;
 use mt_event::Event;
 use mt_model::Op;
 use mt_names::{
-    KeyspaceName, MAX_TABLES, Position, RuleKey, RuleTarget, TableName, TabletType, Value,
+    KeyspaceName, MAX_TABLES, Position, RuleKey, RuleTarget, TableName, TabletType, TypeSet, Value,
     WorkflowName,
 };
 use mt_workflow::Slot;
@@ -35,8 +35,18 @@ pub enum Ask {
     Create(&'static str, &'static str, &'static str, &'static [&'static str]),
     /// A stream is advanced.
     Advance(&'static str, Slot, Position, u16),
+    /// A switch of the traffic of these types begins.
+    BeginSwitch(&'static str, TypeSet),
+    /// A reversal of the traffic of these types begins.
+    BeginReverse(&'static str, TypeSet),
+    /// The next step of the open way is done, of which so many stand done.
+    Step(&'static str, u64),
+    /// The last step of the open way is undone, of which so many stand done.
+    Undo(&'static str, u64),
     /// A workflow is cancelled.
     Cancel(&'static str),
+    /// A workflow is completed.
+    Complete(&'static str),
     /// A workflow is shown.
     Show(&'static str),
 }
@@ -135,8 +145,34 @@ fn event_of_workflow(ask: Ask) -> Option<Event> {
         Ask::Cancel(name) => Some(Event::Cancel {
             workflow: WorkflowName::parse(name).ok()?,
         }),
+        Ask::Complete(name) => Some(Event::Complete {
+            workflow: WorkflowName::parse(name).ok()?,
+        }),
         Ask::Show(name) => Some(Event::Show {
             workflow: WorkflowName::parse(name).ok()?,
+        }),
+        other => event_of_way(other),
+    }
+}
+
+/// The event, if it is one on a way.
+fn event_of_way(ask: Ask) -> Option<Event> {
+    match ask {
+        Ask::BeginSwitch(name, types) => Some(Event::BeginSwitch {
+            workflow: WorkflowName::parse(name).ok()?,
+            types,
+        }),
+        Ask::BeginReverse(name, types) => Some(Event::BeginReverse {
+            workflow: WorkflowName::parse(name).ok()?,
+            types,
+        }),
+        Ask::Step(name, at) => Some(Event::Step {
+            workflow: WorkflowName::parse(name).ok()?,
+            at,
+        }),
+        Ask::Undo(name, at) => Some(Event::Undo {
+            workflow: WorkflowName::parse(name).ok()?,
+            at,
         }),
         _ => None,
     }

@@ -22,3 +22,7 @@ mod moves;
 mod play;
 #[cfg(test)]
 mod refusals;
+#[cfg(test)]
+mod ways;
+#[cfg(test)]
+mod ways_memory;

@@ -77,20 +77,20 @@ const CREATED: [Act; 5] = [
 
 /// The documents of a site: its rules, and its whole topology.
 #[derive(Drop, PartialEq)]
-struct Written {
+pub struct Written {
     rules: String,
     dump: String,
 }
 
 /// The documents, each at once or at a second try.
-fn documents(site: &Site<Watchers>) -> Option<Written> {
+pub fn documents(site: &Site<Watchers>) -> Option<Written> {
     let rules = site.rules_json().or_else(|_| site.rules_json()).ok()?;
     let dump = site.dump().or_else(|_| site.dump()).ok()?;
     Some(Written { rules, dump })
 }
 
 /// Whether an answer may stand where no memory is left: `Memory` itself, or the refusal of a watcher, which found none.
-fn is_want(answer: &Result<Reply, Refusal>) -> bool {
+pub fn is_want(answer: &Result<Reply, Refusal>) -> bool {
     matches!(answer, Err(Refusal::Memory | Refusal::WatcherRefused(_)))
 }
 
@@ -107,7 +107,7 @@ fn is_answered(site: &mut Site<Watchers>, ask: Ask, want: Answer) -> bool {
 }
 
 /// The same of a list.
-fn are_answered(site: &mut Site<Watchers>, list: &[(Ask, Answer)]) -> bool {
+pub fn are_answered(site: &mut Site<Watchers>, list: &[(Ask, Answer)]) -> bool {
     for (ask, want) in list {
         if !is_answered(site, *ask, *want) {
             return false;
@@ -157,7 +157,7 @@ fn there_and_back(site: &mut Site<Watchers>) -> Option<Written> {
 }
 
 /// A site that begins with nothing, at once or at a second try.
-fn site_of(alloc: Global) -> Option<Site<Watchers>> {
+pub fn site_of(alloc: Global) -> Option<Site<Watchers>> {
     let watchers = match watchers_of(alloc, &BOTH) {
         Some(watchers) => watchers,
         None => watchers_of(alloc, &BOTH)?,

@@ -20,20 +20,45 @@ pub enum Played {
     NotMade,
 }
 
-/// A watcher of the primary of a keyspace, and the table whose change it refuses; `-` for none.
-pub type Watch = (&'static str, &'static str);
+/// What a watcher refuses.
+#[derive(Clone, Copy)]
+pub enum Refuses {
+    /// Nothing.
+    Nothing,
+    /// A change that denies this table.
+    Denying(&'static str),
+    /// A change that allows this table.
+    Allowing(&'static str),
+}
+
+impl Refuses {
+    /// The table, if there is one, and whether a change that denies it is refused, or one that allows it.
+    fn mark(self) -> (Option<TableName>, bool) {
+        match self {
+            Refuses::Nothing => (None, false),
+            Refuses::Denying(table) => (TableName::parse(table).ok(), true),
+            Refuses::Allowing(table) => (TableName::parse(table).ok(), false),
+        }
+    }
+}
+
+/// A watcher of the primary of a keyspace, and what it refuses.
+pub type Watch = (&'static str, Refuses);
 
 /// The watchers of the two keyspaces that tables move between.
-pub const BOTH: [Watch; 2] = [("commerce", "-"), ("customer", "-")];
+pub const BOTH: [Watch; 2] = [
+    ("commerce", Refuses::Nothing),
+    ("customer", Refuses::Nothing),
+];
 
-/// Whether a change denies a table somewhere.
-fn denies(change: &Change, table: &Option<TableName>) -> bool {
+/// Whether a change denies a table somewhere, or allows it.
+fn marks(change: &Change, table: &Option<TableName>, denies: bool) -> bool {
     let Some(table) = table else {
         return false;
     };
     for entry in change.as_slice() {
-        if let Entry::Denied(_, denied, true) = entry {
-            if denied == table {
+        if let Entry::Denied(_, marked, mark) = entry {
+            if marked == table && *mark == denies {
                 return true;
             }
         }
@@ -45,13 +70,13 @@ fn denies(change: &Change, table: &Option<TableName>) -> bool {
 fn watcher_of(alloc: Global, watch: Watch) -> Option<Watcher> {
     let scope = Scope::Primary(KeyspaceName::parse(watch.0).ok()?);
     let own = scope.copied();
-    let refused = TableName::parse(watch.1).ok();
+    let (refused, denies) = watch.1.mark();
     let call: Callback = match Box::new(
         alloc,
         move |change: &Change| -> Result<Notice, WatchFault>
             ensures { IfOk result (λ notice. notice ≡ notice_of own change.now) }
         {
-            if denies(change, &refused) {
+            if marks(change, &refused, denies) {
                 return Err(WatchFault(1));
             }
             Notice::of(alloc, &own, change).map_err(|_| WatchFault(0))

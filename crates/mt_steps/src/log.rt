@@ -26,6 +26,16 @@ pub struct UndoLog {
     pub(crate) slot: Option<Stream>,
 }
 
+/// A way that is open: its number, by which its journal entry is told from all others, and what is kept of it for its undo.
+/// (Vitess: a switch of traffic under way)
+#[derive(Drop)]
+pub struct OpenWay {
+    /// The number.
+    pub number: u64,
+    /// What is kept for its undo.
+    pub log: UndoLog,
+}
+
 impl Model for UndoLog {
     ghost use Rattle.mt_steps.specs.Undo.{UndoState};
 

@@ -154,6 +154,15 @@ pub(crate) fn last_step(way: Way) -> Step
     Step::of_number(first + way.done - 1)
 }
 
+/// The step of a way that is next. It takes no memory. (Vitess: how traffic is switched, reads first, then writes)
+pub fn next_step(way: Way) -> Step
+    requires { next_step (way_from way) < 12 }
+    ensures step { result ≡ step_at (next_step (way_from way)) }
+    ensures number { number result ≡ next_step (way_from way) }
+{
+    Step::of_number(first_step(way) + way.done)
+}
+
 /// The number of the first step of a way.
 fn first_step(way: Way) -> u8
     ensures value { result ≡ first_step (way_from way) }

@@ -1,8 +1,7 @@
 -- The document is that of what the state serves.
 use Rattle.std.proofs.Common.{◌++◌, Some, ap}
 use Rattle.mt_plain.specs.Output.{line_feed}
-use Rattle.mt_run.proofs.RunLemmas.{stands_as_it_is}
 use Rattle.mt_run.proofs.script.dump.Goals as goal
 
 pub returns-in-Ok : goal.returns-in-Ok
-returns-in-Ok c = λ scopes p stands. (ap (λ t. Some (t ++ line_feed)) (c.in-Ok.ensures.served p (stands_as_it_is p scopes c.args.core.now stands)), stands)
+returns-in-Ok c = λ scopes p stands. (ap (λ t. Some (t ++ line_feed)) (c.in-Ok.ensures.served p scopes stands), stands)

@@ -2,13 +2,13 @@
 use Rattle.std.proofs.Common.{length}
 use Rattle.std.specs.Str.Lines.{lines}
 use Rattle.mt_plain.specs.Plain.{Plain}
-use Rattle.mt_site_state.specs.Stands.{StandsWith}
+use Rattle.mt_site_state.specs.Ways.{SiteStands}
 use Rattle.mt_run.proofs.RunLemmas.{SoFar}
 use Rattle.mt_run.proofs.script.run_lines.Given as goal
 
 abbrev pub invariant-loop-line : goal.invariant-loop-line
 invariant-loop-line g l =
-    (p : Plain) → StandsWith p (g.A.Asks.scopes l.fn.watchers) l.fn.core
+    (p : Plain) → SiteStands p (g.A.Asks.scopes l.fn.watchers) l.fn.core
     → SoFar (g.A.Asks.scopes l.fn.watchers) p l.fn.script l.rest l.core (g.W.Write.contents l.fn.writer) (g.W.Write.contents l.writer) l.waiting.items
 
 abbrev pub decreases-loop-line : goal.decreases-loop-line

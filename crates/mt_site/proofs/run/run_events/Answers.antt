@@ -1,7 +1,7 @@
 -- One event more is applied, and its answer is the next one.
 use Rattle.std.proofs.Common.{◌≤◌, ◌∙◌, add-one, length, rules, subst, suc, sym, take}
 use Rattle.mt_event.specs.Events.{answer_from, event_of}
-use Rattle.mt_site_state.specs.Stands.{Steps}
+use Rattle.mt_site_state.specs.Ways.{SiteSteps}
 use Rattle.mt_site.proofs.RunLemmas.{runs_more}
 use Rattle.mt_site.proofs.run.run_events.Goals as goal
 use Rattle.mt_site.specs.Runs.{Runs}
@@ -13,8 +13,8 @@ loop-event-preserved g c =
     let scopes = g.W.Asks.scopes c.args.site.now.watchers in
     let old = c.args.site.now.core in
     let new = c.apply.new.self.core in
-    let step : Steps scopes c.loop-event.site.core (event_of c.event-item.result) (answer_from c.apply.result) new
-    = subst (λ w. Steps (g.W.Asks.scopes w) c.loop-event.site.core (event_of c.event-item.result) (answer_from c.apply.result) new) c.loop-event.invariant.watchers c.apply.ensures.steps in
+    let step : SiteSteps scopes c.loop-event.site.core (event_of c.event-item.result) (answer_from c.apply.result) new
+    = subst (λ w. SiteSteps (g.W.Asks.scopes w) c.loop-event.site.core (event_of c.event-item.result) (answer_from c.apply.result) new) c.loop-event.invariant.watchers c.apply.ensures.steps in
     record {
       room = subst (λ n. length events ≤ n) (sym c.push_reserved.ensures.capacity) c.loop-event.invariant.room;
       count = search rules;

@@ -1,22 +1,30 @@
--- The rule is edited in each state that the core stands for.
-use Rattle.std.proofs.Common.{[]}
-use Rattle.mt_event.specs.Events.{answer_from}
-use Rattle.mt_plain.specs.Events.{edit_rule}
-use Rattle.mt_site_state.specs.Core.{CoreState}
-use Rattle.std.proofs.Common.{◌≡◌, subst}
+-- The rule is edited in each state that the controller stands for.
+use Rattle.std.proofs.Common.{◌≡◌, [], refl, subst}
 use Rattle.std.specs.Result.{OnErr}
+use Rattle.mt_event.specs.Events.{answer_from}
+use Rattle.mt_site_state.specs.Core.{CoreState}
+use Rattle.mt_site_state.specs.Ways.{SiteState, WaysState}
+use Rattle.mt_site.proofs.SiteLemmas.{lifted, site, whole}
+use Rattle.mt_plain.specs.Events.{edit_rule}
+use Rattle.mt_site_state.specs.ByHand.{EditsRule}
 use Rattle.mt_site.proofs.LeaveLemmas.{does_leave}
 use Rattle.mt_site.proofs.controller.Core.edit_rule.Goals as goal
 
 pub invariant_of-self : goal.invariant_of-self
 invariant_of-self c =
-    let old : CoreState = record { topology = c.self.inside.topology; primaries = c.self.inside.primaries.entries; workflows = c.self.inside.workflows.entries } in
-    let new : CoreState = record { topology = c.edit_rule.new.topology; primaries = c.self.inside.primaries.entries; workflows = c.self.inside.workflows.entries } in
-    c.a_core_stays_one.ensures.stays [] old new (edit_rule c.args.key.now c.args.target) (answer_from c.edit_rule.result) c.edit_rule.ensures.named
-    (λ more. c.a_rule_steps.ensures _ old new c.args.key.now c.args.target (answer_from c.edit_rule.result) (c.edit_rule.ensures.edits c.self.inside.primaries.entries)) c.self.invariant
+    let old : SiteState = site c.self.inside.topology c.self.inside.primaries.entries c.self.inside.workflows.entries c.self.inside.opened.entries c.self.inside.journal c.self.inside.begun in
+    let core : CoreState = record { topology = c.edit_rule.new.topology; primaries = c.self.inside.primaries.entries; workflows = c.self.inside.workflows.entries } in
+    c.a_site_stays_one.ensures.stays [] old (record old { core = core }) (edit_rule c.args.key.now c.args.target) (answer_from c.edit_rule.result) c.edit_rule.ensures.named
+    (λ more. c.events_by_hand_step_and_leave_the_ways.ensures.rule _ old core c.args.key.now c.args.target (answer_from c.edit_rule.result) (c.edit_rule.ensures.edits c.self.inside.primaries.entries)) c.self.invariant
+
+pub returns-clause-does : goal.returns-clause-does
+returns-clause-does c =
+    let core : CoreState = record { topology = c.edit_rule.new.topology; primaries = c.self.inside.primaries.entries; workflows = c.self.inside.workflows.entries } in
+    subst (λ s. EditsRule s.core c.args.key.now c.args.target (answer_from c.edit_rule.result) core) c.self.view_is (c.edit_rule.ensures.edits c.self.inside.primaries.entries)
 
 pub returns-clause-unchanged : goal.returns-clause-unchanged
 returns-clause-unchanged c =
     let old : CoreState = record { topology = c.self.inside.topology; primaries = c.self.inside.primaries.entries; workflows = c.self.inside.workflows.entries } in
-    let new : CoreState = record { topology = c.edit_rule.new.topology; primaries = c.self.inside.primaries.entries; workflows = c.self.inside.workflows.entries } in
-    subst (λ s. OnErr c.edit_rule.result (new ≡ s)) c.self.view_is (does_leave old new _ _ _ c.edit_rule.result (c.edit_rule.ensures.edits c.self.inside.primaries.entries))
+    let core : CoreState = record { topology = c.edit_rule.new.topology; primaries = c.self.inside.primaries.entries; workflows = c.self.inside.workflows.entries } in
+    let ways : WaysState = record { opened = c.self.inside.opened.entries; journal = c.self.inside.journal; begun = c.self.inside.begun } in
+    subst (λ s. OnErr c.edit_rule.result (whole core ways ≡ s)) c.self.view_is (lifted c.edit_rule.result ways core old (does_leave old core _ _ _ c.edit_rule.result (c.edit_rule.ensures.edits c.self.inside.primaries.entries)))

@@ -1,0 +1,39 @@
+-- What Complete writes has places, and the next state is stood for.
+use Rattle.std.proofs.Common.{◌≡◌, [], refl, subst}
+use Rattle.std.specs.Result.{OnErr}
+use Rattle.mt_event.specs.Events.{answer_from}
+use Rattle.mt_plain.specs.Events.{complete}
+use Rattle.mt_site_state.specs.Core.{workflow_at}
+use Rattle.mt_site_state.specs.Switching.{Completes}
+use Rattle.mt_site_state.specs.Ways.{SiteState}
+use Rattle.mt_site.proofs.SiteLemmas.{can_complete, completes_leave, site}
+use Rattle.mt_site.proofs.controller.Core.complete.Goals as goal
+
+pub complete-requires : goal.complete-requires
+complete-requires c =
+    let old : SiteState = site c.self.inside.topology c.self.inside.primaries.entries c.self.inside.workflows.entries c.self.inside.opened.entries c.self.inside.journal c.self.inside.begun in
+    let core = c.a_site_stays_one.ensures.core old c.self.invariant in
+    let place = c.workflows_of_a_core_stand_in_place.ensures in
+    let tables = c.primaries_of_a_core_have_the_tables_of_its_topology.ensures in
+    let name = c.args.name.now in
+    can_complete old.core name (place.named old.core core name) (place.source old.core core name) (place.apart old.core core name) (place.places old.core core name) (place.at_source old.core core name)
+    (tables.tables old.core core) (tables.places old.core core)
+
+pub invariant_of-self : goal.invariant_of-self
+invariant_of-self c =
+    let old : SiteState = site c.self.inside.topology c.self.inside.primaries.entries c.self.inside.workflows.entries c.self.inside.opened.entries c.self.inside.journal c.self.inside.begun in
+    let new : SiteState = site c.complete.new.topology c.complete.new.primaries.entries c.complete.new.workflows.entries c.self.inside.opened.entries c.self.inside.journal c.self.inside.begun in
+    c.a_site_stays_one.ensures.stays [] old new (complete c.args.name.now) (answer_from c.complete.result) tt
+    (λ more. c.a_complete_steps.ensures _ old new c.args.name.now (answer_from c.complete.result) (c.complete.ensures (record { opened = c.self.inside.opened.entries; journal = c.self.inside.journal; begun = c.self.inside.begun })) c.each_is_a_primary.ensures) c.self.invariant
+
+pub returns-clause-does : goal.returns-clause-does
+returns-clause-does c =
+    let new : SiteState = site c.complete.new.topology c.complete.new.primaries.entries c.complete.new.workflows.entries c.self.inside.opened.entries c.self.inside.journal c.self.inside.begun in
+    subst (λ s. Completes s c.args.name.now (answer_from c.complete.result) new) c.self.view_is (c.complete.ensures (record { opened = c.self.inside.opened.entries; journal = c.self.inside.journal; begun = c.self.inside.begun }))
+
+pub returns-clause-unchanged : goal.returns-clause-unchanged
+returns-clause-unchanged c =
+    let old : SiteState = site c.self.inside.topology c.self.inside.primaries.entries c.self.inside.workflows.entries c.self.inside.opened.entries c.self.inside.journal c.self.inside.begun in
+    let new : SiteState = site c.complete.new.topology c.complete.new.primaries.entries c.complete.new.workflows.entries c.self.inside.opened.entries c.self.inside.journal c.self.inside.begun in
+    subst (λ s. OnErr c.complete.result (new ≡ s)) c.self.view_is
+    (completes_leave old new c.complete.result (workflow_at old.core.workflows c.args.name.now) (c.complete.ensures (record { opened = c.self.inside.opened.entries; journal = c.self.inside.journal; begun = c.self.inside.begun })))

@@ -1,0 +1,15 @@
+-- The document is that of the state.
+use Rattle.std.proofs.Common.{ap, string_bytes, subst, sym, ◌∙◌}
+use Rattle.mt_model.specs.Documents.{rules_text}
+use Rattle.mt_plain.specs.Serve.{served}
+use Rattle.mt_site_state.specs.Ways.{SiteStands, SiteState}
+use Rattle.mt_site.proofs.SiteLemmas.{site, stands_core, text_served}
+use Rattle.mt_site.proofs.controller.Core.rules_json.Goals as goal
+
+pub returns-clause-served : goal.returns-clause-served
+returns-clause-served c = λ p scopes stands.
+    let old : SiteState = site c.self.inside.topology c.self.inside.primaries.entries c.self.inside.workflows.entries c.self.inside.opened.entries c.self.inside.journal c.self.inside.begun in
+    let here : SiteStands p scopes old = subst (λ s. SiteStands p scopes s) (sym c.self.view_is) stands in
+    text_served string_bytes c.to_json.result (rules_text c.rules.result.now) (rules_text (served p).rules)
+    (ap rules_text c.rules.ensures
+    ∙ c.a_core_tells_what_its_state_serves.ensures.rules p old.core (c.a_site_stays_one.ensures.core old c.self.invariant) (stands_core p scopes old here)) c.to_json.ensures.text

@@ -1,0 +1,9 @@
+pub mod BeginLemmas
+pub mod FoundLemmas
+pub mod LevelLemmas
+pub mod RefreshLemmas
+pub mod RefusalLemmas
+pub mod SameLemmas
+pub mod StepLemmas
+pub mod TakenLemmas
+pub mod UndoLemmas

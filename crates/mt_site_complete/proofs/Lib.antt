@@ -1,0 +1,4 @@
+pub mod CompleteLemmas
+pub mod NextLemmas
+pub mod PrimaryLemmas
+pub mod RowLemmas

@@ -1,0 +1,119 @@
+//! Laws on what the events of a way do to the primaries of a core: a step, an undo, and a begin.
+ghost use Rattle.std.specs.Prelude.{◌≡◌, ℕ, ◌==◌, true, false, map, List, Option, Some, Ok};
+ghost use Rattle.std.specs.Map.{set_value};
+ghost use Rattle.mt_model.specs.declared.entries.Scope.{Scope};
+ghost use Rattle.mt_model.specs.Topology.{Marks};
+ghost use Rattle.mt_names.specs.declared.types.TypeSet.{TypeSet};
+ghost use Rattle.mt_names.specs.Names.{same_text};
+ghost use Rattle.mt_plain.specs.Answers.{Answers};
+ghost use Rattle.mt_plain.specs.Events.{Way, begin_reverse, begin_switch, done, step, undo};
+ghost use Rattle.mt_plain.specs.Next.{next};
+ghost use Rattle.mt_plain.specs.Plain.{Live, Plain, live_at, next_step, refresh_source};
+ghost use Rattle.mt_plain.specs.Refuse.{new_owner};
+ghost use Rattle.mt_plain.specs.Slots.{log_length};
+ghost use Rattle.mt_primary.specs.Primary.{PrimaryState};
+ghost use Rattle.mt_site_rows.specs.Rows.{RowsStand};
+ghost use Rattle.mt_site_state.specs.Core.{CoreState, primary_of, workflow_at};
+ghost use Rattle.mt_site_state.specs.Stands.{ArePrimaries, StandsWith};
+ghost use Rattle.mt_steps.specs.Plans.{last_step, step_at};
+ghost use Rattle.mt_steps.specs.Refreshes.{Sites};
+ghost use Rattle.mt_steps.specs.Steps.{Attempts, IsGivenBack, given_listed};
+ghost use Rattle.mt_steps.specs.Streams.{log_end};
+ghost use Rattle.mt_workflow.specs.Workflows.{WorkflowState};
+
+use mt_laws::{
+    a_live_workflow_is_found_by_its_part, a_workflow_that_changes_changes_its_own_part,
+    live_workflows_stand_in_place, steps_and_undos_change_the_state_by_their_numbers,
+};
+use mt_primary::{
+    a_notice_tells_what_its_change_tells, a_refresh_concerns_named_tables, a_refresh_is_taken_back,
+    denials_change_nothing_else,
+};
+use mt_site_rows::{a_step_keeps_rows_and_logs, events_that_change_no_row_keep_rows_and_logs};
+use mt_watch::Asks;
+
+/// What may be refused of a step, where it is done, leaves primaries that have the tables, rows and logs of the next state, and
+/// whose own lists refuse what is refused there.
+pub fn a_step_leaves_the_primaries<W: Asks>(watchers: &W)
+    ensures { (p : Plain) (scopes : List Scope) (core : CoreState) → StandsWith p scopes core
+        → (name : List ℕ) (live : Live) (w : WorkflowState) (way : Way) (at id : ℕ) (old new : Sites) → live_at p name ≡ Some live
+        → workflow_at core.workflows name ≡ Some w → w.way ≡ Some way → Answers p (step name at) done
+        → old.source ≡ primary_of core.primaries w.source → old.target ≡ primary_of core.primaries w.target
+        → Attempts (W.scopes watchers.now) (W.may_answer watchers.now) id core.topology w way (step_at (next_step way)) old (Ok tt) new
+        → ArePrimaries (next p (step name at) done) (set_value (same_text w.target) (set_value (same_text w.source) core.primaries new.source) new.target)
+        × RowsStand (next p (step name at) done) (primary_of (set_value (same_text w.target) (set_value (same_text w.source) core.primaries new.source) new.target)) }
+{
+    a_live_workflow_is_found_by_its_part();
+    live_workflows_stand_in_place();
+    steps_and_undos_change_the_state_by_their_numbers();
+    a_notice_tells_what_its_change_tells();
+    a_refresh_concerns_named_tables();
+    a_refresh_is_taken_back();
+    denials_change_nothing_else();
+    a_step_keeps_rows_and_logs();
+}
+
+/// A refresh of the old owner's primary records that its own list had none of the tables.
+pub fn a_refresh_records_an_empty_list<W: Asks>(watchers: &W)
+    ensures { (p : Plain) (scopes : List Scope) (core : CoreState) → StandsWith p scopes core
+        → (name : List ℕ) (live : Live) (w : WorkflowState) (way : Way) (at id : ℕ) (old new : Sites) → live_at p name ≡ Some live
+        → workflow_at core.workflows name ≡ Some w → w.way ≡ Some way → Answers p (step name at) done
+        → old.source ≡ primary_of core.primaries w.source → old.target ≡ primary_of core.primaries w.target
+        → next_step way ≡ refresh_source
+        → Attempts (W.scopes watchers.now) (W.may_answer watchers.now) id core.topology w way (step_at (next_step way)) old (Ok tt) new
+        → new.listed ≡ Some (map (λ table. (table, false)) w.tables) }
+{
+    a_live_workflow_is_found_by_its_part();
+    live_workflows_stand_in_place();
+}
+
+/// What an undo gives back to the old owner's primary leaves primaries that have the tables, rows and logs of the next state, and
+/// whose own lists refuse what is refused there, if an undone refresh gives back a list without the tables.
+pub fn an_undo_leaves_the_primaries()
+    ensures last { (p : Plain) (scopes : List Scope) (core : CoreState) → StandsWith p scopes core
+        → (name : List ℕ) (live : Live) (w : WorkflowState) (way : Way) (at : ℕ) (listed : Option Marks) (source target : PrimaryState)
+        → live_at p name ≡ Some live → workflow_at core.workflows name ≡ Some w → w.way ≡ Some way → Answers p (undo name at) done
+        → (way.done == 0) ≡ false
+        → (last_step way ≡ refresh_source → listed ≡ Some (map (λ table. (table, false)) w.tables))
+        → IsGivenBack way.before.primary (given_listed (step_at (last_step way)) listed) (primary_of core.primaries w.source) (primary_of core.primaries w.target) source target
+        → ArePrimaries (next p (undo name at) done) (set_value (same_text w.target) (set_value (same_text w.source) core.primaries source) target)
+        × RowsStand (next p (undo name at) done) (primary_of (set_value (same_text w.target) (set_value (same_text w.source) core.primaries source) target)) }
+    ensures none { (p : Plain) (scopes : List Scope) (core : CoreState) → StandsWith p scopes core
+        → (name : List ℕ) (live : Live) (w : WorkflowState) (way : Way) (at : ℕ) → live_at p name ≡ Some live
+        → workflow_at core.workflows name ≡ Some w → w.way ≡ Some way → Answers p (undo name at) done → (way.done == 0) ≡ true
+        → ArePrimaries (next p (undo name at) done) core.primaries × RowsStand (next p (undo name at) done) (primary_of core.primaries) }
+{
+    a_live_workflow_is_found_by_its_part();
+    live_workflows_stand_in_place();
+    steps_and_undos_change_the_state_by_their_numbers();
+    a_notice_tells_what_its_change_tells();
+    a_refresh_concerns_named_tables();
+    a_refresh_is_taken_back();
+    denials_change_nothing_else();
+    events_that_change_no_row_keep_rows_and_logs();
+}
+
+/// A way that begins, forward or back, leaves the primaries as they are, and they have the tables, rows and logs of the next state, and
+/// their own lists refuse what is refused there.
+pub fn a_begin_leaves_the_primaries()
+    ensures switch { (p : Plain) (scopes : List Scope) (core : CoreState) → StandsWith p scopes core
+        → (name : List ℕ) (types : TypeSet) → Answers p (begin_switch name types) done
+        → ArePrimaries (next p (begin_switch name types) done) core.primaries
+        × RowsStand (next p (begin_switch name types) done) (primary_of core.primaries) }
+    ensures reverse { (p : Plain) (scopes : List Scope) (core : CoreState) → StandsWith p scopes core
+        → (name : List ℕ) (types : TypeSet) → Answers p (begin_reverse name types) done
+        → ArePrimaries (next p (begin_reverse name types) done) core.primaries
+        × RowsStand (next p (begin_reverse name types) done) (primary_of core.primaries) }
+{
+    a_live_workflow_is_found_by_its_part();
+    a_workflow_that_changes_changes_its_own_part();
+    events_that_change_no_row_keep_rows_and_logs();
+}
+
+/// The log of the new owner's primary is as long as the definitions say.
+pub fn a_log_ends_where_the_definitions_say()
+    ensures { (p : Plain) (scopes : List Scope) (core : CoreState) → StandsWith p scopes core
+        → (name : List ℕ) (live : Live) (w : WorkflowState) (way : Way) → live_at p name ≡ Some live
+        → workflow_at core.workflows name ≡ Some w → w.way ≡ Some way
+        → log_end way (primary_of core.primaries w.source) (primary_of core.primaries w.target) ≡ log_length p (new_owner live) }
+{}

@@ -1,0 +1,200 @@
+-- What an attempt leaves of the journal and of the record of an own list, what a step puts away, and what an undo leaves; on values alone.
+use Rattle.std.proofs.Common.{◌≡◌, ◌≢◌, ℕ, Bool, true, false, not, cond, eqb, ◌&&◌, ◌||◌, List, [], ◌∷◌, ◌++◌, map, Option, None, Some, option_map, refl, sym, ap, ◌∙◌}
+use Rattle.std.proofs.lemmas.Bool.{true≢false}
+use Rattle.std.specs.List.{AllByRecursion}
+use Rattle.std.specs.Option.{option_map_or}
+use Rattle.std.specs.Prelude.{Ok}
+use Rattle.mt_names.specs.declared.types.TypeSet.{TypeSet}
+use Rattle.mt_names.specs.Names.{same_text}
+use Rattle.mt_names.proofs.SameLemmas.{same_text_decides}
+use Rattle.mt_model.specs.declared.entries.Scope.{Scope}
+use Rattle.mt_model.specs.Topology.{Marks, TopologyState}
+use Rattle.mt_laws.proofs.LiveLemmas.{all_from_in, any-in, text_differs}
+use Rattle.mt_laws.proofs.WayStepLemmas.{closes, more}
+use Rattle.mt_plain.specs.Events.{StreamName, forward, back, running, stopped, Way}
+use Rattle.mt_plain.specs.Next.{live_stepped, way_stepped, with_fresh_stream}
+use Rattle.mt_plain.specs.Plain.{Live, Plain, among, before_way, changes_primary, create_back, next_step, owner_by, refresh_source, refresh_target, stands_done, start_back, write_journal}
+use Rattle.mt_plain.specs.Refuse.{new_owner}
+use Rattle.mt_plain.specs.Serve.{is_listed_at}
+use Rattle.mt_plain.specs.Slots.{feeding_slot, is_feeding, log_length, other_slot, slot_at_rest, slot_before_way, slot_by_way}
+use Rattle.mt_plain.specs.Slots as plain
+use Rattle.mt_primary.specs.Denials.{marks_of}
+use Rattle.mt_primary.specs.Primary.{PrimaryState, is_denied_at}
+use Rattle.mt_site_rows.specs.Rows.{stream_of}
+use Rattle.mt_steps.specs.declared.step.Step.{Step}
+use Rattle.mt_steps.specs.declared.step.Step.TheVariants.{SwitchReads, DenySource, RefreshSource, CatchUp, StopFeeding, CreateBack, Journal, AllowTarget, RefreshTarget, SwitchWriteRules, StartBack, FreezeOld}
+use Rattle.mt_steps.specs.Plans.{number}
+use Rattle.mt_steps.specs.Refreshes.{RefreshesSide, Sites}
+use Rattle.mt_steps.specs.Steps.{Attempts, journal_entry, left_listed, left_slot}
+use Rattle.mt_steps.specs.Streams.{other_name, put_away}
+use Rattle.mt_stream.specs.Streams.{StreamValue}
+use Rattle.mt_watch.specs.Asking.{Answering}
+use Rattle.mt_workflow.specs.Workflows.{WorkflowState, slot_of}
+
+-- ---- what may be refused
+
+module _ (scopes : List Scope) (may_answer : Answering) (id : ℕ) (t : TopologyState) (w : WorkflowState) (way : Way) (old new : Sites) where
+  -- the journal has one entry more behind its own step
+  pub attempt_journal : (step : Step) → Attempts scopes may_answer id t w way step old (Ok tt) new
+      → new.journal ≡ cond (eqb (number step) write_journal) (old.journal ++ journal_entry id w way old.source old.target ∷ []) old.journal
+  attempt_journal SwitchReads is = ap (λ (x : Sites). x.journal) is.1
+  attempt_journal DenySource is = ap (λ (x : Sites). x.journal) is.1
+  attempt_journal RefreshSource is = by way.before.primary is
+    where
+      by : (b : Bool) → RefreshesSide scopes may_answer t w b old (Ok tt) new → new.journal ≡ old.journal
+      by true r = r.2
+      by false r = r.2
+  attempt_journal CatchUp is = ap (λ (x : Sites). x.journal) is.1
+  attempt_journal StopFeeding is = ap (λ (x : Sites). x.journal) is.1
+  attempt_journal CreateBack is = ap (λ (x : Sites). x.journal) is.1
+  attempt_journal Journal is = is.0.1
+  attempt_journal AllowTarget is = ap (λ (x : Sites). x.journal) is.1
+  attempt_journal RefreshTarget is = by (not way.before.primary) is
+    where
+      by : (b : Bool) → RefreshesSide scopes may_answer t w b old (Ok tt) new → new.journal ≡ old.journal
+      by true r = r.2
+      by false r = r.2
+  attempt_journal SwitchWriteRules is = ap (λ (x : Sites). x.journal) is.1
+  attempt_journal StartBack is = ap (λ (x : Sites). x.journal) is.1
+  attempt_journal FreezeOld is = ap (λ (x : Sites). x.journal) is.1
+
+  -- the first refresh records the own list of the old owner's primary
+  pub attempt_listed : (step : Step) → eqb (number step) refresh_target ≡ false → Attempts scopes may_answer id t w way step old (Ok tt) new
+      → new.listed ≡ cond (eqb (number step) refresh_source) (Some (marks_of (cond way.before.primary old.target old.source) w.tables)) old.listed
+  attempt_listed SwitchReads other is = ap (λ (x : Sites). x.listed) is.1
+  attempt_listed DenySource other is = ap (λ (x : Sites). x.listed) is.1
+  attempt_listed RefreshSource other is = by way.before.primary is
+    where
+      by : (b : Bool) → RefreshesSide scopes may_answer t w b old (Ok tt) new → new.listed ≡ Some (marks_of (cond b old.target old.source) w.tables)
+      by true r = r.0.2
+      by false r = r.0.2
+  attempt_listed CatchUp other is = ap (λ (x : Sites). x.listed) is.1
+  attempt_listed StopFeeding other is = ap (λ (x : Sites). x.listed) is.1
+  attempt_listed CreateBack other is = ap (λ (x : Sites). x.listed) is.1
+  attempt_listed Journal other is = is.3
+  attempt_listed AllowTarget other is = ap (λ (x : Sites). x.listed) is.1
+  attempt_listed RefreshTarget other is = absurd (true≢false other)
+  attempt_listed SwitchWriteRules other is = ap (λ (x : Sites). x.listed) is.1
+  attempt_listed StartBack other is = ap (λ (x : Sites). x.listed) is.1
+  attempt_listed FreezeOld other is = ap (λ (x : Sites). x.listed) is.1
+
+pub put_away_is : (w : WorkflowState) (way : Way) (step : Step) (kept : Option StreamValue) → put_away w way step kept ≡ cond (eqb (number step) create_back) (slot_of w (other_name way)) kept
+put_away_is w way SwitchReads kept = refl
+put_away_is w way DenySource kept = refl
+put_away_is w way RefreshSource kept = refl
+put_away_is w way CatchUp kept = refl
+put_away_is w way StopFeeding kept = refl
+put_away_is w way CreateBack kept = refl
+put_away_is w way Journal kept = refl
+put_away_is w way AllowTarget kept = refl
+put_away_is w way RefreshTarget kept = refl
+put_away_is w way SwitchWriteRules kept = refl
+put_away_is w way StartBack kept = refl
+put_away_is w way FreezeOld kept = refl
+
+-- ---- what an undo leaves in the record
+
+pub listed_left : (step : Step) (listed : Option Marks) → eqb (number step) refresh_source ≡ false → left_listed step listed ≡ listed
+listed_left SwitchReads listed other = refl
+listed_left DenySource listed other = refl
+listed_left RefreshSource listed other = absurd (true≢false other)
+listed_left CatchUp listed other = refl
+listed_left StopFeeding listed other = refl
+listed_left CreateBack listed other = refl
+listed_left Journal listed other = refl
+listed_left AllowTarget listed other = refl
+listed_left RefreshTarget listed other = refl
+listed_left SwitchWriteRules listed other = refl
+listed_left StartBack listed other = refl
+listed_left FreezeOld listed other = refl
+
+pub slot_left : (step : Step) (slot : Option StreamValue) → eqb (number step) create_back ≡ false → left_slot step slot ≡ slot
+slot_left SwitchReads slot other = refl
+slot_left DenySource slot other = refl
+slot_left RefreshSource slot other = refl
+slot_left CatchUp slot other = refl
+slot_left StopFeeding slot other = refl
+slot_left CreateBack slot other = absurd (true≢false other)
+slot_left Journal slot other = refl
+slot_left AllowTarget slot other = refl
+slot_left RefreshTarget slot other = refl
+slot_left SwitchWriteRules slot other = refl
+slot_left StartBack slot other = refl
+slot_left FreezeOld slot other = refl
+
+-- ---- own lists
+
+and_none : (b : Bool) → (b && false) ≡ false
+and_none true = refl
+and_none false = refl
+
+-- the own list of the owner has none of the tables
+pub owner_allowed : (v : Live) → v.source ≢ v.target → (types : TypeSet) → is_listed_at v types (owner_by v types) ≡ false
+owner_allowed v apart types = by types.primary
+  where
+    by : (b : Bool) → ((same_text v.source (cond b v.target v.source) || same_text v.target (cond b v.target v.source)) && cond (same_text v.source (cond b v.target v.source)) b (not b)) ≡ false
+    by true =
+        ap (λ t. (same_text v.source v.target || same_text v.target v.target) && cond t true false) (text_differs v.source v.target apart)
+        ∙ and_none (same_text v.source v.target || same_text v.target v.target)
+    by false =
+        ap (λ t. (same_text v.source v.source || same_text v.target v.source) && cond t false true) ((same_text_decides v.source v.source).1 refl)
+        ∙ and_none (same_text v.source v.source || same_text v.target v.source)
+
+-- the tables are among the tables
+pub all_among : (tables : List (List ℕ)) → AllByRecursion (λ table. among tables table ≡ true) tables
+all_among tables = all_from_in (λ table. among tables table ≡ true) tables (λ table is. any-in (λ n. same_text n table) tables table is ((same_text_decides table table).1 refl))
+
+-- where none of them is on an own list, that is what is recorded
+pub none_marked : (primary : PrimaryState) (tables : List (List ℕ)) → AllByRecursion (λ table. is_denied_at primary table ≡ false) tables
+    → marks_of primary tables ≡ map (λ table. (table, false)) tables
+none_marked primary [] all = refl
+none_marked primary (t ∷ ts) all = ap (λ b. (t, b) ∷ marks_of primary ts) all.0 ∙ ap (λ l. (t, false) ∷ l) (none_marked primary ts all.1)
+
+-- ---- streams
+
+-- a way that a step leaves open: what stood before it stays
+pub open_stepped : (p : Plain) (v : Live) (way : Way) → closes way ≡ false
+    → (types : TypeSet) × (fresh : ℕ) × (live_stepped p v way ≡ record v { switched = types; way = Some (more way); fresh_at = fresh })
+open_stepped p v way goes_on = by (eqb (next_step way) create_back) (eqb (next_step way) write_journal)
+  where
+    goes : way_stepped v way ≡ record v { way = Some (more way) }
+    goes = ap (λ b. cond b (record (with_fresh_stream v way) { switched = way.after; way = None }) (record v { way = Some (more way) })) goes_on
+
+    by : (t u : Bool) → (types : TypeSet) × (fresh : ℕ)
+        × (cond t (record (way_stepped v way) { fresh_at = log_length p (new_owner v) }) (cond u (record (way_stepped v way) { switched = way.after }) (way_stepped v way))
+        ≡ record v { switched = types; way = Some (more way); fresh_at = fresh })
+    by true u = (v.switched, log_length p (new_owner v), ap (λ (x : Live). record x { fresh_at = log_length p (new_owner v) }) goes)
+    by false true = (way.after, v.fresh_at, ap (λ (x : Live). record x { switched = way.after }) goes)
+    by false false = (v.switched, v.fresh_at, goes)
+
+pub saved_stays : (v : Live) (way now : Way) (types : TypeSet) (fresh : ℕ) (name : StreamName) → v.way ≡ Some way → now.before ≡ way.before
+    → option_map (stream_of (record v { switched = types; way = Some now; fresh_at = fresh })) (slot_before_way (record v { switched = types; way = Some now; fresh_at = fresh }) name)
+    ≡ option_map (stream_of v) (slot_before_way v name)
+saved_stays v way now types fresh name opens before = at_rest now.before name ∙ ap (λ (ts : TypeSet). option_map (stream_of v) (slot_at_rest v ts.primary name)) same
+  where
+    same : now.before ≡ before_way v
+    same = before ∙ sym (ap (λ o. option_map_or (λ (x : Way). x.before) o v.switched) opens)
+
+    at_rest : (ts : TypeSet) (n : StreamName) → option_map (stream_of (record v { switched = types; way = Some now; fresh_at = fresh }))
+        (slot_at_rest (record v { switched = types; way = Some now; fresh_at = fresh }) ts.primary n) ≡ option_map (stream_of v) (slot_at_rest v ts.primary n)
+    at_rest ts forward = refl
+    at_rest ts back = refl
+
+not_feeding : (way : Way) → is_feeding way (other_name way) ≡ false
+not_feeding way = by way.back refl
+  where
+    by : (b : Bool) → way.back ≡ b → is_feeding way (cond b forward back) ≡ false
+    by true e = ap not e
+    by false e = e
+
+-- until a way has made a stream, the slot has what stood there before the way
+pub slot_stood : (v : Live) (way : Way) → v.way ≡ Some way → stands_done way create_back ≡ false → plain.slot_of v (other_name way) ≡ slot_before_way v (other_name way)
+slot_stood v way opens not_made =
+    ap (λ o. slot_by_way v o (other_name way)) opens
+    ∙ ap (λ f. cond (not (changes_primary way)) (slot_before_way v (other_name way))
+    (cond f (feeding_slot v way (slot_before_way v (other_name way))) (other_slot v way (slot_before_way v (other_name way))))) (not_feeding way)
+    ∙ by (changes_primary way)
+  where
+    by : (c : Bool) → cond (not c) (slot_before_way v (other_name way)) (other_slot v way (slot_before_way v (other_name way))) ≡ slot_before_way v (other_name way)
+    by true = ap (λ d. cond d (Some (record { state = cond (stands_done way start_back) running stopped; position = v.fresh_at })) (slot_before_way v (other_name way))) not_made
+    by false = refl

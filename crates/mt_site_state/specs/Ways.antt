@@ -1,0 +1,110 @@
+-- The whole state of the controller: its core, and what it keeps of the ways. Which state of the definitions it stands for. All of this
+-- page is this profile's own, unless a comment names a page of Vitess's documentation.
+use Rattle.std.specs.Prelude.{◌≡◌, ℕ, ◌<◌, Bool, true, false, List, [], length, map, Option, None, Some, is_some, option_map}
+use Rattle.std.specs.List.{AllByRecursion, IsDistinct}
+use Rattle.std.specs.Map.{keys_of, lookup}
+use Rattle.std.specs.Option.{option_map_or}
+use Rattle.mt_names.specs.Names.{same_text}
+use Rattle.mt_model.specs.declared.entries.Scope.{Scope}
+use Rattle.mt_journal.specs.declared.entry.JournalEntry.{JournalEntry}
+use Rattle.mt_journal.specs.Journal.{entry_of}
+use Rattle.mt_steps.specs.declared.log.OpenWay.{OpenWay}
+use Rattle.mt_steps.specs.Entries.{recorded_of, step_entries}
+use Rattle.mt_steps.specs.Streams.{other_name}
+use Rattle.mt_steps.specs.Undo.{IsLogOf, UndoState}
+use Rattle.mt_workflow.specs.Workflows.{WorkflowState}
+use Rattle.mt_plain.specs.Answers.{Answers}
+use Rattle.mt_plain.specs.Events.{Answer, Event, Way}
+use Rattle.mt_plain.specs.Next.{next}
+use Rattle.mt_plain.specs.Plain.{Live, Plain, create_back, live_at, refresh_source, stands_done, write_journal}
+use Rattle.mt_plain.specs.Slots.{slot_before_way}
+use Rattle.mt_laws.specs.Texts.{BringsNames}
+use Rattle.mt_laws.specs.WayBack.{IsReached}
+use Rattle.mt_site_rows.specs.Rows.{stream_of}
+use Rattle.mt_site_state.specs.Core.{CoreState, Workflows, empty_core, workflow_at}
+use Rattle.mt_site_state.specs.Stands.{Stands, StandsWith}
+
+-- the open ways by the names of their workflows
+abbrev pub OpenWays : Type 0
+OpenWays = List (List ℕ × OpenWay)
+
+-- what is kept of the ways: those that are open, the journal, and how many were begun, which is the number of the next one
+-- (How traffic is switched)
+pub record WaysState : Type 0 where
+  pub opened : OpenWays
+  pub journal : List JournalEntry
+  pub begun : ℕ
+
+-- the whole state
+pub record SiteState : Type 0 where
+  pub core : CoreState
+  pub ways : WaysState
+
+-- no way was begun
+abbrev pub no_ways : WaysState
+no_ways = record { opened = []; journal = []; begun = 0 }
+
+-- no keyspace, no workflow, no way
+abbrev pub empty_site : SiteState
+empty_site = record { core = empty_core; ways = no_ways }
+
+-- what is kept of the way that is open on the workflow of a name
+abbrev pub open_at : OpenWays → List ℕ → Option OpenWay
+open_at ways name = lookup (same_text name) ways
+
+-- whether a way is open on the workflow of a name
+abbrev pub is_under_way : Workflows → List ℕ → Bool
+is_under_way workflows name = option_map_or (λ w. is_some w.way) (workflow_at workflows name) false
+
+-- ---- what is kept of an open way
+
+-- as long as the journal isn't written, what is kept gives back what stood before each step that stands done: the entries of the step as
+-- they were before the way, an own list without the tables, and the stream that was there in place of the one that the way has made
+pub record GivesBack (live : Live) (w : WorkflowState) (way : Way) (log : UndoState) : Type 0 where
+  pub entries : (n : ℕ) → stands_done way n ≡ true → recorded_of w n log.entries ≡ step_entries w way.before n
+  pub listed : stands_done way refresh_source ≡ true → log.listed ≡ Some (map (λ table. (table, false)) w.tables)
+  pub slot : stands_done way create_back ≡ true → log.slot ≡ option_map (stream_of live) (slot_before_way live (other_name way))
+
+-- an open way is that of a workflow: what is kept is kept for it, and until the journal has the way's entry it gives back what stood before
+pub record IsOpenOn (journal : List JournalEntry) (live : Live) (w : WorkflowState) (way : Way) (o : OpenWay) : Type 0 where
+  pub kept : IsLogOf w o.log
+  pub unused : stands_done way write_journal ≡ false → entry_of journal o.number ≡ None
+  pub undo : stands_done way write_journal ≡ false → GivesBack live w way o.log
+
+-- what is kept of the ways stands for a state: as many were begun, and the journal has as many entries; something is kept for just those
+-- workflows on which a way is open, and once for each; and no number was given twice
+pub record WaysStand (p : Plain) (core : CoreState) (ways : WaysState) : Type 0 where
+  pub begun : ways.begun ≡ p.ways
+  pub journal : length ways.journal ≡ p.journal
+  pub distinct : IsDistinct same_text (keys_of ways.opened)
+  pub there : (name : List ℕ) → is_some (open_at ways.opened name) ≡ is_under_way core.workflows name
+  pub each : (name : List ℕ) (live : Live) (w : WorkflowState) (way : Way) (o : OpenWay) → live_at p name ≡ Some live
+      → workflow_at core.workflows name ≡ Some w → w.way ≡ Some way → open_at ways.opened name ≡ Some o
+      → IsOpenOn ways.journal live w way o
+  pub below : AllByRecursion (λ e. e.id < ways.begun) ways.journal
+  pub numbers : (name : List ℕ) (o : OpenWay) → open_at ways.opened name ≡ Some o → o.number < ways.begun
+  pub apart : (name other : List ℕ) (o u : OpenWay) → open_at ways.opened name ≡ Some o → open_at ways.opened other ≡ Some u
+      → o.number ≡ u.number → name ≡ other
+
+-- ---- the whole
+
+-- a state of the controller, with watchers of these scopes, stands for a state of the definitions
+pub record SiteStands (p : Plain) (scopes : List Scope) (s : SiteState) : Type 0 where
+  pub core : StandsWith p scopes s.core
+  pub ways : WaysStand p s.core s.ways
+
+-- what an event does leads from each state that it stands for to the next one: the answer is one that the event may get there
+abbrev pub SiteSteps : List Scope → SiteState → Event → Answer → SiteState → Type 0
+SiteSteps scopes old event answer new = (p : Plain) → SiteStands p scopes old
+    → Answers p event answer × SiteStands (next p event answer) scopes new
+
+-- a state that it stands for, reached by events that bring names alone
+pub record HasSiteState (s : SiteState) : Type 0 where
+  pub state : Plain
+  pub reached : IsReached state
+  pub named : AllByRecursion BringsNames reached.events
+  pub stands : SiteStands state state.scopes s
+
+-- there is one
+abbrev pub IsSite : SiteState → Type 0
+IsSite s = ∥ HasSiteState s ∥₁

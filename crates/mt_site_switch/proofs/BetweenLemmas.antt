@@ -1,0 +1,119 @@
+-- A step, and an undo, between two primaries that are taken out of their places meanwhile.
+use Rattle.std.proofs.Common.{◌≡◌, ◌≢◌, ℕ, true, false, List, None, Some, Result, is_some, unwrap_or, subst, refl, sym, ap, ◌∙◌}
+use Rattle.std.proofs.lemmas.Map.Steps.{set_value_same}
+use Rattle.std.specs.Prelude.{⊤, ◌==◌}
+use Rattle.std.specs.Map.{set_value}
+use Rattle.mt_names.proofs.EntryLemmas.{some_from}
+use Rattle.mt_names.specs.Names.{same_text}
+use Rattle.mt_names.specs.Types.{no_types}
+use Rattle.mt_model.specs.declared.entries.Scope.{Scope}
+use Rattle.mt_model.specs.Topology.{TopologyState}
+use Rattle.mt_journal.specs.declared.entry.JournalEntry.{JournalEntry}
+use Rattle.mt_plain.specs.Events.{Way}
+use Rattle.mt_plain.specs.Plain.{next_step}
+use Rattle.mt_primary.specs.Primary.{PrimaryState, empty_primary}
+use Rattle.mt_steps.specs.declared.fault.StepFault.{StepFault}
+use Rattle.mt_steps.specs.declared.log.OpenWay.{OpenWay}
+use Rattle.mt_steps.specs.declared.step.Step.{Step}
+use Rattle.mt_steps.specs.Plans.{last_step, step_at}
+use Rattle.mt_steps.specs.Steps.{IsUndone, SidesState, Steps, open_way}
+use Rattle.mt_steps.specs.Undo.{UndoState}
+use Rattle.mt_watch.specs.Asking.{Answering}
+use Rattle.mt_workflow.specs.Workflows.{WorkflowState}
+use Rattle.mt_site_state.specs.Core.{Primaries, primary_at, primary_of}
+use Rattle.mt_site_state.specs.Switching.{Undoes}
+use Rattle.mt_site_switch.specs.Ways.{StepsBetween, UndoesBetween, sides_between, with_primaries}
+use Rattle.mt_site_switch.proofs.PrimaryLemmas.{put-back, second-is}
+
+-- the way that is open
+way-is : (w : WorkflowState) (way : Way) → w.way ≡ Some way → open_way w ≡ way
+way-is w way has_way = ap (λ o. unwrap_or o (record { back = false; before = no_types; after = no_types; done = 0; undoing = false })) has_way
+
+-- ---- where no step stands done
+
+-- a primary that is set again
+set-again : (primaries : Primaries) (k : List ℕ) → is_some (primary_at primaries k) ≡ true → set_value (same_text k) primaries (primary_of primaries k) ≡ primaries
+set-again primaries k there =
+    let (p, found) = some_from (primary_at primaries k) there in
+    ap (λ o. set_value (same_text k) primaries (unwrap_or o empty_primary)) found ∙ set_value_same (same_text k) primaries p found
+
+-- the way alone is closed
+pub closed : (t : TopologyState) (primaries : Primaries) (w new_w : WorkflowState) (way : Way) (journal : List JournalEntry) (o : OpenWay)
+    → is_some (primary_at primaries w.source) ≡ true → is_some (primary_at primaries w.target) ≡ true → (way.done == 0) ≡ true → new_w ≡ record w { way = None }
+    → UndoesBetween t primaries w way journal o t primaries new_w journal o
+closed t primaries w new_w way journal o source target none is =
+    let sides : SidesState = record { topology = t; source = primary_of primaries w.source; target = primary_of primaries w.target; workflow = record w { way = None }; journal = journal } in (
+      sides,
+      o.log,
+      subst (λ b. Undoes b way (sides_between t primaries w journal) o.log sides o.log) (sym none) (refl, refl),
+      refl,
+      sym (ap (λ ps. set_value (same_text w.target) ps (primary_of primaries w.target)) (set-again primaries w.source source) ∙ set-again primaries w.target target),
+      is,
+      refl,
+      refl,
+    )
+
+-- ---- a step
+
+-- both primaries are taken out, and both are put back
+module _ (t : TopologyState) (old without_one without with_one with_both : Primaries) (w : WorkflowState) (journal : List JournalEntry) (source target a b : PrimaryState) (s k : List ℕ)
+    (at_source : s ≡ w.source) (at_target : k ≡ w.target) (apart : w.source ≢ w.target)
+    (source_is : source ≡ primary_of old s) (one : without_one ≡ set_value (same_text s) old a)
+    (target_is : target ≡ primary_of without_one k) (both : without ≡ set_value (same_text k) without_one b) where
+
+  differ : s ≢ k
+  differ e = apart (sym at_source ∙ e ∙ at_target)
+
+  -- what is worked on
+  sides-are : record { topology = t; source = source; target = target; workflow = w; journal = journal } ≡ sides_between t old w journal
+  sides-are =
+      ap (λ p. record { topology = t; source = p; target = target; workflow = w; journal = journal }) (source_is ∙ ap (primary_of old) at_source)
+      ∙ ap (λ p. record { topology = t; source = primary_of old w.source; target = p; workflow = w; journal = journal })
+      (target_is ∙ second-is old without_one s a one k differ ∙ ap (primary_of old) at_target)
+
+  -- what becomes of the primaries
+  primaries-are : (sides : SidesState) → with_one ≡ set_value (same_text s) without sides.source → with_both ≡ set_value (same_text k) with_one sides.target
+      → with_both ≡ with_primaries old w sides
+  primaries-are sides one_back both_back =
+      put-back old without_one s a one without k b both with_one sides.source one_back differ with_both sides.target both_back
+      ∙ ap (λ n. set_value (same_text k) (set_value (same_text n) old sides.source) sides.target) at_source
+      ∙ ap (λ n. set_value (same_text n) (set_value (same_text w.source) old sides.source) sides.target) at_target
+
+  pub stepped : (scopes : List Scope) (may_answer : Answering) (way : Way) (o : OpenWay) (step : Step) (result : Result ⊤ StepFault) (sides : SidesState) (log : UndoState)
+      (new_t : TopologyState) (new_w : WorkflowState) (new_journal : List JournalEntry)
+      → w.way ≡ Some way → step ≡ step_at (next_step way)
+      → with_one ≡ set_value (same_text s) without sides.source → with_both ≡ set_value (same_text k) with_one sides.target
+      → new_t ≡ sides.topology → new_w ≡ sides.workflow → new_journal ≡ sides.journal
+      → Steps scopes may_answer o.number (open_way w) step (record { topology = t; source = source; target = target; workflow = w; journal = journal }) o.log result sides log
+      → StepsBetween scopes may_answer t old w way journal o result new_t with_both new_w new_journal (record { number = o.number; log = log })
+  stepped scopes may_answer way o step result sides log new_t new_w new_journal has_way next one_back both_back topology workflow entries did = (
+      sides,
+      log,
+      subst (λ from. Steps scopes may_answer o.number way (step_at (next_step way)) from o.log result sides log) sides-are
+      (subst (λ n. Steps scopes may_answer o.number way n (record { topology = t; source = source; target = target; workflow = w; journal = journal }) o.log result sides log) next
+      (subst (λ v. Steps scopes may_answer o.number v step (record { topology = t; source = source; target = target; workflow = w; journal = journal }) o.log result sides log) (way-is w way has_way) did)),
+      topology,
+      primaries-are sides one_back both_back,
+      workflow,
+      entries,
+      refl,
+    )
+
+  pub undone : (way : Way) (o : OpenWay) (sides : SidesState) (log : UndoState) (new_t : TopologyState) (new_w : WorkflowState) (new_journal : List JournalEntry)
+      → w.way ≡ Some way → (way.done == 0) ≡ false
+      → with_one ≡ set_value (same_text s) without sides.source → with_both ≡ set_value (same_text k) with_one sides.target
+      → new_t ≡ sides.topology → new_w ≡ sides.workflow → new_journal ≡ sides.journal
+      → IsUndone (open_way w) (step_at (last_step (open_way w))) (record { topology = t; source = source; target = target; workflow = w; journal = journal }) o.log sides log
+      → UndoesBetween t old w way journal o new_t with_both new_w new_journal (record { number = o.number; log = log })
+  undone way o sides log new_t new_w new_journal has_way some one_back both_back topology workflow entries did = (
+      sides,
+      log,
+      subst (λ none. Undoes none way (sides_between t old w journal) o.log sides log) (sym some)
+      (subst (λ from. IsUndone way (step_at (last_step way)) from o.log sides log) sides-are
+      (subst (λ v. IsUndone v (step_at (last_step v)) (record { topology = t; source = source; target = target; workflow = w; journal = journal }) o.log sides log) (way-is w way has_way) did)),
+      topology,
+      primaries-are sides one_back both_back,
+      workflow,
+      entries,
+      refl,
+    )

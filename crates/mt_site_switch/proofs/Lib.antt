@@ -1,0 +1,5 @@
+pub mod BeginLemmas
+pub mod BetweenLemmas
+pub mod EndLemmas
+pub mod PrimaryLemmas
+pub mod StepLemmas

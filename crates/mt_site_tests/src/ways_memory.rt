@@ -1,0 +1,163 @@
+//! Where an allocation fails, a begin or a step of a way answers `Memory` or what it answers without, a refused one changes nothing,
+//! and the next try does it. An undo and a Complete ask for no memory.
+
+use crate::acts::Act;
+use crate::answers::Answer;
+use crate::events::{Ask, event_of};
+use crate::memory::{are_answered, documents, is_want, site_of};
+use crate::play::{Played, play_on};
+use mt_event::Reply;
+use mt_names::{TabletType, TypeSet};
+use mt_site::Site;
+use mt_stream::StreamState;
+use mt_watch::Watchers;
+use mt_workflow::Slot;
+use std::test::Fail;
+
+/// A workflow over one row, whose copy has ended.
+const COPIED: [(Ask, Answer); 6] = [
+    (Ask::Keyspace("commerce"), Answer::Done),
+    (Ask::Keyspace("customer"), Answer::Done),
+    (Ask::Table(("commerce", "corder")), Answer::Done),
+    (Ask::Insert(("commerce", "corder"), 1, "a"), Answer::Done),
+    (
+        Ask::Create("mv", "commerce", "customer", &["corder"]),
+        Answer::Done,
+    ),
+    (
+        Ask::Advance("mv", Slot::Forward, 1, 100),
+        Answer::Advanced(0, 1),
+    ),
+];
+
+/// A switch, and its steps before the journal.
+const BEFORE_JOURNAL: [Ask; 7] = [
+    Ask::BeginSwitch("mv", TypeSet::ALL),
+    Ask::Step("mv", 0),
+    Ask::Step("mv", 1),
+    Ask::Step("mv", 2),
+    Ask::Step("mv", 3),
+    Ask::Step("mv", 4),
+    Ask::Step("mv", 5),
+];
+
+/// They are undone.
+const UNDONE: [Act; 8] = [
+    Act::Asks(Ask::Undo("mv", 6), Answer::Done),
+    Act::Asks(Ask::Undo("mv", 5), Answer::Done),
+    Act::Asks(Ask::Undo("mv", 4), Answer::Done),
+    Act::Asks(Ask::Undo("mv", 3), Answer::Done),
+    Act::Asks(Ask::Undo("mv", 2), Answer::Done),
+    Act::Asks(Ask::Undo("mv", 1), Answer::Done),
+    Act::Owes(1),
+    Act::Asks(
+        Ask::Show("mv"),
+        Answer::Stands(TypeSet::NONE, None, (StreamState::Running, 1), None),
+    ),
+];
+
+/// A whole switch.
+const SWITCH: [Ask; 13] = [
+    Ask::BeginSwitch("mv", TypeSet::ALL),
+    Ask::Step("mv", 0),
+    Ask::Step("mv", 1),
+    Ask::Step("mv", 2),
+    Ask::Step("mv", 3),
+    Ask::Step("mv", 4),
+    Ask::Step("mv", 5),
+    Ask::Step("mv", 6),
+    Ask::Step("mv", 7),
+    Ask::Step("mv", 8),
+    Ask::Step("mv", 9),
+    Ask::Step("mv", 10),
+    Ask::Step("mv", 11),
+];
+
+/// A row that is written at the target, and brought to the source.
+const WRITTEN: [(Ask, Answer); 2] = [
+    (Ask::Insert(("customer", "corder"), 2, "b"), Answer::Done),
+    (
+        Ask::Advance("mv", Slot::Back, 1, 100),
+        Answer::Advanced(1, 0),
+    ),
+];
+
+/// A whole reversal.
+const REVERSAL: [Ask; 13] = [
+    Ask::BeginReverse("mv", TypeSet::ALL),
+    Ask::Step("mv", 0),
+    Ask::Step("mv", 1),
+    Ask::Step("mv", 2),
+    Ask::Step("mv", 3),
+    Ask::Step("mv", 4),
+    Ask::Step("mv", 5),
+    Ask::Step("mv", 6),
+    Ask::Step("mv", 7),
+    Ask::Step("mv", 8),
+    Ask::Step("mv", 9),
+    Ask::Step("mv", 10),
+    Ask::Step("mv", 11),
+];
+
+/// The workflow is completed.
+const COMPLETED: [Act; 5] = [
+    Act::Asks(
+        Ask::Show("mv"),
+        Answer::Stands(
+            TypeSet::ALL,
+            None,
+            (StreamState::Frozen, 2),
+            Some((StreamState::Running, 2)),
+        ),
+    ),
+    Act::Asks(Ask::Complete("mv"), Answer::Done),
+    Act::Owes(0),
+    Act::Asks(
+        Ask::Read(("customer", "corder"), 2, TabletType::Primary),
+        Answer::Row("b"),
+    ),
+    Act::Asks(
+        Ask::Read(("commerce", "corder"), 2, TabletType::Primary),
+        Answer::Refused("F2 NoTable"),
+    ),
+];
+
+/// Whether an event is done at once, or at a second try after a refusal that changed nothing.
+fn is_done(site: &mut Site<Watchers>, ask: Ask) -> bool {
+    let Some(event) = event_of(ask) else {
+        return false;
+    };
+    let (before, owed) = (documents(site), site.owed());
+    let answer = site.apply(&event);
+    if is_want(&answer) {
+        return before.is_some()
+            && documents(site) == before
+            && site.owed() == owed
+            && site.apply(&event) == Ok(Reply::Done);
+    }
+    answer == Ok(Reply::Done)
+}
+
+/// The same of a list.
+fn are_done(site: &mut Site<Watchers>, list: &[Ask]) -> bool {
+    for ask in list {
+        if !is_done(site, *ask) {
+            return false;
+        }
+    }
+    true
+}
+
+#[test]
+fn want_of_memory_is_no_other_answer(rt: HostRuntime) -> Result<(), Fail> {
+    let mut site = site_of(rt.alloc()).ok_or("no watchers")?;
+    assert!(rt; are_answered(&mut site, &COPIED));
+    assert!(rt; are_done(&mut site, &BEFORE_JOURNAL));
+    assert_eq!(rt; play_on(&mut site, &UNDONE), Played::AllSo);
+    assert!(rt; are_done(&mut site, &SWITCH));
+    assert!(rt; are_answered(&mut site, &WRITTEN));
+    assert!(rt; are_done(&mut site, &REVERSAL));
+    assert!(rt; are_done(&mut site, &SWITCH));
+    assert_eq!(rt; play_on(&mut site, &COMPLETED), Played::AllSo);
+    Ok(())
+}

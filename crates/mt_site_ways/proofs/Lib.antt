@@ -1,0 +1,4 @@
+pub mod BeginLemmas
+pub mod OutcomeLemmas
+pub mod StepLemmas
+pub mod UndoLemmas

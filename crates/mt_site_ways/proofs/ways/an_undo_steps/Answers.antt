@@ -1,0 +1,52 @@
+-- Until the journal is written, what is kept gives back what stood before the way; so each part of the controller stands for the next state.
+use Rattle.std.proofs.Common.{ℕ, List, None, sym, ap, ◌∙◌, subst}
+use Rattle.mt_model.specs.declared.entries.Scope.{Scope}
+use Rattle.mt_plain.specs.Answers.{Answers}
+use Rattle.mt_plain.specs.Events.{done, undo}
+use Rattle.mt_plain.specs.Next.{next}
+use Rattle.mt_plain.specs.Plain.{Plain}
+use Rattle.mt_site_primaries.proofs.UndoLemmas.{before_journal}
+use Rattle.mt_site_records.proofs.TopologyLemmas.{live_for}
+use Rattle.mt_site_state.specs.Switching.{UndoesWorkflow, sides_of, with_sides}
+use Rattle.mt_site_state.specs.Ways.{SiteState, SiteStands}
+use Rattle.mt_site_ways.proofs.OutcomeLemmas.{IsMade, UndoneBy, stands_behind, undo_outcome}
+use Rattle.mt_site_ways.proofs.StepLemmas.{kept_at}
+use Rattle.mt_site_ways.proofs.UndoLemmas.{closed_stands, refresh_done, undo_stands, undone_either}
+use Rattle.mt_site_ways.proofs.ways.an_undo_steps.Goals as goal
+
+pub returns : goal.returns
+returns g c =
+    let behind : (scopes : List Scope) (old new : SiteState) (workflow : List ℕ) (at : ℕ) (p : Plain) → SiteStands p scopes old → Answers p (undo workflow at) done
+    → IsMade old workflow (UndoneBy old) new → SiteStands (next p (undo workflow at) done) scopes new
+    = λ scopes old new workflow at p stands given m.
+    let reached = stands.core.reached in
+    let q = next p (undo workflow at) done in
+    let (live, is_live, for) = live_for p old.core.workflows workflow m.w stands.core.workflows m.found in
+    let kept = kept_at p old workflow live m.w m.o for (c.a_live_workflow_is_found_by_its_part.ensures.named p workflow live is_live) m.kept in
+    let reached_next = c.each_next_state_is_reached.ensures.next p reached (undo workflow at) done given in
+    subst (SiteStands q scopes) (sym m.made)
+    (undone_either q scopes (with_sides old m.w m.sides (record { number = m.o.number; log = m.log })) m.way (sides_of old m.w) m.sides m.o.log m.log m.is
+    (λ some is.
+    let gives = (stands.ways.each workflow live m.w m.way m.o is_live m.found m.opens kept).undo (before_journal p workflow live m.way at is_live (sym for.way ∙ m.opens) given.0) in
+    undo_stands q scopes old m.w m.way m.o m.sides m.log is reached_next stands.core.scopes_are
+    (c.steps_and_undos_leave_the_topology.ensures.undo p scopes old stands.core workflow live m.w m.way at m.o.log is_live m.found m.opens given some gives)
+    (c.an_undo_leaves_the_primaries.ensures.last p scopes old.core stands.core workflow live m.w m.way at m.o.log.listed m.sides.source m.sides.target is_live m.found m.opens given some
+    (λ last. gives.listed (refresh_done m.way some last)) is.listed)
+    (c.an_undo_leaves_the_workflows.ensures.last p reached old.core.workflows stands.core.workflows workflow live m.w m.way at m.o.log.slot is_live m.found m.opens given some gives.slot)
+    (c.what_is_kept_of_the_ways_stays.ensures.undo p scopes old stands workflow m.w m.way m.o at m.sides m.log m.found m.opens kept given some is))
+    (λ none sides log.
+    subst (SiteStands q scopes) (sym (ap (λ s. with_sides old m.w s (record { number = m.o.number; log = m.log })) sides
+    ∙ ap (λ l. with_sides old m.w (record (sides_of old m.w) { workflow = record m.w { way = None } }) (record { number = m.o.number; log = l })) log))
+    (closed_stands q scopes old m.w m.way m.o p stands.core.primaries live for (c.live_workflows_stand_in_place.ensures.placed p reached workflow live is_live)
+    reached_next stands.core.scopes_are
+    (c.steps_and_undos_leave_the_topology.ensures.closed p scopes old stands.core workflow m.w m.way at m.found m.opens given none)
+    (c.an_undo_leaves_the_primaries.ensures.none p scopes old.core stands.core workflow live m.w m.way at is_live m.found m.opens given none)
+    (c.an_undo_leaves_the_workflows.ensures.none p reached old.core.workflows stands.core.workflows workflow m.w m.way at m.found m.opens given none)
+    (c.what_is_kept_of_the_ways_stays.ensures.closed p scopes old stands workflow m.w m.way m.o at m.found m.opens kept given none)))) in
+    λ scopes old new workflow at answer undoes p stands.
+    let given = c.an_undo_answers_as_the_definitions_allow.ensures.answers p scopes old new stands workflow at answer undoes in (
+      given,
+      stands_behind p scopes old new stands (undo workflow at) (IsMade old workflow (UndoneBy old) new) answer given (undo_outcome old new workflow at answer undoes)
+          (λ r is. c.an_undo_answers_as_the_definitions_allow.ensures.unchanged old new workflow at r (subst (λ a. UndoesWorkflow old workflow at a new) is undoes))
+          (behind scopes old new workflow at p stands),
+    )

@@ -1,0 +1,3 @@
+pub mod ChangedLemmas
+pub mod SlotLemmas
+pub mod WayLemmas
