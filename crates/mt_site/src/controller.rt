@@ -71,13 +71,13 @@ impl Model for Core {
     ghost Value = { SiteState };
 
     ghost view = { λ core. record {
-        core = record { topology = core.topology; primaries = core.primaries.entries; workflows = core.workflows.entries };
-        ways = record { opened = core.opened.entries; journal = core.journal; begun = core.begun };
+      core = record { topology = core.topology; primaries = core.primaries.entries; workflows = core.workflows.entries };
+      ways = record { opened = core.opened.entries; journal = core.journal; begun = core.begun };
     } };
 
     ghost invariant = { λ core. IsSite (record {
-        core = record { topology = core.topology; primaries = core.primaries.entries; workflows = core.workflows.entries };
-        ways = record { opened = core.opened.entries; journal = core.journal; begun = core.begun };
+      core = record { topology = core.topology; primaries = core.primaries.entries; workflows = core.workflows.entries };
+      ways = record { opened = core.opened.entries; journal = core.journal; begun = core.begun };
     }) };
 }
 

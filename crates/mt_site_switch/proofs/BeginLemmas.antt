@@ -44,7 +44,7 @@ pub opened-way : (old : SiteState) (w after : WorkflowState) (name : List ℕ) (
 opened-way old w after name way refusal done later opened begun named found put none (set, kept, number) =
     let there : WorkflowState = record w { way = Some way } in
     let here : later ≡ set_value (same_text w.name) old.core.workflows there =
-          put ∙ ap (set_value (same_text name) old.core.workflows) set ∙ ap (λ n. set_value (same_text n) old.core.workflows there) (sym named) in
+    put ∙ ap (set_value (same_text name) old.core.workflows) set ∙ ap (λ n. set_value (same_text n) old.core.workflows there) (sym named) in
     let by_workflows : Workflows → SiteState = λ ws. record { core = record old.core { workflows = ws }; ways = record old.ways { opened = opened; begun = begun } } in
     let by_opened : OpenWays → SiteState = λ o. record { core = with_workflow old.core there; ways = record old.ways { opened = o; begun = begun } } in
     let by_begun : ℕ → SiteState = λ n. record { core = with_workflow old.core there; ways = record old.ways { opened = old.ways.opened ++ (w.name, record { number = old.ways.begun; log = new_log w }) ∷ []; begun = n } } in

@@ -60,7 +60,6 @@ module _ (t : TopologyState) (old without_one without with_one with_both : Prima
     (at_source : s ≡ w.source) (at_target : k ≡ w.target) (apart : w.source ≢ w.target)
     (source_is : source ≡ primary_of old s) (one : without_one ≡ set_value (same_text s) old a)
     (target_is : target ≡ primary_of without_one k) (both : without ≡ set_value (same_text k) without_one b) where
-
   differ : s ≢ k
   differ e = apart (sym at_source ∙ e ∙ at_target)
 
@@ -87,17 +86,17 @@ module _ (t : TopologyState) (old without_one without with_one with_both : Prima
       → Steps scopes may_answer o.number (open_way w) step (record { topology = t; source = source; target = target; workflow = w; journal = journal }) o.log result sides log
       → StepsBetween scopes may_answer t old w way journal o result new_t with_both new_w new_journal (record { number = o.number; log = log })
   stepped scopes may_answer way o step result sides log new_t new_w new_journal has_way next one_back both_back topology workflow entries did = (
-      sides,
-      log,
-      subst (λ from. Steps scopes may_answer o.number way (step_at (next_step way)) from o.log result sides log) sides-are
-      (subst (λ n. Steps scopes may_answer o.number way n (record { topology = t; source = source; target = target; workflow = w; journal = journal }) o.log result sides log) next
-      (subst (λ v. Steps scopes may_answer o.number v step (record { topology = t; source = source; target = target; workflow = w; journal = journal }) o.log result sides log) (way-is w way has_way) did)),
-      topology,
-      primaries-are sides one_back both_back,
-      workflow,
-      entries,
-      refl,
-    )
+    sides,
+    log,
+    subst (λ from. Steps scopes may_answer o.number way (step_at (next_step way)) from o.log result sides log) sides-are
+        (subst (λ n. Steps scopes may_answer o.number way n (record { topology = t; source = source; target = target; workflow = w; journal = journal }) o.log result sides log) next
+        (subst (λ v. Steps scopes may_answer o.number v step (record { topology = t; source = source; target = target; workflow = w; journal = journal }) o.log result sides log) (way-is w way has_way) did)),
+    topology,
+    primaries-are sides one_back both_back,
+    workflow,
+    entries,
+    refl,
+  )
 
   pub undone : (way : Way) (o : OpenWay) (sides : SidesState) (log : UndoState) (new_t : TopologyState) (new_w : WorkflowState) (new_journal : List JournalEntry)
       → w.way ≡ Some way → (way.done == 0) ≡ false
@@ -106,14 +105,14 @@ module _ (t : TopologyState) (old without_one without with_one with_both : Prima
       → IsUndone (open_way w) (step_at (last_step (open_way w))) (record { topology = t; source = source; target = target; workflow = w; journal = journal }) o.log sides log
       → UndoesBetween t old w way journal o new_t with_both new_w new_journal (record { number = o.number; log = log })
   undone way o sides log new_t new_w new_journal has_way some one_back both_back topology workflow entries did = (
-      sides,
-      log,
-      subst (λ none. Undoes none way (sides_between t old w journal) o.log sides log) (sym some)
-      (subst (λ from. IsUndone way (step_at (last_step way)) from o.log sides log) sides-are
-      (subst (λ v. IsUndone v (step_at (last_step v)) (record { topology = t; source = source; target = target; workflow = w; journal = journal }) o.log sides log) (way-is w way has_way) did)),
-      topology,
-      primaries-are sides one_back both_back,
-      workflow,
-      entries,
-      refl,
-    )
+    sides,
+    log,
+    subst (λ none. Undoes none way (sides_between t old w journal) o.log sides log) (sym some)
+        (subst (λ from. IsUndone way (step_at (last_step way)) from o.log sides log) sides-are
+        (subst (λ v. IsUndone v (step_at (last_step v)) (record { topology = t; source = source; target = target; workflow = w; journal = journal }) o.log sides log) (way-is w way has_way) did)),
+    topology,
+    primaries-are sides one_back both_back,
+    workflow,
+    entries,
+    refl,
+  )

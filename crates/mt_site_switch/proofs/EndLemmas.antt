@@ -54,9 +54,9 @@ pub end-is : (w : Live) (t a b c d : TopologyState) → w.source ≢ w.target �
 end-is w t a b c d differ part absent places tables =
     let differ' : same_text w.target w.source ≡ false = apart same_text same_text_decides w.target w.source (λ e. differ (sym e)) in
     let written : b ≡ with_entries t (end_entries w) =
-          absent ∙ absent-all w.source w.target differ' w.tables a ∙ ap (λ s. with_entries s (map (end_entry w.target) (map (about.Present w.source) w.tables))) part
-          ∙ sym (fold-append with_entry t (map (end_entry w.target) (keys_of_part w)) (map (end_entry w.target) (map (about.Present w.source) w.tables)))
-          ∙ ap (with_entries t) (sym (map-append (end_entry w.target) (keys_of_part w) (map (about.Present w.source) w.tables))) in
+    absent ∙ absent-all w.source w.target differ' w.tables a ∙ ap (λ s. with_entries s (map (end_entry w.target) (map (about.Present w.source) w.tables))) part
+    ∙ sym (fold-append with_entry t (map (end_entry w.target) (keys_of_part w)) (map (end_entry w.target) (map (about.Present w.source) w.tables)))
+    ∙ ap (with_entries t) (sym (map-append (end_entry w.target) (keys_of_part w) (map (about.Present w.source) w.tables))) in
     tables ∙ released-all w.source w.tables c ∙ ap (λ s. without_places s (map (about.Present w.source) w.tables)) (places ∙ ap (λ s. without_places s (keys_of_part w)) written)
     ∙ sym (fold-append without_place (with_entries t (end_entries w)) (keys_of_part w) (map (about.Present w.source) w.tables))
 
@@ -75,9 +75,9 @@ pub tables-there : (w : Live) (t a : TopologyState) (source : List ℕ) (tables 
     → All (λ table. has_place a (about.Present source table) ≡ true) tables
 tables-there w t a source tables from named stay places =
     let there : All (λ table. has_place t (about.Present w.source table) ≡ true) w.tables =
-          all-from_map (λ key. has_place t key ≡ true) (about.Present w.source) w.tables
-          (all-after (λ key. has_place t key ≡ true) (keys_of_part w) (map (about.Present w.source) w.tables) places) in
+    all-from_map (λ key. has_place t key ≡ true) (about.Present w.source) w.tables
+    (all-after (λ key. has_place t key ≡ true) (keys_of_part w) (map (about.Present w.source) w.tables) places) in
     let later : All (λ table. has_place a (about.Present w.source table) ≡ true) w.tables =
-          λ i d inside. stay (about.Present w.source (slice_index_or w.tables i d)) ∙ there i d inside in
+    λ i d inside. stay (about.Present w.source (slice_index_or w.tables i d)) ∙ there i d inside in
     subst (λ s. All (λ table. has_place a (about.Present s table) ≡ true) tables) (sym from)
     (subst (λ ts. All (λ table. has_place a (about.Present w.source table) ≡ true) ts) (sym named) later)

@@ -66,13 +66,13 @@ whole : (old : SiteState) (name : List ℕ) (w new_w : WorkflowState) (o new_o :
     → record { core = record { topology = new_t; primaries = new_primaries; workflows = later }; ways = record { opened = opened; journal = new_journal; begun = old.ways.begun } } ≡ with_sides old w sides o
 whole old name w new_w o new_o sides new_t new_primaries later meanwhile opened left new_journal named topology primaries workflow journal kept set put closes is =
     let made : TopologyState → Primaries → Workflows → OpenWays → List JournalEntry → SiteState =
-          λ t ps ws os js. record { core = record { topology = t; primaries = ps; workflows = ws }; ways = record { opened = os; journal = js; begun = old.ways.begun } } in
+    λ t ps ws os js. record { core = record { topology = t; primaries = ps; workflows = ws }; ways = record { opened = os; journal = js; begun = old.ways.begun } } in
     let workflows : later ≡ set_value (same_text w.name) old.core.workflows sides.workflow =
-          set ∙ ap (set_value (same_text name) old.core.workflows) workflow ∙ ap (λ n. set_value (same_text n) old.core.workflows sides.workflow) (sym named) in
+    set ∙ ap (set_value (same_text name) old.core.workflows) workflow ∙ ap (λ n. set_value (same_text n) old.core.workflows sides.workflow) (sym named) in
     let ways : opened ≡ open_after old.ways.opened w.name o sides.workflow.way =
-          is ∙ ap (λ os. left_open os name left) (put ∙ ap (set_value (same_text name) old.ways.opened) kept)
-          ∙ ap (left_open (set_value (same_text name) old.ways.opened o) name) (closes ∙ ap (λ v. v.way) workflow)
-          ∙ open-after old.ways.opened name o sides.workflow.way ∙ ap (λ n. open_after old.ways.opened n o sides.workflow.way) (sym named) in
+    is ∙ ap (λ os. left_open os name left) (put ∙ ap (set_value (same_text name) old.ways.opened) kept)
+    ∙ ap (left_open (set_value (same_text name) old.ways.opened o) name) (closes ∙ ap (λ v. v.way) workflow)
+    ∙ open-after old.ways.opened name o sides.workflow.way ∙ ap (λ n. open_after old.ways.opened n o sides.workflow.way) (sym named) in
     ap (λ t. made t new_primaries later opened new_journal) topology ∙ ap (λ ps. made sides.topology ps later opened new_journal) primaries
     ∙ ap (λ ws. made sides.topology (with_primaries old.core.primaries w sides) ws opened new_journal) workflows
     ∙ ap (λ os. made sides.topology (with_primaries old.core.primaries w sides) (set_value (same_text w.name) old.core.workflows sides.workflow) os new_journal) ways
@@ -101,11 +101,11 @@ module _ (scopes : List Scope) (may_answer : Answering) (old : SiteState) (name 
       → later ≡ set_value (same_text name) old.core.workflows new_w → meanwhile ≡ set_value (same_text name) old.ways.opened new_o → left ≡ new_w.way → opened ≡ left_open meanwhile name left
       → answer ≡ answer_by_step result
       → StepsWorkflow old scopes may_answer name at answer
-        (record { core = record { topology = new_t; primaries = new_primaries; workflows = later }; ways = record { opened = opened; journal = new_journal; begun = old.ways.begun } })
+      (record { core = record { topology = new_t; primaries = new_primaries; workflows = later }; ways = record { opened = opened; journal = new_journal; begun = old.ways.begun } })
   has-stepped way o new_o new_w result answer new_t new_primaries later meanwhile opened left new_journal named has_way refusal kept (sides, log, did, topology, primaries, workflow, journal, record_is) set put closes is told =
       let new : SiteState = record { core = record { topology = new_t; primaries = new_primaries; workflows = later }; ways = record { opened = opened; journal = new_journal; begun = old.ways.begun } } in
       let steps : StepsOn old scopes may_answer w way o answer new =
-            (result, sides, log, did, told, whole old name w new_w (record { number = o.number; log = log }) new_o sides new_t new_primaries later meanwhile opened left new_journal named topology primaries workflow journal record_is set put closes is) in
+      (result, sides, log, did, told, whole old name w new_w (record { number = o.number; log = log }) new_o sides new_t new_primaries later meanwhile opened left new_journal named topology primaries workflow journal record_is set put closes is) in
       subst (λ f. StepsAt f old scopes may_answer at answer new) (sym found)
       (subst (λ v. StepsWay v old scopes may_answer w at answer new) (sym has_way)
       (subst (λ t. OrRefused t old answer new (StepsKept (open_at old.ways.opened w.name) old scopes may_answer w way answer new)) (sym refusal)
@@ -133,11 +133,11 @@ module _ (old : SiteState) (name : List ℕ) (at : ℕ) (w : WorkflowState) (fou
       → UndoesBetween old.core.topology old.core.primaries w way old.ways.journal o new_t new_primaries new_w new_journal new_o
       → later ≡ set_value (same_text name) old.core.workflows new_w → meanwhile ≡ set_value (same_text name) old.ways.opened new_o → left ≡ new_w.way → opened ≡ left_open meanwhile name left
       → UndoesWorkflow old name at done
-        (record { core = record { topology = new_t; primaries = new_primaries; workflows = later }; ways = record { opened = opened; journal = new_journal; begun = old.ways.begun } })
+      (record { core = record { topology = new_t; primaries = new_primaries; workflows = later }; ways = record { opened = opened; journal = new_journal; begun = old.ways.begun } })
   has-undone way o new_o new_w new_t new_primaries later meanwhile opened left new_journal named has_way refusal kept (sides, log, did, topology, primaries, workflow, journal, record_is) set put closes is =
       let new : SiteState = record { core = record { topology = new_t; primaries = new_primaries; workflows = later }; ways = record { opened = opened; journal = new_journal; begun = old.ways.begun } } in
       let undoes : UndoesOn old w way o done new =
-            (sides, log, did, refl, whole old name w new_w (record { number = o.number; log = log }) new_o sides new_t new_primaries later meanwhile opened left new_journal named topology primaries workflow journal record_is set put closes is) in
+      (sides, log, did, refl, whole old name w new_w (record { number = o.number; log = log }) new_o sides new_t new_primaries later meanwhile opened left new_journal named topology primaries workflow journal record_is set put closes is) in
       subst (λ f. UndoesAt f old at done new) (sym found)
       (subst (λ v. UndoesWay v old w at done new) (sym has_way)
       (subst (λ t. OrRefused t old done new (UndoesKept (open_at old.ways.opened w.name) old w way done new)) (sym refusal)

@@ -15,8 +15,7 @@ ghost use Rattle.mt_steps.specs.Undo.{IsLogOf};
 ghost use Rattle.mt_workflow.specs.Workflows.{WorkflowState};
 
 use mt_laws::{
-    only_named_events_change_a_workflow, only_named_events_change_the_state,
-    ways_keep_their_course,
+    only_named_events_change_a_workflow, only_named_events_change_the_state, ways_keep_their_course,
 };
 use mt_site_create::{
     a_create_is_refused_as_the_definitions_refuse_it, what_a_create_makes_stands_for_the_next_state,

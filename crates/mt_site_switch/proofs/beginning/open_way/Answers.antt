@@ -5,7 +5,8 @@ use Rattle.mt_site_switch.proofs.beginning.open_way.Goals as goal
 
 pub returns-in-Ok-insert : goal.returns-in-Ok-insert
 returns-in-Ok-insert c =
-    let w = c.args.workflow.now in
-    (c.set_way.ensures.after,
-    c.in-Ok-insert.ensures.entries ∙ way_pushed c.args.opened.now w c.copied.result c.args.begun.now c.in-Ok.log (c.copied.ensures ∙ c.name.ensures) c.in-Ok.ensures.value c.requires.absent,
-    add-one c.args.begun.now)
+    let w = c.args.workflow.now in (
+      c.set_way.ensures.after,
+      c.in-Ok-insert.ensures.entries ∙ way_pushed c.args.opened.now w c.copied.result c.args.begun.now c.in-Ok.log (c.copied.ensures ∙ c.name.ensures) c.in-Ok.ensures.value c.requires.absent,
+      add-one c.args.begun.now,
+    )

@@ -57,7 +57,7 @@ returns-in-Create-clause-steps g c =
     let same : c.as_slice.result.now ≡ c.in-Create.tables.items = search rules in
     subst (λ e. SiteSteps (g.W.Asks.scopes c.args.watchers.now) c.args.self.now (event_of e) told new) (sym c.in-Create.is)
     (subst (λ s. SiteSteps (g.W.Asks.scopes c.args.watchers.now) c.args.self.now (plain.create c.in-Create.workflow c.in-Create.source c.in-Create.target c.in-Create.tables.items) told s) (joined c.args.self.now new c.create.ensures.ways)
-    (c.a_create_steps_and_leaves_the_ways.ensures  c.args.self.now new.core c.in-Create.workflow c.in-Create.source c.in-Create.target c.in-Create.tables.items told (subst (λ ts. Creates c.args.self.now.core (g.W.Asks.scopes c.args.watchers.now) (g.W.Asks.may_answer c.args.watchers.now) c.in-Create.workflow c.in-Create.source c.in-Create.target ts told new.core) same c.create.ensures.does)))
+    (c.a_create_steps_and_leaves_the_ways.ensures c.args.self.now new.core c.in-Create.workflow c.in-Create.source c.in-Create.target c.in-Create.tables.items told (subst (λ ts. Creates c.args.self.now.core (g.W.Asks.scopes c.args.watchers.now) (g.W.Asks.may_answer c.args.watchers.now) c.in-Create.workflow c.in-Create.source c.in-Create.target ts told new.core) same c.create.ensures.does)))
 
 pub returns-in-Advance-clause-steps : goal.returns-in-Advance-clause-steps
 returns-in-Advance-clause-steps g c =
@@ -99,7 +99,7 @@ pub returns-in-Step-clause-steps : goal.returns-in-Step-clause-steps
 returns-in-Step-clause-steps g c =
     let told = answer_from c.step.result in
     subst (λ e. SiteSteps (g.W.Asks.scopes c.args.watchers.now) c.args.self.now (event_of e) told c.step.new.self) (sym c.in-Step.is)
-    (c.a_step_steps.ensures.steps  c.args.self.now c.step.new.self c.in-Step.workflow c.in-Step.at told c.step.ensures.does)
+    (c.a_step_steps.ensures.steps c.args.self.now c.step.new.self c.in-Step.workflow c.in-Step.at told c.step.ensures.does)
 
 pub returns-in-Undo-clause-steps : goal.returns-in-Undo-clause-steps
 returns-in-Undo-clause-steps g c =
