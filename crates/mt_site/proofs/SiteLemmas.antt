@@ -28,8 +28,8 @@ use Rattle.mt_steps.specs.Steps.{SidesState, Steps}
 use Rattle.mt_steps.specs.Undo.{IsLogOf, UndoState}
 use Rattle.mt_watch.specs.Asking.{Answering}
 use Rattle.mt_workflow.specs.Workflows.{WorkflowState, keys_of_part, live_of}
-use Rattle.mt_site_answers.proofs.SameLemmas.{sides_same}
-use Rattle.mt_site_answers.proofs.UndoLemmas.{undo_same}
+use Rattle.mt_site_ways.proofs.SameLemmas.{sides_same}
+use Rattle.mt_site_ways.proofs.AnswerUndoLemmas.{undo_same}
 use Rattle.mt_site_state.specs.Core.{CoreState, Primaries, Workflows, primary_at, primary_of, workflow_at}
 use Rattle.mt_site_state.specs.Stands.{Stands, StandsWith}
 use Rattle.mt_site_state.specs.Switching.{BeginsReverseAt, BeginsSwitchAt, CompletesAt, OrRefused, SiteDoes, StepsAt, StepsKept, StepsWay, StepsWorkflow, UndoesWorkflow, answer_by_step, completed, is_copying, no_number_left, sides_of, step_refusal, way_to, with_sides, with_way}

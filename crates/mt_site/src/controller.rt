@@ -32,18 +32,16 @@ use mt_names::{
     KeyspaceName, Position, RuleKey, RuleTarget, TableName, TabletType, TypeSet, WorkflowName,
 };
 use mt_rules::RulesFault;
-use mt_site_create::a_create_can_be_taken_back;
-use mt_site_facts::{
+use mt_site_events::{
+    a_core_tells_what_its_state_serves, a_create_can_be_taken_back,
     each_keyspace_of_a_core_has_a_primary, primaries_of_a_core_have_the_tables_of_its_topology,
     streams_of_a_core_lie_in_their_logs, workflows_of_a_core_stand_in_place,
 };
-use mt_site_hand::a_core_tells_what_its_state_serves;
 use mt_site_switch::{begin_reverse, begin_switch, complete, step, undo};
-use mt_site_ways::{a_begin_steps, a_complete_steps, a_step_steps, an_undo_steps};
-use mt_site_whole::{
-    a_create_leaves_a_site, a_create_steps_and_leaves_the_ways, a_site_stays_one,
-    each_open_way_has_a_record, events_by_hand_step_and_leave_the_ways,
-    events_on_workflows_step_and_leave_the_ways,
+use mt_site_ways::{
+    a_begin_steps, a_complete_steps, a_create_leaves_a_site, a_create_steps_and_leaves_the_ways,
+    a_site_stays_one, a_step_steps, an_undo_steps, each_open_way_has_a_record,
+    events_by_hand_step_and_leave_the_ways, events_on_workflows_step_and_leave_the_ways,
 };
 use mt_topology::Topology;
 use mt_watch::Asks;

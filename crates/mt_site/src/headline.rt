@@ -25,7 +25,7 @@ use mt_laws::{
     a_reversal_gives_the_part_back, an_abandoned_way_gives_the_part_back,
     cancel_gives_the_part_back, each_primary_read_answers_from_the_acknowledged_writes,
 };
-use mt_site_hand::a_read_steps;
+use mt_site_events::a_read_steps;
 
 /// After a Cancel that is taken the topology says of each entry of the workflow's part what it said before the Create that
 /// made the workflow, whatever events came between, and of each other entry what it said just before the Cancel.

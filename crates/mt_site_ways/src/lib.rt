@@ -1,6 +1,34 @@
-//! Laws on the events of a way, and on Complete, from one state of the controller to the next.
+//! Laws on the whole controller, its core beside what it keeps of the ways: what is true of every state; the begin, the steps and the
+//! undos of a way, and Complete, from one state of the definitions to the next; and that the other events leave the ways.
 #![tactic(auto)]
 
+mod answers;
+mod completing;
+mod events;
+mod primaries;
+mod records;
+mod rows;
+mod stays;
 mod ways;
+mod workflows;
 
+pub use answers::{
+    a_begin_answers_as_the_definitions_allow, a_complete_answers_as_the_definitions_allow,
+    a_step_answers_as_the_definitions_allow, an_undo_answers_as_the_definitions_allow,
+};
+pub use completing::what_complete_makes_stands_for_the_next_state;
+pub use events::{
+    a_create_steps_and_leaves_the_ways, events_by_hand_step_and_leave_the_ways,
+    events_on_workflows_step_and_leave_the_ways,
+};
+pub use primaries::{
+    a_begin_leaves_the_primaries, a_log_ends_where_the_definitions_say,
+    a_refresh_records_an_empty_list, a_step_leaves_the_primaries, an_undo_leaves_the_primaries,
+};
+pub use records::{steps_and_undos_leave_the_topology, what_is_kept_of_the_ways_stays};
+pub use rows::a_complete_keeps_rows_and_logs;
+pub use stays::{a_create_leaves_a_site, a_site_stays_one, each_open_way_has_a_record};
 pub use ways::{a_begin_steps, a_complete_steps, a_step_steps, an_undo_steps};
+pub use workflows::{
+    a_begin_leaves_the_workflows, a_step_leaves_the_workflows, an_undo_leaves_the_workflows,
+};

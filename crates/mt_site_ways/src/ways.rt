@@ -9,25 +9,20 @@ ghost use Rattle.mt_site_state.specs.Core.{primary_of};
 ghost use Rattle.mt_site_state.specs.Switching.{BeginsReverse, BeginsSwitch, Completes, StepsWorkflow, UndoesWorkflow};
 ghost use Rattle.mt_site_state.specs.Ways.{IsSite, SiteState, SiteSteps};
 
+use crate::{
+    a_begin_answers_as_the_definitions_allow, a_begin_leaves_the_primaries,
+    a_begin_leaves_the_workflows, a_complete_answers_as_the_definitions_allow,
+    a_log_ends_where_the_definitions_say, a_site_stays_one,
+    a_step_answers_as_the_definitions_allow, a_step_leaves_the_primaries,
+    a_step_leaves_the_workflows, an_undo_answers_as_the_definitions_allow,
+    an_undo_leaves_the_primaries, an_undo_leaves_the_workflows, steps_and_undos_leave_the_topology,
+    what_complete_makes_stands_for_the_next_state, what_is_kept_of_the_ways_stays,
+};
 use mt_laws::{
     a_live_workflow_is_found_by_its_part, each_next_state_is_reached,
     live_workflows_stand_in_place, only_named_events_change_a_workflow,
 };
-use mt_site_answers::{
-    a_begin_answers_as_the_definitions_allow, a_complete_answers_as_the_definitions_allow,
-    a_step_answers_as_the_definitions_allow, an_undo_answers_as_the_definitions_allow,
-};
-use mt_site_complete::what_complete_makes_stands_for_the_next_state;
-use mt_site_primaries::{
-    a_begin_leaves_the_primaries, a_log_ends_where_the_definitions_say,
-    a_step_leaves_the_primaries, an_undo_leaves_the_primaries,
-};
-use mt_site_records::{steps_and_undos_leave_the_topology, what_is_kept_of_the_ways_stays};
 use mt_site_topology::a_way_that_begins_leaves_the_topology;
-use mt_site_whole::a_site_stays_one;
-use mt_site_workflows::{
-    a_begin_leaves_the_workflows, a_step_leaves_the_workflows, an_undo_leaves_the_workflows,
-};
 use mt_watch::Asks;
 
 /// A begin of a way, forward or back, leads from each state that the controller stands for to the next one.

@@ -4,7 +4,7 @@ use Rattle.std.proofs.Math.Logic.{∥∥₁_elim}
 use denote.Struct.Props.{props}
 use Rattle.mt_model.specs.declared.entries.Scope.{Scope}
 use Rattle.mt_plain.specs.Plain.{Plain, among, live_at}
-use Rattle.mt_site_facts.proofs.FoundLemmas.{live_of_state}
+use Rattle.mt_site_events.proofs.FoundLemmas.{live_of_state}
 use Rattle.mt_site_state.specs.Core.{CoreState, workflow_at}
 use Rattle.mt_site_state.specs.Stands.{StandsWith}
 use Rattle.mt_workflow.specs.Workflows.{WorkflowState}

@@ -3,7 +3,7 @@ use Rattle.std.proofs.Common.{◌≤◌, subst, sym}
 use Rattle.std.proofs.Math.Logic.{∥∥₁_elim}
 use denote.Struct.Props.{props}
 use Rattle.mt_plain.specs.Refuse.{most_workflows}
-use Rattle.mt_site_create.proofs.NamedLemmas.{same_count}
+use Rattle.mt_site_events.proofs.NamedLemmas.{same_count}
 use Rattle.mt_site.proofs.OwedLemmas.{owed_same}
 use Rattle.mt_site.proofs.owed.a_core_owes_what_its_state_owes.Goals as goal
 

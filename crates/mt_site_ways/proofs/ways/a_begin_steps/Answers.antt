@@ -4,9 +4,9 @@ use Rattle.mt_plain.specs.Events.{begin_reverse, begin_switch, done}
 use Rattle.mt_plain.specs.Next.{next, types_and, types_without}
 use Rattle.mt_plain.specs.Refuse.{begin_reverse_refusal, begin_switch_refusal, in_workflow}
 use Rattle.mt_site_topology.proofs.BeginLemmas.{at_rest-none}
-use Rattle.mt_site_records.proofs.BeginLemmas.{begin_stays}
-use Rattle.mt_site_records.proofs.TopologyLemmas.{live_for}
-use Rattle.mt_site_ways.proofs.BeginLemmas.{reverse_steps, switch_steps}
+use Rattle.mt_site_ways.proofs.RecordBeginLemmas.{begin_stays}
+use Rattle.mt_site_ways.proofs.TopologyLemmas.{live_for}
+use Rattle.mt_site_ways.proofs.WayBeginLemmas.{reverse_steps, switch_steps}
 use Rattle.mt_site_ways.proofs.ways.a_begin_steps.Goals as goal
 
 pub returns : goal.returns

@@ -1,5 +1,5 @@
 -- What Complete makes stands for the next state, and what is refused changes nothing.
-use Rattle.mt_site_ways.proofs.BeginLemmas.{complete_steps}
+use Rattle.mt_site_ways.proofs.WayBeginLemmas.{complete_steps}
 use Rattle.mt_site_ways.proofs.ways.a_complete_steps.Goals as goal
 
 pub returns : goal.returns

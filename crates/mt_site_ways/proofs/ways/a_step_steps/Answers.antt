@@ -9,11 +9,11 @@ use Rattle.mt_plain.specs.Plain.{Plain}
 use Rattle.mt_plain.specs.Refuse.{new_owner}
 use Rattle.mt_plain.specs.Slots.{log_length}
 use Rattle.mt_steps.specs.Steps.{sites}
-use Rattle.mt_site_records.proofs.TopologyLemmas.{live_for}
+use Rattle.mt_site_ways.proofs.TopologyLemmas.{live_for}
 use Rattle.mt_site_state.specs.Switching.{StepsWorkflow, sides_of}
 use Rattle.mt_site_state.specs.Ways.{HasSiteState, SiteState, SiteStands}
 use Rattle.mt_site_ways.proofs.OutcomeLemmas.{IsMade, SteppedBy, leaves_a_site, stands_behind, step_outcome}
-use Rattle.mt_site_ways.proofs.StepLemmas.{kept_at, step_stands, still_watched}
+use Rattle.mt_site_ways.proofs.WayStepLemmas.{kept_at, step_stands, still_watched}
 use Rattle.mt_site_ways.proofs.ways.a_step_steps.Goals as goal
 
 pub returns : goal.returns

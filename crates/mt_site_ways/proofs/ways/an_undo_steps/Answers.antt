@@ -5,13 +5,13 @@ use Rattle.mt_plain.specs.Answers.{Answers}
 use Rattle.mt_plain.specs.Events.{done, undo}
 use Rattle.mt_plain.specs.Next.{next}
 use Rattle.mt_plain.specs.Plain.{Plain}
-use Rattle.mt_site_primaries.proofs.UndoLemmas.{before_journal}
-use Rattle.mt_site_records.proofs.TopologyLemmas.{live_for}
+use Rattle.mt_site_ways.proofs.PrimaryUndoLemmas.{before_journal}
+use Rattle.mt_site_ways.proofs.TopologyLemmas.{live_for}
 use Rattle.mt_site_state.specs.Switching.{UndoesWorkflow, sides_of, with_sides}
 use Rattle.mt_site_state.specs.Ways.{SiteState, SiteStands}
 use Rattle.mt_site_ways.proofs.OutcomeLemmas.{IsMade, UndoneBy, stands_behind, undo_outcome}
-use Rattle.mt_site_ways.proofs.StepLemmas.{kept_at}
-use Rattle.mt_site_ways.proofs.UndoLemmas.{closed_stands, refresh_done, undo_stands, undone_either}
+use Rattle.mt_site_ways.proofs.WayStepLemmas.{kept_at}
+use Rattle.mt_site_ways.proofs.WayUndoLemmas.{closed_stands, refresh_done, undo_stands, undone_either}
 use Rattle.mt_site_ways.proofs.ways.an_undo_steps.Goals as goal
 
 pub returns : goal.returns

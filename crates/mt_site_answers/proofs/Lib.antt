@@ -1,9 +1,0 @@
-pub mod BeginLemmas
-pub mod FoundLemmas
-pub mod LevelLemmas
-pub mod RefreshLemmas
-pub mod RefusalLemmas
-pub mod SameLemmas
-pub mod StepLemmas
-pub mod TakenLemmas
-pub mod UndoLemmas

@@ -1,4 +1,0 @@
-pub mod CompleteLemmas
-pub mod NextLemmas
-pub mod PrimaryLemmas
-pub mod RowLemmas

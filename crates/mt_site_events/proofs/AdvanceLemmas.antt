@@ -1,0 +1,322 @@
+-- An advance, from core to core.
+use Rattle.std.proofs.Common.{◌≡◌, ◌≢◌, ℕ, Bool, true, false, List, [], ◌∷◌, map, Option, None, Some, option_map, is_some, refl, sym, ap, ◌∙◌, subst, cond, unwrap_or, ◌+◌}
+use Rattle.std.specs.Prelude.{Result, Ok, Err}
+use Rattle.std.specs.Map.{set_value}
+use Rattle.mt_model.specs.declared.entries.Scope.{Scope}
+use Rattle.mt_model.specs.Topology.{Rules, TopologyState}
+use Rattle.mt_names.specs.Names.{same_text}
+use Rattle.mt_names.proofs.EntryLemmas.{some_from}
+use Rattle.mt_names.proofs.SameLemmas.{same_text_decides}
+use Rattle.mt_laws.specs.Advances.{IsAfterAdvance, advanced_live}
+use Rattle.mt_laws.specs.Changes.{HasSides, IsOf, IsOfRows}
+use Rattle.mt_laws.specs.WayBack.{IsReached}
+use Rattle.mt_laws.proofs.InPlaceLemmas.{live_in}
+use Rattle.mt_laws.proofs.LiveLemmas.{sides_back, sides_joined}
+use Rattle.mt_laws.proofs.PartLemmas.{there_at_source, there_at_target}
+use Rattle.mt_laws.proofs.ReachLemmas.{reached_has_parts}
+use Rattle.mt_plain.specs.Answers.{Answers}
+use Rattle.mt_plain.specs.Events.{Answer, Event, StreamName, forward, back, Slot, advance, advanced, refused, stream_stopped}
+use Rattle.mt_plain.specs.Next.{next, with_advance, with_live}
+use Rattle.mt_plain.specs.Plain.{Live, Plain, has_keyspace, live_at, moves}
+use Rattle.mt_plain.specs.Refuse.{advance_at, advance_refusal, in_workflow}
+use Rattle.mt_plain.specs.Slots.{is_fresh, live_advanced, read_side, running_at, slot_of, written_side}
+use Rattle.mt_primary.specs.Primary.{IsPrimary, PrimaryState, TableState, empty_primary, has_table, is_denied_at, made_at, table_at}
+use Rattle.mt_site_rows.specs.Answers.{answer_by_stream}
+use Rattle.mt_site_rows.specs.Rows.{IsStreamOf, OthersStay, Primaries, RowsStand, stream_of}
+use Rattle.mt_site_topology.specs.Keys.{IsKept}
+use Rattle.mt_site_topology.specs.Stands.{TopologyStands}
+use Rattle.mt_site_state.specs.Core as core
+use Rattle.mt_site_state.specs.Core.{CoreState, primary_at, primary_of, workflow_at}
+use Rattle.mt_site_state.specs.Stands.{StandsFor, StandsWith}
+use Rattle.mt_site_state.specs.Workflows.{AdvancesAt, AdvancesStream, AdvancesWorkflow, with_advanced}
+use Rattle.mt_stream.specs.declared.fault.StreamFault.{StreamFault}
+use Rattle.mt_stream.specs.declared.fault.StreamFault.TheVariants.{Memory, Stale, Stopped, Frozen, LogFull}
+use Rattle.mt_stream.specs.declared.stream.Advanced.{Advanced}
+use Rattle.mt_stream.specs.Advance.{Advances}
+use Rattle.mt_stream.specs.Streams.{StreamValue}
+use Rattle.mt_workflow.specs.Workflows.{WorkflowState, live_of, with_slot}
+use Rattle.mt_workflow.specs.Workflows as work
+use Rattle.mt_site_events.proofs.MoveCoreLemmas.{live_found, no_live, primaries-set, primary-elsewhere, primary-here, primary-keeps, set_value-same, workflows-set}
+use Rattle.mt_site_events.proofs.MoveStreamLemmas.{other_of, other_stays, sides_adv, sides_gone, switched_adv, way_adv}
+
+-- ---- what an advance leaves
+
+-- a refused one all
+refused_leaves : (stream : StreamValue) (source sink : PrimaryState) (at at_most : ℕ) (fault : StreamFault) (after : StreamValue) (new : PrimaryState)
+    → Advances stream source sink at at_most (Err fault) after new → (after ≡ stream) × (new ≡ sink)
+refused_leaves stream source sink at at_most Memory after new is = (is.2, is.3)
+refused_leaves stream source sink at at_most (Stale position) after new is = (is.1, is.2)
+refused_leaves stream source sink at at_most Stopped after new is = (is.1, is.2)
+refused_leaves stream source sink at at_most Frozen after new is = (is.1, is.2)
+refused_leaves stream source sink at at_most LogFull after new is = (is.1, is.2)
+
+-- rows that are put leave the tables
+made_there : (o : Option TableState) → is_some (option_map (λ (t : TableState). t.made) o) ≡ is_some o
+made_there None = refl
+made_there (Some t) = refl
+
+tables_stay : (old new : PrimaryState) → ((table : List ℕ) → made_at new table ≡ made_at old table) → (table : List ℕ) → has_table new table ≡ has_table old table
+tables_stay old new made table = sym (made_there (table_at new table)) ∙ ap is_some (made table) ∙ made_there (table_at old table)
+
+-- the names of the live workflows
+names_with : (change : Live → Live) (name : List ℕ) → ((w : Live) → (change w).name ≡ w.name) → (ws : List Live) → map (λ (l : Live). l.name) (with_live change name ws) ≡ map (λ (l : Live). l.name) ws
+names_with change name same [] = refl
+names_with change name same (w ∷ ws) = by (same_text w.name name) (names_with change name same ws)
+  where
+    by : (t : Bool) → map (λ (l : Live). l.name) (with_live change name ws) ≡ map (λ (l : Live). l.name) ws
+        → (cond t (change w) w).name ∷ map (λ (l : Live). l.name) (with_live change name ws) ≡ w.name ∷ map (λ (l : Live). l.name) ws
+    by true again = let e = same w in cc
+    by false again = ap (λ ns. w.name ∷ ns) again
+
+names_advanced : (p : Plain) (stream : StreamName) (at at_most events rows : ℕ) (o : Option Live)
+    → map (λ (l : Live). l.name) (with_advance p stream at at_most events rows o).lives ≡ map (λ (l : Live). l.name) p.lives
+names_advanced p stream at at_most events rows None = refl
+names_advanced p stream at at_most events rows (Some w) =
+    names_with (λ v. live_advanced p v stream at at_most events rows) w.name
+    (λ v. let a = live_advanced p v stream at at_most events rows in sym (sides_gone v (at + events) a.fed a.copied stream (is_fresh v.way stream)).name) p.lives
+
+-- ---- the stream that advances
+
+stream_slot : (live : Live) (o : Option Slot) (stream : StreamValue) → option_map (stream_of live) o ≡ Some stream → (slot : Slot) × (o ≡ Some slot) × (stream ≡ stream_of live slot)
+stream_slot live None stream e = absurd cc
+stream_slot live (Some slot) stream e = (slot, refl, let is : stream_of live slot ≡ stream = cc in sym is)
+
+no_slot : (live : Live) (o : Option Slot) → option_map (stream_of live) o ≡ None → o ≡ None
+no_slot live None e = refl
+no_slot live (Some slot) e = absurd cc
+
+module _ (p : Plain) (live : Live) (w : WorkflowState) (stands : StandsFor p live w) where
+  slot_stands : (n : StreamName) → work.slot_of w n ≡ option_map (stream_of live) (slot_of live n)
+  slot_stands forward = stands.forward
+  slot_stands back = stands.back
+
+  reads_same : (n : StreamName) → read_side (live_of w) n ≡ read_side live n
+  reads_same forward = sym stands.sides.source
+  reads_same back = sym stands.sides.target
+
+  writes_same : (n : StreamName) → written_side (live_of w) n ≡ written_side live n
+  writes_same forward = sym stands.sides.target
+  writes_same back = sym stands.sides.source
+
+  slot_again : (n : StreamName) (stream : StreamValue) → work.slot_of w n ≡ Some stream → with_slot w n (Some stream) ≡ w
+  slot_again forward stream e = ap (λ o. record w { forward = o }) (sym e)
+  slot_again back stream e = ap (λ o. record w { back = o }) (sym e)
+
+-- ---- a stream that is there
+
+module _ (p : Plain) (scopes : List Scope) (old : CoreState) (stands : StandsWith p scopes old) (workflow : List ℕ) (w : WorkflowState) (found : workflow_at old.workflows workflow ≡ Some w)
+    (live : Live) (is_live : live_at p workflow ≡ Some live) (for : StandsFor p live w) (named : live.name ≡ workflow) (name : StreamName) (slot : Slot) (there : slot_of live name ≡ Some slot)
+    (has : work.slot_of w name ≡ Some (stream_of live slot)) where
+  abbrev pub side : List ℕ
+  side = written_side live name
+
+  abbrev pub core_after : StreamValue → PrimaryState → CoreState
+  core_after after sink = record old {
+    primaries = set_value (same_text side) old.primaries sink;
+    workflows = set_value (same_text workflow) old.workflows (with_slot w name (Some after));
+  }
+
+  pub core_is : (after : StreamValue) (sink : PrimaryState) → with_advanced old w name after sink ≡ core_after after sink
+  core_is after sink = by (written_side (live_of w) name) (writes_same p live w for name) w.name (sym for.sides.name ∙ named)
+    where
+      by : (k : List ℕ) → k ≡ side → (n : List ℕ) → n ≡ workflow
+          → record old { primaries = set_value (same_text k) old.primaries sink; workflows = set_value (same_text n) old.workflows (with_slot w name (Some after)) } ≡ core_after after sink
+      by k a n b = rw (a, b) refl
+
+  is_keyspace : (n : StreamName) → has_keyspace p (written_side live n) ≡ true
+  is_keyspace forward = ((reached_has_parts p stands.reached).placed live (live_in p workflow live is_live)).target
+  is_keyspace back = ((reached_has_parts p stands.reached).placed live (live_in p workflow live is_live)).source
+
+  sink_there : (before : PrimaryState) × (primary_at old.primaries side ≡ Some before)
+  sink_there = some_from (primary_at old.primaries side) (stands.primaries.there side ∙ is_keyspace name)
+
+  pub same_again : core_after (stream_of live slot) (primary_of old.primaries side) ≡ old
+  same_again =
+      ap (λ (ps : core.Primaries). let c : CoreState = record old { primaries = ps; workflows = set_value (same_text workflow) old.workflows (with_slot w name (Some (stream_of live slot))) } in c) primaries_again
+      ∙ ap (λ (ws : core.Workflows). let c : CoreState = record old { workflows = ws } in c) workflows_again
+    where
+      primaries_again : set_value (same_text side) old.primaries (primary_of old.primaries side) ≡ old.primaries
+      primaries_again = set_value-same old.primaries side (primary_of old.primaries side) (sink_there.1 ∙ ap Some (sym (ap (λ o. unwrap_or o empty_primary) sink_there.1)))
+
+      workflows_again : set_value (same_text workflow) old.workflows (with_slot w name (Some (stream_of live slot))) ≡ old.workflows
+      workflows_again = ap (set_value (same_text workflow) old.workflows) (slot_again p live w for name (stream_of live slot) has) ∙ set_value-same old.workflows workflow w found
+
+  read_tables : (n : StreamName) (table : List ℕ) → moves live table ≡ true → has_table (primary_of old.primaries (read_side live n)) table ≡ true
+  read_tables forward table moved =
+      stands.primaries.tables live.source table ∙ there_at_source p live table (reached_has_parts p stands.reached) (live_in p workflow live is_live) moved
+  read_tables back table moved = stands.primaries.tables live.target table ∙ there_at_target p live table (live_in p workflow live is_live) moved
+
+  pub sink_now : (sink : PrimaryState) → primary_of (set_value (same_text side) old.primaries sink) side ≡ sink
+  sink_now sink = primary-here old.primaries side sink_there.0 sink sink_there.1
+
+  pub others_stay : (sink : PrimaryState) → OthersStay side (primary_of old.primaries) (primary_of (set_value (same_text side) old.primaries sink))
+  others_stay sink = primary-elsewhere old.primaries side sink_there.0 sink sink_there.1
+
+  -- what is the same of the sink is the same of each
+  sink_keeps : {A : Type 0} (sink : PrimaryState) (read : PrimaryState → A) → read sink ≡ read (primary_of old.primaries side) → (k : List ℕ)
+      → read (primary_of (set_value (same_text side) old.primaries sink) k) ≡ read (primary_of old.primaries k)
+  sink_keeps sink read same =
+      primary-keeps old.primaries side sink_there.0 sink sink_there.1 read (same ∙ ap (λ o. read (unwrap_or o empty_primary)) sink_there.1)
+
+  pub reads_tables : (table : List ℕ) → moves live table ≡ true → has_table (primary_of old.primaries (read_side live name)) table ≡ true
+  reads_tables = read_tables name
+
+  -- an advance that is done
+  module _ (at at_most events rows : ℕ) (after : StreamValue) (sink : PrimaryState) where
+    abbrev q : Plain
+    q = next p (advance workflow name at at_most) (advanced events rows)
+
+    abbrev adv : Live
+    adv = live_advanced p live name at at_most events rows
+
+    module _ (reached_q : IsReached q) (scopes_q : q.scopes ≡ p.scopes) (topology_q : TopologyStands q old.topology)
+        (is_after : IsAfterAdvance p q workflow live name at at_most events rows)
+        (kept_q : (v : Live) → live_at q workflow ≡ Some v → IsKept q.topology v w.kept)
+        (elsewhere : (n : List ℕ) → workflow ≢ n → live_at q n ≡ live_at p n)
+        (rows_q : RowsStand q (primary_of (set_value (same_text side) old.primaries sink)))
+        (stream_q : IsStreamOf q workflow name after)
+        (made : (table : List ℕ) → made_at sink table ≡ made_at (primary_of old.primaries side) table)
+        (denied : (table : List ℕ) → is_denied_at sink table ≡ is_denied_at (primary_of old.primaries side) table) where
+      now : live_at q workflow ≡ Some adv
+      now =
+          is_after.live workflow ∙ ap (option_map (advanced_live p workflow name at at_most events rows)) is_live
+          ∙ ap (λ t. Some (cond t adv live)) ((same_text_decides live.name workflow).1 named)
+
+      this : Some after ≡ option_map (stream_of adv) (slot_of adv name)
+      this =
+          let same : stream_q.live ≡ adv = (let e : Some stream_q.live ≡ Some adv = sym stream_q.found ∙ now in cc) in
+          subst (λ v. Some after ≡ option_map (stream_of v) (slot_of v name)) same
+          (ap Some stream_q.is ∙ sym (ap (option_map (stream_of stream_q.live)) stream_q.there))
+
+      other : option_map (stream_of adv) (slot_of adv (other_of name)) ≡ option_map (stream_of live) (slot_of live (other_of name))
+      other = other_stays p q stands.reached reached_q workflow live is_live name at at_most events rows now slot there
+
+      sides : HasSides adv (live_of w)
+      sides = sides_joined adv live (live_of w) (sides_back live adv (sides_adv p q stands.reached reached_q workflow live is_live name at at_most events rows now)) for.sides
+
+      switched : w.switched ≡ adv.switched
+      switched = for.switched ∙ sym (switched_adv p q stands.reached reached_q workflow live is_live name at at_most events rows now)
+
+      way : w.way ≡ adv.way
+      way = for.way ∙ sym (way_adv p q stands.reached reached_q workflow live is_live name at at_most events rows now)
+
+      stands_for : (n : StreamName) → Some after ≡ option_map (stream_of adv) (slot_of adv n) → option_map (stream_of adv) (slot_of adv (other_of n)) ≡ option_map (stream_of live) (slot_of live (other_of n))
+          → StandsFor q adv (with_slot w n (Some after))
+      stands_for forward a b = record { sides = sides; switched = switched; way = way; kept = kept_q adv now; forward = a; back = for.back ∙ sym b }
+      stands_for back a b = record { sides = sides; switched = switched; way = way; kept = kept_q adv now; forward = for.forward ∙ sym b; back = a }
+
+      names : map (λ (l : Live). l.name) q.lives ≡ map (λ (l : Live). l.name) p.lives
+      names = names_advanced p name at at_most events rows (live_at p workflow)
+
+      pub advanced_stands : StandsWith q scopes (core_after after sink)
+      advanced_stands = record {
+        reached = reached_q;
+        scopes_are = scopes_q ∙ stands.scopes_are;
+        topology = topology_q;
+        rows = rows_q;
+        primaries = primaries-set p q is_after.topology old.primaries stands.primaries side sink
+            (λ k t. sink_keeps sink (λ s. has_table s t) (tables_stay (primary_of old.primaries side) sink made t) k ∙ stands.primaries.tables k t ∙ sym (is_after.present k t))
+            (λ k t. sink_keeps sink (λ s. is_denied_at s t) (denied t) k ∙ stands.primaries.denials k t ∙ sym (is_after.refused k t));
+        workflows = workflows-set p q is_after.topology old.workflows stands.workflows workflow w (with_slot w name (Some after)) found adv now (stands_for name this other) elsewhere names;
+      }
+
+-- ---- the law
+
+module _ (p : Plain) (reached : IsReached p)
+    (named : (name : List ℕ) (w : Live) → live_at p name ≡ Some w → w.name ≡ name)
+    (answers : (at : Primaries) → RowsStand p at → (name : List ℕ) (w : Live) → live_at p name ≡ Some w → (stream : StreamName) (slot : Slot) → slot_of w stream ≡ Some slot
+    → IsPrimary (at (read_side w stream)) → (position at_most : ℕ) (result : Result Advanced StreamFault) (new : StreamValue) (sink : PrimaryState)
+    → Advances (stream_of w slot) (at (read_side w stream)) (at (written_side w stream)) position at_most result new sink
+    → Answers p (advance name stream position at_most) (answer_by_stream result))
+    (keeps : (old new : Primaries) → RowsStand p old → (name : List ℕ) (w : Live) → live_at p name ≡ Some w
+    → (stream : StreamName) (slot : Slot) → slot_of w stream ≡ Some slot → IsPrimary (old (read_side w stream))
+    → ((table : List ℕ) → moves w table ≡ true → has_table (old (read_side w stream)) table ≡ true) → OthersStay (written_side w stream) old new
+    → (position at_most : ℕ) (result : Result Advanced StreamFault) (value : StreamValue)
+    → Advances (stream_of w slot) (old (read_side w stream)) (old (written_side w stream)) position at_most result value (new (written_side w stream))
+    → RowsStand (next p (advance name stream position at_most) (answer_by_stream result)) new
+    × IsStreamOf (next p (advance name stream position at_most) (answer_by_stream result)) name stream value)
+    (is_after : (workflow : List ℕ) (w : Live) → live_at p workflow ≡ Some w → (stream : StreamName) (at at_most events rows : ℕ)
+    → IsAfterAdvance p (next p (advance workflow stream at at_most) (advanced events rows)) workflow w stream at at_most events rows)
+    (reaches : (event : Event) (answer : Answer) → Answers p event answer → IsReached (next p event answer))
+    (scopes_stay : (event : Event) (answer : Answer) → (next p event answer).scopes ≡ p.scopes)
+    (topology_stays : (t : TopologyState) (event : Event) (answer : Answer) → IsOfRows event → Answers p event answer → TopologyStands p t → TopologyStands (next p event answer) t)
+    (kept_stays : (event : Event) (answer : Answer) (name : List ℕ) (w v : Live) (kept : Rules) → Answers p event answer → live_at p name ≡ Some w → live_at (next p event answer) name ≡ Some v
+    → IsKept p.topology w kept → IsKept (next p event answer).topology v kept)
+    (elsewhere : (event : Event) (answer : Answer) (name : List ℕ) → ¬ (IsOf name event) → live_at (next p event answer) name ≡ live_at p name) where
+  abbrev Stepped : List Scope → (workflow : List ℕ) → StreamName → (at at_most : ℕ) → Answer → CoreState → Type 0
+  Stepped scopes workflow name at at_most answer new =
+      Answers p (advance workflow name at at_most) answer × StandsWith (next p (advance workflow name at at_most) answer) scopes new
+
+  module _ (scopes : List Scope) (old new : CoreState) (stands : StandsWith p scopes old) (are : (keyspace : List ℕ) → IsPrimary (primary_of old.primaries keyspace))
+      (workflow : List ℕ) (name : StreamName) (at at_most : ℕ) (answer : Answer) where
+    module _ (w : WorkflowState) (found : workflow_at old.workflows workflow ≡ Some w) (live : Live) (is_live : live_at p workflow ≡ Some live) (for : StandsFor p live w) where
+      stopped_steps : work.slot_of w name ≡ None → answer ≡ refused stream_stopped → new ≡ old → Stepped scopes workflow name at at_most answer new
+      stopped_steps none is same =
+          let no : slot_of live name ≡ None = no_slot live (slot_of live name) (sym (slot_stands p live w for name) ∙ none) in
+          subst (λ a. Stepped scopes workflow name at at_most a new) (sym is) (
+            ap (λ o. in_workflow o (advance_refusal p name at at_most)) is_live ∙ ap (λ o. advance_at p live name at at_most (running_at o)) no,
+            subst (StandsWith p scopes) (sym same) stands,
+          )
+
+      module _ (slot : Slot) (there : slot_of live name ≡ Some slot) (has : work.slot_of w name ≡ Some (stream_of live slot)) (after : StreamValue) (sink : PrimaryState) where
+        abbrev made : CoreState
+        made = core_after p scopes old stands workflow w found live is_live for (named workflow live is_live) name slot there has after sink
+
+        by_result : (result : Result Advanced StreamFault)
+            → Advances (stream_of live slot) (primary_of old.primaries (read_side live name)) (primary_of old.primaries (written_side live name)) at at_most result after sink
+            → Stepped scopes workflow name at at_most (answer_by_stream result) made
+        by_result (Err fault) is =
+            let leaves = refused_leaves (stream_of live slot) (primary_of old.primaries (read_side live name)) (primary_of old.primaries (written_side live name)) at at_most fault after sink is in (
+              answers (primary_of old.primaries) stands.rows workflow live is_live name slot there (are (read_side live name)) at at_most (Err fault) after sink is,
+              subst (λ s. StandsWith p scopes (core_after p scopes old stands workflow w found live is_live for (named workflow live is_live) name slot there has s sink)) (sym leaves.0)
+                  (subst (λ s. StandsWith p scopes (core_after p scopes old stands workflow w found live is_live for (named workflow live is_live) name slot there has (stream_of live slot) s)) (sym leaves.1)
+                  (subst (StandsWith p scopes) (sym (same_again p scopes old stands workflow w found live is_live for (named workflow live is_live) name slot there has)) stands)),
+            )
+        by_result (Ok counts) is =
+            let given = answers (primary_of old.primaries) stands.rows workflow live is_live name slot there (are (read_side live name)) at at_most (Ok counts) after sink is in
+            let now = sink_now p scopes old stands workflow w found live is_live for (named workflow live is_live) name slot there has sink in
+            let kept = keeps (primary_of old.primaries) (primary_of made.primaries) stands.rows workflow live is_live name slot there (are (read_side live name))
+            (reads_tables p scopes old stands workflow w found live is_live for (named workflow live is_live) name slot there has)
+            (others_stay p scopes old stands workflow w found live is_live for (named workflow live is_live) name slot there has sink)
+            at at_most (Ok counts) after
+            (subst (λ s. Advances (stream_of live slot) (primary_of old.primaries (read_side live name)) (primary_of old.primaries (written_side live name)) at at_most (Ok counts) after s) (sym now) is) in
+            let event = advance workflow name at at_most in
+            let told = advanced counts.events counts.rows in (
+              given,
+              advanced_stands p scopes old stands workflow w found live is_live for (named workflow live is_live) name slot there has at at_most counts.events counts.rows after sink
+                  (reaches event told given) (scopes_stay event told) (topology_stays old.topology event told tt given stands.topology)
+                  (is_after workflow live is_live name at at_most counts.events counts.rows)
+                  (λ v now_live. kept_stays event told workflow live v w.kept given is_live now_live for.kept)
+                  (λ n other. elsewhere event told n other)
+                  kept.0 kept.1 is.1.puts.made is.1.puts.denied,
+            )
+
+        pub made_steps : (result : Result Advanced StreamFault)
+            → Advances (stream_of live slot) (primary_of old.primaries (read_side live name)) (primary_of old.primaries (written_side live name)) at at_most result after sink
+            → answer ≡ answer_by_stream result → new ≡ with_advanced old w name after sink → Stepped scopes workflow name at at_most answer new
+        made_steps result is told same =
+            subst (λ a. Stepped scopes workflow name at at_most a new) (sym told)
+            (subst (Stepped scopes workflow name at at_most (answer_by_stream result))
+            (sym (same ∙ core_is p scopes old stands workflow w found live is_live for (named workflow live is_live) name slot there has after sink)) (by_result result is))
+
+      stream_steps : (o : Option StreamValue) → work.slot_of w name ≡ o → AdvancesStream o old w name at at_most answer new → Stepped scopes workflow name at at_most answer new
+      stream_steps None none is = stopped_steps none is.0 is.1
+      stream_steps (Some stream) has is =
+          let r = stream_slot live (slot_of live name) stream (sym (slot_stands p live w for name) ∙ has) in
+          made_steps r.0 r.1 (has ∙ ap Some r.2) is.1 is.2 is.0
+          (subst (λ k. Advances (stream_of live r.0) (primary_of old.primaries (read_side live name)) (primary_of old.primaries k) at at_most is.0 is.1 is.2) (writes_same p live w for name)
+          (subst (λ k. Advances (stream_of live r.0) (primary_of old.primaries k) (primary_of old.primaries (written_side (live_of w) name)) at at_most is.0 is.1 is.2) (reads_same p live w for name)
+          (subst (λ s. Advances s (primary_of old.primaries (read_side (live_of w) name)) (primary_of old.primaries (written_side (live_of w) name)) at at_most is.0 is.1 is.2) r.2 is.3)))
+          is.4 is.5
+
+    at_steps : (o : Option WorkflowState) → workflow_at old.workflows workflow ≡ o → AdvancesAt o old name at at_most answer new → Stepped scopes workflow name at at_most answer new
+    at_steps None none is =
+        let no = no_live p (live_at p workflow) (workflow_at old.workflows workflow) none (stands.workflows.each workflow) in
+        subst (λ a. Stepped scopes workflow name at at_most a new) (sym is.0)
+        (ap (λ o. in_workflow o (advance_refusal p name at at_most)) no, subst (StandsWith p scopes) (sym is.1) stands)
+    at_steps (Some w) found is =
+        let r = live_found p (live_at p workflow) (workflow_at old.workflows workflow) w found (stands.workflows.each workflow) in
+        stream_steps w found r.0 r.1 r.2 (work.slot_of w name) refl is
+
+    pub advance_steps : AdvancesWorkflow old workflow name at at_most answer new → Stepped scopes workflow name at at_most answer new
+    advance_steps = at_steps (workflow_at old.workflows workflow) refl

@@ -1,0 +1,233 @@
+-- A table by hand as an event.
+use Rattle.std.proofs.Common.{◌≡◌, ◌≢◌, ◌⊎◌, inl, inr, ⊎_elim, ℕ, ◌≤◌, Bool, true, false, not, cond, List, [], ◌∷◌, find, fold, length, Option, None, Some, is_some, refl, sym, ap, ◌∙◌, subst}
+use Rattle.std.proofs.lemmas.Bool.{true≢false}
+use Rattle.std.proofs.lemmas.Map.{length-set_value}
+use Rattle.std.specs.List.{list_any}
+use Rattle.std.specs.Map.{lookup, set_value}
+use Rattle.std.specs.Option.{option_map_or}
+use Rattle.std.specs.Prelude.{◌&&◌, ◌||◌, nat_le}
+use Rattle.mt_names.specs.Names.{same_text}
+use Rattle.mt_names.proofs.EntryLemmas.{apart as differs, is_some-set_value, same_itself, same_or_other, some_from}
+use Rattle.mt_names.proofs.SameLemmas.{same_text_decides}
+use Rattle.mt_model.specs.declared.entries.Entry.TheVariants as entry
+use Rattle.mt_model.specs.declared.entries.EntryKey.TheVariants as about
+use Rattle.mt_model.specs.declared.entries.Scope.{Scope}
+use Rattle.mt_model.specs.declared.faults.TopologyFault.TheVariants as fault
+use Rattle.mt_model.specs.Limits.{most_tables_in_keyspace}
+use Rattle.mt_model.specs.Topology.{KeyspaceState, TopologyState, has_place, is_marked, is_present, keyspace_at, value_of, with_keyspace_state, with_table}
+use Rattle.mt_model.specs.Topology as model
+use Rattle.mt_primary.specs.Primary.{PrimaryState, has_table, is_denied_at, row_at}
+use Rattle.mt_primary.specs.Writes.{with_new_table}
+use Rattle.mt_topology.specs.Edits.{add_table_refusal, new_table_refusal}
+use Rattle.mt_plain.specs.Answers.{Answers, answer_of}
+use Rattle.mt_plain.specs.Events.{Answer, Event, add_table, done, exists, full, no_keyspace}
+use Rattle.mt_plain.specs.Next.{next}
+use Rattle.mt_plain.specs.Plain.{Live, Plain, among, has_keyspace, moves, part_owner}
+use Rattle.mt_plain.specs.Refuse.{or_else, refusal_of, refuse_if, table_count}
+use Rattle.mt_plain.specs.Serve.{mark_in, served_by, served_entry}
+use Rattle.mt_plain.specs.Serve as plain
+use Rattle.mt_laws.specs.Places.{IsWithinLimits}
+use Rattle.mt_laws.specs.WayBack.{IsReached}
+use Rattle.mt_site_topology.specs.Stands.{TopologyStands}
+use Rattle.mt_site_rows.specs.Rows as rows
+use Rattle.mt_site_state.specs.ByHand.{AddsTable}
+use Rattle.mt_site_state.specs.Core.{CoreState, Primaries, primary_at, primary_of, with_primary}
+use Rattle.mt_site_state.specs.Stands.{ArePrimaries, StandsWith, Steps}
+use Rattle.mt_site_events.proofs.HandCoreLemmas.{changed_keeps, primary_of-found, primary_of-set_elsewhere, primary_of-set_here}
+use Rattle.mt_site_events.proofs.KeptLemmas.{Laws, core_stands, does_steps}
+use Rattle.mt_site_events.proofs.OwnedLemmas.{any_found}
+use Rattle.mt_site_events.proofs.PrimaryLemmas.{others_stay}
+use Rattle.mt_site_events.proofs.HandRefusalLemmas.{table_told, told}
+
+-- what the laws say of it
+pub record TableLaws : Type 0 where
+  pub answered : (p : Plain) (event : Event) → Answers p event (answer_of p event)
+  pub limits : (p : Plain) → IsReached p → IsWithinLimits p
+  pub places : (p : Plain) → IsReached p → (keyspace table : List ℕ) → has_place p.topology (about.Present keyspace table) ≡ is_present p.topology.keyspaces keyspace table
+  pub count : (p : Plain) (t : TopologyState) (keyspace : List ℕ) (state : KeyspaceState) → IsReached p → TopologyStands p t → keyspace_at t.keyspaces keyspace ≡ Some state → length state.tables ≡ table_count p keyspace
+  pub made : (t : TopologyState) (keyspace table : List ℕ) → is_some (keyspace_at t.keyspaces keyspace) ≡ true → value_of (with_table t keyspace table) (about.Present keyspace table) ≡ entry.Present keyspace table true
+  pub no_other : (t : TopologyState) (keyspace table k n : List ℕ) → about.Present keyspace table ≢ about.Present k n → value_of (with_table t keyspace table) (about.Present k n) ≡ value_of t (about.Present k n)
+  pub topology : (p : Plain) (t : TopologyState) (keyspace table : List ℕ) → Answers p (add_table keyspace table) done → TopologyStands p t → TopologyStands (next p (add_table keyspace table) done) (with_table t keyspace table)
+  pub keeps : (p : Plain) → IsReached p → (old new : rows.Primaries) → rows.RowsStand p old → (keyspace table : List ℕ) → Answers p (add_table keyspace table) done → rows.OthersStay keyspace old new
+      → rows.OtherTablesStay (table ∷ []) (old keyspace) (new keyspace) → ((key : ℕ) → row_at (new keyspace) table key ≡ None) → rows.RowsStand (next p (add_table keyspace table) done) new
+  pub stays : (old : PrimaryState) (tables : List (List ℕ)) → rows.OtherTablesStay tables old (fold with_new_table old tables)
+  pub empty : (old : PrimaryState) (tables : List (List ℕ)) → ((table : List ℕ) → among tables table ≡ true → has_table old table ≡ false)
+      → (table : List ℕ) → among tables table ≡ true → (key : ℕ) → row_at (fold with_new_table old tables) table key ≡ None
+  pub there : (old : PrimaryState) (tables : List (List ℕ)) (table : List ℕ) → has_table (fold with_new_table old tables) table ≡ (among tables table || has_table old table)
+  pub allowed : (old : PrimaryState) (tables : List (List ℕ)) (table : List ℕ) → is_denied_at (fold with_new_table old tables) table ≡ is_denied_at old table
+
+-- ---- the tables of a topology that stands
+
+module _ (k n : List ℕ) where
+  abbrev test : Live → Bool
+  test w = moves w n && same_text w.target k
+
+  marked_by : (u : TopologyState) (ws : List Live) → mark_in (option_map_or (λ w. served_by u w (about.Present k n)) (find test ws) (value_of u (about.Present k n))) ≡ cond (list_any test ws) true (is_present u.keyspaces k n)
+  marked_by u ws = by (find test ws) ∙ ap (λ b. cond b true (is_present u.keyspaces k n)) (sym (any_found test ws))
+    where
+      by : (o : Option Live) → mark_in (option_map_or (λ w. served_by u w (about.Present k n)) o (value_of u (about.Present k n))) ≡ cond (is_some o) true (is_present u.keyspaces k n)
+      by None = refl
+      by (Some w) = refl
+
+  -- a table that is there is one that it says to be there
+  pub present_is : (p : Plain) (t : TopologyState) → TopologyStands p t → is_present t.keyspaces k n ≡ plain.has_table p k n
+  present_is p t stands = ap mark_in (stands.served.entries (about.Present k n)) ∙ marked_by p.topology p.lives
+
+  -- and one that has a place
+  pub placed_is : (p : Plain) (t : TopologyState) → TopologyStands p t → has_place p.topology (about.Present k n) ≡ is_present p.topology.keyspaces k n
+      → has_place t (about.Present k n) ≡ is_present t.keyspaces k n
+  placed_is p t stands places =
+      stands.places (about.Present k n) ∙ ap (λ b. is_some (part_owner p (about.Present k n)) || b) places ∙ by (is_some (part_owner p (about.Present k n)))
+      ∙ ap (λ b. cond b true (is_present p.topology.keyspaces k n)) (sym (any_found test p.lives)) ∙ sym (present_is p t stands)
+    where
+      by : (b : Bool) → (b || is_present p.topology.keyspaces k n) ≡ cond b true (is_present p.topology.keyspaces k n)
+      by true = refl
+      by false = refl
+
+-- ---- a table more leaves the keyspaces
+
+module _ (t : TopologyState) (keyspace table : List ℕ) where
+  keyspaces_stay : (k : List ℕ) → is_some (keyspace_at (with_table t keyspace table).keyspaces k) ≡ is_some (keyspace_at t.keyspaces k)
+  keyspaces_stay k = by (keyspace_at t.keyspaces keyspace)
+    where
+      by : (o : Option KeyspaceState)
+          → is_some (keyspace_at (option_map_or (λ state. set_value (same_text keyspace) t.keyspaces (model.with_new_table table state)) o t.keyspaces) k) ≡ is_some (keyspace_at t.keyspaces k)
+      by None = refl
+      by (Some state) = is_some-set_value same_text t.keyspaces keyspace k (model.with_new_table table state)
+
+  count_stays : length (with_table t keyspace table).keyspaces ≡ length t.keyspaces
+  count_stays = by (keyspace_at t.keyspaces keyspace)
+    where
+      by : (o : Option KeyspaceState) → length (option_map_or (λ state. set_value (same_text keyspace) t.keyspaces (model.with_new_table table state)) o t.keyspaces) ≡ length t.keyspaces
+      by None = refl
+      by (Some state) = length-set_value (same_text keyspace) t.keyspaces (model.with_new_table table state)
+
+-- ---- what refuses it
+
+module _ (laws : Laws) (law : TableLaws) (p : Plain) (scopes : List Scope) (old : CoreState) (keyspace table : List ℕ) (stands : StandsWith p scopes old) where
+  abbrev at_old : Option KeyspaceState
+  at_old = keyspace_at old.topology.keyspaces keyspace
+
+  table_refusing : refusal_of p (add_table keyspace table) ≡ told (add_table_refusal old.topology.keyspaces keyspace table)
+  table_refusing =
+      ap (λ b. or_else (refuse_if (not b) no_keyspace) (or_else (refuse_if (plain.has_table p keyspace table) exists) (refuse_if (nat_le most_tables_in_keyspace (table_count p keyspace)) full)))
+      (sym (stands.topology.served.keyspaces keyspace))
+      ∙ ap (λ b. or_else (refuse_if (not (is_some at_old)) no_keyspace) (or_else (refuse_if b exists) (refuse_if (nat_le most_tables_in_keyspace (table_count p keyspace)) full)))
+      (sym (present_is keyspace table p old.topology stands.topology))
+      ∙ by at_old refl
+    where
+      by : (o : Option KeyspaceState) → at_old ≡ o
+          → or_else (refuse_if (not (is_some o)) no_keyspace)
+          (or_else (refuse_if (option_map_or (λ state. is_marked state.tables table) o false) exists) (refuse_if (nat_le most_tables_in_keyspace (table_count p keyspace)) full))
+          ≡ told (option_map_or (λ state. new_table_refusal state table) o (Some fault.NoKeyspace))
+      by None at = refl
+      by (Some state) at =
+          let count : length state.tables ≡ table_count p keyspace = law.count p old.topology keyspace state stands.reached stands.topology at in
+          let limit = (law.limits p stands.reached).tables keyspace in
+          let placed = placed_is keyspace table p old.topology stands.topology (law.places p stands.reached keyspace table) in
+          ap (λ m. or_else (refuse_if (is_marked state.tables table) exists) (refuse_if (nat_le most_tables_in_keyspace m) full)) (sym count)
+          ∙ table_told state table (subst (λ m. m ≤ most_tables_in_keyspace) (sym count) limit)
+          (sym (ap (λ (o : Option KeyspaceState). option_map_or (λ state. is_some (lookup (same_text table) state.tables)) o false) at) ∙ placed
+          ∙ ap (λ (o : Option KeyspaceState). option_map_or (λ state. is_marked state.tables table) o false) at)
+
+  -- ---- what is made
+
+  module _ (given : Answers p (add_table keyspace table) done) where
+    abbrev before : PrimaryState
+    before = primary_of old.primaries keyspace
+
+    abbrev more : Primaries
+    more = with_primary old.primaries keyspace (λ primary. with_new_table primary table)
+
+    is_there : has_keyspace p keyspace ≡ true
+    is_there = by (has_keyspace p keyspace) given.0
+      where
+        by : (b : Bool) → or_else (refuse_if (not b) no_keyspace) (or_else (refuse_if (plain.has_table p keyspace table) exists) (refuse_if (nat_le most_tables_in_keyspace (table_count p keyspace)) full)) ≡ None → b ≡ true
+        by true e = refl
+        by false e = absurd cc
+
+    is_new : plain.has_table p keyspace table ≡ false
+    is_new = by (has_keyspace p keyspace) (plain.has_table p keyspace table) given.0
+      where
+        by : (b h : Bool) → or_else (refuse_if (not b) no_keyspace) (or_else (refuse_if h exists) (refuse_if (nat_le most_tables_in_keyspace (table_count p keyspace)) full)) ≡ None → h ≡ false
+        by true true e = absurd cc
+        by false true e = absurd cc
+        by b false e = refl
+
+    found : primary_at old.primaries keyspace ≡ Some before
+    found =
+        let (state, at) = some_from (primary_at old.primaries keyspace) (stands.primaries.there keyspace ∙ is_there) in
+        at ∙ ap Some (sym (primary_of-found old.primaries keyspace state at))
+
+    now : primary_of more keyspace ≡ with_new_table before table
+    now = primary_of-set_here old.primaries keyspace before (with_new_table before table) found
+
+    absent : (other : List ℕ) → among (table ∷ []) other ≡ true → has_table before other ≡ false
+    absent other named = by (same_text table other) refl named
+      where
+        by : (b : Bool) → same_text table other ≡ b → (b || false) ≡ true → has_table before other ≡ false
+        by true same e =
+            let at : table ≡ other = (same_text_decides table other).0 same in
+            subst (λ n. has_table before n ≡ false) at (stands.primaries.tables keyspace table ∙ is_new)
+        by false same e = absurd (true≢false (sym e))
+
+    table_rows : rows.RowsStand (next p (add_table keyspace table) done) (primary_of more)
+    table_rows =
+        law.keeps p stands.reached (primary_of old.primaries) (primary_of more) stands.rows keyspace table given (others_stay old.primaries keyspace (with_new_table before table))
+        (subst (rows.OtherTablesStay (table ∷ []) before) (sym now) (law.stays before (table ∷ [])))
+        (λ key. ap (λ s. row_at s table key) now
+        ∙ law.empty before (table ∷ []) absent table (ap (λ b. b || false) (same_itself same_text same_text_decides table)) key)
+
+    -- the new state says the same of every other table
+    present_next : (k n : List ℕ) → (keyspace ≡ k → table ≢ n) → is_present (with_table p.topology keyspace table).keyspaces k n ≡ is_present p.topology.keyspaces k n
+    present_next k n apart =
+        ap mark_in (law.no_other p.topology keyspace table k n
+        (λ e. let same_k : keyspace ≡ k = cc in let same_n : table ≡ n = cc in apart same_k same_n))
+
+    present_here : is_present (with_table p.topology keyspace table).keyspaces keyspace table ≡ true
+    present_here = ap mark_in (law.made p.topology keyspace table is_there)
+
+    abbrev table_in : (k n : List ℕ) → Bool → Bool
+    table_in k n b = cond (list_any (test k n) p.lives) true b
+
+    always : (b : Bool) → cond b true true ≡ true
+    always true = refl
+    always false = refl
+
+    tables_elsewhere : (k n : List ℕ) → keyspace ≢ k → has_table (primary_of more k) n ≡ plain.has_table (next p (add_table keyspace table) done) k n
+    tables_elsewhere k n apart =
+        ap (λ s. has_table s n) (primary_of-set_elsewhere old.primaries keyspace k (with_new_table before table) apart) ∙ stands.primaries.tables k n
+        ∙ ap (table_in k n) (sym (present_next k n (λ e. absurd (apart e))))
+
+    tables_here : (n : List ℕ) → has_table (primary_of more keyspace) n ≡ plain.has_table (next p (add_table keyspace table) done) keyspace n
+    tables_here n = ap (λ s. has_table s n) now ∙ law.there before (table ∷ []) n ∙ by (same_or_other same_text same_text_decides table n)
+      where
+        by : (table ≡ n) ⊎ (table ≢ n) → ((same_text table n || false) || has_table before n) ≡ plain.has_table (next p (add_table keyspace table) done) keyspace n
+        by (inl e) =
+            subst (λ x. ((same_text table x || false) || has_table before x) ≡ plain.has_table (next p (add_table keyspace table) done) keyspace x) e
+            (ap (λ b. (b || false) || has_table before table) (same_itself same_text same_text_decides table)
+            ∙ sym (ap (table_in keyspace table) present_here ∙ always (list_any (test keyspace table) p.lives)))
+        by (inr apart) =
+            ap (λ b. (b || false) || has_table before n) (differs same_text same_text_decides table n apart) ∙ stands.primaries.tables keyspace n
+            ∙ ap (table_in keyspace n) (sym (present_next keyspace n (λ e. apart)))
+
+    table_primaries : ArePrimaries (next p (add_table keyspace table) done) more
+    table_primaries = record {
+      there = λ k. is_some-set_value same_text old.primaries keyspace k (with_new_table before table) ∙ stands.primaries.there k ∙ sym (keyspaces_stay p.topology keyspace table k);
+      count = length-set_value (same_text keyspace) old.primaries (with_new_table before table) ∙ stands.primaries.count ∙ sym (count_stays p.topology keyspace table);
+      tables = λ k n. ⊎_elim (λ e. subst (λ x. has_table (primary_of more x) n ≡ plain.has_table (next p (add_table keyspace table) done) x n) e (tables_here n)) (tables_elsewhere k n)
+          (same_or_other same_text same_text_decides keyspace k);
+      denials = λ k n. changed_keeps old.primaries more keyspace before (with_new_table before table) found refl (λ s. is_denied_at s n) (law.allowed before (table ∷ []) n) k
+          ∙ stands.primaries.denials k n;
+    }
+
+    table_making : StandsWith (next p (add_table keyspace table) done) scopes (record old { topology = with_table old.topology keyspace table; primaries = more })
+    table_making =
+        core_stands laws p (add_table keyspace table) done stands.reached given refl scopes old (record old { topology = with_table old.topology keyspace table; primaries = more }) stands refl
+        (law.topology p old.topology keyspace table given stands.topology) table_rows table_primaries
+
+pub table_steps : Laws → TableLaws → (scopes : List Scope) (old new : CoreState) (keyspace table : List ℕ) (answer : Answer) → AddsTable old keyspace table answer new → Steps scopes old (add_table keyspace table) answer new
+table_steps laws law scopes old new keyspace table answer did p stands =
+    does_steps p scopes old (record old { topology = with_table old.topology keyspace table; primaries = with_primary old.primaries keyspace (λ primary. with_new_table primary table) }) (add_table keyspace table)
+    (told (add_table_refusal old.topology.keyspaces keyspace table)) true refl (λ e. refl) (table_refusing laws law p scopes old keyspace table stands) stands
+    (table_making laws law p scopes old keyspace table stands) (law.answered p (add_table keyspace table)) answer new did

@@ -1,0 +1,146 @@
+-- What a Create leaves stands for the next state.
+use Rattle.std.proofs.Common.{◌≡◌, ◌≢◌, ⊎_elim, ℕ, true, false, List, [], ◌∷◌, ◌++◌, length, slice_get, Option, None, Some, is_some, refl, sym, ap, subst, ◌∙◌}
+use Rattle.std.proofs.lemmas.List.{length-map, map-append}
+use Rattle.std.proofs.lemmas.List.Sums.{length-filter}
+use Rattle.std.specs.List.{AllByRecursion}
+use Rattle.std.specs.Option.{option_map_or}
+use Rattle.std.specs.Prelude.{Ok}
+use Rattle.mt_names.specs.Names.{same_text}
+use Rattle.mt_names.specs.Types.{no_types}
+use Rattle.mt_names.proofs.EntryLemmas.{lookup-push_elsewhere, lookup-push_here, none_from, same_or_other}
+use Rattle.mt_names.proofs.SameLemmas.{same_text_decides}
+use Rattle.mt_model.specs.declared.entries.Entry.{Entry}
+use Rattle.mt_model.specs.declared.entries.Scope.{Scope}
+use Rattle.mt_model.specs.declared.entries.Scope.TheVariants as scope
+use Rattle.mt_model.specs.Part.{with_entries, with_places}
+use Rattle.mt_watch.specs.Asking.{Answering, AsksEach}
+use Rattle.mt_watch.specs.Notices.{notice_of}
+use Rattle.mt_workflow.specs.Workflows.{WorkflowState, live_of, new_stream}
+use Rattle.mt_plain.specs.Answers.{Answers}
+use Rattle.mt_plain.specs.Events.{Answer, done, row, advanced, shown, refused, memory, watcher_refused, create}
+use Rattle.mt_plain.specs.Next.{next}
+use Rattle.mt_plain.specs.Next as plain
+use Rattle.mt_plain.specs.Plain.{Live, LogEntry, Plain, each_once, live_at}
+use Rattle.mt_plain.specs.Refuse.{is_of_primary, refusal_of}
+use Rattle.mt_plain.specs.Slots.{log_length}
+use Rattle.mt_laws.specs.WayBack.{IsReached}
+use Rattle.mt_site_topology.specs.Keys.{IsKept, created_live, keys_of_part, part_entries}
+use Rattle.mt_site_topology.specs.Stands.{TopologyStands}
+use Rattle.mt_site_rows.specs.Rows.{OthersStay, RowsStand, entry_at}
+use Rattle.mt_site_state.specs.Core.{CoreState, primary_at, primary_of, with_primary, workflow_at}
+use Rattle.mt_site_state.specs.Stands.{AreWorkflows, StandsFor, StandsForAny, StandsWith}
+use Rattle.mt_site_state.specs.Workflows.{CreatesSet, change_of, create_refusal, new_of, target_made, with_created}
+use Rattle.mt_site_events.specs.Made.{AreMadeDenied}
+use Rattle.mt_site_events.proofs.MadeLemmas.{changed_count, changed_elsewhere, changed_here, changed_there, primaries_now}
+use Rattle.mt_site_events.proofs.NamedLemmas.{same_names}
+use Rattle.mt_site_events.proofs.RoomLemmas.{CanMove}
+
+module _ (p : Plain) (scopes : List Scope) (old : CoreState) (stands : StandsWith p scopes old) (workflow source target : List ℕ) (tables : List (List ℕ)) where
+  abbrev w : WorkflowState
+  w = new_of old workflow source target tables
+
+  abbrev v : Live
+  v = created_live p workflow source target tables
+
+  abbrev q : Plain
+  q = plain.with_created p workflow source target tables
+
+  -- ---- the workflows
+
+  log_same : length (primary_of old.primaries source).log ≡ log_length p source
+  log_same =
+      sym (length-map (primary_of old.primaries source).log (entry_at source)) ∙ ap length (stands.rows.log source)
+      ∙ length-filter (λ (e : LogEntry). same_text e.keyspace source) p.log
+
+  stands_new : IsKept p.topology v w.kept → StandsFor q v w
+  stands_new kept = record {
+    sides = record { name = refl; source = refl; target = refl; tables = refl };
+    switched = refl;
+    way = refl;
+    kept = kept;
+    forward = ap (λ n. Some (new_stream tables n)) log_same;
+    back = refl;
+  }
+
+  stands_still : (l : Option Live) (x : Option WorkflowState) → StandsForAny p l x → StandsForAny q l x
+  stands_still None None still = still
+  stands_still None (Some x) still = still
+  stands_still (Some l) None still = still
+  stands_still (Some l) (Some x) still =
+      record { sides = still.sides; switched = still.switched; way = still.way; kept = still.kept; forward = still.forward; back = still.back }
+
+  module _ (free : live_at p workflow ≡ None) (live : live_at q workflow ≡ Some v) (elsewhere : (name : List ℕ) → workflow ≢ name → live_at q name ≡ live_at p name) (kept : IsKept p.topology v w.kept) where
+    workflows_now : AreWorkflows q (old.workflows ++ (workflow, w) ∷ [])
+    workflows_now = record {
+      each = λ name. ⊎_elim (here name) (other name) (same_or_other same_text same_text_decides workflow name);
+      names = map-append (λ (e : List ℕ × WorkflowState). e.0) old.workflows ((workflow, w) ∷ []) ∙ ap (λ l. l ++ workflow ∷ []) stands.workflows.names ∙ sym (map-append (λ (l : Live). l.name) p.lives (v ∷ []));
+    }
+      where
+        none : workflow_at old.workflows workflow ≡ None
+        none = none_from (workflow_at old.workflows workflow) (same_names p old.workflows stands.workflows workflow ∙ ap is_some free)
+
+        here : (name : List ℕ) → workflow ≡ name → StandsForAny q (live_at q name) (workflow_at (old.workflows ++ (workflow, w) ∷ []) name)
+        here name e = subst (λ n. StandsForAny q (live_at q n) (workflow_at (old.workflows ++ (workflow, w) ∷ []) n)) e
+            (subst (λ o. StandsForAny q o (workflow_at (old.workflows ++ (workflow, w) ∷ []) workflow)) (sym live)
+            (subst (λ o. StandsForAny q (Some v) o) (sym (lookup-push_here same_text same_text_decides old.workflows workflow w none)) (stands_new kept)))
+
+        other : (name : List ℕ) → workflow ≢ name → StandsForAny q (live_at q name) (workflow_at (old.workflows ++ (workflow, w) ∷ []) name)
+        other name e =
+            subst (λ o. StandsForAny q o (workflow_at (old.workflows ++ (workflow, w) ∷ []) name)) (sym (elsewhere name e))
+            (subst (λ o. StandsForAny q (live_at p name) o) (sym (lookup-push_elsewhere same_text same_text_decides old.workflows workflow name w e))
+            (stands_still (live_at p name) (workflow_at old.workflows name) (stands.workflows.each name)))
+
+    -- ---- all of it
+
+    module _ (notice : List Entry) (made : AreMadeDenied tables (primary_of old.primaries target) (target_made w notice (primary_of old.primaries target)))
+        (there : is_some (primary_at old.primaries target) ≡ true) (sides : source ≢ target) (can : AllByRecursion (CanMove p source target) tables) (reached : IsReached q)
+        (topology : TopologyStands q (with_entries (with_places old.topology (keys_of_part v)) (part_entries w.kept v no_types)))
+        (follows : part_entries w.kept v no_types ≡ part_entries w.kept (live_of w) no_types)
+        (rows : OthersStay target (primary_of old.primaries) (primary_of (with_primary old.primaries target (target_made w notice)))
+        → AreMadeDenied tables (primary_of old.primaries target) (primary_of (with_primary old.primaries target (target_made w notice)) target)
+        → RowsStand q (primary_of (with_primary old.primaries target (target_made w notice)))) where
+      made_there : AreMadeDenied tables (primary_of old.primaries target) (primary_of (with_primary old.primaries target (target_made w notice)) target)
+      made_there = subst (λ s. AreMadeDenied tables (primary_of old.primaries target) s) (sym (changed_here old.primaries target (target_made w notice) there)) made
+
+      pub taken : StandsWith q scopes (with_created old w notice)
+      taken = record {
+        reached = reached;
+        scopes_are = stands.scopes_are;
+        topology = subst (λ entries. TopologyStands q (with_entries (with_places old.topology (keys_of_part v)) entries)) follows topology;
+        rows = rows (changed_elsewhere old.primaries target (target_made w notice)) made_there;
+        primaries = primaries_now p workflow source target tables sides old.primaries (with_primary old.primaries target (target_made w notice)) stands.primaries can
+            (changed_elsewhere old.primaries target (target_made w notice)) (changed_there old.primaries target (target_made w notice)) (changed_count old.primaries target (target_made w notice))
+            made_there.has made_there.denied made_there.before;
+        workflows = workflows_now;
+      }
+
+-- ---- whatever it answers
+
+module _ (p : Plain) (scopes : List Scope) (may_answer : Answering) (old new : CoreState) (stands : StandsWith p scopes old) (workflow source target : List ℕ) (tables : List (List ℕ))
+    (same : create_refusal old scopes workflow source target (each_once tables) ≡ refusal_of p (create workflow source target tables))
+    (taken : (notice : List Entry) → refusal_of p (create workflow source target tables) ≡ None → notice ≡ notice_of (scope.Primary target) (change_of (new_of old workflow source target (each_once tables)))
+    → StandsWith (next p (create workflow source target tables) done) scopes (with_created old (new_of old workflow source target (each_once tables)) notice)) where
+  stays : new ≡ old → StandsWith p scopes new
+  stays is = subst (λ core. StandsWith p scopes core) (sym is) stands
+
+  pub create_steps : (answer : Answer) → CreatesSet old scopes may_answer workflow source target (each_once tables) answer new
+      → Answers p (create workflow source target tables) answer × StandsWith (next p (create workflow source target tables) answer) scopes new
+  create_steps done creates = at creates.1
+    where
+      at : (notice : List Entry) × AsksEach scopes may_answer (scope.Primary target) (change_of (new_of old workflow source target (each_once tables))) (Ok notice)
+          × (new ≡ with_created old (new_of old workflow source target (each_once tables)) notice)
+          → Answers p (create workflow source target tables) done × StandsWith (next p (create workflow source target tables) done) scopes new
+      at (notice, asks, is) =
+          ((sym same ∙ creates.0, refl), subst (λ core. StandsWith (next p (create workflow source target tables) done) scopes core) (sym is) (taken notice (sym same ∙ creates.0) asks.notice))
+  create_steps (refused memory) creates = ((sym same ∙ creates.0, refl), stays creates.1)
+  create_steps (refused (watcher_refused index)) creates = (
+    (
+      sym same ∙ creates.0,
+      ap (λ (o : Option Scope). option_map_or (is_of_primary target) o false) (ap (λ l. slice_get l index) stands.scopes_are ∙ creates.1.here) ∙ (same_text_decides target target).1 refl,
+    ),
+    stays creates.2,
+  )
+  create_steps (refused other) creates = (sym same ∙ creates.0, stays creates.1)
+  create_steps (row r) creates = absurd creates
+  create_steps (advanced events rows) creates = absurd creates
+  create_steps (shown s) creates = absurd creates

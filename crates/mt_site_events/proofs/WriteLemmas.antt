@@ -1,0 +1,161 @@
+-- A write and a read as events.
+use Rattle.std.proofs.Common.{◌≡◌, ℕ, Bool, true, false, List, Option, None, Some, Result, Ok, Err, is_some, refl, sym, ap, ◌∙◌, subst}
+use Rattle.std.specs.Map.{set_value}
+use Rattle.std.specs.Option.{option_map}
+use Rattle.std.specs.Prelude.{if◌then◌else◌}
+use Rattle.mt_names.specs.declared.types.TabletType.{TabletType}
+use Rattle.mt_names.specs.declared.types.TabletType.TheVariants.{Primary, Replica, Rdonly}
+use Rattle.mt_names.specs.Names.{same_text}
+use Rattle.mt_model.specs.declared.entries.Scope.{Scope}
+use Rattle.mt_model.specs.declared.faults.PrimaryFault.{PrimaryFault}
+use Rattle.mt_model.specs.declared.faults.PrimaryFault.TheVariants as primary
+use Rattle.mt_model.specs.declared.rows.Op.{Op}
+use Rattle.mt_model.specs.Rows.{Row}
+use Rattle.mt_model.specs.Topology.{TopologyState}
+use Rattle.mt_primary.specs.Primary.{PrimaryState, TableState, has_table, is_denied_at, row_at, table_at}
+use Rattle.mt_primary.specs.Reads.{refuses_type}
+use Rattle.mt_primary.specs.Writes.{Writes}
+use Rattle.mt_plain.specs.Answers.{Answers}
+use Rattle.mt_plain.specs.Events.{Event, Answer, read, row, write}
+use Rattle.mt_plain.specs.Next.{next}
+use Rattle.mt_plain.specs.Plain.{Plain, has_keyspace}
+use Rattle.mt_plain.specs.Serve.{refuses}
+use Rattle.mt_plain.specs.Serve as plain
+use Rattle.mt_plain.specs.Writes.{row_of}
+use Rattle.mt_laws.specs.Changes.{IsOfRows}
+use Rattle.mt_laws.specs.WayBack.{IsReached}
+use Rattle.mt_site_topology.specs.Stands.{TopologyStands}
+use Rattle.mt_site_rows.specs.Answers.{answer_by}
+use Rattle.mt_site_rows.specs.Rows as rows
+use Rattle.mt_site_state.specs.ByHand.{ReadsRow, WritesAt, WritesRow, answer_by_read, read_at}
+use Rattle.mt_site_state.specs.Core.{CoreState, Primaries, primary_at, primary_of}
+use Rattle.mt_site_state.specs.Stands.{StandsWith, Steps}
+use Rattle.mt_site_events.proofs.HandCoreLemmas.{primary_of-found, primary_of-set_here}
+use Rattle.mt_site_events.proofs.KeptLemmas.{Laws, core_stands}
+use Rattle.mt_site_events.proofs.PrimaryLemmas.{others_stay, primaries_next, primaries_set}
+
+-- ---- what a write leaves of a primary
+
+tables_by_made : (a b : Option TableState) → option_map (λ (t : TableState). t.made) a ≡ option_map (λ (t : TableState). t.made) b → is_some a ≡ is_some b
+tables_by_made None None e = refl
+tables_by_made None (Some t) e = absurd cc
+tables_by_made (Some t) None e = absurd cc
+tables_by_made (Some t) (Some u) e = refl
+
+-- a refused one leaves all
+refused_same : (before after : PrimaryState) (table : List ℕ) (op : Op) (fault : PrimaryFault) → Writes before table op (Err fault) after → after ≡ before
+refused_same before after table op primary.Memory did = did.1
+refused_same before after table op other did = did.1
+
+tables_stay : (before after : PrimaryState) (table : List ℕ) (op : Op) (result : Result ℕ PrimaryFault) → Writes before table op result after → (n : List ℕ) → has_table after n ≡ has_table before n
+tables_stay before after table op (Ok position) written n = tables_by_made (table_at after n) (table_at before n) (written.put.made n)
+tables_stay before after table op (Err fault) did n = ap (λ s. has_table s n) (refused_same before after table op fault did)
+
+denials_stay : (before after : PrimaryState) (table : List ℕ) (op : Op) (result : Result ℕ PrimaryFault) → Writes before table op result after → (n : List ℕ) → is_denied_at after n ≡ is_denied_at before n
+denials_stay before after table op (Ok position) written n = written.put.denied n
+denials_stay before after table op (Err fault) did n = ap (λ s. is_denied_at s n) (refused_same before after table op fault did)
+
+-- ---- a write
+
+-- what the laws say of a write
+pub record WriteLaws : Type 0 where
+  pub topology : (p : Plain) (t : TopologyState) (event : Event) (answer : Answer) → IsReached p → IsOfRows event → Answers p event answer → TopologyStands p t → TopologyStands (next p event answer) t
+  pub rows : (p : Plain) → IsReached p → (old new : rows.Primaries) → rows.RowsStand p old → (keyspace table : List ℕ) (op : Op) → has_keyspace p keyspace ≡ true
+      → has_table (old keyspace) table ≡ plain.has_table p keyspace table → is_denied_at (old keyspace) table ≡ refuses p keyspace table → rows.OthersStay keyspace old new
+      → (result : Result ℕ PrimaryFault) → Writes (old keyspace) table op result (new keyspace)
+      → Answers p (write keyspace table op) (answer_by result) × rows.RowsStand (next p (write keyspace table op) (answer_by result)) new
+
+module _ (p : Plain) (keyspace table : List ℕ) (op : Op) where
+  same_topology : (result : Result ℕ PrimaryFault) → (next p (write keyspace table op) (answer_by result)).topology ≡ p.topology
+  same_topology (Ok position) = refl
+  same_topology (Err fault) = refl
+
+  same_lives : (result : Result ℕ PrimaryFault) → (next p (write keyspace table op) (answer_by result)).lives ≡ p.lives
+  same_lives (Ok position) = refl
+  same_lives (Err fault) = refl
+
+module _ (laws : Laws) (law : WriteLaws) (p : Plain) (scopes : List Scope) (old new : CoreState) (keyspace table : List ℕ) (op : Op) (stands : StandsWith p scopes old) where
+  abbrev Done : Answer → CoreState → Type 0
+  Done answer core = Answers p (write keyspace table op) answer × StandsWith (next p (write keyspace table op) answer) scopes core
+
+  there : (before : PrimaryState) → primary_at old.primaries keyspace ≡ Some before → has_keyspace p keyspace ≡ true
+  there before found = sym (stands.primaries.there keyspace) ∙ ap is_some found
+
+  module _ (before after : PrimaryState) (found : primary_at old.primaries keyspace ≡ Some before) where
+    abbrev set : Primaries
+    set = set_value (same_text keyspace) old.primaries after
+
+    abbrev made : CoreState
+    made = record old { primaries = set }
+
+    at_primaries : (result : Result ℕ PrimaryFault) → Writes before table op result after → Writes (primary_of old.primaries keyspace) table op result (primary_of set keyspace)
+    at_primaries result did =
+        subst (λ s. Writes s table op result (primary_of set keyspace)) (sym (primary_of-found old.primaries keyspace before found))
+        (subst (λ s. Writes before table op result s) (sym (primary_of-set_here old.primaries keyspace before after found)) did)
+
+    write_stands : (result : Result ℕ PrimaryFault) → Writes before table op result after → Done (answer_by result) made
+    write_stands result did =
+        let both = law.rows p stands.reached (primary_of old.primaries) (primary_of set) stands.rows keyspace table op (there before found)
+        (stands.primaries.tables keyspace table) (stands.primaries.denials keyspace table) (others_stay old.primaries keyspace after) result (at_primaries result did) in (
+          both.0,
+          core_stands laws p (write keyspace table op) (answer_by result) stands.reached both.0 (same_lives p keyspace table op result) scopes old made stands refl
+              (law.topology p old.topology (write keyspace table op) (answer_by result) stands.reached tt both.0 stands.topology) both.1
+              (primaries_next p (next p (write keyspace table op) (answer_by result)) (same_topology p keyspace table op result) (same_lives p keyspace table op result) set
+              (primaries_set p old.primaries keyspace before after found stands.primaries (tables_stay before after table op result did) (denials_stay before after table op result did))),
+        )
+
+  write_at : (answer : Answer) (o : Option PrimaryState) → primary_at old.primaries keyspace ≡ o → WritesAt o old keyspace table op answer new → Done answer new
+  write_at answer None found did =
+      let absent : has_keyspace p keyspace ≡ false = sym (stands.primaries.there keyspace) ∙ ap is_some found in
+      rw did.0 (rw absent refl, subst (StandsWith p scopes) (sym did.1) stands)
+  write_at answer (Some before) found (result, after, did, is_answer, becomes) =
+      subst (λ s. Done answer s) (sym becomes) (subst (λ a. Done a (made before after found)) (sym is_answer) (write_stands before after found result did))
+
+pub write_steps : Laws → WriteLaws → (scopes : List Scope) (old new : CoreState) (keyspace table : List ℕ) (op : Op) (answer : Answer) → WritesRow old keyspace table op answer new → Steps scopes old (write keyspace table op) answer new
+write_steps laws law scopes old new keyspace table op answer did p stands = write_at laws law p scopes old new keyspace table op stands answer (primary_at old.primaries keyspace) refl did
+
+-- ---- a read
+
+module _ (p : Plain) (scopes : List Scope) (old : CoreState) (keyspace table : List ℕ) (key : ℕ) (stands : StandsWith p scopes old) where
+  abbrev Told : TabletType → Answer → Type 0
+  Told tablet_type answer = Answers p (read keyspace table key tablet_type) answer × StandsWith (next p (read keyspace table key tablet_type) answer) scopes old
+
+  module _ (state : PrimaryState) (found : primary_at old.primaries keyspace ≡ Some state) where
+    is_state : primary_of old.primaries keyspace ≡ state
+    is_state = primary_of-found old.primaries keyspace state found
+
+    is_there : has_keyspace p keyspace ≡ true
+    is_there = sym (stands.primaries.there keyspace) ∙ ap is_some found
+
+    has_it : plain.has_table p keyspace table ≡ has_table state table
+    has_it = sym (stands.primaries.tables keyspace table) ∙ ap (λ s. has_table s table) is_state
+
+    denies_it : refuses p keyspace table ≡ is_denied_at state table
+    denies_it = sym (stands.primaries.denials keyspace table) ∙ ap (λ s. is_denied_at s table) is_state
+
+    row_is : plain.has_table p keyspace table ≡ true → row_at state table key ≡ row_of p keyspace table key
+    row_is has = ap (λ s. row_at s table key) (sym is_state) ∙ stands.rows.rows keyspace table has key
+
+    abbrev answered : Row → Bool → Bool → TabletType → Answer
+    answered r has denied tablet_type = answer_by_read (if has then (if refuses_type denied tablet_type then Err primary.Denied else Ok r) else Err primary.NoTable)
+
+    told : (has denied : Bool) → plain.has_table p keyspace table ≡ has → refuses p keyspace table ≡ denied → (tablet_type : TabletType) → Told tablet_type (answered (row_at state table key) has denied tablet_type)
+    told false denied has denies Primary = (rw (is_there, has) refl, stands)
+    told false denied has denies Replica = (rw (is_there, has) refl, stands)
+    told false denied has denies Rdonly = (rw (is_there, has) refl, stands)
+    told true true has denies Primary = (rw (is_there, has, denies) refl, stands)
+    told true false has denies Primary = ((rw (is_there, has, denies) refl, ap row (row_is has)), stands)
+    told true denied has denies Replica = ((rw (is_there, has) refl, ap row (row_is has)), stands)
+    told true denied has denies Rdonly = ((rw (is_there, has) refl, ap row (row_is has)), stands)
+
+  read_told : (tablet_type : TabletType) (o : Option PrimaryState) → primary_at old.primaries keyspace ≡ o → Told tablet_type (read_at o table key tablet_type)
+  read_told tablet_type None found =
+      let absent : has_keyspace p keyspace ≡ false = sym (stands.primaries.there keyspace) ∙ ap is_some found in
+      (rw absent refl, stands)
+  read_told tablet_type (Some state) found = told state found (has_table state table) (is_denied_at state table) (has_it state found) (denies_it state found) tablet_type
+
+pub read_steps : (scopes : List Scope) (old new : CoreState) (keyspace table : List ℕ) (key : ℕ) (tablet_type : TabletType) (answer : Answer) → ReadsRow old keyspace table key tablet_type answer new
+    → Steps scopes old (read keyspace table key tablet_type) answer new
+read_steps scopes old new keyspace table key tablet_type answer did p stands =
+    subst (λ s. Answers p (read keyspace table key tablet_type) answer × StandsWith (next p (read keyspace table key tablet_type) answer) scopes s) (sym did.1)
+    (subst (Told p scopes old keyspace table key stands tablet_type) (sym did.0) (read_told p scopes old keyspace table key stands tablet_type (primary_at old.primaries keyspace) refl))

@@ -1,9 +1,0 @@
-pub mod CoreLemmas
-pub mod HandLemmas
-pub mod KeptLemmas
-pub mod OwnedLemmas
-pub mod PrimaryLemmas
-pub mod RefusalLemmas
-pub mod SayLemmas
-pub mod TableLemmas
-pub mod WriteLemmas

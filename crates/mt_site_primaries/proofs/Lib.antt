@@ -1,9 +1,0 @@
-pub mod ChangeLemmas
-pub mod DenialLemmas
-pub mod ListLemmas
-pub mod NextLemmas
-pub mod NumberLemmas
-pub mod SidesLemmas
-pub mod StepLemmas
-pub mod TableLemmas
-pub mod UndoLemmas

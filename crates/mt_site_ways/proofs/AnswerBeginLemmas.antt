@@ -1,0 +1,122 @@
+-- What a begin of a way and Complete are answered.
+use Rattle.std.proofs.Common.{◌≡◌, ℕ, Bool, true, false, not, cond, List, Option, None, Some, option_map, is_some, refl, sym, ap, ◌∙◌, subst}
+use Rattle.std.proofs.lemmas.Bool.{true≢false}
+use Rattle.std.specs.Option.{option_map_or}
+use Rattle.std.specs.Prelude.{◌&&◌, nat_le}
+use Rattle.mt_model.specs.declared.entries.Scope.{Scope}
+use Rattle.mt_names.specs.declared.types.TypeSet.{TypeSet}
+use Rattle.mt_plain.specs.Answers.{Answers}
+use Rattle.mt_plain.specs.Events.{Answer, Event, begin_reverse, begin_switch, complete, refused, Refusal, no_workflow, under_way, nothing_to_switch, nothing_to_reverse, copying, full, not_all_switched, forward, running, stopped, Slot, Way}
+use Rattle.mt_plain.specs.Next.{types_and, types_without}
+use Rattle.mt_plain.specs.Plain.{Copied, ended, not_begun, up_to, Live, Plain, changes_primary, create_back, live_at, stands_done, start_back}
+use Rattle.mt_plain.specs.Refuse.{at_rest, begin_reverse_refusal, begin_switch_refusal, complete_refusal, has_more, in_workflow, is_still_copying, most_ways, or_else, refusal_of, refuse_if, share_type}
+use Rattle.mt_plain.specs.Slots.{feeding_slot, is_feeding, slot_before_way, slot_by_way, slot_of}
+use Rattle.mt_stream.specs.Streams.{StreamValue, has_ended}
+use Rattle.mt_workflow.specs.Workflows.{WorkflowState, live_of}
+use Rattle.mt_laws.proofs.AnswerLemmas.{refused_as_decided}
+use Rattle.mt_site_rows.specs.Rows.{stream_of}
+use Rattle.mt_site_state.specs.Core.{workflow_at}
+use Rattle.mt_site_state.specs.Stands.{StandsFor}
+use Rattle.mt_site_state.specs.Switching.{BeginsReverse, BeginsReverseAt, BeginsSwitch, BeginsSwitchAt, Completes, CompletesAt, completed, is_copying, no_number_left, way_to, with_way}
+use Rattle.mt_site_state.specs.Ways.{SiteState, SiteStands}
+use Rattle.mt_site_ways.proofs.FoundLemmas.{live_found, no_live}
+use Rattle.mt_site_ways.proofs.RefusalLemmas.{does_answer}
+
+-- ---- whether rows are still to be copied
+
+-- a forward stream is always there
+forward_there : (w : Live) (o : Option Way) → is_some (slot_by_way w o forward) ≡ true
+forward_there w None = refl
+forward_there w (Some way) = by (changes_primary way) (is_feeding way forward) (stands_done way create_back)
+  where
+    by : (c f t : Bool) → is_some (cond (not c) (slot_before_way w forward) (cond f (feeding_slot w way (slot_before_way w forward))
+        (cond t (Some (record { state = cond (stands_done way start_back) running stopped; position = w.fresh_at })) (slot_before_way w forward)))) ≡ true
+    by false f t = refl
+    by true true t = refl
+    by true false true = refl
+    by true false false = refl
+
+not_ended : (c : Copied) → not (has_ended c) ≡ is_still_copying c
+not_ended not_begun = refl
+not_ended (up_to table key) = refl
+not_ended ended = refl
+
+copies : (w : Live) (o : Option Slot) → is_some o ≡ true
+    → not (option_map_or (λ (s : StreamValue). has_ended s.copied) (option_map (stream_of w) o) false) ≡ is_still_copying w.copied
+copies w None e = absurd cc
+copies w (Some s) e = not_ended w.copied
+
+-- ---- what refuses
+
+module _ (p : Plain) (live : Live) (w : WorkflowState) (stands : StandsFor p live w) where
+  copying_same : is_copying w ≡ is_still_copying live.copied
+  copying_same =
+      ap (λ o. not (option_map_or (λ (s : StreamValue). has_ended s.copied) o false)) stands.forward ∙ copies live (slot_of live forward) (forward_there live live.way)
+
+  switch_same : (types : TypeSet) (begun : ℕ) → begun ≡ p.ways
+      → at_rest (live_of w) (or_else (refuse_if (not (has_more types w.switched)) nothing_to_switch) (or_else (refuse_if (is_copying w) copying) (refuse_if (nat_le most_ways begun) full)))
+      ≡ begin_switch_refusal p types live
+  switch_same types begun same = by w.way stands.way w.switched stands.switched (is_copying w) copying_same begun same
+    where
+      by : (way : Option Way) → way ≡ live.way → (switched : TypeSet) → switched ≡ live.switched → (still : Bool) → still ≡ is_still_copying live.copied → (n : ℕ) → n ≡ p.ways
+          → or_else (refuse_if (is_some way) under_way) (or_else (refuse_if (not (has_more types switched)) nothing_to_switch) (or_else (refuse_if still copying) (refuse_if (nat_le most_ways n) full)))
+          ≡ begin_switch_refusal p types live
+      by way a switched b still c n d = rw (a, b, c, d) refl
+
+  reverse_same : (types : TypeSet) (begun : ℕ) → begun ≡ p.ways
+      → at_rest (live_of w) (or_else (refuse_if (not (share_type types w.switched)) nothing_to_reverse) (refuse_if (nat_le most_ways begun) full)) ≡ begin_reverse_refusal p types live
+  reverse_same types begun same = by w.way stands.way w.switched stands.switched begun same
+    where
+      by : (way : Option Way) → way ≡ live.way → (switched : TypeSet) → switched ≡ live.switched → (n : ℕ) → n ≡ p.ways
+          → or_else (refuse_if (is_some way) under_way) (or_else (refuse_if (not (share_type types switched)) nothing_to_reverse) (refuse_if (nat_le most_ways n) full)) ≡ begin_reverse_refusal p types live
+      by way a switched b n c = rw (a, b, c) refl
+
+  complete_same : complete_refusal (live_of w) ≡ complete_refusal live
+  complete_same = by w.way stands.way w.switched stands.switched
+    where
+      by : (way : Option Way) → way ≡ live.way → (types : TypeSet) → types ≡ live.switched
+          → or_else (refuse_if (is_some way) under_way) (refuse_if (not (types.primary && types.replica && types.rdonly)) not_all_switched) ≡ complete_refusal live
+      by way a types b = rw (a, b) refl
+
+-- ---- what is answered
+
+module _ (p : Plain) (scopes : List Scope) (old new : SiteState) (stands : SiteStands p scopes old) (workflow : List ℕ) where
+  -- where no workflow is found, none is live
+  unnamed : (event : Event) (test : Live → Option Refusal) → refusal_of p event ≡ in_workflow (live_at p workflow) test → (answer : Answer) → answer ≡ refused no_workflow
+      → workflow_at old.core.workflows workflow ≡ None → Answers p event answer
+  unnamed event test same answer is none =
+      subst (Answers p event) (sym is)
+      (refused_as_decided p event no_workflow
+      (same ∙ ap (λ o. in_workflow o test) (no_live p (live_at p workflow) (workflow_at old.core.workflows workflow) none (stands.core.workflows.each workflow))))
+
+  pub switch_answers : (types : TypeSet) (answer : Answer) → BeginsSwitch old workflow types answer new → Answers p (begin_switch workflow types) answer
+  switch_answers types answer = by (workflow_at old.core.workflows workflow) refl
+    where
+      by : (o : Option WorkflowState) → workflow_at old.core.workflows workflow ≡ o → BeginsSwitchAt o old types answer new → Answers p (begin_switch workflow types) answer
+      by None none is = unnamed (begin_switch workflow types) (begin_switch_refusal p types) refl answer is.0 none
+      by (Some w) found is =
+          let r = live_found p (live_at p workflow) (workflow_at old.core.workflows workflow) w found (stands.core.workflows.each workflow) in
+          does_answer p (begin_switch workflow types) old (with_way old w (way_to w false (types_and w.switched types))) new
+          (at_rest (live_of w) (or_else (refuse_if (not (has_more types w.switched)) nothing_to_switch) (or_else (refuse_if (is_copying w) copying) (no_number_left old))))
+          (ap (λ o. in_workflow o (begin_switch_refusal p types)) r.1 ∙ sym (switch_same p r.0 w r.2 types old.ways.begun stands.ways.begun)) refl true (λ h. refl) answer is
+
+  pub reverse_answers : (types : TypeSet) (answer : Answer) → BeginsReverse old workflow types answer new → Answers p (begin_reverse workflow types) answer
+  reverse_answers types answer = by (workflow_at old.core.workflows workflow) refl
+    where
+      by : (o : Option WorkflowState) → workflow_at old.core.workflows workflow ≡ o → BeginsReverseAt o old types answer new → Answers p (begin_reverse workflow types) answer
+      by None none is = unnamed (begin_reverse workflow types) (begin_reverse_refusal p types) refl answer is.0 none
+      by (Some w) found is =
+          let r = live_found p (live_at p workflow) (workflow_at old.core.workflows workflow) w found (stands.core.workflows.each workflow) in
+          does_answer p (begin_reverse workflow types) old (with_way old w (way_to w true (types_without w.switched types))) new
+          (at_rest (live_of w) (or_else (refuse_if (not (share_type types w.switched)) nothing_to_reverse) (no_number_left old)))
+          (ap (λ o. in_workflow o (begin_reverse_refusal p types)) r.1 ∙ sym (reverse_same p r.0 w r.2 types old.ways.begun stands.ways.begun)) refl true (λ h. refl) answer is
+
+  pub complete_answers : (answer : Answer) → Completes old workflow answer new → Answers p (complete workflow) answer
+  complete_answers answer = by (workflow_at old.core.workflows workflow) refl
+    where
+      by : (o : Option WorkflowState) → workflow_at old.core.workflows workflow ≡ o → CompletesAt o old answer new → Answers p (complete workflow) answer
+      by None none is = unnamed (complete workflow) complete_refusal refl answer is.0 none
+      by (Some w) found is =
+          let r = live_found p (live_at p workflow) (workflow_at old.core.workflows workflow) w found (stands.core.workflows.each workflow) in
+          does_answer p (complete workflow) old (record old { core = completed old.core w }) new (complete_refusal (live_of w))
+          (ap (λ o. in_workflow o complete_refusal) r.1 ∙ sym (complete_same p r.0 w r.2)) refl false (λ h. absurd (true≢false (sym h))) answer is

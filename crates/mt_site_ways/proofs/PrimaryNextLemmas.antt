@@ -1,0 +1,79 @@
+-- What is known where a core stands for a state, and the next state of a way's events.
+use Rattle.std.proofs.Common.{◌≡◌, ℕ, Bool, true, false, cond, ◌&&◌, List, length, Option, None, Some, refl, sym, ap, ◌∙◌, subst, arith, ltb, leb, ◌≤◌}
+use Rattle.std.proofs.lemmas.Bool.{le-ltb, leb-true}
+use Rattle.std.proofs.lemmas.List.{length-map}
+use Rattle.std.proofs.lemmas.List.Sums.{length-filter}
+use Rattle.std.specs.Option.{option_map_or}
+use Rattle.mt_names.specs.declared.types.TypeSet.{TypeSet}
+use Rattle.mt_names.specs.Names.{same_text}
+use Rattle.mt_model.specs.declared.entries.EntryKey.{EntryKey}
+use Rattle.mt_model.specs.declared.entries.Scope.{Scope}
+use Rattle.mt_model.specs.Topology.{is_present}
+use Rattle.mt_plain.specs.Events.{Way}
+use Rattle.mt_plain.specs.Next.{with_live, with_way_to}
+use Rattle.mt_plain.specs.Plain.{Live, LogEntry, Plain, first_step, has_part, live_at, next_step, part_owner, stands_done}
+use Rattle.mt_plain.specs.Refuse.{new_owner}
+use Rattle.mt_plain.specs.Serve.{has_table, is_listed_at, refuses_by, step_of_list}
+use Rattle.mt_plain.specs.Slots.{log_length}
+use Rattle.mt_laws.specs.Changes.{HasSides}
+use Rattle.mt_laws.specs.Reached.{IsInPlace}
+use Rattle.mt_steps.specs.Streams.{log_end}
+use Rattle.mt_workflow.specs.Workflows.{WorkflowState}
+use Rattle.mt_site_rows.specs.Rows.{RowsStand, entry_at}
+use Rattle.mt_site_rows.proofs.KeepLemmas.{any_changed}
+use Rattle.mt_site_state.specs.Core.{CoreState, Primaries, primary_of, workflow_at}
+use Rattle.mt_site_state.specs.Stands.{ArePrimaries, StandsFor, StandsForAny, StandsWith}
+use Rattle.mt_site_ways.proofs.ChangeLemmas.{IsAt}
+
+-- ---- the workflow of a name
+
+pub stood : (p : Plain) (scopes : List Scope) (core : CoreState) → StandsWith p scopes core → (name : List ℕ) (live : Live) (w : WorkflowState)
+    → live_at p name ≡ Some live → workflow_at core.workflows name ≡ Some w → StandsFor p live w
+stood p scopes core stands name live w is_live found =
+    subst (λ o. StandsForAny p o (Some w)) is_live (subst (StandsForAny p (live_at p name)) found (stands.workflows.each name))
+
+pub on_way : (p : Plain) (primaries : Primaries) → ArePrimaries p primaries → (live : Live) (w : WorkflowState) → StandsFor p live w → (way : Way) → w.way ≡ Some way
+    → IsInPlace p.topology live → ((key : EntryKey) → has_part live key ≡ true → part_owner p key ≡ Some live) → IsAt p primaries live w way
+on_way p primaries are live w for way opens placed owned = record { are = are; sides = for.sides; opens = sym for.way ∙ opens; placed = placed; owned = owned }
+
+-- ---- the tables of the next state
+
+-- a workflow changes and keeps its sides and tables
+pub tables_stay : (p : Plain) (name : List ℕ) (f : Live → Live) → ((w : Live) → HasSides w (f w)) → (keyspace table : List ℕ) → has_table (record p { lives = with_live f name p.lives }) keyspace table ≡ has_table p keyspace table
+tables_stay p name f same keyspace table = ap (λ b. cond b true (is_present p.topology.keyspaces keyspace table)) (any_changed p.lives name f same keyspace table)
+
+-- ---- a way with no step done
+
+no_step_stands : (way : Way) (n : ℕ) → way.done ≡ 0 → stands_done way n ≡ false
+no_step_stands way n none = by (leb (first_step way) n) refl
+  where
+    by : (b : Bool) → leb (first_step way) n ≡ b → stands_done way n ≡ false
+    by true b =
+        let le : first_step way ≤ n = leb-true (first_step way) n b in
+        ap (λ x. x && ltb n (next_step way)) b ∙ le-ltb n (next_step way) (omega arith)
+    by false b = ap (λ x. x && ltb n (next_step way)) b
+
+-- a begin changes no own list
+pub begun_list : (w : Live) (back : Bool) (change : TypeSet → TypeSet) → w.way ≡ None → (keyspace : List ℕ) → refuses_by (with_way_to back change w) keyspace ≡ refuses_by w keyspace
+begun_list w back change rests keyspace =
+    ap (λ types. is_listed_at w types keyspace)
+    (ap (λ b. cond b (change w.switched) w.switched) (no_step_stands (record { back = back; before = w.switched; after = change w.switched; done = 0; undoing = false }) (step_of_list (with_way_to back change w) keyspace) refl)
+    ∙ sym (ap (λ (o : Option Way). option_map_or (λ way. cond (stands_done way (step_of_list w keyspace)) way.after way.before) o w.switched) rests))
+
+-- ---- the end of a log
+
+module _ (p : Plain) (primaries : Primaries) (rows : RowsStand p (primary_of primaries)) where
+  log_same : (keyspace : List ℕ) → length (primary_of primaries keyspace).log ≡ log_length p keyspace
+  log_same keyspace =
+      sym (length-map (primary_of primaries keyspace).log (entry_at keyspace)) ∙ ap length (rows.log keyspace)
+      ∙ length-filter (λ (e : LogEntry). same_text e.keyspace keyspace) p.log
+
+  pub end_same : (live : Live) (way : Way) → live.way ≡ Some way → (source target : List ℕ) → live.source ≡ source → live.target ≡ target
+      → log_end way (primary_of primaries source) (primary_of primaries target) ≡ log_length p (new_owner live)
+  end_same live way opens source target is_source is_target =
+      by way.before.primary
+      ∙ sym (ap (λ (o : Option Way). log_length p (cond (option_map_or (λ x. x.before) o live.switched).primary live.source live.target)) opens)
+    where
+      by : (b : Bool) → length (cond b (primary_of primaries source) (primary_of primaries target)).log ≡ log_length p (cond b live.source live.target)
+      by true = log_same source ∙ ap (log_length p) (sym is_source)
+      by false = log_same target ∙ ap (log_length p) (sym is_target)

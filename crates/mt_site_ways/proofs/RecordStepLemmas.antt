@@ -1,0 +1,269 @@
+-- What is kept of a way behind a step of it.
+use Rattle.std.proofs.Common.{◌≡◌, ◌≢◌, ℕ, suc, ◌<◌, Bool, true, false, cond, eqb, length, List, [], ◌∷◌, ◌++◌, map, None, Some, option_map, refl, sym, ap, ◌∙◌, subst, arith, eqb-true}
+use Rattle.std.proofs.lemmas.Bool.{eq-eqb, false_from_ne_true, true≢false}
+use Rattle.std.proofs.lemmas.List.{length_push}
+use Rattle.std.specs.List.{AllByRecursion}
+use Rattle.std.specs.Map.{set_value}
+use Rattle.std.specs.Option.{option_map_or}
+use Rattle.mt_names.specs.declared.types.TypeSet.{TypeSet}
+use Rattle.mt_names.specs.Names.{same_text}
+use Rattle.mt_names.proofs.SameLemmas.{same_text_decides}
+use Rattle.mt_model.specs.declared.entries.EntryKey.{EntryKey}
+use Rattle.mt_model.specs.declared.entries.Scope.{Scope}
+use Rattle.mt_journal.specs.declared.entry.JournalEntry.{JournalEntry}
+use Rattle.mt_journal.specs.Journal.{entry_of}
+use Rattle.mt_laws.proofs.ChangeLemmas.{live_after, lives_after}
+use Rattle.mt_laws.proofs.ListLemmas.{cond-ap}
+use Rattle.mt_laws.proofs.WayStepLemmas.{before_then, closes, done_by, more, not_before, now_done, undone_by}
+use Rattle.mt_plain.specs.Events.{StreamName, forward, back, done, step, Way}
+use Rattle.mt_plain.specs.Next.{journal_after, live_stepped, next, on_way_of}
+use Rattle.mt_plain.specs.Plain.{Live, Plain, before_way, behind_last, create_back, has_part, live_at, mover, moves, next_step, owner_by, part_owner, refresh_source, refresh_target, stands_done, write_journal}
+use Rattle.mt_plain.specs.Serve.{is_listed_at, refuses, refuses_by, step_of_list, types_by}
+use Rattle.mt_plain.specs.Slots.{slot_before_way}
+use Rattle.mt_plain.specs.Slots as plain
+use Rattle.mt_primary.specs.Denials.{marks_of}
+use Rattle.mt_primary.specs.Primary.{is_denied_at}
+use Rattle.mt_site_rows.specs.Rows.{stream_of}
+use Rattle.mt_site_state.specs.Core.{primary_of, workflow_at}
+use Rattle.mt_site_state.specs.Stands.{StandsFor}
+use Rattle.mt_site_state.specs.Switching.{open_after, sides_of, with_sides}
+use Rattle.mt_site_state.specs.Ways.{GivesBack, IsOpenOn, SiteStands, SiteState, WaysStand, open_at}
+use Rattle.mt_steps.proofs.StepLemmas.{stepped_log}
+use Rattle.mt_steps.specs.declared.log.OpenWay.{OpenWay}
+use Rattle.mt_steps.specs.declared.step.Step.{Step}
+use Rattle.mt_steps.specs.Entries.{recorded, recorded_of, step_entries}
+use Rattle.mt_steps.specs.Plans.{number}
+use Rattle.mt_steps.specs.Steps.{IsStepped, SidesState, journal_entry, sites}
+use Rattle.mt_steps.specs.Streams.{log_end, other_name}
+use Rattle.mt_steps.specs.Undo.{UndoState}
+use Rattle.mt_watch.specs.Asking.{Answering}
+use Rattle.mt_workflow.specs.Workflows.{WorkflowState, live_of, slot_of}
+use Rattle.mt_site_ways.proofs.AttemptLemmas.{all_among, attempt_journal, attempt_listed, none_marked, open_stepped, owner_allowed, put_away_is, saved_stays, slot_stood}
+use Rattle.mt_site_ways.proofs.EntryLemmas.{recorded_before, recorded_elsewhere}
+use Rattle.mt_site_ways.proofs.KeepLemmas.{Keeps, entries_keep, recorded_keeps, step_keeps}
+use Rattle.mt_site_ways.proofs.RecordOpenLemmas.{below-push, goes_on, none_pushed}
+use Rattle.mt_site_ways.proofs.TopologyLemmas.{one_some}
+
+-- ---- own lists
+
+-- what holds of each item, of another thing
+all_of : {A : Type 0} (P Q : A → Type 0) (xs : List A) → ((x : A) → P x → Q x) → AllByRecursion P xs → AllByRecursion Q xs
+all_of P Q [] each all = tt
+all_of P Q (x ∷ xs) each all = (each x all.0, all_of P Q xs each all.1)
+
+module _ (p : Plain) (s : SiteState) (denials : (k n : List ℕ) → is_denied_at (primary_of s.core.primaries k) n ≡ refuses p k n) (w : WorkflowState) (v : Live) (for : StandsFor p v w)
+    (mover_is : (table : List ℕ) → moves v table ≡ true → mover p table ≡ Some v) (apart : v.source ≢ v.target) (way : Way) (opens : v.way ≡ Some way)
+    (not_done : stands_done way refresh_source ≡ false) where
+  -- before its refresh the old owner's list refuses none of the tables
+  owner_serves : (table : List ℕ) → moves v table ≡ true → refuses p (owner_by v way.before) table ≡ false
+  owner_serves table moved =
+      ap (λ o. option_map_or (λ x. refuses_by x (owner_by v way.before)) o false) (mover_is table moved)
+      ∙ ap (λ n. is_listed_at v (types_by v n) (owner_by v way.before)) at
+      ∙ ap (λ ts. is_listed_at v ts (owner_by v way.before)) types
+      ∙ owner_allowed v apart way.before
+    where
+      before : before_way v ≡ way.before
+      before = ap (λ o. option_map_or (λ (x : Way). x.before) o v.switched) opens
+
+      at : step_of_list v (owner_by v way.before) ≡ refresh_source
+      at =
+          ap (λ (ts : TypeSet). cond (same_text (owner_by v ts) (owner_by v way.before)) refresh_source refresh_target) before
+          ∙ ap (λ b. cond b refresh_source refresh_target) ((same_text_decides (owner_by v way.before) (owner_by v way.before)).1 refl)
+
+      types : types_by v refresh_source ≡ way.before
+      types =
+          ap (λ o. option_map_or (λ (x : Way). cond (stands_done x refresh_source) x.after x.before) o v.switched) opens
+          ∙ ap (λ b. cond b way.after way.before) not_done
+
+  pub empty_listed : marks_of (cond way.before.primary (primary_of s.core.primaries w.target) (primary_of s.core.primaries w.source)) w.tables ≡ map (λ table. (table, false)) w.tables
+  empty_listed =
+      ap (λ x. marks_of x w.tables) (sym (cond-ap (primary_of s.core.primaries) way.before.primary w.target w.source))
+      ∙ ap (λ k. marks_of (primary_of s.core.primaries k) w.tables) owner_is
+      ∙ none_marked (primary_of s.core.primaries (owner_by v way.before)) w.tables
+      (subst (λ ts. AllByRecursion (λ table. is_denied_at (primary_of s.core.primaries (owner_by v way.before)) table ≡ false) ts) for.sides.tables
+      (all_of (λ table. moves v table ≡ true) (λ table. is_denied_at (primary_of s.core.primaries (owner_by v way.before)) table ≡ false) v.tables
+      (λ table moved. denials (owner_by v way.before) table ∙ owner_serves table moved) (all_among v.tables)))
+    where
+      owner_is : cond way.before.primary w.target w.source ≡ owner_by v way.before
+      owner_is = ap (λ x. cond way.before.primary x w.source) (sym for.sides.target) ∙ ap (λ x. cond way.before.primary v.target x) (sym for.sides.source)
+
+-- ---- streams
+
+slot_for : (p : Plain) (w : WorkflowState) (v : Live) → StandsFor p v w → (name : StreamName) → slot_of w name ≡ option_map (stream_of v) (plain.slot_of v name)
+slot_for p w v for forward = for.forward
+slot_for p w v for back = for.back
+
+-- ---- the live workflow behind a step
+
+pub live_step : (p : Plain) (name : List ℕ) (at : ℕ) (v now : Live) (way : Way) → live_at p name ≡ Some v → v.name ≡ name → v.way ≡ Some way → live_at (next p (step name at) done) name ≡ Some now
+    → now ≡ live_stepped p v way
+live_step p name at v now way is_live named opens is_now =
+    live_after p (next p (step name at) done) (step name at) done (lives_after p (step name at) done) name v now is_live is_now
+    ∙ ap (λ b. cond b (on_way_of (live_stepped p v) v) v) ((same_text_decides v.name name).1 named)
+    ∙ ap (λ o. option_map_or (live_stepped p v) o v) opens
+
+-- ---- what is kept behind a step
+
+module _ (p : Plain) (scopes asked : List Scope) (may_answer : Answering) (s : SiteState) (stands : SiteStands p scopes s) (name : List ℕ) (w : WorkflowState) (way : Way) (o : OpenWay)
+    (found : workflow_at s.core.workflows name ≡ Some w) (opens : w.way ≡ Some way) (is_open : open_at s.ways.opened name ≡ Some o)
+    (v : Live) (is_live : live_at p name ≡ Some v) (for : StandsFor p v w) (named : v.name ≡ name) (apart : v.source ≢ v.target)
+    (owned : (key : EntryKey) → has_part v key ≡ true → part_owner p key ≡ Some v) (mover_is : (table : List ℕ) → moves v table ≡ true → mover p table ≡ Some v)
+    (this : Step) (is_next : number this ≡ next_step way) (sides : SidesState) (log : UndoState)
+    (is : IsStepped asked may_answer o.number way this (sides_of s w) o.log sides log) where
+  abbrev now : WorkflowState
+  now = sides.workflow
+
+  abbrev u : OpenWay
+  u = record { number = o.number; log = log }
+
+  v_opens : v.way ≡ Some way
+  v_opens = sym for.way ∙ opens
+
+  kept_before : IsOpenOn s.ways.journal v w way o
+  kept_before = stands.ways.each name v w way o is_live found opens is_open
+
+  keeps : Keeps w now
+  keeps = subst (Keeps w) (sym is.workflow) (step_keeps w way this (log_end way (sides_of s w).source (sides_of s w).target))
+
+  way_now : now.way ≡ cond (closes way) None (Some (more way))
+  way_now = ap (λ (x : WorkflowState). x.way) is.workflow ∙ ap (λ n. cond (eqb (suc n) (behind_last way)) None (Some (more way))) is_next
+
+  journal_now : sides.journal ≡ cond (eqb (next_step way) write_journal) (s.ways.journal ++ journal_entry o.number w way (sides_of s w).source (sides_of s w).target ∷ []) s.ways.journal
+  journal_now =
+      attempt_journal asked may_answer o.number s.core.topology w way (sites (sides_of s w) o.log) (sites sides log) this is.attempt
+      ∙ ap (λ n. cond (eqb n write_journal) (s.ways.journal ++ journal_entry o.number w way (sides_of s w).source (sides_of s w).target ∷ []) s.ways.journal) is_next
+
+  -- ---- where the way goes on
+
+  module _ (goes : closes way ≡ false) where
+    still_open : now.way ≡ Some (more way)
+    still_open = way_now ∙ ap (λ b. cond b None (Some (more way))) goes
+
+    before_now : before_way (live_of now) ≡ before_way (live_of w)
+    before_now =
+        ap (λ x. option_map_or (λ (y : Way). y.before) x now.switched) still_open
+        ∙ sym (ap (λ x. option_map_or (λ (y : Way). y.before) x w.switched) opens)
+
+    module _ (not_written : stands_done (more way) write_journal ≡ false) where
+      gives : GivesBack v w way o.log
+      gives = kept_before.undo (not_before way write_journal not_written)
+
+      entries_give : (n : ℕ) → stands_done (more way) n ≡ true → recorded_of now n log.entries ≡ step_entries now way.before n
+      entries_give n done_now =
+          recorded_keeps w now keeps before_now n log.entries
+          ∙ ap (recorded_of w n) (is.entries ∙ ap (λ m. recorded w m s.core.topology o.log.entries) is_next)
+          ∙ by (eqb (next_step way) n) refl
+          ∙ sym (entries_keep w now keeps before_now way.before n)
+        where
+          by : (b : Bool) → eqb (next_step way) n ≡ b → recorded_of w n (recorded w (next_step way) s.core.topology o.log.entries) ≡ step_entries w way.before n
+          by true b =
+              let at : next_step way ≡ n = eqb-true (next_step way) n b in
+              ap (λ m. recorded_of w n (recorded w m s.core.topology o.log.entries)) at
+              ∙ recorded_before p w v for s.core.topology stands.core.topology owned way opens n (undone_by way n n at (omega arith)) o.log.entries kept_before.kept
+          by false b =
+              recorded_elsewhere w (next_step way) s.core.topology n (λ e. true≢false (sym (eq-eqb (next_step way) n (sym e)) ∙ b)) o.log.entries
+              ∙ gives.entries n (before_then way n b done_now)
+
+      not_refreshed : eqb (number this) refresh_target ≡ false
+      not_refreshed = false_from_ne_true (eqb (number this) refresh_target) (λ t.
+          let at : next_step way ≡ 8 = sym is_next ∙ eqb-true (number this) refresh_target t in
+          true≢false (sym (done_by (more way) write_journal 9 (omega (arith, at)) (omega arith) (omega arith)) ∙ not_written))
+
+      listed_give : stands_done (more way) refresh_source ≡ true → log.listed ≡ Some (map (λ table. (table, false)) now.tables)
+      listed_give done_now =
+          attempt_listed asked may_answer o.number s.core.topology w way (sites (sides_of s w) o.log) (sites sides log) this not_refreshed is.attempt
+          ∙ ap (λ n. cond (eqb n refresh_source) (Some (marks_of (cond way.before.primary (sides_of s w).target (sides_of s w).source) w.tables)) o.log.listed) is_next
+          ∙ by (eqb (next_step way) refresh_source) refl
+          ∙ ap (λ ts. Some (map (λ table. (table, false)) ts)) (sym keeps.tables)
+        where
+          by : (b : Bool) → eqb (next_step way) refresh_source ≡ b
+              → cond b (Some (marks_of (cond way.before.primary (sides_of s w).target (sides_of s w).source) w.tables)) o.log.listed ≡ Some (map (λ table. (table, false)) w.tables)
+          by true b =
+              ap Some (empty_listed p s stands.core.primaries.denials w v for mover_is apart way v_opens
+              (undone_by way refresh_source refresh_source (eqb-true (next_step way) refresh_source b) (omega arith)))
+          by false b = gives.listed (before_then way refresh_source b done_now)
+
+      slot_give : (live : Live) → live ≡ live_stepped p v way → stands_done (more way) create_back ≡ true
+          → log.slot ≡ option_map (stream_of live) (slot_before_way live (other_name way))
+      slot_give live is_stepped done_now =
+          is.slot ∙ put_away_is w way this o.log.slot ∙ ap (λ n. cond (eqb n create_back) (slot_of w (other_name way)) o.log.slot) is_next
+          ∙ by (eqb (next_step way) create_back) refl
+          ∙ sym stood
+        where
+          by : (b : Bool) → eqb (next_step way) create_back ≡ b → cond b (slot_of w (other_name way)) o.log.slot ≡ option_map (stream_of v) (slot_before_way v (other_name way))
+          by true b =
+              slot_for p w v for (other_name way)
+              ∙ ap (option_map (stream_of v)) (slot_stood v way v_opens (undone_by way create_back create_back (eqb-true (next_step way) create_back b) (omega arith)))
+          by false b = gives.slot (before_then way create_back b done_now)
+
+          stood : option_map (stream_of live) (slot_before_way live (other_name way)) ≡ option_map (stream_of v) (slot_before_way v (other_name way))
+          stood =
+              let r = open_stepped p v way goes in
+              ap (λ (x : Live). option_map (stream_of x) (slot_before_way x (other_name way))) (is_stepped ∙ r.2)
+              ∙ saved_stays v way (more way) r.0 r.1 (other_name way) v_opens refl
+
+      gives_now : (live : Live) → live ≡ live_stepped p v way → GivesBack live now (more way) log
+      gives_now live is_stepped = record { entries = entries_give; listed = listed_give; slot = slot_give live is_stepped }
+
+    unused_now : stands_done (more way) write_journal ≡ false → entry_of sides.journal o.number ≡ None
+    unused_now not_written = ap (λ es. entry_of es o.number) journal_now ∙ by (eqb (next_step way) write_journal) refl
+      where
+        by : (b : Bool) → eqb (next_step way) write_journal ≡ b
+            → entry_of (cond b (s.ways.journal ++ journal_entry o.number w way (sides_of s w).source (sides_of s w).target ∷ []) s.ways.journal) o.number ≡ None
+        by true b = absurd (true≢false (sym (now_done way write_journal (omega arith) b) ∙ not_written))
+        by false b = kept_before.unused (not_before way write_journal not_written)
+
+    open_now : (live : Live) → live ≡ live_stepped p v way → IsOpenOn sides.journal live now (more way) u
+    open_now live is_stepped = record {
+      kept = stepped_log way this s.core.topology sides.topology w now o.log log (log_end way (sides_of s w).source (sides_of s w).target)
+          (step_entries w way.after (number this)) is.topology is.workflow is.entries kept_before.kept;
+      unused = unused_now;
+      undo = λ not_written. gives_now not_written live is_stepped;
+    }
+
+  here : (at : ℕ) (live : Live) (x : Way) → live_at (next p (step name at) done) name ≡ Some live → now.way ≡ Some x → IsOpenOn sides.journal live now x u
+  here at live x is_now now_opens = by (closes way) refl
+    where
+      by : (b : Bool) → closes way ≡ b → IsOpenOn sides.journal live now x u
+      by true b = let none : None ≡ Some x = sym (way_now ∙ ap (λ c. cond c None (Some (more way))) b) ∙ now_opens in absurd cc
+      by false b =
+          subst (λ y. IsOpenOn sides.journal live now y u) (one_some (more way) x (sym (still_open b) ∙ now_opens))
+          (open_now b live (live_step p name at v live way is_live named v_opens is_now))
+
+  -- ---- the journal
+
+  unused_else : (x : ℕ) → x ≢ o.number → entry_of s.ways.journal x ≡ None → entry_of sides.journal x ≡ None
+  unused_else x other none = ap (λ es. entry_of es x) journal_now ∙ by (eqb (next_step way) write_journal)
+    where
+      by : (b : Bool) → entry_of (cond b (s.ways.journal ++ journal_entry o.number w way (sides_of s w).source (sides_of s w).target ∷ []) s.ways.journal) x ≡ None
+      by true = none_pushed s.ways.journal (journal_entry o.number w way (sides_of s w).source (sides_of s w).target) x other none
+      by false = none
+
+  below_now : AllByRecursion (λ (e : JournalEntry). e.id < s.ways.begun) sides.journal
+  below_now = subst (λ es. AllByRecursion (λ (e : JournalEntry). e.id < s.ways.begun) es) (sym journal_now) (by (eqb (next_step way) write_journal))
+    where
+      by : (b : Bool) → AllByRecursion (λ (e : JournalEntry). e.id < s.ways.begun)
+          (cond b (s.ways.journal ++ journal_entry o.number w way (sides_of s w).source (sides_of s w).target ∷ []) s.ways.journal)
+      by true = below-push s.ways.begun s.ways.journal (journal_entry o.number w way (sides_of s w).source (sides_of s w).target) stands.ways.below (stands.ways.numbers name o is_open)
+      by false = stands.ways.below
+
+  as_long : (at : ℕ) → length sides.journal ≡ (next p (step name at) done).journal
+  as_long at =
+      ap length journal_now ∙ by (eqb (next_step way) write_journal)
+      ∙ sym (ap (journal_after p) is_live ∙ ap (λ x. option_map_or (λ (y : Way). cond (eqb (next_step y) write_journal) (suc p.journal) p.journal) x p.journal) v_opens)
+    where
+      by : (b : Bool) → length (cond b (s.ways.journal ++ journal_entry o.number w way (sides_of s w).source (sides_of s w).target ∷ []) s.ways.journal) ≡ cond b (suc p.journal) p.journal
+      by true =
+          let more_by_one = length_push s.ways.journal (journal_entry o.number w way (sides_of s w).source (sides_of s w).target) in
+          let same = stands.ways.journal in
+          omega (arith, more_by_one, same)
+      by false = stands.ways.journal
+
+  pub step_stays : (at : ℕ) → ((n : List ℕ) → name ≢ n → live_at (next p (step name at) done) n ≡ live_at p n)
+      → WaysStand (next p (step name at) done) (with_sides s w sides u).core (with_sides s w sides u).ways
+  step_stays at elsewhere =
+      goes_on p (next p (step name at) done) s.core (with_sides s w sides u).core s.ways (with_sides s w sides u).ways stands.ways name w now o u found is_open refl
+      (ap (λ k. set_value (same_text k) s.core.workflows now) w_named) (ap (λ k. open_after s.ways.opened k u now.way) w_named) elsewhere unused_else (here at) refl refl (as_long at) below_now
+    where
+      w_named : w.name ≡ name
+      w_named = sym for.sides.name ∙ named

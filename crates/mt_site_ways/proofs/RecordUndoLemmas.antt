@@ -1,0 +1,160 @@
+-- What is kept of a way behind an undo of a step of it, and behind its close where no step stands done.
+use Rattle.std.proofs.Common.{◌≡◌, ◌≢◌, ℕ, ◌-◌, ◌<◌, Bool, true, false, cond, eqb, length, List, map, None, Some, option_map, refl, sym, ap, ◌∙◌, subst, arith, eqb-true}
+use Rattle.std.proofs.lemmas.Bool.{eqb-false, false_from_ne_true, true≢false}
+use Rattle.std.specs.List.{AllByRecursion}
+use Rattle.std.specs.Map.{set_value}
+use Rattle.std.specs.Option.{option_map_or}
+use Rattle.mt_names.specs.Names.{same_text}
+use Rattle.mt_names.proofs.SameLemmas.{same_text_decides}
+use Rattle.mt_model.specs.declared.entries.Scope.{Scope}
+use Rattle.mt_model.specs.Topology.{key_of}
+use Rattle.mt_journal.specs.declared.entry.JournalEntry.{JournalEntry}
+use Rattle.mt_journal.specs.Journal.{entry_of}
+use Rattle.mt_laws.proofs.ChangeLemmas.{live_after, lives_after}
+use Rattle.mt_laws.proofs.WayLemmas.{undo_before_journal}
+use Rattle.mt_laws.proofs.WayStepLemmas.{fewer, undone_by, was_done}
+use Rattle.mt_plain.specs.Answers.{Answers}
+use Rattle.mt_plain.specs.Events.{done, undo, Way}
+use Rattle.mt_plain.specs.Next.{live_undone, next, on_way_of}
+use Rattle.mt_plain.specs.Plain.{Live, Plain, before_way, create_back, live_at, next_step, refresh_source, stands_done, write_journal}
+use Rattle.mt_plain.specs.Refuse.{in_workflow, undo_refusal}
+use Rattle.mt_plain.specs.Slots.{slot_before_way}
+use Rattle.mt_site_rows.specs.Rows.{stream_of}
+use Rattle.mt_site_state.specs.Core.{workflow_at}
+use Rattle.mt_site_state.specs.Stands.{StandsFor}
+use Rattle.mt_site_state.specs.Switching.{open_after, sides_of, with_sides}
+use Rattle.mt_site_state.specs.Ways.{GivesBack, IsOpenOn, SiteStands, SiteState, WaysStand, open_at}
+use Rattle.mt_steps.specs.declared.log.OpenWay.{OpenWay}
+use Rattle.mt_steps.specs.declared.step.Step.{Step}
+use Rattle.mt_steps.specs.Entries.{recorded_of, step_entries}
+use Rattle.mt_steps.specs.Plans.{last_step, number}
+use Rattle.mt_steps.specs.Steps.{IsUndone, SidesState}
+use Rattle.mt_steps.specs.Streams.{other_name}
+use Rattle.mt_steps.specs.Undo.{UndoState}
+use Rattle.mt_workflow.specs.Workflows.{WorkflowState, live_of}
+use Rattle.mt_site_ways.proofs.AttemptLemmas.{listed_left, saved_stays, slot_left}
+use Rattle.mt_site_ways.proofs.KeepLemmas.{Keeps, entries_keep, part_keeps, recorded_keeps, undo_keeps}
+use Rattle.mt_site_ways.proofs.RecordOpenLemmas.{goes_on}
+use Rattle.mt_site_ways.proofs.TopologyLemmas.{one_some}
+
+-- ---- the live workflow behind an undo
+
+pub live_undo : (p : Plain) (name : List ℕ) (at : ℕ) (v now : Live) (way : Way) → live_at p name ≡ Some v → v.name ≡ name → v.way ≡ Some way → live_at (next p (undo name at) done) name ≡ Some now
+    → now ≡ live_undone v way
+live_undo p name at v now way is_live named opens is_now =
+    live_after p (next p (undo name at) done) (undo name at) done (lives_after p (undo name at) done) name v now is_live is_now
+    ∙ ap (λ b. cond b (on_way_of (live_undone v) v) v) ((same_text_decides v.name name).1 named)
+    ∙ ap (λ o. option_map_or (live_undone v) o v) opens
+
+-- ---- what is kept behind it
+
+module _ (p : Plain) (scopes : List Scope) (s : SiteState) (stands : SiteStands p scopes s) (name : List ℕ) (w : WorkflowState) (way : Way) (o : OpenWay)
+    (found : workflow_at s.core.workflows name ≡ Some w) (opens : w.way ≡ Some way) (is_open : open_at s.ways.opened name ≡ Some o)
+    (v : Live) (is_live : live_at p name ≡ Some v) (for : StandsFor p v w) (named : v.name ≡ name) (at : ℕ) (given : Answers p (undo name at) done)
+    (elsewhere : (n : List ℕ) → name ≢ n → live_at (next p (undo name at) done) n ≡ live_at p n) where
+  v_opens : v.way ≡ Some way
+  v_opens = sym for.way ∙ opens
+
+  w_named : w.name ≡ name
+  w_named = sym for.sides.name ∙ named
+
+  kept_before : IsOpenOn s.ways.journal v w way o
+  kept_before = stands.ways.each name v w way o is_live found opens is_open
+
+  -- an undo comes before the journal
+  not_written : stands_done way write_journal ≡ false
+  not_written = undo_before_journal at v way v_opens (sym (ap (λ x. in_workflow x (undo_refusal at)) is_live) ∙ given.0)
+
+  gives : GivesBack v w way o.log
+  gives = kept_before.undo not_written
+
+  -- ---- a step that is undone
+
+  module _ (this : Step) (is_last : number this ≡ last_step way) (some : eqb way.done 0 ≡ false) (sides : SidesState) (log : UndoState) (is : IsUndone way this (sides_of s w) o.log sides log) where
+    abbrev now : WorkflowState
+    now = sides.workflow
+
+    abbrev u : OpenWay
+    u = record { number = o.number; log = log }
+
+    keeps : Keeps w now
+    keeps = subst (Keeps w) (sym is.workflow) (undo_keeps w way this o.log.slot)
+
+    way_now : now.way ≡ cond (eqb (way.done - 1) 0) None (Some (fewer way))
+    way_now = ap (λ (x : WorkflowState). x.way) is.workflow
+
+    one_less : next_step (fewer way) ≡ last_step way
+    one_less = let ne : way.done ≢ 0 = eqb-false way.done 0 some in omega (arith, ne)
+
+    -- a step that still stands done is not the one undone
+    not_this : (n : ℕ) → stands_done (fewer way) n ≡ true → eqb (number this) n ≡ false
+    not_this n done_now = false_from_ne_true (eqb (number this) n) (λ t.
+        let same : last_step way ≡ n = sym is_last ∙ eqb-true (number this) n t in
+        true≢false (sym done_now ∙ undone_by (fewer way) n n (one_less ∙ same) (omega arith)))
+
+    module _ (goes : eqb (way.done - 1) 0 ≡ false) where
+      still_open : now.way ≡ Some (fewer way)
+      still_open = way_now ∙ ap (λ b. cond b None (Some (fewer way))) goes
+
+      before_now : before_way (live_of now) ≡ before_way (live_of w)
+      before_now =
+          ap (λ x. option_map_or (λ (y : Way). y.before) x now.switched) still_open
+          ∙ sym (ap (λ x. option_map_or (λ (y : Way). y.before) x w.switched) opens)
+
+      entries_give : (n : ℕ) → stands_done (fewer way) n ≡ true → recorded_of now n log.entries ≡ step_entries now way.before n
+      entries_give n done_now =
+          recorded_keeps w now keeps before_now n log.entries
+          ∙ ap (λ (x : UndoState). recorded_of w n x.entries) is.log
+          ∙ gives.entries n (was_done way n done_now)
+          ∙ sym (entries_keep w now keeps before_now way.before n)
+
+      listed_give : stands_done (fewer way) refresh_source ≡ true → log.listed ≡ Some (map (λ table. (table, false)) now.tables)
+      listed_give done_now =
+          ap (λ (x : UndoState). x.listed) is.log ∙ listed_left this o.log.listed (not_this refresh_source done_now)
+          ∙ gives.listed (was_done way refresh_source done_now) ∙ ap (λ ts. Some (map (λ table. (table, false)) ts)) (sym keeps.tables)
+
+      slot_give : (live : Live) → live ≡ live_undone v way → stands_done (fewer way) create_back ≡ true
+          → log.slot ≡ option_map (stream_of live) (slot_before_way live (other_name way))
+      slot_give live is_undone done_now =
+          ap (λ (x : UndoState). x.slot) is.log ∙ slot_left this o.log.slot (not_this create_back done_now)
+          ∙ gives.slot (was_done way create_back done_now) ∙ sym stood
+        where
+          stood : option_map (stream_of live) (slot_before_way live (other_name way)) ≡ option_map (stream_of v) (slot_before_way v (other_name way))
+          stood =
+              ap (λ (x : Live). option_map (stream_of x) (slot_before_way x (other_name way)))
+              (is_undone ∙ ap (λ b. cond b (record v { way = None }) (record v { way = Some (fewer way) })) goes)
+              ∙ saved_stays v way (fewer way) v.switched v.fresh_at (other_name way) v_opens refl
+
+      open_now : (live : Live) → live ≡ live_undone v way → IsOpenOn sides.journal live now (fewer way) u
+      open_now live is_undone = record {
+        kept = ap (λ (x : UndoState). map key_of x.entries) is.log ∙ kept_before.kept ∙ sym (part_keeps w now keeps);
+        unused = λ f. ap (λ es. entry_of es o.number) is.journal ∙ kept_before.unused not_written;
+        undo = λ f. record { entries = entries_give; listed = listed_give; slot = slot_give live is_undone };
+      }
+
+    here : (live : Live) (x : Way) → live_at (next p (undo name at) done) name ≡ Some live → now.way ≡ Some x → IsOpenOn sides.journal live now x u
+    here live x is_now now_opens = by (eqb (way.done - 1) 0) refl
+      where
+        by : (b : Bool) → eqb (way.done - 1) 0 ≡ b → IsOpenOn sides.journal live now x u
+        by true b = let none : None ≡ Some x = sym (way_now ∙ ap (λ c. cond c None (Some (fewer way))) b) ∙ now_opens in absurd cc
+        by false b =
+            subst (λ y. IsOpenOn sides.journal live now y u) (one_some (fewer way) x (sym (still_open b) ∙ now_opens))
+            (open_now b live (live_undo p name at v live way is_live named v_opens is_now))
+
+    pub undo_stays : WaysStand (next p (undo name at) done) (with_sides s w sides u).core (with_sides s w sides u).ways
+    undo_stays =
+        goes_on p (next p (undo name at) done) s.core (with_sides s w sides u).core s.ways (with_sides s w sides u).ways stands.ways name w now o u found is_open refl
+        (ap (λ k. set_value (same_text k) s.core.workflows now) w_named) (ap (λ k. open_after s.ways.opened k u now.way) w_named) elsewhere
+        (λ x other none. ap (λ es. entry_of es x) is.journal ∙ none) here refl refl (ap length is.journal ∙ stands.ways.journal)
+        (subst (λ es. AllByRecursion (λ (e : JournalEntry). e.id < s.ways.begun) es) (sym is.journal) stands.ways.below)
+
+  -- ---- a way that is closed
+
+  abbrev shut : SidesState
+  shut = record (sides_of s w) { workflow = record w { way = None } }
+
+  pub close_stays : WaysStand (next p (undo name at) done) (with_sides s w shut o).core (with_sides s w shut o).ways
+  close_stays =
+      goes_on p (next p (undo name at) done) s.core (with_sides s w shut o).core s.ways (with_sides s w shut o).ways stands.ways name w (record w { way = None }) o o found is_open refl
+      (ap (λ k. set_value (same_text k) s.core.workflows (record w { way = None })) w_named) (ap (λ k. open_after s.ways.opened k o None) w_named) elsewhere
+      (λ x other none. none) (λ live x is_now now_opens. absurd cc) refl refl stands.ways.journal stands.ways.below

@@ -1,0 +1,40 @@
+-- A refresh takes over what the topology says at its side, and no other step changes a primary.
+use Rattle.std.proofs.Common.{refl}
+use Rattle.mt_plain.specs.Events.{step, done}
+use Rattle.mt_plain.specs.Next.{live_stepped, next, on_way_of}
+use Rattle.mt_laws.specs.Effects.{list_stepped}
+use Rattle.mt_site_rows.proofs.StepLemmas.{stepped_sides}
+use Rattle.mt_site_state.specs.Core.{primary_of}
+use Rattle.mt_site_ways.proofs.ChangeLemmas.{IsAt}
+use Rattle.mt_site_ways.proofs.DenialLemmas.{Known}
+use Rattle.mt_site_ways.proofs.ListLemmas.{IsNext}
+use Rattle.mt_site_ways.proofs.PrimaryNextLemmas.{on_way, stood, tables_stay}
+use Rattle.mt_site_ways.proofs.PrimaryStepLemmas.{step_stands}
+use Rattle.mt_site_ways.proofs.primaries.a_step_leaves_the_primaries.Goals as goal
+
+pub returns : goal.returns
+returns g c = λ p scopes core stands name live w way at id old new is_live found opens given from_source from_target attempts.
+    let known : Known = record {
+      tables = c.denials_change_nothing_else.ensures.tables;
+      rows = c.denials_change_nothing_else.ensures.rows;
+      named = c.a_refresh_concerns_named_tables.ensures.named;
+      others = c.a_refresh_concerns_named_tables.ensures.others;
+      given = c.a_refresh_is_taken_back.ensures.named;
+      given_others = c.a_refresh_is_taken_back.ensures.others;
+      notice = c.a_notice_tells_what_its_change_tells.ensures.notice;
+      change = c.a_notice_tells_what_its_change_tells.ensures.change;
+    } in
+    let for = stood p scopes core stands name live w is_live found in
+    let is_at : IsAt p core.primaries live w way =
+    on_way p core.primaries stands.primaries live w for way opens (c.live_workflows_stand_in_place.ensures.placed p stands.reached name live is_live)
+    (c.a_live_workflow_is_found_by_its_part.ensures.owner p stands.reached name live is_live) in
+    let q = next p (step name at) done in
+    let is_next : IsNext p q live (list_stepped live way) = record {
+      topology = refl;
+      tables = tables_stay p name (λ v. on_way_of (live_stepped p v) v) (stepped_sides p);
+      refused = c.steps_and_undos_change_the_state_by_their_numbers.ensures.step_lists p stands.reached name live way is_live is_at.opens at;
+      moved = c.a_live_workflow_is_found_by_its_part.ensures.mover p stands.reached name live is_live;
+    } in
+    step_stands known p q core.primaries live w way is_at is_next
+    (c.a_step_keeps_rows_and_logs.ensures p stands.reached (primary_of core.primaries) stands.rows name at given)
+    core.topology stands.topology.served.entries (g.W.Asks.scopes c.args.watchers.now) (g.W.Asks.may_answer c.args.watchers.now) id old new from_source from_target attempts

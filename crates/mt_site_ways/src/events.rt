@@ -1,0 +1,77 @@
+//! Laws on the events that are of no way, for the whole controller.
+ghost use Rattle.std.specs.Prelude.{◌≡◌, ℕ, List, Option};
+ghost use Rattle.mt_model.specs.declared.entries.Scope.{Scope};
+ghost use Rattle.mt_model.specs.declared.rows.Op.{Op};
+ghost use Rattle.mt_names.specs.declared.keys.RuleKey.{RuleKey};
+ghost use Rattle.mt_names.specs.declared.keys.RuleTarget.{RuleTarget};
+ghost use Rattle.mt_names.specs.declared.types.TabletType.{TabletType};
+ghost use Rattle.mt_plain.specs.Events.{Answer, StreamName, add_keyspace, add_table, advance, cancel, create, edit_rule, read, show, write};
+ghost use Rattle.mt_primary.specs.Primary.{IsPrimary};
+ghost use Rattle.mt_site_state.specs.ByHand.{AddsKeyspace, AddsTable, EditsRule, ReadsRow, WritesRow};
+ghost use Rattle.mt_site_state.specs.Core.{CoreState, primary_of};
+ghost use Rattle.mt_site_state.specs.Ways.{SiteState, SiteSteps};
+ghost use Rattle.mt_site_state.specs.Workflows.{AdvancesWorkflow, Cancels, Creates, ShowsWorkflow};
+
+use mt_laws::{
+    a_live_workflow_is_found_by_its_part, only_named_events_change_a_workflow,
+    only_named_events_change_the_state, ways_keep_their_course,
+};
+use mt_site_events::{
+    a_cancel_steps, a_create_steps, a_keyspace_steps, a_read_steps, a_rule_steps, a_show_steps,
+    a_table_steps, a_write_steps, an_advance_steps,
+};
+use mt_watch::Asks;
+
+/// A keyspace, a table, a rule by hand, a write and a read step, and leave what is kept of the ways as it is.
+pub fn events_by_hand_step_and_leave_the_ways()
+    ensures keyspace { (scopes : List Scope) (old : SiteState) (new : CoreState) (name : List ℕ) (answer : Answer)
+        → AddsKeyspace old.core name answer new → SiteSteps scopes old (add_keyspace name) answer (record old { core = new }) }
+    ensures table { (scopes : List Scope) (old : SiteState) (new : CoreState) (keyspace table : List ℕ) (answer : Answer)
+        → AddsTable old.core keyspace table answer new → SiteSteps scopes old (add_table keyspace table) answer (record old { core = new }) }
+    ensures rule { (scopes : List Scope) (old : SiteState) (new : CoreState) (key : RuleKey) (target : Option RuleTarget) (answer : Answer)
+        → EditsRule old.core key target answer new → SiteSteps scopes old (edit_rule key target) answer (record old { core = new }) }
+    ensures write { (scopes : List Scope) (old : SiteState) (new : CoreState) (keyspace table : List ℕ) (op : Op) (answer : Answer)
+        → WritesRow old.core keyspace table op answer new → SiteSteps scopes old (write keyspace table op) answer (record old { core = new }) }
+    ensures read { (scopes : List Scope) (old : SiteState) (new : CoreState) (keyspace table : List ℕ) (key : ℕ) (tablet_type : TabletType) (answer : Answer)
+        → ReadsRow old.core keyspace table key tablet_type answer new → SiteSteps scopes old (read keyspace table key tablet_type) answer (record old { core = new }) }
+{
+    only_named_events_change_a_workflow();
+    only_named_events_change_the_state();
+    a_keyspace_steps();
+    a_table_steps();
+    a_rule_steps();
+    a_write_steps();
+    a_read_steps();
+}
+
+/// A Create steps, and leaves what is kept of the ways as it is.
+pub fn a_create_steps_and_leaves_the_ways<W: Asks>(watchers: &W)
+    ensures { (old : SiteState) (new : CoreState) (workflow source target : List ℕ) (tables : List (List ℕ)) (answer : Answer)
+        → Creates old.core (W.scopes watchers.now) (W.may_answer watchers.now) workflow source target tables answer new
+        → SiteSteps (W.scopes watchers.now) old (create workflow source target tables) answer (record old { core = new }) }
+{
+    only_named_events_change_a_workflow();
+    only_named_events_change_the_state();
+    a_create_steps(watchers);
+}
+
+/// An advance, Cancel and Show step, and leave what is kept of the ways as it is.
+pub fn events_on_workflows_step_and_leave_the_ways()
+    ensures advance { (scopes : List Scope) (old : SiteState) (new : CoreState) (workflow : List ℕ) (name : StreamName) (at at_most : ℕ) (answer : Answer)
+        → AdvancesWorkflow old.core workflow name at at_most answer new
+        → ((keyspace : List ℕ) → IsPrimary (primary_of old.core.primaries keyspace))
+        → SiteSteps scopes old (advance workflow name at at_most) answer (record old { core = new }) }
+    ensures cancel { (scopes : List Scope) (old : SiteState) (new : CoreState) (workflow : List ℕ) (answer : Answer)
+        → Cancels old.core workflow answer new → ((keyspace : List ℕ) → IsPrimary (primary_of old.core.primaries keyspace))
+        → SiteSteps scopes old (cancel workflow) answer (record old { core = new }) }
+    ensures show { (scopes : List Scope) (old : SiteState) (new : CoreState) (workflow : List ℕ) (answer : Answer)
+        → ShowsWorkflow old.core workflow answer new → SiteSteps scopes old (show workflow) answer (record old { core = new }) }
+{
+    a_live_workflow_is_found_by_its_part();
+    only_named_events_change_a_workflow();
+    only_named_events_change_the_state();
+    ways_keep_their_course();
+    an_advance_steps();
+    a_cancel_steps();
+    a_show_steps();
+}

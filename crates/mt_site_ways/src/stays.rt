@@ -1,0 +1,68 @@
+//! Laws on what keeps a state of the controller one.
+ghost use Rattle.std.specs.Prelude.{◌≡◌, ◌++◌, ℕ, ◌<◌, true, false, List, None, Some, is_some};
+ghost use Rattle.mt_journal.specs.Journal.{entry_of};
+ghost use Rattle.mt_laws.specs.Texts.{BringsNames};
+ghost use Rattle.mt_model.specs.declared.entries.Scope.{Scope};
+ghost use Rattle.mt_plain.specs.Answers.{Answers};
+ghost use Rattle.mt_plain.specs.Events.{Answer, Event, Way, create};
+ghost use Rattle.mt_plain.specs.Plain.{behind_last, next_step, opening, stands_done, write_journal};
+ghost use Rattle.mt_site_state.specs.Core.{CoreState, workflow_at};
+ghost use Rattle.mt_site_state.specs.Stands.{IsCore};
+ghost use Rattle.mt_site_state.specs.Ways.{HasSiteState, IsSite, SiteState, SiteStands, SiteSteps, empty_site, open_at};
+ghost use Rattle.mt_site_state.specs.Workflows.{Creates};
+ghost use Rattle.mt_steps.specs.declared.log.OpenWay.{OpenWay};
+ghost use Rattle.mt_steps.specs.Undo.{IsLogOf};
+ghost use Rattle.mt_workflow.specs.Workflows.{WorkflowState};
+
+use mt_laws::{
+    only_named_events_change_a_workflow, only_named_events_change_the_state, ways_keep_their_course,
+};
+use mt_site_events::{
+    a_create_is_refused_as_the_definitions_refuse_it, an_empty_core_stands_for_the_opening,
+    what_a_create_makes_stands_for_the_next_state,
+};
+use mt_watch::Asks;
+
+/// Without keyspaces, workflows and ways the controller stands for the opening. The core of a state of the controller is one. It stands
+/// for a state with more watchers too. What leads from each state that it stands for to the next one leaves such a state.
+pub fn a_site_stays_one()
+    ensures stands { (scopes : List Scope) → SiteStands (opening scopes) scopes empty_site }
+    ensures opening { IsSite empty_site }
+    ensures core { (s : SiteState) → IsSite s → IsCore s.core }
+    ensures wider { (s : SiteState) (scopes : List Scope) (h : HasSiteState s)
+        → (g : HasSiteState s) × (g.state.scopes ≡ h.state.scopes ++ scopes) }
+    ensures stays { (scopes : List Scope) (old new : SiteState) (event : Event) (answer : Answer) → BringsNames event
+        → ((more : List Scope) → SiteSteps (more ++ scopes) old event answer new) → IsSite old → IsSite new }
+{
+    an_empty_core_stands_for_the_opening();
+}
+
+/// A Create of names leaves a state of the controller, whatever it answers.
+pub fn a_create_leaves_a_site<W: Asks>(watchers: &W)
+    ensures { (old : SiteState) (new : CoreState) (workflow source target : List ℕ) (tables : List (List ℕ)) (answer : Answer)
+        → BringsNames (create workflow source target tables)
+        → Creates old.core (W.scopes watchers.now) (W.may_answer watchers.now) workflow source target tables answer new
+        → IsSite old → IsSite (record old { core = new }) }
+{
+    only_named_events_change_a_workflow();
+    only_named_events_change_the_state();
+    a_create_is_refused_as_the_definitions_refuse_it();
+    what_a_create_makes_stands_for_the_next_state();
+    a_site_stays_one();
+}
+
+/// Something is kept for each open way, which has a next step, and it is kept for its workflow; until the journal has the way's entry, it has none of its number.
+pub fn each_open_way_has_a_record()
+    ensures there { (s : SiteState) → IsSite s → (name : List ℕ) (w : WorkflowState) (way : Way) → workflow_at s.core.workflows name ≡ Some w
+        → w.way ≡ Some way → is_some (open_at s.ways.opened name) ≡ true }
+    ensures absent { (s : SiteState) → IsSite s → (name : List ℕ) (w : WorkflowState) → workflow_at s.core.workflows name ≡ Some w
+        → w.way ≡ None → open_at s.ways.opened name ≡ None }
+    ensures kept { (s : SiteState) → IsSite s → (name : List ℕ) (w : WorkflowState) (way : Way) (o : OpenWay) → workflow_at s.core.workflows name ≡ Some w
+        → w.way ≡ Some way → open_at s.ways.opened name ≡ Some o → IsLogOf w o.log }
+    ensures within { (s : SiteState) → IsSite s → (name : List ℕ) (w : WorkflowState) (way : Way) → workflow_at s.core.workflows name ≡ Some w
+        → w.way ≡ Some way → next_step way < behind_last way }
+    ensures unused { (s : SiteState) → IsSite s → (name : List ℕ) (w : WorkflowState) (way : Way) (o : OpenWay) → workflow_at s.core.workflows name ≡ Some w
+        → w.way ≡ Some way → open_at s.ways.opened name ≡ Some o → stands_done way write_journal ≡ false → entry_of s.ways.journal o.number ≡ None }
+{
+    ways_keep_their_course();
+}

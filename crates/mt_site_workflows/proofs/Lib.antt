@@ -1,3 +1,0 @@
-pub mod ChangedLemmas
-pub mod SlotLemmas
-pub mod WayLemmas
