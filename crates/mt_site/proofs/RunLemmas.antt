@@ -5,12 +5,15 @@ use Rattle.mt_event.specs.declared.event.Event.{Event}
 use Rattle.mt_event.specs.declared.refusal.Refusal.{Refusal}
 use Rattle.mt_event.specs.declared.reply.Reply.{Reply}
 use Rattle.mt_event.specs.Events.{answer_from, event_of}
+use Rattle.mt_laws.specs.Headline.{Headline}
+use Rattle.mt_laws.specs.WayBack.{IsReached}
 use Rattle.mt_model.specs.declared.entries.Scope.{Scope}
 use Rattle.mt_plain.specs.Answers.{Answers, Run, after}
 use Rattle.mt_plain.specs.Events as plain
 use Rattle.mt_plain.specs.Next.{next}
 use Rattle.mt_plain.specs.Plain.{Plain}
 use Rattle.mt_site_state.specs.Ways.{SiteStands, SiteState, SiteSteps}
+use Rattle.mt_site.specs.Headline.{KeepsTheHeadline}
 use Rattle.mt_site.specs.Runs.{Runs}
 
 -- a run goes on with one event more
@@ -43,3 +46,29 @@ runs_more scopes old now new events results i e r inside at before step = λ p s
     subst (λ l. Run p l (map answer_from (results ++ r ∷ [])) × SiteStands (after p l (map answer_from (results ++ r ∷ []))) scopes new) (map_next event_of events i e inside at)
     (subst (λ l. Run p (es ++ event_of e ∷ []) l × SiteStands (after p (es ++ event_of e ∷ []) l) scopes new) (sym (map-append answer_from results (r ∷ [])))
     (pushed.0, subst (λ q. SiteStands q scopes new) (sym pushed.1) stepped.1))
+
+-- a run goes on with another, and ends where that ends
+run_joined : (events : List plain.Event) (answers : List plain.Answer) (p : Plain) (more : List plain.Event) (told : List plain.Answer) → Run p events answers
+    → Run (after p events answers) more told
+    → Run p (events ++ more) (answers ++ told) × (after p (events ++ more) (answers ++ told) ≡ after (after p events answers) more told)
+run_joined [] [] p more told run rest = (rest, refl)
+run_joined [] (a ∷ answers) p more told run rest = absurd run
+run_joined (e ∷ events) [] p more told run rest = absurd run
+run_joined (e ∷ events) (a ∷ answers) p more told run rest =
+    let r = run_joined events answers (next p e a) more told run.1 rest in
+    ((run.0, r.0), r.1)
+
+-- what leads from each state that the controller stands for to the next one keeps the headline
+pub headline_kept : (scopes : List Scope) (old new : SiteState) (events : List plain.Event) (answers : List plain.Answer)
+    → ((p : Plain) → SiteStands p scopes old → Run p events answers × SiteStands (after p events answers) scopes new)
+    → ((p : Plain) (earlier more : List plain.Event) (told answered : List plain.Answer) → IsReached p → Run p earlier told → Run (after p earlier told) more answered
+    → Headline p (earlier ++ more) (told ++ answered))
+    → KeepsTheHeadline scopes old events answers new
+headline_kept scopes old new events answers steps law = λ p earlier told had.
+    let stepped = steps (after p earlier told) had.stands in
+    let joined = run_joined earlier told p events answers had.run stepped.0 in
+    (record {
+      reached = had.reached;
+      run = joined.0;
+      stands = subst (λ q. SiteStands q scopes new) (sym joined.1) stepped.1;
+    }, law p earlier events told answers had.reached had.run stepped.0)

@@ -1,9 +1,12 @@
 //! Events, one after the other.
-ghost use Rattle.std.specs.Prelude.{◌≡◌, IfOk, OnErr};
+ghost use Rattle.std.specs.Prelude.{◌≡◌, IfOk, OnErr, map};
+ghost use Rattle.mt_event.specs.Events.{answer_from, event_of};
+ghost use Rattle.mt_site.specs.Headline.{KeepsTheHeadline};
 ghost use Rattle.mt_site.specs.Runs.{Runs};
 
 use crate::Site;
 use mt_event::{Event, Refusal, Reply};
+use mt_laws::every_run_keeps_the_headline;
 use mt_watch::Asks;
 use std::alloc::Global;
 use thiserror::Error;
@@ -14,7 +17,8 @@ use thiserror::Error;
 pub struct RunStopped;
 
 /// Applies some events, one after the other, and answers what each was answered, in their order. `RunStopped` if the list of
-/// answers finds no memory: then no event was applied.
+/// answers finds no memory: then no event was applied. The headline holds of them, as `Site::apply` says it, whatever was applied
+/// before.
 pub fn run_events<W: Asks>(
     alloc: Global,
     site: &mut Site<W>,
@@ -22,8 +26,10 @@ pub fn run_events<W: Asks>(
 ) -> Result<Vec<Result<Reply, Refusal>>, RunStopped>
     ensures watchers { site.new.watchers ≡ site.old.watchers }
     ensures runs { IfOk result (λ answers. Runs (W.scopes site.old.watchers) site.old.core events.now answers.items site.new.core) }
+    ensures headline { IfOk result (λ answers. KeepsTheHeadline (W.scopes site.old.watchers) site.old.core (map event_of events.now) (map answer_from answers.items) site.new.core) }
     ensures stopped { OnErr result (site.new.core ≡ site.old.core) }
 {
+    every_run_keeps_the_headline();
     let Ok(mut answers) = Vec::with_capacity(alloc, events.len()) else {
         return Err(RunStopped);
     };
