@@ -14,6 +14,7 @@ use Rattle.mt_plain.specs.Next.{next, with_step, with_undo, with_way_to, types_a
 use Rattle.mt_plain.specs.Output.{ended_text}
 use Rattle.mt_plain.specs.Plain.{Live, Plain, behind_last, catch_up, first_step, live_at, next_step, refresh_source, refresh_target, stands_done, switch_reads, write_journal}
 use Rattle.mt_plain.specs.Refuse.{begin_reverse_refusal, begin_switch_refusal, in_workflow, is_behind, is_of_primary, most_journal_entries, new_owner, old_owner, or_else, own_refusal, refusal_of, refuse_if, step_refusal, undo_refusal, will_read_other_side}
+use Rattle.mt_laws.specs.Turns.{Enough, at_reads, before_level, at_level, behind_level, Goes, Undoes, Fits, FitsHeard}
 use Rattle.mt_laws.proofs.DocumentLemmas.{refusal-no_feed}
 use Rattle.mt_laws.proofs.ListLemmas.{cond-either, cond-holds}
 use Rattle.mt_laws.proofs.TextLemmas.{NoFeed, no_feed-append, no_feed-number}
@@ -22,13 +23,6 @@ use Rattle.mt_laws.proofs.PlainWords.{changes_reads, gives_up_or_stops}
 use Rattle.mt_laws.proofs.RefusalLemmas.{in_workflow-none, reverse-none, switch-none}
 
 -- ---- how many turns are enough
-
--- before a step of a number, with some tries of it left: two steps may be tried again, and eight turns are for an undo
-pub data Enough (turns tries n : ℕ) : Type 0 where
-  at_reads : n ≡ 0 → 2 * tries + 146 ≤ turns → Enough turns tries n
-  before_level : 0 < n → n < 3 → 148 ≤ turns + n → Enough turns tries n
-  at_level : n ≡ 3 → 2 * tries + 17 ≤ turns → Enough turns tries n
-  behind_level : 3 < n → 21 ≤ turns + n → Enough turns tries n
 
 -- a step is done: the next one has all its tries
 enough-step : (turns tries n m : ℕ) → 0 < tries → m ≡ suc n → Enough (suc turns) tries n → Enough turns most_tries m
@@ -76,35 +70,6 @@ enough-some turns tries n below (behind_level past enough) = omega arith
 enough-begun : (reads : Bool) (turns : ℕ) → 300 ≤ turns → Enough turns most_tries (cond {A = ℕ} reads 0 1 + 0)
 enough-begun true turns many = at_reads (omega arith) (omega arith)
 enough-begun false turns many = before_level (omega arith) (omega arith) (omega arith)
-
--- ---- a drive that ends within some turns
-
--- a way with a step left, and turns enough for it
-pub record Goes (turns tries : ℕ) (p : Plain) (workflow : List ℕ) : Type 0 where
-  pub way : Way
-  pub is : way_of p workflow ≡ Some way
-  pub left : next_step way < behind_last way
-  pub tried : 0 < tries
-  pub enough : Enough turns tries (next_step way)
-
--- a way whose journal does not stand done, and turns enough to undo it
-pub record Undoes (turns : ℕ) (p : Plain) (workflow : List ℕ) : Type 0 where
-  pub way : Way
-  pub is : way_of p workflow ≡ Some way
-  pub no_journal : stands_done way write_journal ≡ false
-  pub enough : way.done ≤ turns
-  pub some : 0 < turns
-
-abbrev pub Fits : ℕ → Plain → Driving → Type 0
-Fits turns p (begins workflow types backward) = 300 < turns
-Fits turns p (steps workflow tries) = Goes turns tries p workflow
-Fits turns p (feeds workflow tries) = (t : ℕ) × (turns ≡ suc t) × Goes t tries p workflow
-Fits turns p (gives_up workflow refusal) = Undoes turns p workflow
-
--- what was heard: a drive that fits in the turns left, or an end
-abbrev pub FitsHeard : ℕ → Plain → Heard → Type 0
-FitsHeard turns p (goes_on driving) = Fits turns p driving
-FitsHeard turns p (ends ended) = ⊤
 
 few_steps : (way : Way) → behind_last way ≤ 12
 few_steps way = cond-either (λ n. n ≤ 12) _ 12 1 (omega arith) (omega arith)

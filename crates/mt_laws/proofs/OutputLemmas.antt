@@ -15,7 +15,8 @@ use Rattle.mt_plain.specs.Plain.{Plain}
 use Rattle.mt_plain.specs.Script.{Line, silent, command, bad_line, line_too_long, Request, event, write_through, read_through, drive, rules_document, dump_document, request_of}
 use Rattle.mt_plain.specs.Serve.{served}
 use Rattle.mt_laws.proofs.AnswerLemmas.{answers-answer_of}
-use Rattle.mt_laws.proofs.DriveLemmas.{Fits, FitsHeard, fits-turns, heard-fits}
+use Rattle.mt_laws.specs.Turns.{Fits, FitsHeard}
+use Rattle.mt_laws.proofs.DriveLemmas.{fits-turns, heard-fits}
 
 -- ---- each drive of a script begins as one
 

@@ -1,11 +1,13 @@
 //! Laws on the output of a script.
-ghost use Rattle.std.specs.Prelude.{◌≡◌, ◌↔◌, ℕ, Bool, List, Option, Result, ⊤};
+ghost use Rattle.std.specs.Prelude.{◌≡◌, ◌↔◌, ℕ, suc, Bool, List, Option, Result, ⊤, ⊥};
 ghost use Rattle.std.specs.Str.Lines.{lines};
 ghost use Rattle.mt_names.specs.declared.types.TypeSet.{TypeSet};
 ghost use Rattle.mt_model.specs.declared.entries.Scope.{Scope};
 ghost use Rattle.mt_laws.specs.Lines.{KnowsSome, line_feeds, writing_lines};
+ghost use Rattle.mt_laws.specs.Turns.{Fits, FitsHeard};
 ghost use Rattle.mt_plain.specs.Answers.{Answers};
-ghost use Rattle.mt_plain.specs.Drive.{Driven, Drives, begins, most_turns};
+ghost use Rattle.mt_plain.specs.Drive.{Driven, Drives, Driving, begins, event_of, heard, most_turns};
+ghost use Rattle.mt_plain.specs.Next.{next};
 ghost use Rattle.mt_plain.specs.Events.{Event, Refusal, Answer};
 ghost use Rattle.mt_plain.specs.Output.{
   AnswersWithMemory,
@@ -51,4 +53,13 @@ pub fn drives_end_within_their_turns()
     ensures within_its_turns { (p : Plain) (workflow : List ℕ) (types : TypeSet) (backward : Bool) (turns : ℕ) (result : Result Driven Refusal)
         (left : Plain) → Drives Answers turns (λ ended q. (ended ≡ result) × (q ≡ left)) (begins workflow types backward) p
         → Drives Answers most_turns (λ ended q. (ended ≡ result) × (q ≡ left)) (begins workflow types backward) p }
+{}
+
+/// The same, turn by turn, for a loop that drives: a drive that begins fits in its turns, each answer leaves one that fits in one turn
+/// fewer, and none fits in no turns.
+pub fn a_drive_fits_in_the_turns_that_are_left()
+    ensures begins { (p : Plain) (workflow : List ℕ) (types : TypeSet) (backward : Bool) → Fits most_turns p (begins workflow types backward) }
+    ensures goes_on { (turns : ℕ) (p : Plain) (d : Driving) (answer : Answer) → Fits (suc turns) p d → Answers p (event_of p d) answer
+        → FitsHeard turns (next p (event_of p d) answer) (heard (next p (event_of p d) answer) d answer) }
+    ensures never_runs_out { (p : Plain) (d : Driving) → Fits 0 p d → ⊥ }
 {}
