@@ -1,0 +1,16 @@
+pub mod Acknowledged
+pub mod Advances
+pub mod Changes
+pub mod Copies
+pub mod Effects
+pub mod Headline
+pub mod Lines
+pub mod Numbers
+pub mod Parts
+pub mod Pending
+pub mod Places
+pub mod Reached
+pub mod Steps
+pub mod Texts
+pub mod Turns
+pub mod WayBack
