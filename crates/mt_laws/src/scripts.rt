@@ -1,5 +1,5 @@
 //! Laws on the output of a script.
-ghost use Rattle.std.specs.Prelude.{◌≡◌, ◌↔◌, ℕ, suc, Bool, List, Option, Result, ⊤, ⊥};
+ghost use Rattle.std.specs.Prelude.{◌≡◌, ◌↔◌, ℕ, suc, Bool, List, Option, Result, ⊤};
 ghost use Rattle.std.specs.Str.Lines.{lines};
 ghost use Rattle.mt_names.specs.declared.types.TypeSet.{TypeSet};
 ghost use Rattle.mt_model.specs.declared.entries.Scope.{Scope};
