@@ -14,7 +14,7 @@ ghost use Rattle.mt_site_state.specs.Workflows.{Creates, change_of, new_of, targ
 ghost use Rattle.mt_watch.specs.Notices.{notice_of};
 ghost use Rattle.mt_workflow.specs.Workflows.{WorkflowState};
 
-use crate::refusals::a_create_is_refused_as_the_definitions_refuse_it;
+use crate::create_refusals::a_create_is_refused_as_the_definitions_refuse_it;
 use mt_laws::{
     each_next_state_is_reached, live_workflows_stand_in_place, only_named_events_change_a_workflow,
 };

@@ -10,8 +10,8 @@ ghost use Rattle.mt_site_state.specs.Stands.{IsCore};
 ghost use Rattle.mt_site_state.specs.Workflows.{Creates, create_refusal};
 
 use crate::a_core_stays_one;
-use crate::refusals::a_create_is_refused_as_the_definitions_refuse_it;
-use crate::steps::what_a_create_makes_stands_for_the_next_state;
+use crate::create_refusals::a_create_is_refused_as_the_definitions_refuse_it;
+use crate::creating::what_a_create_makes_stands_for_the_next_state;
 use mt_site_topology::a_create_taken_back_leaves_the_topology;
 use mt_watch::Asks;
 
