@@ -3,7 +3,6 @@ pub mod CoreLemmas
 pub mod CreateLemmas
 pub mod GivenUpLemmas
 pub mod HandLemmas
-pub mod HeadlineLemmas
 pub mod LeaveLemmas
 pub mod MakeLemmas
 pub mod OwedLemmas

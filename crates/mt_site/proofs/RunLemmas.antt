@@ -66,9 +66,11 @@ pub headline_kept : (scopes : List Scope) (old new : SiteState) (events : List p
     → KeepsTheHeadline scopes old events answers new
 headline_kept scopes old new events answers steps law = λ p earlier told had.
     let stepped = steps (after p earlier told) had.stands in
-    let joined = run_joined earlier told p events answers had.run stepped.0 in
-    (record {
-      reached = had.reached;
-      run = joined.0;
-      stands = subst (λ q. SiteStands q scopes new) (sym joined.1) stepped.1;
-    }, law p earlier events told answers had.reached had.run stepped.0)
+    let joined = run_joined earlier told p events answers had.run stepped.0 in (
+      record {
+        reached = had.reached;
+        run = joined.0;
+        stands = subst (λ q. SiteStands q scopes new) (sym joined.1) stepped.1;
+      },
+      law p earlier events told answers had.reached had.run stepped.0,
+    )

@@ -1,19 +1,12 @@
 -- The headline, said of the controller (this profile's own).
-use Rattle.std.specs.Prelude.{◌≡◌, ℕ, false, true, List, ◌++◌}
+use Rattle.std.specs.Prelude.{List, ◌++◌}
 use Rattle.mt_laws.specs.Headline.{Headline}
 use Rattle.mt_laws.specs.WayBack.{IsReached}
 use Rattle.mt_model.specs.declared.entries.Scope.{Scope}
 use Rattle.mt_plain.specs.Answers.{Run, after}
 use Rattle.mt_plain.specs.Events.{Answer, Event}
 use Rattle.mt_plain.specs.Plain.{Plain}
-use Rattle.mt_primary.specs.Primary.{has_table, is_denied_at}
-use Rattle.mt_site_state.specs.Core.{CoreState, primary_of}
 use Rattle.mt_site_state.specs.Ways.{SiteStands, SiteState}
-
--- the primary of a keyspace takes writes to a table: it has the table, and its own list doesn't refuse it
-abbrev pub TakesWrites : CoreState → (keyspace table : List ℕ) → Type 0
-TakesWrites core keyspace table =
-    (has_table (primary_of core.primaries keyspace) table ≡ true) × (is_denied_at (primary_of core.primaries keyspace) table ≡ false)
 
 -- a run that the controller has made: it begins in a state that is reached, and the controller stands for the state after it
 pub record HasRun (scopes : List Scope) (s : SiteState) (p : Plain) (events : List Event) (answers : List Answer) : Type 0 where

@@ -1,5 +1,5 @@
 //! The core of the controller: the topology, a primary for each of its keyspaces, the live workflows, and what is kept of ways.
-ghost use Rattle.std.specs.Prelude.{◌≡◌, ◌≤◌, ℕ, IfErr, IfOk, List, OnErr, length, string_bytes};
+ghost use Rattle.std.specs.Prelude.{◌≡◌, ◌≤◌, ℕ, IfErr, IfOk, List, OnErr, length, option_copied, string_bytes};
 ghost use Rattle.mt_names.specs.Tables.{most_tables};
 ghost use Rattle.mt_primary.specs.Primary.{IsPrimary};
 ghost use Rattle.mt_event.specs.Events.{answer_from, event_of};
@@ -11,7 +11,7 @@ ghost use Rattle.mt_plain.specs.Plain.{Plain, opening};
 ghost use Rattle.mt_plain.specs.Refuse.{owed};
 ghost use Rattle.mt_plain.specs.Serve.{served};
 ghost use Rattle.mt_site_state.specs.ByHand.{AddsKeyspace, AddsTable, EditsRule, ReadsRow, WritesRow};
-ghost use Rattle.mt_site_state.specs.Core.{primary_of};
+ghost use Rattle.mt_site_state.specs.Core.{primary_of, workflow_at};
 ghost use Rattle.mt_site.specs.Applies.{Applies};
 ghost use Rattle.mt_site.specs.GivenUp.{CanBeGivenUp};
 ghost use Rattle.mt_site.specs.Owed.{owed_to};
@@ -45,7 +45,7 @@ use mt_site_ways::{
 };
 use mt_topology::Topology;
 use mt_watch::Asks;
-use mt_workflow::Slot;
+use mt_workflow::{Slot, Workflow};
 use std::alloc::Global;
 use std::marker::Model;
 
@@ -102,6 +102,13 @@ impl Core {
         ensures { result.now ≡ self.now.core.topology }
     {
         &self.topology
+    }
+
+    /// A live workflow, or none of that name. It takes no memory.
+    pub fn workflow(&self, name: &WorkflowName) -> Option<&Workflow>
+        ensures { option_copied result ≡ workflow_at self.now.core.workflows name.now }
+    {
+        self.workflows.get(name)
     }
 
     /// Where a name leads for a type. It takes no memory.

@@ -13,6 +13,7 @@ pub mod DenialLemmas
 pub mod EntryLemmas
 pub mod EventLemmas
 pub mod FoundLemmas
+pub mod HeadlineLemmas
 pub mod KeepLemmas
 pub mod LevelLemmas
 pub mod ListLemmas

@@ -5,6 +5,7 @@
 mod answers;
 mod completing;
 mod events;
+mod headline;
 mod primaries;
 mod records;
 mod rows;
@@ -20,6 +21,11 @@ pub use completing::what_complete_makes_stands_for_the_next_state;
 pub use events::{
     a_create_steps_and_leaves_the_ways, events_by_hand_step_and_leave_the_ways,
     events_on_workflows_step_and_leave_the_ways,
+};
+pub use headline::{
+    a_moved_table_of_a_core_is_never_writable_in_two, a_reversal_gives_back_what_its_switch_found,
+    an_abandoned_way_gives_back_what_its_begin_found, cancel_gives_back_what_create_found,
+    reads_of_a_core_answer_the_acknowledged_writes,
 };
 pub use primaries::{
     a_begin_leaves_the_primaries, a_log_ends_where_the_definitions_say,

@@ -1,8 +1,9 @@
--- One event more is applied, and its answer is the next one.
-use Rattle.std.proofs.Common.{◌≤◌, ◌∙◌, add-one, length, rules, subst, suc, sym, take}
+-- One event more is applied, and its answer is the next one; of the whole run the headline holds.
+use Rattle.std.proofs.Common.{map, ◌≤◌, ◌∙◌, add-one, length, rules, subst, suc, sym, take}
+use Rattle.std.proofs.lemmas.List.{take_all}
 use Rattle.mt_event.specs.Events.{answer_from, event_of}
 use Rattle.mt_site_state.specs.Ways.{SiteSteps}
-use Rattle.mt_site.proofs.RunLemmas.{runs_more}
+use Rattle.mt_site.proofs.RunLemmas.{headline_kept, runs_more}
 use Rattle.mt_site.proofs.run.run_events.Goals as goal
 use Rattle.mt_site.specs.Runs.{Runs}
 
@@ -23,3 +24,14 @@ loop-event-preserved g c =
           (subst (λ rs. Runs scopes old (take (suc i) events) rs new) (sym c.push_reserved.ensures.items)
           (runs_more scopes old c.loop-event.site.core new events c.loop-event.answers.items i c.event-item.result c.apply.result c.loop-event-test.true c.event-item.is c.loop-event.invariant.runs step));
     }
+
+pub returns-clause-headline : goal.returns-clause-headline
+returns-clause-headline g c =
+    let events = c.args.events.now in
+    let answers = c.loop-event.answers.items in
+    let scopes = g.W.Asks.scopes c.args.site.now.watchers in
+    let old = c.args.site.now.core in
+    let new = c.loop-event.site.core in
+    headline_kept scopes old new (map event_of events) (map answer_from answers)
+    (subst (λ es. Runs scopes old es answers new) (take_all c.loop-event.event-index events c.loop-event-test.false) c.loop-event.invariant.runs)
+    c.every_run_keeps_the_headline.ensures.with_earlier_lines

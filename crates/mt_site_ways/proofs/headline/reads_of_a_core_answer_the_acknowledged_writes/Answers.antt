@@ -9,7 +9,7 @@ use Rattle.mt_plain.specs.Plain.{Plain, opening}
 use Rattle.mt_site_state.specs.ByHand.{ReadsRow}
 use Rattle.mt_site_state.specs.Core.{CoreState}
 use Rattle.mt_site_state.specs.Stands.{StandsWith}
-use Rattle.mt_site.proofs.headline.reads_of_a_core_answer_the_acknowledged_writes.Goals as goal
+use Rattle.mt_site_ways.proofs.headline.reads_of_a_core_answer_the_acknowledged_writes.Goals as goal
 
 pub returns : goal.returns
 returns c =

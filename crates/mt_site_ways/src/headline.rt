@@ -18,7 +18,7 @@ ghost use Rattle.mt_site_state.specs.ByHand.{ReadsRow};
 ghost use Rattle.mt_site_state.specs.Core.{CoreState, workflow_at};
 ghost use Rattle.mt_site_state.specs.Stands.{IsCore, StandsWith};
 ghost use Rattle.mt_workflow.specs.Workflows.{WorkflowState};
-ghost use Rattle.mt_site.specs.Headline.{TakesWrites};
+ghost use Rattle.mt_site_ways.specs.Writable.{TakesWrites};
 
 use mt_laws::{
     a_live_workflow_is_found_by_its_part, a_moved_table_is_never_writable_in_two,

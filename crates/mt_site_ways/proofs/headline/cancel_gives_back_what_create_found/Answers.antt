@@ -1,6 +1,6 @@
 -- Each core says what its state serves, and of the states the law holds.
 use Rattle.std.proofs.Common.{sym, ◌∙◌}
-use Rattle.mt_site.proofs.headline.cancel_gives_back_what_create_found.Goals as goal
+use Rattle.mt_site_ways.proofs.headline.cancel_gives_back_what_create_found.Goals as goal
 
 pub returns : goal.returns
 returns c = record {

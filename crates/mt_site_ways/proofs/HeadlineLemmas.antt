@@ -4,7 +4,7 @@ use Rattle.mt_plain.specs.Plain.{Plain}
 use Rattle.mt_plain.specs.Serve.{IsWritable}
 use Rattle.mt_site_state.specs.Core.{CoreState}
 use Rattle.mt_site_state.specs.Stands.{ArePrimaries}
-use Rattle.mt_site.specs.Headline.{TakesWrites}
+use Rattle.mt_site_ways.specs.Writable.{TakesWrites}
 
 pub writable : (p : Plain) (core : CoreState) (side keyspace table : List ℕ) → ArePrimaries p core.primaries → side ≡ keyspace → TakesWrites core keyspace table → IsWritable p side table
 writable p core side keyspace table are same takes =

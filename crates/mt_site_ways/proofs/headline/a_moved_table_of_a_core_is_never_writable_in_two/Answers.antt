@@ -8,9 +8,9 @@ use Rattle.mt_site_events.proofs.FoundLemmas.{live_of_state}
 use Rattle.mt_site_state.specs.Core.{CoreState, workflow_at}
 use Rattle.mt_site_state.specs.Stands.{StandsWith}
 use Rattle.mt_workflow.specs.Workflows.{WorkflowState}
-use Rattle.mt_site.proofs.HeadlineLemmas.{writable}
-use Rattle.mt_site.proofs.headline.a_moved_table_of_a_core_is_never_writable_in_two.Goals as goal
-use Rattle.mt_site.specs.Headline.{TakesWrites}
+use Rattle.mt_site_ways.proofs.HeadlineLemmas.{writable}
+use Rattle.mt_site_ways.proofs.headline.a_moved_table_of_a_core_is_never_writable_in_two.Goals as goal
+use Rattle.mt_site_ways.specs.Writable.{TakesWrites}
 
 pub returns : goal.returns
 returns c =
