@@ -16,6 +16,12 @@ mod operations;
 #[cfg(test)]
 mod refusals;
 #[cfg(test)]
+mod reversal;
+#[cfg(test)]
 mod scripts;
+#[cfg(test)]
+mod steps;
+#[cfg(test)]
+mod way_refusals;
 #[cfg(test)]
 mod workflows;

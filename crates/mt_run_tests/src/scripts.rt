@@ -72,6 +72,17 @@ impl Case {
     pub fn holds(&self, alloc: Global) -> bool {
         prints(alloc, self.script(), self.want())
     }
+
+    /// The same where watchers stand for the primaries of these keyspaces.
+    fn holds_watched(&self, alloc: Global, watched: &[&str]) -> bool {
+        let Ok(names) = keyspaces(watched) else {
+            return false;
+        };
+        let mut script = self.script();
+        let mut written = Vec::new(alloc);
+        let result = run_watched(alloc, &mut script, &mut written, &names);
+        result == Ok(()) && written.as_slice() == self.want()
+    }
 }
 
 /// Whether lines are answered so, each of which has an answer.
@@ -92,15 +103,22 @@ pub fn answers_watched(
     watched: &[&str],
     lines: &[(&str, &str)],
 ) -> Result<bool, Fail> {
-    let Ok(names) = keyspaces(watched) else {
-        return Ok(false);
-    };
     let mut case = Case::new(alloc);
     case.lines(lines)?;
-    let mut script = case.script();
-    let mut written = Vec::new(alloc);
-    let result = run_watched(alloc, &mut script, &mut written, &names);
-    Ok(result == Ok(()) && written.as_slice() == case.want())
+    Ok(case.holds_watched(alloc, watched))
+}
+
+/// The same of lists of lines, one behind the other.
+pub fn answers_in_turn(
+    alloc: Global,
+    watched: &[&str],
+    lists: &[&[(&str, &str)]],
+) -> Result<bool, Fail> {
+    let mut case = Case::new(alloc);
+    for lines in lists {
+        case.lines(lines)?;
+    }
+    Ok(case.holds_watched(alloc, watched))
 }
 
 /// Whether a script that a reader gives ends so, having printed a text.
