@@ -3,9 +3,12 @@ ghost use Rattle.std.specs.Prelude.{◌≡◌, ◌↔◌, ℕ, suc, Bool, List, 
 ghost use Rattle.std.specs.Str.Lines.{lines};
 ghost use Rattle.mt_names.specs.declared.types.TypeSet.{TypeSet};
 ghost use Rattle.mt_model.specs.declared.entries.Scope.{Scope};
+ghost use Rattle.mt_laws.specs.Headline.{Headline};
 ghost use Rattle.mt_laws.specs.Lines.{KnowsSome, line_feeds, writing_lines};
+ghost use Rattle.mt_laws.specs.Scripts.{IsScriptRun};
 ghost use Rattle.mt_laws.specs.Turns.{Fits, FitsHeard};
-ghost use Rattle.mt_plain.specs.Answers.{Answers};
+ghost use Rattle.mt_laws.specs.WayBack.{IsReached};
+ghost use Rattle.mt_plain.specs.Answers.{Answers, Run};
 ghost use Rattle.mt_plain.specs.Drive.{Driven, Drives, Driving, begins, event_of, heard, most_turns};
 ghost use Rattle.mt_plain.specs.Next.{next};
 ghost use Rattle.mt_plain.specs.Events.{Event, Refusal, Answer};
@@ -62,4 +65,28 @@ pub fn a_drive_fits_in_the_turns_that_are_left()
     ensures goes_on { (turns : ℕ) (p : Plain) (d : Driving) (answer : Answer) → Fits (suc turns) p d → Answers p (event_of p d) answer
         → FitsHeard turns (next p (event_of p d) answer) (heard (next p (event_of p d) answer) d answer) }
     ensures never_runs_out { (p : Plain) (d : Driving) → Fits 0 p d → ⊥ }
+{}
+
+/// Each output of a script is that of a run: the events that its lines ask for, line by line, with answers that they may get,
+/// and beside them the text that each line writes. Nothing else is an output. And of that run stands the headline: whatever
+/// client calls, stream steps, rule edits and workflow commands a script has, in whatever order, Cancel gives back the
+/// workflow's part of the topology from before Create, ReverseTraffic that from before SwitchTraffic, and an abandoned switch
+/// that from its start; no moved table is ever writable in two keyspaces, and each primary read answers from the
+/// acknowledged writes, each once. So it is for the whole language and for each reading of lines, from an opening, and from
+/// each state that is reached.
+pub fn each_output_is_that_of_a_run()
+    ensures from_each_state { (reading : Reading) (p : Plain) (lines : List (List ℕ)) (out : List ℕ)
+        → Output Answers reading p lines out
+        → (events : List Event) × (answers : List Answer) × IsScriptRun reading p lines events answers out }
+    ensures and_back { (reading : Reading) (p : Plain) (lines : List (List ℕ)) (events : List Event) (answers : List Answer)
+        (out : List ℕ) → IsScriptRun reading p lines events answers out → Output Answers reading p lines out }
+    ensures is_a_run { (reading : Reading) (p : Plain) (lines : List (List ℕ)) (events : List Event) (answers : List Answer)
+        (out : List ℕ) → IsScriptRun reading p lines events answers out → Run p events answers }
+    ensures headline { (reading : Reading) (scopes : List Scope) (input out : List ℕ) → IsOutputBy reading scopes input out
+        → (events : List Event) × (answers : List Answer) × IsScriptRun reading (opening scopes) (lines input) events answers out
+        × Run (opening scopes) events answers × Headline (opening scopes) events answers }
+    ensures headline_from_each_state { (reading : Reading) (p : Plain) (lines : List (List ℕ)) (out : List ℕ) → IsReached p
+        → Output Answers reading p lines out
+        → (events : List Event) × (answers : List Answer) × IsScriptRun reading p lines events answers out
+        × Run p events answers × Headline p events answers }
 {}
