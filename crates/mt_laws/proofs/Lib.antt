@@ -57,6 +57,7 @@ pub mod RowWitnessLemmas
 pub mod RuleLimitLemmas
 pub mod RunLemmas
 pub mod SameLemmas
+pub mod ScriptAnswerLemmas
 pub mod ScriptRunLemmas
 pub mod ServeLemmas
 pub mod ServedPlacesLemmas

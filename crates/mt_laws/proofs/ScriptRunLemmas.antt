@@ -1,6 +1,6 @@
 -- Each output of a script is that of a run.
 use Rattle.std.proofs.Common.{◌≡◌, ℕ, zero, suc, List, [], ◌∷◌, ◌++◌, Result, refl, sym, ap, ◌∙◌, subst}
-use Rattle.std.specs.Prelude.{⊤, flat_map}
+use Rattle.std.specs.Prelude.{flat_map}
 use Rattle.std.specs.Str.Lines.{lines}
 use Rattle.mt_model.specs.declared.entries.Scope.{Scope}
 use Rattle.mt_plain.specs.Answers.{Answers, Run, after}
@@ -10,7 +10,7 @@ use Rattle.mt_plain.specs.Next.{next}
 use Rattle.mt_plain.specs.Output.{Adds, IsOutputBy, Output, Reading, Rest, Says, Told, nothing, says, asks, drives, answer_text, ended_text, line_feed, told}
 use Rattle.mt_plain.specs.Plain.{Plain, opening}
 use Rattle.mt_laws.specs.Headline.{Headline}
-use Rattle.mt_laws.specs.Scripts.{AreLineRuns, IsDrive, IsScriptRun, LineRun, WritesOf}
+use Rattle.mt_laws.specs.Scripts.{AreLineRuns, HasEnded, IsDrive, IsScriptRun, LineRun, WritesOf}
 use Rattle.mt_laws.specs.Turns.{Fits, FitsHeard}
 use Rattle.mt_laws.specs.WayBack.{IsReached}
 use Rattle.mt_laws.proofs.DriveLemmas.{fits-turns, heard-fits}
@@ -20,8 +20,8 @@ use Rattle.mt_laws.proofs.OutputLemmas.{BeginsIfDrives, begins-fits_turns, told_
 -- ---- a drive
 
 -- what comes behind an answer: the other events of a drive, or none
-abbrev IsHeard : Plain → Heard → List Event → List Answer → Result Driven Refusal → Type 0
-IsHeard q h events answers ended = GoesOn (λ further r. IsDrive r further events answers ended) (λ last r. (events ≡ []) × (answers ≡ []) × (last ≡ ended)) q h
+abbrev pub IsHeard : Plain → Heard → List Event → List Answer → Result Driven Refusal → Type 0
+IsHeard q h events answers ended = GoesOn (λ further r. IsDrive r further events answers ended) (HasEnded events answers ended) q h
 
 -- the events of a drive are a run
 drive-run : (events : List Event) (answers : List Answer) (p : Plain) (d : Driving) (ended : Result Driven Refusal) → IsDrive p d events answers ended → Run p events answers

@@ -1,19 +1,23 @@
 -- Of which run an output of a script is: the events that each of its lines asks for, their answers, and the text that it writes.
 use Rattle.std.specs.Prelude.{◌≡◌, ℕ, List, [], ◌∷◌, ◌++◌, flat_map, Result, ⊤}
 use Rattle.mt_plain.specs.Answers.{Answers, after}
-use Rattle.mt_plain.specs.Drive.{Driven, Driving, GoesOn, event_of, heard}
+use Rattle.mt_plain.specs.Drive.{Driven, Driving, EndRule, GoesOn, event_of, heard}
 use Rattle.mt_plain.specs.Events.{Event, Refusal, Answer}
 use Rattle.mt_plain.specs.Next.{next}
 use Rattle.mt_plain.specs.Output.{Reading, Told, nothing, says, asks, drives, answer_text, ended_text, line_feed, told}
 use Rattle.mt_plain.specs.Plain.{Plain}
 
+-- a drive has ended so, and nothing is left of it
+abbrev pub HasEnded : List Event → List Answer → Result Driven Refusal → EndRule
+HasEnded events answers ended last p = (events ≡ []) × (answers ≡ []) × (last ≡ ended)
+
 -- these are all the events of a drive from a state on, with their answers, and it ends so: the first is the one that it asks for there, and behind
--- its answer it goes on with the others, or has ended with none left
+-- its answer it goes on with the others, or has ended
 abbrev pub IsDrive : Plain → Driving → List Event → List Answer → Result Driven Refusal → Type 0
 IsDrive p driving (event ∷ events) (answer ∷ answers) ended =
     (event ≡ event_of p driving) × Answers p event answer
     × (let q = next p event answer in
-    GoesOn (λ further r. IsDrive r further events answers ended) (λ last r. (events ≡ []) × (answers ≡ []) × (last ≡ ended)) q (heard q driving answer))
+    GoesOn (λ further r. IsDrive r further events answers ended) (HasEnded events answers ended) q (heard q driving answer))
 IsDrive p driving events answers ended = ⊥
 
 -- a line that tells this in a state asks for these events, gets these answers, and writes this text, with its line feed
