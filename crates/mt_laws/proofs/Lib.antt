@@ -59,6 +59,7 @@ pub mod RunLemmas
 pub mod SameLemmas
 pub mod ScriptAnswerLemmas
 pub mod ScriptRunLemmas
+pub mod ScriptWitnessLemmas
 pub mod ServeLemmas
 pub mod ServedPlacesLemmas
 pub mod SetLemmas

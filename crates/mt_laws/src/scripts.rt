@@ -1,5 +1,5 @@
 //! Laws on the output of a script.
-ghost use Rattle.std.specs.Prelude.{◌≡◌, ◌↔◌, ℕ, suc, Bool, List, Option, Result, ⊤};
+ghost use Rattle.std.specs.Prelude.{◌≡◌, ◌↔◌, ℕ, suc, Bool, true, false, List, [], ◌∷◌, codes, Option, Result, ⊤};
 ghost use Rattle.std.specs.Str.Lines.{lines};
 ghost use Rattle.mt_names.specs.declared.types.TypeSet.{TypeSet};
 ghost use Rattle.mt_model.specs.declared.entries.Scope.{Scope};
@@ -11,7 +11,20 @@ ghost use Rattle.mt_laws.specs.WayBack.{IsReached};
 ghost use Rattle.mt_plain.specs.Answers.{Answers, Run};
 ghost use Rattle.mt_plain.specs.Drive.{Driven, Drives, Driving, begins, event_of, heard, most_turns};
 ghost use Rattle.mt_plain.specs.Next.{next};
-ghost use Rattle.mt_plain.specs.Events.{Event, Refusal, Answer};
+ghost use Rattle.mt_plain.specs.Events.{
+  Event,
+  add_keyspace,
+  add_table,
+  create,
+  advance,
+  forward,
+  begin_switch,
+  step,
+  Refusal,
+  Answer,
+  done,
+  advanced,
+};
 ghost use Rattle.mt_plain.specs.Output.{
   AnswersWithMemory,
   IsOutput,
@@ -21,9 +34,10 @@ ghost use Rattle.mt_plain.specs.Output.{
   output,
   output_by,
   output_from,
+  watchers_of,
 };
 ghost use Rattle.mt_plain.specs.Plain.{Plain, opening};
-ghost use Rattle.mt_plain.specs.Script.{Command, read_line_by};
+ghost use Rattle.mt_plain.specs.Script.{Command, read_line, read_line_by};
 
 /// Where no answer is free, a script has one output, the function `output`; and that is one of the outputs that it has anyway.
 pub fn output_is_what_is_written_where_memory_is_ample()
@@ -92,4 +106,16 @@ pub fn each_output_is_that_of_a_run()
         → Output Answers reading p lines out
         → (events : List Event) × (answers : List Answer) × IsScriptRun reading p lines events answers out
         × Run p events answers × Headline p events answers }
+{}
+
+/// What the lines of a small script did, computed: a comment asks for nothing, each command for one event, a switch in one
+/// line for its begin and its steps, and a line that can't be read for none.
+pub fn a_small_script_was_this_run()
+    ensures { IsScriptRun read_line (opening (watchers_of (codes "a" ∷ codes "b" ∷ [])))
+        (lines (codes "# a move\nkeyspace a\nkeyspace b\ntable a t\ncreate w a b t\nadvance w forward 0 100\nswitch w replica\nswitch w\n"))
+        (add_keyspace (codes "a") ∷ add_keyspace (codes "b") ∷ add_table (codes "a") (codes "t")
+        ∷ create (codes "w") (codes "a") (codes "b") (codes "t" ∷ []) ∷ advance (codes "w") forward 0 100
+        ∷ begin_switch (codes "w") (record { primary = false; replica = true; rdonly = false }) ∷ step (codes "w") 0 ∷ [])
+        (done ∷ done ∷ done ∷ done ∷ advanced 0 0 ∷ done ∷ done ∷ [])
+        (codes "ok\nok\nok\nok\nevents 0 rows 0\nok\nrefused X1 BadLine\n") }
 {}
