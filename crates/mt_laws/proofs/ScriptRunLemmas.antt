@@ -201,12 +201,14 @@ module _ (reading : Reading) where
   script_is_a_run p lines events answers out was =
       subst (λ l. Run p l answers) (sym was.events_are) (subst (Run p (flat_map (λ run. run.events) was.runs)) (sym was.answers_are) (lines_run lines was.runs p was.each))
 
+  pub script_run_keeps_the_headline : (p : Plain) (lines : List (List ℕ)) (events : List Event) (answers : List Answer) (out : List ℕ) → IsReached p → IsScriptRun reading p lines events answers out → Headline p events answers
+  script_run_keeps_the_headline p lines events answers out reached was = headline p events answers reached (script_is_a_run p lines events answers out was)
+
   pub output_keeps_the_headline : (p : Plain) (lines : List (List ℕ)) (out : List ℕ) → IsReached p → Output Answers reading p lines out
       → (events : List Event) × (answers : List Answer) × IsScriptRun reading p lines events answers out × Run p events answers × Headline p events answers
   output_keeps_the_headline p lines out reached written =
       let (events, answers, was) = output_was_a_run p lines out written in
-      let run = script_is_a_run p lines events answers out was in
-      (events, answers, was, run, headline p events answers reached run)
+      (events, answers, was, script_is_a_run p lines events answers out was, script_run_keeps_the_headline p lines events answers out reached was)
 
 -- an opening is reached
 opening_reached : (scopes : List Scope) → IsReached (opening scopes)

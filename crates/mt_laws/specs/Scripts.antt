@@ -11,8 +11,8 @@ use Rattle.mt_plain.specs.Plain.{Plain}
 abbrev pub HasEnded : List Event → List Answer → Result Driven Refusal → EndRule
 HasEnded events answers ended last p = (events ≡ []) × (answers ≡ []) × (last ≡ ended)
 
--- these are all the events of a drive from a state on, with their answers, and it ends so: the first is the one that it asks for there, and behind
--- its answer it goes on with the others, or has ended
+-- these are all the events of a drive from a state on, with their answers, and it ends so: the first is the one that it asks for
+-- there, and behind its answer it goes on with the others, or has ended
 abbrev pub IsDrive : Plain → Driving → List Event → List Answer → Result Driven Refusal → Type 0
 IsDrive p driving (event ∷ events) (answer ∷ answers) ended =
     (event ≡ event_of p driving) × Answers p event answer

@@ -83,11 +83,11 @@ pub fn a_drive_fits_in_the_turns_that_are_left()
 
 /// Each output of a script is that of a run: the events that its lines ask for, line by line, with answers that they may get,
 /// and the text that each line writes; and what such a run writes is an output. Its answers decide the rest of it, the events
-/// and the text. And of that run stands the headline: whatever client calls, stream steps, rule edits and workflow commands a script has, in whatever order, Cancel gives back the
-/// workflow's part of the topology from before Create, ReverseTraffic that from before SwitchTraffic, and an abandoned switch
-/// that from its start; no moved table is ever writable in two keyspaces, and each primary read answers from the
-/// acknowledged writes, each once. So it is for the whole language and for each reading of lines, from an opening, and from
-/// each state that is reached.
+/// and the text. And of each such run stands the headline, as `Headline` says it: whatever client calls, stream steps, rule
+/// edits and workflow commands a script has, in whatever order, Cancel gives back the workflow's part of the topology from
+/// before Create, ReverseTraffic that from before SwitchTraffic, an abandoned switch that from its start; no moved table is
+/// ever writable in two keyspaces, and each primary read answers from the acknowledged writes, each once. So it is of the
+/// whole language, and of each reading of lines; from an opening, and from each state that is reached.
 pub fn each_output_is_that_of_a_run()
     ensures from_each_state { (reading : Reading) (p : Plain) (lines : List (List ℕ)) (out : List ℕ)
         → Output Answers reading p lines out
@@ -102,6 +102,9 @@ pub fn each_output_is_that_of_a_run()
     ensures headline { (reading : Reading) (scopes : List Scope) (input out : List ℕ) → IsOutputBy reading scopes input out
         → (events : List Event) × (answers : List Answer) × IsScriptRun reading (opening scopes) (lines input) events answers out
         × Run (opening scopes) events answers × Headline (opening scopes) events answers }
+    ensures headline_of_each_run { (reading : Reading) (p : Plain) (lines : List (List ℕ)) (events : List Event)
+        (answers : List Answer) (out : List ℕ) → IsReached p → IsScriptRun reading p lines events answers out
+        → Headline p events answers }
     ensures headline_from_each_state { (reading : Reading) (p : Plain) (lines : List (List ℕ)) (out : List ℕ) → IsReached p
         → Output Answers reading p lines out
         → (events : List Event) × (answers : List Answer) × IsScriptRun reading p lines events answers out
