@@ -268,7 +268,7 @@ module _ (p : Plain) (events : List Event) (answers : List Answer) (reached : Is
   }
 
 -- a run behind another
-run_joined : (earlier : List Event) (earlier_answers : List Answer) (p : Plain) (events : List Event) (answers : List Answer) → Run p earlier earlier_answers → Run (after p earlier earlier_answers) events answers → Run p (earlier ++ events) (earlier_answers ++ answers)
+pub run_joined : (earlier : List Event) (earlier_answers : List Answer) (p : Plain) (events : List Event) (answers : List Answer) → Run p earlier earlier_answers → Run (after p earlier earlier_answers) events answers → Run p (earlier ++ events) (earlier_answers ++ answers)
 run_joined [] [] p events answers first rest = rest
 run_joined [] (a ∷ as') p events answers first rest = absurd first
 run_joined (e ∷ es) [] p events answers first rest = absurd first

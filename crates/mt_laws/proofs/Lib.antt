@@ -57,6 +57,9 @@ pub mod RowWitnessLemmas
 pub mod RuleLimitLemmas
 pub mod RunLemmas
 pub mod SameLemmas
+pub mod ScriptAnswerLemmas
+pub mod ScriptRunLemmas
+pub mod ScriptWitnessLemmas
 pub mod ServeLemmas
 pub mod ServedPlacesLemmas
 pub mod SetLemmas

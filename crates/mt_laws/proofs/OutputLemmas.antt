@@ -21,17 +21,17 @@ use Rattle.mt_laws.proofs.DriveLemmas.{fits-turns, heard-fits}
 -- ---- each drive of a script begins as one
 
 -- a drive is about to begin
-abbrev IsBegun : Driving → Type 0
+abbrev pub IsBegun : Driving → Type 0
 IsBegun (begins workflow types backward) = ⊤
 IsBegun other = ⊥
 
-begins-fits_turns : (p : Plain) (d : Driving) → IsBegun d → Fits most_turns p d
+pub begins-fits_turns : (p : Plain) (d : Driving) → IsBegun d → Fits most_turns p d
 begins-fits_turns p (begins workflow types backward) is = omega arith
 begins-fits_turns p (steps workflow tries) is = absurd is
 begins-fits_turns p (feeds workflow tries) is = absurd is
 begins-fits_turns p (gives_up workflow refusal) is = absurd is
 
-abbrev BeginsIfDrives : Told → Type 0
+abbrev pub BeginsIfDrives : Told → Type 0
 BeginsIfDrives (drives d) = IsBegun d
 BeginsIfDrives other = ⊤
 
@@ -48,7 +48,7 @@ told_request-begins p (Ok (drive workflow types backward)) = tt
 told_request-begins p (Ok rules_document) = tt
 told_request-begins p (Ok dump_document) = tt
 
-told_line-begins : (p : Plain) (line : Line) → BeginsIfDrives (told_line p line)
+pub told_line-begins : (p : Plain) (line : Line) → BeginsIfDrives (told_line p line)
 told_line-begins p silent = tt
 told_line-begins p bad_line = tt
 told_line-begins p line_too_long = tt

@@ -10,6 +10,7 @@ pub mod Parts
 pub mod Pending
 pub mod Places
 pub mod Reached
+pub mod Scripts
 pub mod Steps
 pub mod Texts
 pub mod Turns

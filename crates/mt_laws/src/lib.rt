@@ -66,8 +66,9 @@ pub use runs::{
     a_moved_table_keeps_its_number, reads_answer_the_acknowledged_writes, tables_are_told_apart,
 };
 pub use scripts::{
-    a_drive_fits_in_the_turns_that_are_left, drives_end_within_their_turns,
-    each_line_that_writes_writes_one_line, output_is_what_is_written_where_memory_is_ample,
+    a_drive_fits_in_the_turns_that_are_left, a_small_script_was_this_run,
+    drives_end_within_their_turns, each_line_that_writes_writes_one_line,
+    each_output_is_that_of_a_run, output_is_what_is_written_where_memory_is_ample,
 };
 pub use serving::lists_of_entries_say_what_is_served;
 pub use steps::{
