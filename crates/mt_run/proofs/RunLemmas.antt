@@ -1,23 +1,24 @@
 -- Whatever completes the output of the lines that are left completes that of the script.
 use native.Mathlib.Omega.{arith}
-use Rattle.std.proofs.Common.{◌≡◌, ℕ, true, List, [], ◌∷◌, ◌++◌, Option, Some, None, Result, Ok, Err, refl, sym, ap, ◌∙◌, subst, append-nil, append_assoc, inl, inr}
+use Rattle.std.proofs.Common.{◌≡◌, ℕ, zero, suc, true, List, [], ◌∷◌, ◌++◌, Option, Some, None, Result, Ok, Err, refl, sym, ap, ◌∙◌, subst, append-nil, append_assoc, inl, inr}
 use Rattle.std.proofs.KnownBytes.{Appends-nil, Appends-trans, Consumes-nil}
 use Rattle.std.specs.Io.KnownBytes.{Appends}
 use Rattle.std.specs.Prelude.{string_bytes}
 use Rattle.std.specs.Str.Lines.{lines}
 use Rattle.mt_model.specs.declared.entries.Scope.{Scope}
 use Rattle.mt_model.specs.Documents.{dump_text, rules_text}
-use Rattle.mt_plain.specs.Events.{Answer, Event}
+use Rattle.mt_plain.specs.Events.{Answer, Event, Refusal}
 use Rattle.mt_plain.specs.Answers.{Answers}
+use Rattle.mt_plain.specs.Drive.{Driven, Drives, Driving, EndRule, GoesOn, Heard, goes_on, ends, event_of, heard, most_turns}
 use Rattle.mt_plain.specs.Next.{next}
 use Rattle.mt_plain.specs.Output.{Adds, IsOutputBy, Output, Told, asks, drives, line_feed, nothing, output_from, says, told, told_request}
 use Rattle.mt_plain.specs.Output as plain
 use Rattle.mt_plain.specs.Plain.{Plain, opening}
-use Rattle.mt_plain.specs.Script.{Request}
+use Rattle.mt_plain.specs.Script.{Request, read_line}
 use Rattle.mt_plain.specs.Script as script
 use Rattle.mt_plain.specs.Serve.{served}
 use Rattle.mt_laws.proofs.OutputLemmas.{output_from-is_written, output_from_memory}
-use Rattle.mt_script.specs.Requests.{LineMeaning, meaning_of, reading_so_far}
+use Rattle.mt_script.specs.Requests.{LineMeaning, meaning_of}
 use Rattle.mt_script.proofs.LineLemmas.{told_by, told-meant}
 use Rattle.mt_io.specs.declared.fault.ScriptFault.{ScriptFault}
 use Rattle.mt_io.specs.declared.fault.ScriptFault.TheVariants as fault
@@ -31,15 +32,38 @@ use Rattle.mt_run.specs.Runs.{AsksDocument, IsLineOutput, Runs, RunsLine, RunsLi
 -- ---- a line
 
 -- the lines that are left have an output, whatever they are
-has_output : (p : Plain) (lines : List (List ℕ)) → Output Answers reading_so_far p lines (output_from reading_so_far p lines)
-has_output p lines = output_from_memory reading_so_far lines p (output_from reading_so_far p lines) (output_from-is_written reading_so_far lines p)
+has_output : (p : Plain) (lines : List (List ℕ)) → Output Answers read_line p lines (output_from read_line p lines)
+has_output p lines = output_from_memory read_line lines p (output_from read_line p lines) (output_from-is_written read_line lines p)
+
+-- where a drive that goes on or ends comes to its end, and how: whatever else holds of that end holds of what was heard
+goes_end : (Ends : EndRule) (turns : ℕ)
+    → ((d : Driving) (p : Plain) → Drives Answers turns Ends d p → (r : Plain) × (ended : Result Driven Refusal) × Ends ended r × ((Ends' : EndRule) → Ends' ended r → Drives Answers turns Ends' d p))
+    → (q : Plain) (h : Heard) → GoesOn (Drives Answers turns Ends) Ends q h
+    → (r : Plain) × (ended : Result Driven Refusal) × Ends ended r × ((Ends' : EndRule) → Ends' ended r → GoesOn (Drives Answers turns Ends') Ends' q h)
+goes_end Ends turns again q (goes_on d) went = again d q went
+goes_end Ends turns again q (ends ended) held = (q, ended, held, λ Ends' then. then)
+
+-- the same of a drive
+drive_end : (Ends : EndRule) (turns : ℕ) (d : Driving) (p : Plain) → Drives Answers turns Ends d p
+    → (r : Plain) × (ended : Result Driven Refusal) × Ends ended r × ((Ends' : EndRule) → Ends' ended r → Drives Answers turns Ends' d p)
+drive_end Ends zero d p drove = absurd drove
+drive_end Ends (suc turns) d p (answer, answers, went) =
+    let q = next p (event_of p d) answer in
+    let end = goes_end Ends turns (drive_end Ends turns) q (heard q d answer) went in
+    (end.0, end.1, end.2, λ Ends' then. (answer, answers, end.3 Ends' then))
 
 -- what a line tells adds its text to whatever the rest adds from the next state
 tells_adds : (scopes : List Scope) (q : Plain) (t : Told) (text : Option (List ℕ)) (core : SiteState) → Tells scopes q t text core
     → (r : Plain) × SiteStands r scopes core × ((Rest : Plain → List ℕ → Type 0) (out : List ℕ) → Rest r out → Adds Answers q t Rest (bytes_of text ++ out))
 tells_adds scopes q nothing text core (none, stands) = (q, stands, λ Rest out rest. rw none rest)
 tells_adds scopes q (says words) text core (some, stands) = (q, stands, λ Rest out rest. (out, ap (λ o. bytes_of o ++ out) some, rest))
-tells_adds scopes q (drives driving) text core impossible = absurd impossible
+tells_adds scopes q (drives driving) text core drove =
+    let end = drive_end (λ ended r. (text ≡ Some (plain.ended_text ended ++ line_feed)) × SiteStands r scopes core) most_turns driving q drove in (
+      end.0,
+      end.2.1,
+      λ Rest out rest.
+          end.3 (λ ended r. plain.Says r (plain.ended_text ended) Rest (bytes_of text ++ out)) (out, ap (λ o. bytes_of o ++ out) end.2.0, rest),
+    )
 tells_adds scopes q (asks event) text core (answer, answers, some, stands) =
     (next q event answer, stands, λ Rest out rest. (answer, out, answers, ap (λ o. bytes_of o ++ out) some, rest))
 
@@ -47,6 +71,15 @@ tells_adds scopes q (asks event) text core (answer, answers, some, stands) =
 pub asks_told : (scopes : List Scope) (old new : SiteState) (event : Event) (answer : Answer) (text : List ℕ) → text ≡ plain.answer_text answer ++ line_feed → SiteSteps scopes old event answer new
     → (p : Plain) → SiteStands p scopes old → Tells scopes p (asks event) (Some text) new
 asks_told scopes old new event answer text is steps p stands = let then = steps p stands in (answer, then.0, ap Some is, then.1)
+
+-- the end of a drive, told
+pub drives_told : (scopes : List Scope) (old new : SiteState) (driving : Driving) (ended : Result Driven Refusal) (text : List ℕ) → text ≡ plain.ended_text ended ++ line_feed
+    → ((p : Plain) → SiteStands p scopes old → Drives Answers most_turns (λ end q. (end ≡ ended) × SiteStands q scopes new) driving p)
+    → (p : Plain) → SiteStands p scopes old → Tells scopes p (drives driving) (Some text) new
+drives_told scopes old new driving ended text is drove p stands =
+    let end = drive_end (λ e q. (e ≡ ended) × SiteStands q scopes new) most_turns driving p (drove p stands) in
+    end.3 (λ e q. (Some text ≡ Some (plain.ended_text e ++ line_feed)) × SiteStands q scopes new)
+    (ap Some (is ∙ ap (λ e. plain.ended_text e ++ line_feed) (sym end.2.0)), end.2.1)
 
 -- ---- a document
 
@@ -60,33 +93,33 @@ document_says p (script.read_through key number tablet_type) is = absurd cc
 document_says p (script.drive workflow types backward) is = absurd cc
 
 -- what a line tells that asks for a document
-document_tells : (scopes : List Scope) (p : Plain) (line : List ℕ) (core : SiteState) → SiteStands p scopes core → AsksDocument line → (text : List ℕ) × Tells scopes p (told reading_so_far p line) (Some text) core
+document_tells : (scopes : List Scope) (p : Plain) (line : List ℕ) (core : SiteState) → SiteStands p scopes core → AsksDocument line → (text : List ℕ) × Tells scopes p (told read_line p line) (Some text) core
 document_tells scopes p line core stands (request, is, same) =
     let words = document_says p request is in
-    (words.0 ++ line_feed, subst (λ t. Tells scopes p t (Some (words.0 ++ line_feed)) core) (sym words.1 ∙ told-meant p (reading_so_far line) (Some (Ok request)) same) (refl, stands))
+    (words.0 ++ line_feed, subst (λ t. Tells scopes p t (Some (words.0 ++ line_feed)) core) (sym words.1 ∙ told-meant p (read_line line) (Some (Ok request)) same) (refl, stands))
 
 -- what the request of a line adds is what the line adds
-pub line_outputs : (scopes : List Scope) (p : Plain) (line : List ℕ) (request : Request) (r : answer.LineOutput) (core : SiteState) → Some (Ok request) ≡ meaning_of (reading_so_far line)
-    → IsLineOutput scopes p (told_request p (Ok request)) (is_document request ≡ true) r core → IsLineOutput scopes p (told reading_so_far p line) (AsksDocument line) r core
+pub line_outputs : (scopes : List Scope) (p : Plain) (line : List ℕ) (request : Request) (r : answer.LineOutput) (core : SiteState) → Some (Ok request) ≡ meaning_of (read_line line)
+    → IsLineOutput scopes p (told_request p (Ok request)) (is_document request ≡ true) r core → IsLineOutput scopes p (told read_line p line) (AsksDocument line) r core
 line_outputs scopes p line request r core same = by r
   where
-    told-same : told_request p (Ok request) ≡ told reading_so_far p line
-    told-same = told-meant p (reading_so_far line) (Some (Ok request)) same
+    told-same : told_request p (Ok request) ≡ told read_line p line
+    told-same = told-meant p (read_line line) (Some (Ok request)) same
 
-    by : (r : answer.LineOutput) → IsLineOutput scopes p (told_request p (Ok request)) (is_document request ≡ true) r core → IsLineOutput scopes p (told reading_so_far p line) (AsksDocument line) r core
+    by : (r : answer.LineOutput) → IsLineOutput scopes p (told_request p (Ok request)) (is_document request ≡ true) r core → IsLineOutput scopes p (told read_line p line) (AsksDocument line) r core
     by output.Silent is = subst (λ t. Tells scopes p t None core) told-same is
     by (output.Line text) is = subst (λ t. Tells scopes p t (Some text.items) core) told-same is
     by (output.Document text) is = subst (λ t. Tells scopes p t (Some (string_bytes text ++ line_feed)) core) told-same is
     by output.NoMemory (is, stands) = ((request, is, same), stands)
 
 -- a line of this meaning tells a text, or none
-pub line_tells : (scopes : List Scope) (p : Plain) (line : List ℕ) (meaning : LineMeaning) (text : Option (List ℕ)) (core : SiteState) → meaning ≡ meaning_of (reading_so_far line)
-    → Tells scopes p (told_by p meaning) text core → Tells scopes p (told reading_so_far p line) text core
-line_tells scopes p line meaning text core same tells = subst (λ t. Tells scopes p t text core) (told-meant p (reading_so_far line) meaning same) tells
+pub line_tells : (scopes : List Scope) (p : Plain) (line : List ℕ) (meaning : LineMeaning) (text : Option (List ℕ)) (core : SiteState) → meaning ≡ meaning_of (read_line line)
+    → Tells scopes p (told_by p meaning) text core → Tells scopes p (told read_line p line) text core
+line_tells scopes p line meaning text core same tells = subst (λ t. Tells scopes p t text core) (told-meant p (read_line line) meaning same) tells
 
 module _ (scopes : List Scope) (p : Plain) (line : List ℕ) (core : SiteState) (held held' : Known) (waiting waiting' : List ℕ) where
   -- a text goes behind what waits
-  pub line_written : (text : Option (List ℕ)) (result : Result Unit ScriptFault) → Tells scopes p (told reading_so_far p line) text core → Writes held held' (waiting ++ bytes_of text) waiting' result
+  pub line_written : (text : Option (List ℕ)) (result : Result Unit ScriptFault) → Tells scopes p (told read_line p line) text core → Writes held held' (waiting ++ bytes_of text) waiting' result
       → RunsLine scopes p line core held held' waiting waiting' result
   line_written text (Ok done) tells writes = (text, tells, writes)
   line_written text (Err f) tells (is_write, none, out) = subst (λ g. RunsLine scopes p line core held held' waiting waiting' (Err g)) (sym is_write) (text, tells, out)
@@ -107,7 +140,7 @@ module _ (scopes : List Scope) (p : Plain) (line : List ℕ) (core : SiteState) 
 abbrev pub SoFar : List Scope → Plain → (script rest : List ℕ) → SiteState → Known → Known → (waiting : List ℕ) → Type 0
 SoFar scopes p script rest core held held' waiting =
     (q : Plain) × SiteStands q scopes core × ((before : List (List ℕ)) × (all : List ℕ) × (lines script ≡ before ++ lines rest) × GoesOut held held' all waiting
-    × ((more : List (List ℕ)) (out : List ℕ) → Output Answers reading_so_far q more out → Output Answers reading_so_far p (before ++ more) (all ++ out)))
+    × ((more : List (List ℕ)) (out : List ℕ) → Output Answers read_line q more out → Output Answers read_line p (before ++ more) (all ++ out)))
 
 pub begins : (scopes : List Scope) (p : Plain) (script : List ℕ) (core : SiteState) (held : Known) → SiteStands p scopes core → SoFar scopes p script script core held held []
 begins scopes p script core held stands = (p, stands, ([], [], refl, nothing_out held [], λ more out is. is))
@@ -117,9 +150,9 @@ module _ (scopes : List Scope) (p : Plain) (script rest line after : List ℕ) (
   line_done (q, stands, (before, all, done, went, completes)) runs = by (runs q stands)
     where
       by : RunsLine scopes q line core' held' held'' waiting waiting' (Ok tt) → SoFar scopes p script after core' held held'' waiting'
-      by (text, tells, writes) = from (tells_adds scopes q (told reading_so_far q line) text core' tells)
+      by (text, tells, writes) = from (tells_adds scopes q (told read_line q line) text core' tells)
         where
-          from : (r : Plain) × SiteStands r scopes core' × ((Rest : Plain → List ℕ → Type 0) (out : List ℕ) → Rest r out → Adds Answers q (told reading_so_far q line) Rest (bytes_of text ++ out)) → SoFar scopes p script after core' held held'' waiting'
+          from : (r : Plain) × SiteStands r scopes core' × ((Rest : Plain → List ℕ → Type 0) (out : List ℕ) → Rest r out → Adds Answers q (told read_line q line) Rest (bytes_of text ++ out)) → SoFar scopes p script after core' held held'' waiting'
           from (r, stands', adds) = (
             r,
             stands',
@@ -129,9 +162,9 @@ module _ (scopes : List Scope) (p : Plain) (script rest line after : List ℕ) (
               done ∙ ap (λ (ls : List (List ℕ)). before ++ ls) first ∙ sym (append_assoc before (line ∷ []) (lines after)),
               goes_on held held' held'' all waiting (bytes_of text) waiting' went writes,
               λ more out is.
-                  let added : Output Answers reading_so_far q (line ∷ more) (bytes_of text ++ out) = adds (λ s rest. Output Answers reading_so_far s more rest) out is in
-                  subst (λ ls. Output Answers reading_so_far p ls ((all ++ bytes_of text) ++ out)) (sym (append_assoc before (line ∷ []) more))
-                  (subst (λ o. Output Answers reading_so_far p (before ++ line ∷ more) o) (sym (append_assoc all (bytes_of text) out)) (completes (line ∷ more) (bytes_of text ++ out) added)),
+                  let added : Output Answers read_line q (line ∷ more) (bytes_of text ++ out) = adds (λ s rest. Output Answers read_line s more rest) out is in
+                  subst (λ ls. Output Answers read_line p ls ((all ++ bytes_of text) ++ out)) (sym (append_assoc before (line ∷ []) more))
+                  (subst (λ o. Output Answers read_line p (before ++ line ∷ more) o) (sym (append_assoc all (bytes_of text) out)) (completes (line ∷ more) (bytes_of text ++ out) added)),
             ),
           )
 
@@ -139,29 +172,29 @@ module _ (scopes : List Scope) (p : Plain) (script rest line after : List ℕ) (
   line_failed fault.Write (q, stands, (before, all, done, went, completes)) runs = by (runs q stands)
     where
       by : RunsLine scopes q line core' held' held'' waiting waiting' (Err fault.Write) → RunsLines p script held held'' (Err fault.Write)
-      by (text, tells, (left, some, writes)) = from (tells_adds scopes q (told reading_so_far q line) text core' tells)
+      by (text, tells, (left, some, writes)) = from (tells_adds scopes q (told read_line q line) text core' tells)
         where
-          from : (r : Plain) × SiteStands r scopes core' × ((Rest : Plain → List ℕ → Type 0) (out : List ℕ) → Rest r out → Adds Answers q (told reading_so_far q line) Rest (bytes_of text ++ out)) → RunsLines p script held held'' (Err fault.Write)
+          from : (r : Plain) × SiteStands r scopes core' × ((Rest : Plain → List ℕ → Type 0) (out : List ℕ) → Rest r out → Adds Answers q (told read_line q line) Rest (bytes_of text ++ out)) → RunsLines p script held held'' (Err fault.Write)
           from (r, stands', adds) =
-              let o : List ℕ = output_from reading_so_far r (lines after) in
-              let added : Output Answers reading_so_far q (line ∷ lines after) (bytes_of text ++ o) = adds (λ s rest. Output Answers reading_so_far s (lines after) rest) o (has_output r (lines after)) in
-              let here : Output Answers reading_so_far p (before ++ line ∷ lines after) ((all ++ bytes_of text) ++ o) =
-              subst (λ x. Output Answers reading_so_far p (before ++ line ∷ lines after) x) (sym (append_assoc all (bytes_of text) o)) (completes (line ∷ lines after) (bytes_of text ++ o) added) in (
+              let o : List ℕ = output_from read_line r (lines after) in
+              let added : Output Answers read_line q (line ∷ lines after) (bytes_of text ++ o) = adds (λ s rest. Output Answers read_line s (lines after) rest) o (has_output r (lines after)) in
+              let here : Output Answers read_line p (before ++ line ∷ lines after) ((all ++ bytes_of text) ++ o) =
+              subst (λ x. Output Answers read_line p (before ++ line ∷ lines after) x) (sym (append_assoc all (bytes_of text) o)) (completes (line ∷ lines after) (bytes_of text ++ o) added) in (
                 (all ++ bytes_of text) ++ o,
-                subst (λ ls. Output Answers reading_so_far p ls ((all ++ bytes_of text) ++ o)) (sym (done ∙ ap (λ (ls : List (List ℕ)). before ++ ls) first)) here,
+                subst (λ ls. Output Answers read_line p ls ((all ++ bytes_of text) ++ o)) (sym (done ∙ ap (λ (ls : List (List ℕ)). before ++ ls) first)) here,
                 cut_before held held'' (all ++ bytes_of text) o (left, some, goes_on held held' held'' all waiting (bytes_of text) left went writes),
               )
   line_failed fault.Memory (q, stands, (before, all, done, (written, went, is_all), completes)) runs = by (runs q stands)
     where
       by : RunsLine scopes q line core' held' held'' waiting waiting' (Err fault.Memory) → RunsLines p script held held'' (Err fault.Memory)
       by (wants, went_then) =
-          let nil : Output Answers reading_so_far q [] [] = refl in
-          let out : Output Answers reading_so_far p before (written ++ waiting) =
-          subst (λ ls. Output Answers reading_so_far p ls (written ++ waiting)) (append-nil before) (subst (λ o. Output Answers reading_so_far p (before ++ []) o) (append-nil all ∙ is_all) (completes [] [] nil)) in
-          let o : List ℕ = output_from reading_so_far q (line ∷ lines after) in
-          let whole : Output Answers reading_so_far p (lines script) ((written ++ waiting) ++ o) =
-          subst (λ ls. Output Answers reading_so_far p ls ((written ++ waiting) ++ o)) (sym here)
-          (subst (λ a. Output Answers reading_so_far p (before ++ line ∷ lines after) (a ++ o)) is_all (completes (line ∷ lines after) o (has_output q (line ∷ lines after)))) in
+          let nil : Output Answers read_line q [] [] = refl in
+          let out : Output Answers read_line p before (written ++ waiting) =
+          subst (λ ls. Output Answers read_line p ls (written ++ waiting)) (append-nil before) (subst (λ o. Output Answers read_line p (before ++ []) o) (append-nil all ∙ is_all) (completes [] [] nil)) in
+          let o : List ℕ = output_from read_line q (line ∷ lines after) in
+          let whole : Output Answers read_line p (lines script) ((written ++ waiting) ++ o) =
+          subst (λ ls. Output Answers read_line p ls ((written ++ waiting) ++ o)) (sym here)
+          (subst (λ a. Output Answers read_line p (before ++ line ∷ lines after) (a ++ o)) is_all (completes (line ∷ lines after) o (has_output q (line ∷ lines after)))) in
           (written ++ waiting, o, Appends-trans held held' held'' written waiting went went_then, (before, line, lines after, here, wants, out), whole)
         where
           here : lines script ≡ before ++ line ∷ lines after
@@ -175,12 +208,12 @@ pub ends : (scopes : List Scope) (p : Plain) (script rest : List ℕ) (core : Si
     → SoFar scopes p script rest core held held' waiting → lines rest ≡ [] → Writes held' held'' waiting waiting' result → waiting' ≡ [] → RunsLines p script held held'' result
 ends scopes p script rest core held held' held'' waiting waiting' result (q, stands, (before, all, done, went, completes)) none writes empty = by result writes empty
   where
-    nil : Output Answers reading_so_far q [] []
+    nil : Output Answers read_line q [] []
     nil = refl
 
-    out : Output Answers reading_so_far p (lines script) all
-    out = subst (λ ls. Output Answers reading_so_far p ls all) (sym (done ∙ ap (λ (ls : List (List ℕ)). before ++ ls) none))
-        (subst (λ o. Output Answers reading_so_far p (before ++ []) o) (append-nil all) (completes [] [] nil))
+    out : Output Answers read_line p (lines script) all
+    out = subst (λ ls. Output Answers read_line p ls all) (sym (done ∙ ap (λ (ls : List (List ℕ)). before ++ ls) none))
+        (subst (λ o. Output Answers read_line p (before ++ []) o) (append-nil all) (completes [] [] nil))
 
     flushed : (left : List ℕ) → GoesOut held' held'' waiting left → GoesOut held held'' all left
     flushed left more = subst (λ x. GoesOut held held'' x left) (append-nil all) (goes_on held held' held'' all waiting [] left went (subst (λ x. GoesOut held' held'' x left) (sym (append-nil waiting)) more))
@@ -188,14 +221,14 @@ ends scopes p script rest core held held' held'' waiting waiting' result (q, sta
     by : (result : Result Unit ScriptFault) → Writes held' held'' waiting waiting' result → waiting' ≡ [] → RunsLines p script held held'' result
     by (Ok tt) writes empty =
         let gone = flushed waiting' writes in
-        (gone.0, gone.1, subst (λ o. Output Answers reading_so_far p (lines script) o) (gone.2 ∙ ap (λ (t : List ℕ). gone.0 ++ t) empty ∙ append-nil gone.0) out)
+        (gone.0, gone.1, subst (λ o. Output Answers read_line p (lines script) o) (gone.2 ∙ ap (λ (t : List ℕ). gone.0 ++ t) empty ∙ append-nil gone.0) out)
     by (Err f) (is_write, none, (left, some, writes)) empty = subst (λ g. RunsLines p script held held'' (Err g)) (sym is_write) (all, out, (left, some, flushed left writes))
 
 -- ---- the whole run
 
 pub runs_read : (scopes : List Scope) (left left' held : Known) (f : ScriptFault) → Reads left left' (Err f) → Runs scopes left left' held held (Err f)
 runs_read scopes left left' held fault.Memory (input, consumed, most) =
-    (input, [], consumed, inl (most, refl), Appends-nil held, (plain.output_by reading_so_far scopes input, plain.output_by reading_so_far scopes input, has_output (opening scopes) (lines input), refl))
+    (input, [], consumed, inl (most, refl), Appends-nil held, (plain.output_by read_line scopes input, plain.output_by read_line scopes input, has_output (opening scopes) (lines input), refl))
 runs_read scopes left left' held fault.Read (input, consumed, most) = (input, [], consumed, most, Appends-nil held, refl)
 runs_read scopes left left' held fault.Write (input, consumed, impossible) = absurd impossible
 runs_read scopes left left' held fault.TooLong (input, consumed, long) = (input, [], consumed, long, Appends-nil held, (long.0, refl))
@@ -208,7 +241,7 @@ pub runs_lines : (scopes : List Scope) (left left' held held' : Known) (script :
     → RunsLines (opening scopes) script held held' result → Runs scopes left left' held held' result
 runs_lines scopes left left' held held' script (Ok done) read (written, went, is) = (script, written, read.0, (read.1, read.2), went, is)
 runs_lines scopes left left' held held' script (Err fault.Write) read (out, is, (rest, some, (written, went, all))) =
-    (script, written, read.0, ((read.1, read.2), (rest, some, subst (λ o. IsOutputBy reading_so_far scopes script o) all is)), went, (out, rest, is, sym all))
+    (script, written, read.0, ((read.1, read.2), (rest, some, subst (λ o. IsOutputBy read_line scopes script o) all is)), went, (out, rest, is, sym all))
 runs_lines scopes left left' held held' script (Err fault.Memory) read (written, rest, went, ran, is) =
     (script, written, read.0, inr ((read.1, read.2), ran), went, (written ++ rest, rest, is, refl))
 runs_lines scopes left left' held held' script (Err fault.Read) read impossible = absurd impossible

@@ -5,12 +5,13 @@ use Rattle.std.specs.Io.KnownBytes.{Appends, Consumes}
 use Rattle.mt_model.specs.declared.entries.Scope.{Scope}
 use Rattle.mt_plain.specs.Events.{Answer}
 use Rattle.mt_plain.specs.Answers.{Answers}
+use Rattle.mt_plain.specs.Drive.{Drives, most_turns}
 use Rattle.mt_plain.specs.Next.{next}
 use Rattle.mt_plain.specs.Output as plain
-use Rattle.mt_plain.specs.Output.{IsOutputBy, Leaves, Told, answer_text, asks, drives, Output, line_feed, nothing, says, told, told_request}
+use Rattle.mt_plain.specs.Output.{IsOutput, Leaves, Told, answer_text, asks, drives, ended_text, Output, line_feed, nothing, says, told, told_request}
 use Rattle.mt_plain.specs.Plain.{Plain, opening}
-use Rattle.mt_plain.specs.Script.{Request, dump_document, rules_document}
-use Rattle.mt_script.specs.Requests.{meaning_of, reading_so_far}
+use Rattle.mt_plain.specs.Script.{Request, dump_document, read_line, rules_document}
+use Rattle.mt_script.specs.Requests.{meaning_of}
 use Rattle.mt_io.specs.declared.fault.ScriptFault.{ScriptFault}
 use Rattle.mt_io.specs.declared.fault.ScriptFault.TheVariants as fault
 use Rattle.mt_io.specs.Bytes.{GoesOut, HasRead, IsCutShort, IsWhole, Known}
@@ -20,14 +21,14 @@ use Rattle.mt_run.specs.declared.script.LineOutput.TheVariants as output
 
 -- ---- a line
 
--- what a line tells becomes a text, or none, and the core, with watchers of these scopes, stands for the state after it. No line
--- drives a switch yet
+-- what a line tells becomes a text, or none, and the core, with watchers of these scopes, stands for the state after it
 abbrev pub Tells : List Scope → Plain → Told → Option (List ℕ) → SiteState → Type 0
 Tells scopes p nothing text core = (text ≡ None) × SiteStands p scopes core
 Tells scopes p (says words) text core = (text ≡ Some (words ++ line_feed)) × SiteStands p scopes core
 Tells scopes p (asks event) text core =
     (answer : Answer) × Answers p event answer × (text ≡ Some (answer_text answer ++ line_feed)) × SiteStands (next p event answer) scopes core
-Tells scopes p (drives driving) text core = ⊥
+Tells scopes p (drives driving) text core =
+    Drives Answers most_turns (λ ended q. (text ≡ Some (ended_text ended ++ line_feed)) × SiteStands q scopes core) driving p
 
 -- the bytes of a text, or none
 abbrev pub bytes_of : Option (List ℕ) → List ℕ
@@ -42,7 +43,7 @@ is_document other = false
 
 -- a line that asks for a document
 abbrev pub AsksDocument : List ℕ → Type 0
-AsksDocument line = (request : Request) × (is_document request ≡ true) × (Some (Ok request) ≡ meaning_of (reading_so_far line))
+AsksDocument line = (request : Request) × (is_document request ≡ true) × (Some (Ok request) ≡ meaning_of (read_line line))
 
 -- what something that is told adds to the output. A document may find no memory, and then nothing changed
 abbrev pub IsLineOutput : List Scope → Plain → Told → (IsDocument : Type 0) → code.LineOutput → SiteState → Type 0
@@ -60,10 +61,10 @@ IsRequestOutput scopes old request result new =
 -- written, and nothing more
 abbrev pub RunsLine : List Scope → Plain → (line : List ℕ) → SiteState → Known → Known → (waiting waiting' : List ℕ) → Result Unit ScriptFault → Type 0
 RunsLine scopes p line core held held' waiting waiting' (Ok done) =
-    (text : Option (List ℕ)) × Tells scopes p (told reading_so_far p line) text core × GoesOut held held' (waiting ++ bytes_of text) waiting'
+    (text : Option (List ℕ)) × Tells scopes p (told read_line p line) text core × GoesOut held held' (waiting ++ bytes_of text) waiting'
 RunsLine scopes p line core held held' waiting waiting' (Err fault.Memory) = AsksDocument line × Appends held held' waiting
 RunsLine scopes p line core held held' waiting waiting' (Err fault.Write) =
-    (text : Option (List ℕ)) × Tells scopes p (told reading_so_far p line) text core × IsCutShort held held' (waiting ++ bytes_of text)
+    (text : Option (List ℕ)) × Tells scopes p (told read_line p line) text core × IsCutShort held held' (waiting ++ bytes_of text)
 RunsLine scopes p line core held held' waiting waiting' (Err fault.Read) = ⊥
 RunsLine scopes p line core held held' waiting waiting' (Err fault.TooLong) = ⊥
 
@@ -71,14 +72,14 @@ RunsLine scopes p line core held held' waiting waiting' (Err fault.TooLong) = �
 abbrev pub RunsToDocument : Plain → (script written : List ℕ) → Type 0
 RunsToDocument p script written =
     (before : List (List ℕ)) × (line : List ℕ) × (after : List (List ℕ)) × (lines script ≡ before ++ line ∷ after) × AsksDocument line
-    × Output Answers reading_so_far p before written
+    × Output Answers read_line p before written
 
 -- the answers to the lines of a script, from a state on: an output of them, which a write fault cuts short
 abbrev pub RunsLines : Plain → (script : List ℕ) → Known → Known → Result Unit ScriptFault → Type 0
-RunsLines p script held held' (Ok done) = (written : List ℕ) × Appends held held' written × Output Answers reading_so_far p (lines script) written
+RunsLines p script held held' (Ok done) = (written : List ℕ) × Appends held held' written × Output Answers read_line p (lines script) written
 RunsLines p script held held' (Err fault.Memory) =
-    (written : List ℕ) × (rest : List ℕ) × Appends held held' written × RunsToDocument p script written × Output Answers reading_so_far p (lines script) (written ++ rest)
-RunsLines p script held held' (Err fault.Write) = (out : List ℕ) × Output Answers reading_so_far p (lines script) out × IsCutShort held held' out
+    (written : List ℕ) × (rest : List ℕ) × Appends held held' written × RunsToDocument p script written × Output Answers read_line p (lines script) (written ++ rest)
+RunsLines p script held held' (Err fault.Write) = (out : List ℕ) × Output Answers read_line p (lines script) out × IsCutShort held held' out
 RunsLines p script held held' (Err fault.Read) = ⊥
 RunsLines p script held held' (Err fault.TooLong) = ⊥
 
@@ -92,7 +93,7 @@ fault_of fault.TooLong = plain.too_long
 
 -- a beginning of an output, which lacks some of it
 abbrev pub IsBeginning : List Scope → (input written : List ℕ) → Type 0
-IsBeginning scopes input written = (rest : List ℕ) × (rest ≢ []) × IsOutputBy reading_so_far scopes input (written ++ rest)
+IsBeginning scopes input written = (rest : List ℕ) × (rest ≢ []) × IsOutput scopes input (written ++ rest)
 
 -- how far a run came that ends early: it read its script and wrote a beginning of an output where the writer failed; and
 -- where there was no memory, it either read a part and wrote nothing, or read its script and ran it up to a document
@@ -107,7 +108,7 @@ HasRun scopes left' fault.TooLong input written = HasRead fault.TooLong input
 -- fault leaves written what the definitions say of it
 abbrev pub Runs : List Scope → (left left' held held' : Known) → Result Unit ScriptFault → Type 0
 Runs scopes left left' held held' (Ok done) =
-    (input : List ℕ) × (written : List ℕ) × Consumes left left' input × IsWhole left' input × Appends held held' written × IsOutputBy reading_so_far scopes input written
+    (input : List ℕ) × (written : List ℕ) × Consumes left left' input × IsWhole left' input × Appends held held' written × IsOutput scopes input written
 Runs scopes left left' held held' (Err f) =
     (input : List ℕ) × (written : List ℕ) × Consumes left left' input × HasRun scopes left' f input written × Appends held held' written
-    × Leaves reading_so_far scopes (fault_of f) input written
+    × Leaves read_line scopes (fault_of f) input written

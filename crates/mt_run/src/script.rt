@@ -4,14 +4,16 @@ ghost use Rattle.mt_model.specs.declared.entries.Scope.{Scope};
 ghost use Rattle.mt_plain.specs.Output.{told};
 ghost use Rattle.mt_plain.specs.Events as plain;
 ghost use Rattle.mt_plain.specs.Plain.{Plain};
-ghost use Rattle.mt_plain.specs.Script.{dump_document, event, read_through, rules_document, write_through};
-ghost use Rattle.mt_script.specs.Requests.{reading_so_far, request_from};
+ghost use Rattle.mt_plain.specs.Script.{drive, dump_document, event, read_through, rules_document, write_through};
+ghost use Rattle.mt_plain.specs.Script as language;
+ghost use Rattle.mt_script.specs.Requests.{request_from};
 ghost use Rattle.mt_event.specs.Events.{event_of};
 ghost use Rattle.mt_site_state.specs.Ways.{SiteStands};
 ghost use Rattle.mt_workflow.specs.Workflows.{stream_name};
 ghost use Rattle.mt_run.specs.Runs.{AsksDocument, IsLineOutput, IsRequestOutput, Runs, RunsLine, RunsLines};
 
 use arrayvec::ArrayVec;
+use mt_drive::drive;
 use mt_event::Event;
 use mt_io::{ScriptFault, Waiting, flush, put_document, put_line, read_script};
 use mt_model::Op;
@@ -19,7 +21,8 @@ use mt_names::{
     KeyspaceName, MAX_TABLES, Position, RuleKey, TableName, TabletType, TypeSet, WorkflowName,
 };
 use mt_script::{
-    Line, LineText, Request, answer_line, first_line, look_up_line, read_line, refusal_line,
+    Line, LineText, Request, answer_line, driven_line, first_line, look_up_line, read_line,
+    refusal_line,
 };
 use mt_site::Core;
 use mt_watch::Asks;
@@ -187,6 +190,19 @@ fn begin_reverse<A: Asks>(
     ask(core, watchers, Event::BeginReverse { workflow, types })
 }
 
+/// Switches the traffic of a workflow as a whole, or reverses it.
+fn drive_whole<A: Asks>(
+    core: &mut Core,
+    watchers: &A,
+    workflow: &WorkflowName,
+    types: TypeSet,
+    back: bool,
+) -> LineOutput
+    ensures { IsRequestOutput (A.scopes watchers.now) core.old (drive workflow.now types back) result core.new }
+{
+    LineOutput::Line(driven_line(&drive(core, watchers, workflow, types, back)))
+}
+
 /// What the document of the rules adds to the output.
 fn rules(core: &Core) -> LineOutput
     ensures { (scopes : List Scope) → IsRequestOutput scopes core.now rules_document result core.now }
@@ -235,6 +251,8 @@ fn request_output<A: Asks>(core: &mut Core, watchers: &A, request: Request) -> L
         Request::BeginReverse(workflow, types) => begin_reverse(core, watchers, workflow, types),
         Request::Step(workflow, at) => ask(core, watchers, Event::Step { workflow, at }),
         Request::Undo(workflow, at) => ask(core, watchers, Event::Undo { workflow, at }),
+        Request::Switch(workflow, types) => drive_whole(core, watchers, &workflow, types, false),
+        Request::Reverse(workflow, types) => drive_whole(core, watchers, &workflow, types, true),
         Request::Cancel(workflow) => ask(core, watchers, Event::Cancel { workflow }),
         Request::Complete(workflow) => ask(core, watchers, Event::Complete { workflow }),
         Request::Show(workflow) => ask(core, watchers, Event::Show { workflow }),
@@ -246,7 +264,7 @@ fn request_output<A: Asks>(core: &mut Core, watchers: &A, request: Request) -> L
 /// What a line of a script adds to the output.
 fn line_output<A: Asks>(core: &mut Core, watchers: &A, line: &[u8]) -> LineOutput
     ensures { (p : Plain) → SiteStands p (A.scopes watchers.now) core.old
-        → IsLineOutput (A.scopes watchers.now) p (told reading_so_far p line.now) (AsksDocument line.now) result core.new }
+        → IsLineOutput (A.scopes watchers.now) p (told language.read_line p line.now) (AsksDocument line.now) result core.new }
 {
     match read_line(line) {
         Line::Silent => LineOutput::Silent,
