@@ -1,12 +1,14 @@
 //! What is asked of the controller, and what it answers.
 #![tactic(auto)]
 
+mod driven;
 mod event;
 mod laws;
 mod refusal;
 mod reply;
 mod tables;
 
+pub use driven::Driven;
 pub use event::Event;
 pub use laws::{events_and_answers_are_told_apart, events_and_answers_are_told_in_full};
 pub use refusal::Refusal;

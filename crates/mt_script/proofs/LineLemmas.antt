@@ -4,16 +4,16 @@ use Rattle.std.proofs.lemmas.Bool.{le-ltb}
 use Rattle.mt_names.specs.declared.fault.NameFault.{NameFault}
 use Rattle.mt_plain.specs.Output.{Told, nothing, says, refused_text, told_line, told_request}
 use Rattle.mt_plain.specs.Plain.{Plain}
-use Rattle.mt_plain.specs.Script.{Command, Request, MAX_LINE_LENGTH, commanded, is_readable, is_silent, request_of, words_of}
+use Rattle.mt_plain.specs.Script.{Command, Request, MAX_LINE_LENGTH, command_of, commanded, is_readable, is_silent, read_line, request_of, words_of}
 use Rattle.mt_plain.specs.Script as plain
 use Rattle.mt_script.specs.declared.lines.LineRefusal.TheVariants as refusal
-use Rattle.mt_script.specs.Requests.{LineMeaning, command_so_far, line_refusal_text, meaning_of, meaning_of_request, reading_so_far}
+use Rattle.mt_script.specs.Requests.{LineMeaning, line_refusal_text, meaning_of, meaning_of_request}
 
 -- ---- what a line says
 
 -- a readable line says what its words command
 means-readable : (line : List ℕ) → is_silent line ≡ false → length line ≤ MAX_LINE_LENGTH → is_readable line ≡ true
-    → meaning_of (reading_so_far line) ≡ meaning_of (commanded (command_so_far (words_of line)))
+    → meaning_of (read_line line) ≡ meaning_of (commanded (command_of (words_of line)))
 means-readable line writes short is = rw (writes, le-ltb MAX_LINE_LENGTH (length line) short, is) refl
 
 means-None : (c : Option Command) → None ≡ option_map request_of c → meaning_of (commanded c) ≡ Some (Err refusal.BadLine)
@@ -25,11 +25,11 @@ means-Some None r e = absurd cc
 means-Some (Some x) r e = let same : r ≡ request_of x = cc in ap (λ q. Some (meaning_of_request q)) (sym same)
 
 module _ (line : List ℕ) (writes : is_silent line ≡ false) (short : length line ≤ MAX_LINE_LENGTH) (is : is_readable line ≡ true) where
-  pub means-bad_line : None ≡ option_map request_of (command_so_far (words_of line)) → Some (Err refusal.BadLine) ≡ meaning_of (reading_so_far line)
-  means-bad_line e = sym (means-readable line writes short is ∙ means-None (command_so_far (words_of line)) e)
+  pub means-bad_line : None ≡ option_map request_of (command_of (words_of line)) → Some (Err refusal.BadLine) ≡ meaning_of (read_line line)
+  means-bad_line e = sym (means-readable line writes short is ∙ means-None (command_of (words_of line)) e)
 
-  pub means-read : (r : Result Request NameFault) → Some r ≡ option_map request_of (command_so_far (words_of line)) → Some (meaning_of_request r) ≡ meaning_of (reading_so_far line)
-  means-read r e = sym (means-readable line writes short is ∙ means-Some (command_so_far (words_of line)) r e)
+  pub means-read : (r : Result Request NameFault) → Some r ≡ option_map request_of (command_of (words_of line)) → Some (meaning_of_request r) ≡ meaning_of (read_line line)
+  means-read r e = sym (means-readable line writes short is ∙ means-Some (command_of (words_of line)) r e)
 
 -- ---- what a line tells
 

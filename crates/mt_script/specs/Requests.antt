@@ -1,5 +1,5 @@
 -- The code's words for what lines ask, and the definitions' words.
-use Rattle.std.specs.Prelude.{ℕ, Bool, not, ◌==◌, ◌||◌, if◌then◌else◌, List, [], ◌∷◌, codes, Option, None, Some, Result, Ok, Err, option_and_then, option_map}
+use Rattle.std.specs.Prelude.{ℕ, Bool, true, false, ◌==◌, ◌||◌, if◌then◌else◌, List, codes, Option, None, Some, Result, Ok, Err, option_and_then, option_map}
 use Rattle.mt_names.specs.declared.fault.NameFault.{NameFault}
 use Rattle.mt_names.specs.Faults.{fault_text}
 use Rattle.mt_names.specs.Names.{same_text}
@@ -17,23 +17,9 @@ use Rattle.mt_model.specs.declared.rows.Op.TheVariants.{Insert, Update, Append, 
 use Rattle.mt_model.specs.Rows.{RowValue}
 use Rattle.mt_plain.specs.Events.{add_keyspace, add_table, edit_rule, read, write}
 use Rattle.mt_plain.specs.Events as core
-use Rattle.mt_plain.specs.Output.{Reading}
-use Rattle.mt_plain.specs.Script.{Command, Request, event, write_through, read_through, rules_document, dump_document, advance, begin_reverse, begin_switch, cancel, change, complete, create, four_words, get, is_for_reads, is_row_verb, one_word, read_advance, read_command, read_line_by, read_number, read_row_command, read_value, request_of, show, step, two_words, undo, with_number, with_types}
+use Rattle.mt_plain.specs.Script.{Command, Request, event, write_through, read_through, drive, rules_document, dump_document, advance, begin_reverse, begin_switch, cancel, change, complete, create, four_words, get, is_for_reads, is_row_verb, one_word, read_advance, read_number, read_row_command, read_value, request_of, reverse, show, step, switch, two_words, undo, with_number, with_types}
 use Rattle.mt_plain.specs.Script as plain
 use Rattle.mt_workflow.specs.Workflows.{stream_name}
-
--- whether the command of a verb is read up to now: all are but those that switch or reverse traffic as a whole
-abbrev pub has_come : List ℕ → Bool
-has_come verb = not (same_text verb (codes "switch") || same_text verb (codes "reverse"))
-
--- the command of some words, of which the first is its verb; a command that isn't implemented is a bad line
-abbrev pub command_so_far : List (List ℕ) → Option Command
-command_so_far [] = None
-command_so_far (verb ∷ words) = if has_come verb then read_command verb words else None
-
--- how lines are read up to now
-abbrev pub reading_so_far : Reading
-reading_so_far line = read_line_by command_so_far line
 
 -- what stands behind `create`
 abbrev pub read_create : List (List ℕ) → Option Command
@@ -48,6 +34,8 @@ workflow_command verb words =
     else if same_text verb (codes "begin-reverse") then with_types begin_reverse words
     else if same_text verb (codes "step") then with_number step words
     else if same_text verb (codes "undo") then with_number undo words
+    else if same_text verb (codes "switch") then with_types switch words
+    else if same_text verb (codes "reverse") then with_types reverse words
     else if same_text verb (codes "cancel") then option_map cancel (one_word words)
     else if same_text verb (codes "complete") then option_map complete (one_word words)
     else if same_text verb (codes "show") then option_map show (one_word words)
@@ -104,6 +92,8 @@ request_from (request.BeginSwitch workflow types) = event (core.begin_switch wor
 request_from (request.BeginReverse workflow types) = event (core.begin_reverse workflow types)
 request_from (request.Step workflow at) = event (core.step workflow at)
 request_from (request.Undo workflow at) = event (core.undo workflow at)
+request_from (request.Switch workflow types) = drive workflow types false
+request_from (request.Reverse workflow types) = drive workflow types true
 request_from (request.Cancel workflow) = event (core.cancel workflow)
 request_from (request.Complete workflow) = event (core.complete workflow)
 request_from (request.Show workflow) = event (core.show workflow)

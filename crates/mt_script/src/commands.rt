@@ -1,8 +1,8 @@
 //! Commands: a verb, and the words behind it.
 ghost use Rattle.std.specs.Prelude.{◌≡◌, true, find, option_copied, option_map};
 ghost use Rattle.mt_names.specs.Keys.{after, at_sign};
-ghost use Rattle.mt_plain.specs.Script.{change, change_at, get, get_at, is_for_reads, is_qualified, is_readable, is_row_verb, keyspace, read_at, read_row_command, read_rule_target, read_value, request_of, rule, table, words_of};
-ghost use Rattle.mt_script.specs.Requests.{command_so_far, is_mark, other_command, read_from, read_last_number, read_number_and_value, read_work, work_of};
+ghost use Rattle.mt_plain.specs.Script.{change, change_at, command_of, get, get_at, is_for_reads, is_qualified, is_readable, is_row_verb, keyspace, read_at, read_row_command, read_rule_target, read_value, request_of, rule, table, words_of};
+ghost use Rattle.mt_script.specs.Requests.{is_mark, other_command, read_from, read_last_number, read_number_and_value, read_work, work_of};
 
 use crate::lines::Request;
 use crate::numbers::read_number;
@@ -266,7 +266,7 @@ fn other_command(verb: &str, words: &[u8]) -> Option<Result<Request, NameFault>>
 /// Reads a command: its verb, its words, and then its names. `None` is a bad line.
 pub fn read_command(line: &[u8]) -> Option<Result<Request, NameFault>>
     requires { is_readable line.now ≡ true }
-    ensures { option_map read_from result ≡ option_map request_of (command_so_far (words_of line.now)) }
+    ensures { option_map read_from result ≡ option_map request_of (command_of (words_of line.now)) }
 {
     let (verb, rest) = first_word(line)?;
     match text_of(verb) {

@@ -12,4 +12,4 @@ mod workflows;
 
 pub use cut::first_line;
 pub use lines::{Line, LineRefusal, MAX_LINE_LENGTH, Request, read_line};
-pub use texts::{LineText, answer_line, look_up_line, refusal_line};
+pub use texts::{LineText, answer_line, driven_line, look_up_line, refusal_line};

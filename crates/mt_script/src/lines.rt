@@ -1,8 +1,8 @@
 //! Lines of a script.
 ghost use Rattle.std.specs.Prelude.{◌≡◌, ◌||◌};
 ghost use Rattle.std.specs.List.{list_all};
-ghost use Rattle.mt_plain.specs.Script.{is_blank, is_readable, is_silent};
-ghost use Rattle.mt_script.specs.Requests.{meaning_from, meaning_of, reading_so_far};
+ghost use Rattle.mt_plain.specs.Script.{is_blank, is_readable, is_silent, read_line};
+ghost use Rattle.mt_script.specs.Requests.{meaning_from, meaning_of};
 
 use crate::commands::read_command;
 use crate::words::{is_blank, is_visible};
@@ -47,6 +47,10 @@ pub enum Request {
     Step(WorkflowName, u64),
     /// `undo W N`: undoes the last step of it, of which N stand done.
     Undo(WorkflowName, u64),
+    /// `switch W TYPES`: switches the traffic of these types to the target, step by step to its end, or gives it up.
+    Switch(WorkflowName, TypeSet),
+    /// `reverse W TYPES`: sends the traffic of these types back to the source, step by step to its end, or gives it up.
+    Reverse(WorkflowName, TypeSet),
     /// `cancel W`: takes a workflow back.
     Cancel(WorkflowName),
     /// `complete W`: ends a workflow whose traffic is switched as a whole.
@@ -104,7 +108,7 @@ fn is_readable(line: &[u8]) -> bool
 /// Reads a line: what it asks for, with each name and number as it is written, or its first fault, a bad byte with its
 /// place. The length is tested before the bytes, these before the words, the words before the names.
 pub fn read_line(line: &[u8]) -> Line
-    ensures { meaning_from result ≡ meaning_of (reading_so_far line.now) }
+    ensures { meaning_from result ≡ meaning_of (read_line line.now) }
 {
     if is_silent(line) {
         return Line::Silent;

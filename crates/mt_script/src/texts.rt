@@ -1,15 +1,17 @@
 //! The texts of answers.
 ghost use Rattle.std.specs.Prelude.{◌≡◌, ◌+◌, ◌<◌, ◌++◌, length};
+ghost use Rattle.mt_plain.specs.Drive.{stopped};
 ghost use Rattle.mt_plain.specs.Events.{advanced};
-ghost use Rattle.mt_plain.specs.Output.{answer_text, line_feed, refused_text};
-ghost use Rattle.mt_event.specs.Events.{answer_from};
+ghost use Rattle.mt_plain.specs.Output.{answer_text, driven_text, ended_text, line_feed, refused_text};
+ghost use Rattle.mt_event.specs.Drives.{ended_from};
+ghost use Rattle.mt_event.specs.Events.{answer_from, refusal_from};
 ghost use Rattle.mt_model.specs.Faults.{topology_fault_text};
 ghost use Rattle.mt_script.specs.Requests.{line_refusal_text};
 
 use crate::lines::LineRefusal;
 use crate::shown::{number, shown_text, spaced};
 use arrayvec::ArrayVec;
-use mt_event::{Refusal, Reply};
+use mt_event::{Driven, Refusal, Reply};
 use mt_io::LONGEST_LINE;
 use mt_model::TopologyFault;
 use mt_stream::Advanced;
@@ -48,6 +50,26 @@ pub fn answer_line(answer: &Result<Reply, Refusal>) -> LineText
         Ok(Reply::Row(Some(value))) => line_of(b"row ", value),
         Ok(Reply::Advanced(advanced)) => advanced_line(*advanced),
         Ok(Reply::Shown(shown)) => line_of(&shown_text(shown), b""),
+        Err(refusal) => line_of(b"refused ", refusal.as_str().as_bytes()),
+    }
+}
+
+/// The line that tells of a refusal behind the journal, and how many steps are done.
+fn stopped_line(refusal: &Refusal, steps: u64) -> LineText
+    ensures { result.items ≡ driven_text (stopped (refusal_from refusal.now) steps) ++ line_feed }
+{
+    let told = spaced::<41>(refusal.as_str().as_bytes(), &number(steps));
+    line_of(b"stopped ", &told)
+}
+
+/// The line that tells how a whole switch or reversal of traffic ended, or that its begin was refused.
+pub fn driven_line(end: &Result<Driven, Refusal>) -> LineText
+    ensures { result.items ≡ ended_text (ended_from end.now) ++ line_feed }
+{
+    match end {
+        Ok(Driven::Done) => line_of(b"ok", b""),
+        Ok(Driven::Abandoned(refusal)) => line_of(b"abandoned ", refusal.as_str().as_bytes()),
+        Ok(Driven::Stopped(refusal, steps)) => stopped_line(refusal, *steps),
         Err(refusal) => line_of(b"refused ", refusal.as_str().as_bytes()),
     }
 }

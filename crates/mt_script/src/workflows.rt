@@ -1,6 +1,6 @@
 //! Commands on workflows.
 ghost use Rattle.std.specs.Prelude.{◌≡◌, true, option_map};
-ghost use Rattle.mt_plain.specs.Script.{advance, begin_reverse, begin_switch, cancel, complete, create, is_readable, read_advance, read_stream, request_of, show, step, undo, words_of};
+ghost use Rattle.mt_plain.specs.Script.{advance, begin_reverse, begin_switch, cancel, complete, create, is_readable, read_advance, read_stream, request_of, reverse, show, step, switch, undo, words_of};
 ghost use Rattle.mt_workflow.specs.Workflows.{stream_name};
 ghost use Rattle.mt_script.specs.Requests.{read_create, read_from, workflow_command};
 
@@ -76,6 +76,22 @@ fn undo_request(workflow: &str, at: u64) -> Result<Request, NameFault>
     Ok(Request::Undo(WorkflowName::parse(workflow)?, at))
 }
 
+fn switch_request(workflow: &str, types: &str) -> Result<Request, NameFault>
+    ensures { read_from result ≡ request_of (switch workflow.now types.now) }
+{
+    let workflow = WorkflowName::parse(workflow)?;
+    let types = TypeSet::parse(types)?;
+    Ok(Request::Switch(workflow, types))
+}
+
+fn reverse_request(workflow: &str, types: &str) -> Result<Request, NameFault>
+    ensures { read_from result ≡ request_of (reverse workflow.now types.now) }
+{
+    let workflow = WorkflowName::parse(workflow)?;
+    let types = TypeSet::parse(types)?;
+    Ok(Request::Reverse(workflow, types))
+}
+
 fn cancel_request(workflow: &str) -> Result<Request, NameFault>
     ensures { read_from result ≡ request_of (cancel workflow.now) }
 {
@@ -138,6 +154,14 @@ pub fn workflow_command(verb: &str, words: &[u8]) -> Option<Result<Request, Name
         "undo" => {
             let (workflow, at) = two_words(words)?;
             Some(undo_request(workflow, read_number(at)?))
+        }
+        "switch" => {
+            let (workflow, types) = two_words(words)?;
+            Some(switch_request(workflow, types))
+        }
+        "reverse" => {
+            let (workflow, types) = two_words(words)?;
+            Some(reverse_request(workflow, types))
         }
         "cancel" => Some(cancel_request(one_word(words)?)),
         "complete" => Some(complete_request(one_word(words)?)),
