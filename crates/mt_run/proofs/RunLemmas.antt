@@ -18,6 +18,7 @@ use Rattle.mt_plain.specs.Script.{Request, read_line}
 use Rattle.mt_plain.specs.Script as script
 use Rattle.mt_plain.specs.Serve.{served}
 use Rattle.mt_laws.proofs.OutputLemmas.{output_from-is_written, output_from_memory}
+use Rattle.mt_laws.proofs.ScriptRunLemmas.{script_keeps_the_headline}
 use Rattle.mt_script.specs.Requests.{LineMeaning, meaning_of}
 use Rattle.mt_script.proofs.LineLemmas.{told_by, told-meant}
 use Rattle.mt_io.specs.declared.fault.ScriptFault.{ScriptFault}
@@ -228,10 +229,12 @@ ends scopes p script rest core held held' held'' waiting waiting' result (q, sta
 
 pub runs_read : (scopes : List Scope) (left left' held : Known) (f : ScriptFault) → Reads left left' (Err f) → Runs scopes left left' held held (Err f)
 runs_read scopes left left' held fault.Memory (input, consumed, most) =
-    (input, [], consumed, inl (most, refl), Appends-nil held, (plain.output_by read_line scopes input, plain.output_by read_line scopes input, has_output (opening scopes) (lines input), refl))
-runs_read scopes left left' held fault.Read (input, consumed, most) = (input, [], consumed, most, Appends-nil held, refl)
+    let out = plain.output_by read_line scopes input in
+    let is = has_output (opening scopes) (lines input) in
+    (input, [], consumed, inl (most, refl), Appends-nil held, (out, out, is, refl), (out, script_keeps_the_headline read_line scopes input out is))
+runs_read scopes left left' held fault.Read (input, consumed, most) = (input, [], consumed, most, Appends-nil held, refl, tt)
 runs_read scopes left left' held fault.Write (input, consumed, impossible) = absurd impossible
-runs_read scopes left left' held fault.TooLong (input, consumed, long) = (input, [], consumed, long, Appends-nil held, (long.0, refl))
+runs_read scopes left left' held fault.TooLong (input, consumed, long) = (input, [], consumed, long, Appends-nil held, (long.0, refl), tt)
 
 -- a run that finds no memory before it reads
 pub runs_none : (scopes : List Scope) (left held : Known) → Runs scopes left left held held (Err fault.Memory)
@@ -239,10 +242,12 @@ runs_none scopes left held = runs_read scopes left left held fault.Memory ([], C
 
 pub runs_lines : (scopes : List Scope) (left left' held held' : Known) (script : List ℕ) (result : Result Unit ScriptFault) → Reads left left' (Ok script)
     → RunsLines (opening scopes) script held held' result → Runs scopes left left' held held' result
-runs_lines scopes left left' held held' script (Ok done) read (written, went, is) = (script, written, read.0, (read.1, read.2), went, is)
+runs_lines scopes left left' held held' script (Ok done) read (written, went, is) =
+    (script, written, read.0, (read.1, read.2), went, is, script_keeps_the_headline read_line scopes script written is)
 runs_lines scopes left left' held held' script (Err fault.Write) read (out, is, (rest, some, (written, went, all))) =
-    (script, written, read.0, ((read.1, read.2), (rest, some, subst (λ o. IsOutputBy read_line scopes script o) all is)), went, (out, rest, is, sym all))
+    let whole = subst (λ o. IsOutputBy read_line scopes script o) all is in
+    (script, written, read.0, ((read.1, read.2), (rest, some, whole)), went, (out, rest, is, sym all), (rest, script_keeps_the_headline read_line scopes script (written ++ rest) whole))
 runs_lines scopes left left' held held' script (Err fault.Memory) read (written, rest, went, ran, is) =
-    (script, written, read.0, inr ((read.1, read.2), ran), went, (written ++ rest, rest, is, refl))
+    (script, written, read.0, inr ((read.1, read.2), ran), went, (written ++ rest, rest, is, refl), (rest, script_keeps_the_headline read_line scopes script (written ++ rest) is))
 runs_lines scopes left left' held held' script (Err fault.Read) read impossible = absurd impossible
 runs_lines scopes left left' held held' script (Err fault.TooLong) read impossible = absurd impossible

@@ -1,10 +1,12 @@
 -- What a run of a script does to its reader and its writer.
-use Rattle.std.specs.Prelude.{◌≡◌, ◌≢◌, ◌⊎◌, ℕ, Bool, true, false, List, [], ◌∷◌, ◌++◌, Option, None, Some, Result, Ok, Err, string_bytes}
+use Rattle.std.specs.Prelude.{◌≡◌, ◌≢◌, ◌⊎◌, ⊤, ℕ, Bool, true, false, List, [], ◌∷◌, ◌++◌, Option, None, Some, Result, Ok, Err, string_bytes}
 use Rattle.std.specs.Str.Lines.{lines}
 use Rattle.std.specs.Io.KnownBytes.{Appends, Consumes}
 use Rattle.mt_model.specs.declared.entries.Scope.{Scope}
-use Rattle.mt_plain.specs.Events.{Answer}
-use Rattle.mt_plain.specs.Answers.{Answers}
+use Rattle.mt_laws.specs.Headline.{Headline}
+use Rattle.mt_laws.specs.Scripts.{IsScriptRun}
+use Rattle.mt_plain.specs.Events.{Answer, Event}
+use Rattle.mt_plain.specs.Answers.{Answers, Run}
 use Rattle.mt_plain.specs.Drive.{Drives, most_turns}
 use Rattle.mt_plain.specs.Next.{next}
 use Rattle.mt_plain.specs.Output as plain
@@ -104,11 +106,26 @@ HasRun scopes left' fault.Memory input written =
 HasRun scopes left' fault.Read input written = HasRead fault.Read input
 HasRun scopes left' fault.TooLong input written = HasRead fault.TooLong input
 
+-- an output of a script is that of a run from the opening: the events that its lines ask for, with their answers and the texts that the
+-- lines write; and of that run the headline holds, word for word
+abbrev pub KeepsTheHeadline : List Scope → (input out : List ℕ) → Type 0
+KeepsTheHeadline scopes input out =
+    (events : List Event) × (answers : List Answer) × IsScriptRun read_line (opening scopes) (lines input) events answers out
+    × Run (opening scopes) events answers × Headline (opening scopes) events answers
+
+-- where a run ends early, what was written is the beginning of such an output, if it read its script at all
+abbrev pub BeginsOne : List Scope → ScriptFault → (input written : List ℕ) → Type 0
+BeginsOne scopes fault.Write input written = (rest : List ℕ) × KeepsTheHeadline scopes input (written ++ rest)
+BeginsOne scopes fault.Memory input written = (rest : List ℕ) × KeepsTheHeadline scopes input (written ++ rest)
+BeginsOne scopes fault.Read input written = ⊤
+BeginsOne scopes fault.TooLong input written = ⊤
+
 -- the bytes read are a script, and those written are an output of it, with watchers of these scopes, and nothing else; a
--- fault leaves written what the definitions say of it
+-- fault leaves written what the definitions say of it; and the headline holds of the run that wrote it
 abbrev pub Runs : List Scope → (left left' held held' : Known) → Result Unit ScriptFault → Type 0
 Runs scopes left left' held held' (Ok done) =
     (input : List ℕ) × (written : List ℕ) × Consumes left left' input × IsWhole left' input × Appends held held' written × IsOutput scopes input written
+    × KeepsTheHeadline scopes input written
 Runs scopes left left' held held' (Err f) =
     (input : List ℕ) × (written : List ℕ) × Consumes left left' input × HasRun scopes left' f input written × Appends held held' written
-    × Leaves read_line scopes (fault_of f) input written
+    × Leaves read_line scopes (fault_of f) input written × BeginsOne scopes f input written
