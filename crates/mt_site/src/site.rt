@@ -1,5 +1,5 @@
 //! The site: the core of the controller beside the watchers that it asks.
-ghost use Rattle.std.specs.Prelude.{◌≡◌, IfErr, IfOk, List, [], ◌∷◌, OnErr, string_bytes};
+ghost use Rattle.std.specs.Prelude.{◌≡◌, IfErr, IfOk, List, [], ◌∷◌, OnErr, option_copied, string_bytes};
 ghost use Rattle.mt_event.specs.Events.{answer_from, event_of};
 ghost use Rattle.mt_model.specs.Documents.{dump_text, rules_text};
 ghost use Rattle.mt_model.specs.Topology.{resolution};
@@ -8,6 +8,7 @@ ghost use Rattle.mt_plain.specs.Plain.{Plain, opening};
 ghost use Rattle.mt_plain.specs.Refuse.{owed};
 ghost use Rattle.mt_plain.specs.Serve.{served};
 ghost use Rattle.mt_model.specs.declared.entries.Scope.{Scope};
+ghost use Rattle.mt_site_state.specs.Core.{workflow_at};
 ghost use Rattle.mt_site_state.specs.Ways.{SiteStands, SiteSteps, empty_site};
 ghost use Rattle.mt_site.specs.Applies.{Applies};
 ghost use Rattle.mt_site.specs.GivenUp.{CanBeGivenUp};
@@ -18,10 +19,11 @@ use crate::Core;
 use mt_event::{Event, Refusal, Reply};
 use mt_laws::every_run_keeps_the_headline;
 use mt_model::TopologyFault;
-use mt_names::{RuleKey, RuleTarget, TabletType};
+use mt_names::{RuleKey, RuleTarget, TabletType, WorkflowName};
 use mt_rules::RulesFault;
 use mt_topology::Topology;
 use mt_watch::Asks;
+use mt_workflow::Workflow;
 use std::alloc::Global;
 
 /// The controller: its core, and the watchers that it asks. (Vitess: the vtctld server, which runs MoveTables, and the routers
@@ -68,6 +70,13 @@ impl<W: Asks> Site<W> {
         ensures { result.now ≡ self.now.core.core.topology }
     {
         self.core.topology()
+    }
+
+    /// A live workflow, or none of that name. It takes no memory.
+    pub fn workflow(&self, name: &WorkflowName) -> Option<&Workflow>
+        ensures { option_copied result ≡ workflow_at self.now.core.core.workflows name.now }
+    {
+        self.core.workflow(name)
     }
 
     /// The watchers. It takes no memory.
