@@ -1,5 +1,5 @@
 -- What a drive of the controller means: a whole switch of traffic, or its reversal (MoveTables: SwitchTraffic, ReverseTraffic).
-use Rattle.std.specs.Prelude.{◌≡◌, ℕ, Bool, List, option_and_then, option_map, Option, Result, Ok, Err}
+use Rattle.std.specs.Prelude.{◌≡◌, ℕ, Bool, List, Result, Ok, Err}
 use Rattle.mt_event.specs.declared.refusal.Refusal.{Refusal}
 use Rattle.mt_event.specs.Events.{refusal_from}
 use Rattle.mt_model.specs.declared.entries.Scope.{Scope}
@@ -7,12 +7,11 @@ use Rattle.mt_names.specs.declared.types.TypeSet.{TypeSet}
 use Rattle.mt_plain.specs.Answers.{Answers}
 use Rattle.mt_plain.specs.Drive.{Drives, Driving, begins, Heard, event_of, heard, most_turns}
 use Rattle.mt_plain.specs.Drive as plain
-use Rattle.mt_plain.specs.Events.{Answer, Way}
+use Rattle.mt_plain.specs.Events.{Answer}
 use Rattle.mt_plain.specs.Events as events
 use Rattle.mt_plain.specs.Next.{next}
 use Rattle.mt_plain.specs.Plain.{Plain}
 use Rattle.mt_laws.specs.Turns.{Fits}
-use Rattle.mt_site_state.specs.Core.{workflow_at}
 use Rattle.mt_site_state.specs.Ways.{SiteStands, SiteState}
 use Rattle.mt_drive.specs.declared.driven.Driven.{Driven}
 use Rattle.mt_drive.specs.declared.driven.Driven.TheVariants as driven
@@ -42,10 +41,6 @@ turn_from workflow (turn.GivesUp refusal) = plain.gives_up workflow (refusal_fro
 abbrev pub heard_from : (workflow : List ℕ) → code_heard.Heard → Heard
 heard_from workflow (says.GoesOn next) = plain.goes_on (turn_from workflow next)
 heard_from workflow (says.Ends driven) = plain.ends (Ok (driven_from driven))
-
--- the way that is open on a workflow, and how many of its steps stand done
-abbrev pub way_at : SiteState → (workflow : List ℕ) → Option Way
-way_at s workflow = option_and_then (λ w. w.way) (workflow_at s.core.workflows workflow)
 
 -- one turn, in each state that the controller stands for: the event that the drive asks for there is answered as it may be, the controller
 -- stands for the state after it, and what follows is what the definitions say

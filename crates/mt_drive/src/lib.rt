@@ -1,9 +1,9 @@
 //! Whole switches of traffic, and whole reversals, as one call.
 #![tactic(auto)]
 
-mod drive;
 mod driven;
+mod driving;
 mod turn;
 
-pub use drive::drive;
 pub use driven::Driven;
+pub use driving::drive;

@@ -1,7 +1,10 @@
 //! Whole switches and reversals of traffic.
 ghost use Rattle.std.specs.Prelude.{◌≡◌};
+ghost use Rattle.mt_event.specs.Events.{event_of};
 ghost use Rattle.mt_plain.specs.Drive.{begins};
-ghost use Rattle.mt_drive.specs.Drives.{DrivesFrom, IsOnItsWay, Turns, turn_from};
+ghost use Rattle.mt_plain.specs.Drive as plain;
+ghost use Rattle.mt_plain.specs.Plain.{Plain};
+ghost use Rattle.mt_drive.specs.Drives.{DrivesFrom};
 
 use crate::Driven;
 use crate::turn::{Heard, MOST_TRIES, Turn, take};
@@ -15,7 +18,9 @@ use mt_watch::Asks;
 const MOST_TURNS: usize = 400;
 
 /// The event that begins a switch of traffic, or its reversal.
-fn begin_of(workflow: &WorkflowName, types: TypeSet, back: bool) -> Event {
+fn begin_of(workflow: &WorkflowName, types: TypeSet, back: bool) -> Event
+    ensures { (p : Plain) → event_of result ≡ plain.event_of p (begins workflow.now types back) }
+{
     let workflow = workflow.copied();
     if back {
         Event::BeginReverse { workflow, types }
