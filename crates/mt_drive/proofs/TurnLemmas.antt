@@ -14,7 +14,7 @@ use Rattle.mt_plain.specs.Next.{next}
 use Rattle.mt_plain.specs.Plain.{Plain}
 use Rattle.mt_site_state.specs.Ways.{SiteStands, SiteState, SiteSteps}
 use Rattle.mt_drive.specs.declared.driven.Driven.{Driven}
-use Rattle.mt_drive.specs.Drives.{DrivesFrom, EndsFrom, IsOnItsWay, Turns, driven_from, ended_from}
+use Rattle.mt_drive.specs.Drives.{EndsFrom, IsOnItsWay, Turns, driven_from, ended_from}
 
 -- ---- one turn
 

@@ -1,8 +1,8 @@
 -- The step that is next is asked for, and what follows is what the definitions say of its answer.
 use Rattle.std.proofs.Common.{ap, sym, ◌∙◌}
-use Rattle.mt_event.specs.Events.{answer_from, event_of, refusal_from}
+use Rattle.mt_event.specs.Events.{answer_from}
 use Rattle.mt_plain.specs.Drive as plain
-use Rattle.mt_plain.specs.Events.{refused, step}
+use Rattle.mt_plain.specs.Events.{step}
 use Rattle.mt_drive.specs.Drives.{heard_from}
 use Rattle.mt_drive.proofs.TurnLemmas.{stepped, turn_taken}
 use Rattle.mt_drive.proofs.turn.step.Goals as goal
