@@ -1,0 +1,67 @@
+-- What a drive of the controller means: a whole switch of traffic, or its reversal (MoveTables: SwitchTraffic, ReverseTraffic).
+use Rattle.std.specs.Prelude.{◌≡◌, ℕ, Bool, List, Result, Ok, Err}
+use Rattle.mt_event.specs.declared.refusal.Refusal.{Refusal}
+use Rattle.mt_event.specs.Events.{refusal_from}
+use Rattle.mt_model.specs.declared.entries.Scope.{Scope}
+use Rattle.mt_names.specs.declared.types.TypeSet.{TypeSet}
+use Rattle.mt_plain.specs.Answers.{Answers}
+use Rattle.mt_plain.specs.Drive.{Drives, Driving, begins, Heard, event_of, heard, most_turns}
+use Rattle.mt_plain.specs.Drive as plain
+use Rattle.mt_plain.specs.Events.{Answer}
+use Rattle.mt_plain.specs.Events as events
+use Rattle.mt_plain.specs.Next.{next}
+use Rattle.mt_plain.specs.Plain.{Plain}
+use Rattle.mt_laws.specs.Turns.{Fits}
+use Rattle.mt_site_state.specs.Ways.{SiteStands, SiteState}
+use Rattle.mt_drive.specs.declared.driven.Driven.{Driven}
+use Rattle.mt_drive.specs.declared.driven.Driven.TheVariants as driven
+use Rattle.mt_drive.specs.declared.turn.Heard as code_heard
+use Rattle.mt_drive.specs.declared.turn.Heard.TheVariants as says
+use Rattle.mt_drive.specs.declared.turn.Turn as code_turn
+use Rattle.mt_drive.specs.declared.turn.Turn.TheVariants as turn
+
+-- how a drive went that was begun
+abbrev pub driven_from : Driven → plain.Driven
+driven_from driven.Done = plain.done
+driven_from (driven.Abandoned refusal) = plain.abandoned (refusal_from refusal)
+driven_from (driven.Stopped refusal steps) = plain.stopped (refusal_from refusal) steps
+
+-- the same, or that its begin was refused
+abbrev pub ended_from : Result Driven Refusal → Result plain.Driven events.Refusal
+ended_from (Ok driven) = Ok (driven_from driven)
+ended_from (Err refusal) = Err (refusal_from refusal)
+
+-- what a drive of a workflow asks for next
+abbrev pub turn_from : (workflow : List ℕ) → code_turn.Turn → Driving
+turn_from workflow (turn.Steps tries) = plain.steps workflow tries
+turn_from workflow (turn.Feeds tries) = plain.feeds workflow tries
+turn_from workflow (turn.GivesUp refusal) = plain.gives_up workflow (refusal_from refusal)
+
+-- what follows from an answer
+abbrev pub heard_from : (workflow : List ℕ) → code_heard.Heard → Heard
+heard_from workflow (says.GoesOn next) = plain.goes_on (turn_from workflow next)
+heard_from workflow (says.Ends driven) = plain.ends (Ok (driven_from driven))
+
+-- one turn, in each state that the controller stands for: the event that the drive asks for there is answered as it may be, the controller
+-- stands for the state after it, and what follows is what the definitions say
+abbrev pub Turns : List Scope → (old : SiteState) → Driving → Heard → (new : SiteState) → Type 0
+Turns scopes old driving said new = (p : Plain) → SiteStands p scopes old
+    → (answer : Answer) × Answers p (event_of p driving) answer
+    × SiteStands (next p (event_of p driving) answer) scopes new × (heard (next p (event_of p driving) answer) driving answer ≡ said)
+
+-- from a state on, a drive is answered within some turns, and ends so, in a state that the controller stands for
+abbrev pub EndsFrom : List Scope → (turns : ℕ) → Driving → Plain → Result Driven Refusal → SiteState → Type 0
+EndsFrom scopes turns driving p result new =
+    Drives Answers turns (λ ended q. (ended ≡ ended_from result) × SiteStands q scopes new) driving p
+
+-- a whole drive, from each state that the controller stands for: its events, in their order, are those of the definitions' drive, each
+-- answered in the state that the one before it left, and it ends as that ends, within its turns
+abbrev pub DrivesFrom : List Scope → (old : SiteState) → (workflow : List ℕ) → TypeSet → (back : Bool) → Result Driven Refusal → (new : SiteState) → Type 0
+DrivesFrom scopes old workflow types back result new =
+    (p : Plain) → SiteStands p scopes old → EndsFrom scopes most_turns (begins workflow types back) p result new
+
+-- a drive that is on its way, with some turns left: it fits in them, and as it ends from here, so the whole drive ends
+abbrev pub IsOnItsWay : List Scope → (old : SiteState) → (start : Driving) → (left : ℕ) → Driving → (now : SiteState) → Type 0
+IsOnItsWay scopes old start left driving now = (p : Plain) → SiteStands p scopes old
+    → (q : Plain) × SiteStands q scopes now × Fits left q driving
+    × ((result : Result Driven Refusal) (new : SiteState) → EndsFrom scopes left driving q result new → EndsFrom scopes most_turns start p result new)

@@ -1,0 +1,57 @@
+//! Whole switches and reversals of traffic.
+ghost use Rattle.std.specs.Prelude.{◌≡◌};
+ghost use Rattle.mt_event.specs.Events.{event_of};
+ghost use Rattle.mt_plain.specs.Drive.{begins};
+ghost use Rattle.mt_plain.specs.Drive as plain;
+ghost use Rattle.mt_plain.specs.Plain.{Plain};
+ghost use Rattle.mt_drive.specs.Drives.{DrivesFrom};
+
+use crate::Driven;
+use crate::turn::{Heard, MOST_TRIES, Turn, take};
+use mt_event::{Event, Refusal};
+use mt_laws::a_drive_fits_in_the_turns_that_are_left;
+use mt_names::{TypeSet, WorkflowName};
+use mt_site::Site;
+use mt_watch::Asks;
+
+/// More events than any drive asks for.
+const MOST_TURNS: usize = 400;
+
+/// The event that begins a switch of traffic, or its reversal.
+fn begin_of(workflow: &WorkflowName, types: TypeSet, back: bool) -> Event
+    ensures { (p : Plain) → event_of result ≡ plain.event_of p (begins workflow.now types back) }
+{
+    let workflow = workflow.copied();
+    if back {
+        Event::BeginReverse { workflow, types }
+    } else {
+        Event::BeginSwitch { workflow, types }
+    }
+}
+
+/// Switches the traffic of some types of a workflow as a whole, or reverses it (`back`): begins the way, and takes each of its steps in
+/// turn. At `F18 NotLevel` the feeding stream reads at most 100 entries, and the step is tried again, at most 64 times in all. Any other
+/// refusal of a step or of the stream ends it, and so does the last `F18 NotLevel`: before the journal all is undone, and the answer
+/// is `Abandoned`; behind it the way stays open, and the answer is `Stopped`. It asks for at most 400 events, and takes no memory beside
+/// theirs. A refusal is that of the begin, which leaves all as it was. (Vitess: SwitchTraffic, ReverseTraffic)
+pub fn drive<W: Asks>(
+    site: &mut Site<W>,
+    workflow: &WorkflowName,
+    types: TypeSet,
+    back: bool,
+) -> Result<Driven, Refusal>
+    ensures watchers { site.new.watchers ≡ site.old.watchers }
+    ensures drives { DrivesFrom (W.scopes site.old.watchers) site.old.core workflow.now types back result site.new.core }
+{
+    a_drive_fits_in_the_turns_that_are_left();
+    site.apply(&begin_of(workflow, types, back))?;
+    let mut turn = Turn::Steps(MOST_TRIES);
+    for _ in 1..MOST_TURNS {
+        match take(site, workflow, turn) {
+            Heard::GoesOn(next) => turn = next,
+            Heard::Ends(driven) => return Ok(driven),
+        }
+    }
+    // (no drive of a state that the definitions know has a turn more)
+    Ok(Driven::Stopped(Refusal::NotLevel, 0))
+}

@@ -1,0 +1,188 @@
+//! The turns of a drive: what it asks for, and what follows from the answer.
+ghost use Rattle.std.specs.Prelude.{◌≡◌, List, ℕ, option_map};
+ghost use Rattle.mt_event.specs.Events.{refusal_from};
+ghost use Rattle.mt_model.specs.declared.entries.Scope.{Scope};
+ghost use Rattle.mt_plain.specs.Drive as plain;
+ghost use Rattle.mt_plain.specs.Plain.{Plain, stands_done, write_journal};
+ghost use Rattle.mt_site_state.specs.Ways.{SiteStands};
+ghost use Rattle.mt_workflow.specs.Workflows.{stream_name, way_from};
+ghost use Rattle.mt_drive.specs.Drives.{Turns, driven_from, heard_from, turn_from};
+
+use crate::Driven;
+use mt_event::{Event, Refusal};
+use mt_names::{Position, WorkflowName};
+use mt_site::Site;
+use mt_watch::Asks;
+use mt_workflow::{Slot, Way};
+
+/// How often a step is tried at most.
+pub(crate) const MOST_TRIES: u8 = 64;
+
+/// How many entries are read before a step is tried again.
+const MOST_AT_ONCE: u16 = 100;
+
+/// What a drive that is begun asks for next.
+#[derive(Drop)]
+pub(crate) enum Turn {
+    /// The next step, which may be tried so many times more.
+    Steps(u8),
+    /// An advance of the feeding stream, before the step may be tried so many times more.
+    Feeds(u8),
+    /// An undo, after this refusal, which it will tell.
+    GivesUp(Refusal),
+}
+
+/// What follows from an answer.
+#[derive(Drop)]
+pub(crate) enum Heard {
+    /// The drive goes on.
+    GoesOn(Turn),
+    /// It ends.
+    Ends(Driven),
+}
+
+/// The way that is open on a workflow.
+fn way_of<W: Asks>(site: &Site<W>, workflow: &WorkflowName) -> Option<Way>
+    ensures { (p : Plain) (scopes : List Scope) → SiteStands p scopes site.now.core → option_map way_from result ≡ plain.way_of p workflow.now }
+{
+    site.workflow(workflow)?.way()
+}
+
+/// How many of its steps stand done.
+fn steps_done(way: Option<Way>) -> u64
+    ensures { (p : Plain) (workflow : List ℕ) → option_map way_from way ≡ plain.way_of p workflow → result ≡ plain.steps_done p workflow }
+{
+    match way {
+        None => 0,
+        Some(way) => u64::from(way.done),
+    }
+}
+
+/// Whether the journal has the entry of a way: its step stands done.
+fn is_past_journal(way: Way) -> bool
+    ensures { result ≡ stands_done (way_from way) write_journal }
+{
+    let has_reads = way.before.replica != way.after.replica
+        || way.before.rdonly != way.after.rdonly;
+    let first = if has_reads { 0 } else { 1 };
+    u16::from(way.done) + first > 6
+}
+
+/// The stream that feeds on a way, and its position.
+fn feeding<W: Asks>(site: &Site<W>, workflow: &WorkflowName) -> (Slot, Position)
+    ensures stream { (p : Plain) (scopes : List Scope) → SiteStands p scopes site.now.core → stream_name result.0 ≡ plain.feeding_stream p workflow.now }
+    ensures position { (p : Plain) (scopes : List Scope) → SiteStands p scopes site.now.core
+        → result.1 ≡ plain.position_of p workflow.now (plain.feeding_stream p workflow.now) }
+{
+    let Some(found) = site.workflow(workflow) else {
+        return (Slot::Forward, 0);
+    };
+    let slot = match found.way() {
+        Some(way) if way.back => Slot::Back,
+        _ => Slot::Forward,
+    };
+    match found.slot(slot) {
+        None => (slot, 0),
+        Some(stream) => (slot, stream.position()),
+    }
+}
+
+/// What follows once a way may have closed: that ends the drive, and else it goes on.
+fn unless_closed(way: Option<Way>, driven: Driven, turn: Turn) -> Heard
+    ensures { (workflow : List ℕ) → heard_from workflow result
+        ≡ plain.unless_closed (option_map way_from way) (driven_from driven) (turn_from workflow turn) }
+{
+    match way {
+        None => Heard::Ends(driven),
+        Some(_) => Heard::GoesOn(turn),
+    }
+}
+
+/// What follows from a refusal: before the journal all is undone, and behind it the drive stops.
+fn fail(way: Option<Way>, refusal: Refusal) -> Heard
+    ensures { (p : Plain) (workflow : List ℕ) → option_map way_from way ≡ plain.way_of p workflow
+        → heard_from workflow result ≡ plain.fails p workflow (refusal_from refusal) }
+{
+    match way {
+        Some(found) if is_past_journal(found) => Heard::Ends(Driven::Stopped(
+            refusal,
+            steps_done(way),
+        )),
+        _ => Heard::GoesOn(Turn::GivesUp(refusal)),
+    }
+}
+
+/// What follows from the refusal of a step: it is tried again behind an advance, where the stream isn't level and tries are left.
+fn refused_step(way: Option<Way>, tries: u8, refusal: Refusal) -> Heard
+    ensures { (p : Plain) (workflow : List ℕ) → option_map way_from way ≡ plain.way_of p workflow
+        → heard_from workflow result ≡ plain.refused_step p workflow tries (refusal_from refusal) }
+{
+    match refusal {
+        Refusal::NotLevel if tries > 1 => Heard::GoesOn(Turn::Feeds(tries - 1)),
+        refusal => fail(way, refusal),
+    }
+}
+
+/// Tries the next step.
+fn step<W: Asks>(site: &mut Site<W>, workflow: &WorkflowName, tries: u8) -> Heard
+    ensures turn { Turns (W.scopes site.old.watchers) site.old.core (plain.steps workflow.now tries) (heard_from workflow.now result) site.new.core }
+    ensures watchers { site.new.watchers ≡ site.old.watchers }
+{
+    let at = steps_done(way_of(site, workflow));
+    let answer = site.apply(&Event::Step {
+        workflow: workflow.copied(),
+        at,
+    });
+    let way = way_of(site, workflow);
+    match answer {
+        Ok(_) => unless_closed(way, Driven::Done, Turn::Steps(MOST_TRIES)),
+        Err(refusal) => refused_step(way, tries, refusal),
+    }
+}
+
+/// Advances the feeding stream, before the step is tried again.
+fn feed<W: Asks>(site: &mut Site<W>, workflow: &WorkflowName, tries: u8) -> Heard
+    ensures turn { Turns (W.scopes site.old.watchers) site.old.core (plain.feeds workflow.now tries) (heard_from workflow.now result) site.new.core }
+    ensures watchers { site.new.watchers ≡ site.old.watchers }
+{
+    let (stream, at) = feeding(site, workflow);
+    let answer = site.apply(&Event::Advance {
+        workflow: workflow.copied(),
+        stream,
+        at,
+        max: MOST_AT_ONCE,
+    });
+    match answer {
+        Ok(_) => Heard::GoesOn(Turn::Steps(tries)),
+        Err(refusal) => fail(way_of(site, workflow), refusal),
+    }
+}
+
+/// Undoes the last step that stands done, after a refusal.
+fn give_up<W: Asks>(site: &mut Site<W>, workflow: &WorkflowName, refusal: Refusal) -> Heard
+    ensures turn { Turns (W.scopes site.old.watchers) site.old.core (plain.gives_up workflow.now (refusal_from refusal)) (heard_from workflow.now result) site.new.core }
+    ensures watchers { site.new.watchers ≡ site.old.watchers }
+{
+    let at = steps_done(way_of(site, workflow));
+    let _ = site.apply(&Event::Undo {
+        workflow: workflow.copied(),
+        at,
+    });
+    unless_closed(
+        way_of(site, workflow),
+        Driven::Abandoned(refusal.copied()),
+        Turn::GivesUp(refusal),
+    )
+}
+
+/// Takes one turn: asks for the event that is due, and says what follows from its answer.
+pub(crate) fn take<W: Asks>(site: &mut Site<W>, workflow: &WorkflowName, turn: Turn) -> Heard
+    ensures turn { Turns (W.scopes site.old.watchers) site.old.core (turn_from workflow.now turn) (heard_from workflow.now result) site.new.core }
+    ensures watchers { site.new.watchers ≡ site.old.watchers }
+{
+    match turn {
+        Turn::Steps(tries) => step(site, workflow, tries),
+        Turn::Feeds(tries) => feed(site, workflow, tries),
+        Turn::GivesUp(refusal) => give_up(site, workflow, refusal),
+    }
+}
