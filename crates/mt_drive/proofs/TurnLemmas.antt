@@ -4,6 +4,7 @@ use Rattle.mt_event.specs.declared.refusal.Refusal.{Refusal}
 use Rattle.mt_event.specs.declared.reply.Reply.{Reply}
 use Rattle.mt_event.specs.declared.reply.Reply.TheVariants as reply
 use Rattle.mt_event.specs.Events.{refusal_from, reply_from}
+use Rattle.mt_event.specs.Drives.{driven_from, ended_from}
 use Rattle.mt_laws.specs.Turns.{Fits, FitsHeard}
 use Rattle.mt_model.specs.declared.entries.Scope.{Scope}
 use Rattle.mt_names.specs.declared.types.TypeSet.{TypeSet}
@@ -13,8 +14,8 @@ use Rattle.mt_plain.specs.Events.{Answer, Event, StreamName, advance}
 use Rattle.mt_plain.specs.Next.{next}
 use Rattle.mt_plain.specs.Plain.{Plain}
 use Rattle.mt_site_state.specs.Ways.{SiteStands, SiteState, SiteSteps}
-use Rattle.mt_drive.specs.declared.driven.Driven.{Driven}
-use Rattle.mt_drive.specs.Drives.{EndsFrom, IsOnItsWay, Turns, driven_from, ended_from}
+use Rattle.mt_event.specs.declared.driven.Driven.{Driven}
+use Rattle.mt_drive.specs.Drives.{EndsFrom, IsOnItsWay, Turns}
 
 -- ---- one turn
 

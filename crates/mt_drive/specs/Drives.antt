@@ -2,6 +2,7 @@
 use Rattle.std.specs.Prelude.{◌≡◌, ℕ, Bool, List, Result, Ok, Err}
 use Rattle.mt_event.specs.declared.refusal.Refusal.{Refusal}
 use Rattle.mt_event.specs.Events.{refusal_from}
+use Rattle.mt_event.specs.Drives.{driven_from, ended_from}
 use Rattle.mt_model.specs.declared.entries.Scope.{Scope}
 use Rattle.mt_names.specs.declared.types.TypeSet.{TypeSet}
 use Rattle.mt_plain.specs.Answers.{Answers}
@@ -13,23 +14,11 @@ use Rattle.mt_plain.specs.Next.{next}
 use Rattle.mt_plain.specs.Plain.{Plain}
 use Rattle.mt_laws.specs.Turns.{Fits}
 use Rattle.mt_site_state.specs.Ways.{SiteStands, SiteState}
-use Rattle.mt_drive.specs.declared.driven.Driven.{Driven}
-use Rattle.mt_drive.specs.declared.driven.Driven.TheVariants as driven
+use Rattle.mt_event.specs.declared.driven.Driven.{Driven}
 use Rattle.mt_drive.specs.declared.turn.Heard as code_heard
 use Rattle.mt_drive.specs.declared.turn.Heard.TheVariants as says
 use Rattle.mt_drive.specs.declared.turn.Turn as code_turn
 use Rattle.mt_drive.specs.declared.turn.Turn.TheVariants as turn
-
--- how a drive went that was begun
-abbrev pub driven_from : Driven → plain.Driven
-driven_from driven.Done = plain.done
-driven_from (driven.Abandoned refusal) = plain.abandoned (refusal_from refusal)
-driven_from (driven.Stopped refusal steps) = plain.stopped (refusal_from refusal) steps
-
--- the same, or that its begin was refused
-abbrev pub ended_from : Result Driven Refusal → Result plain.Driven events.Refusal
-ended_from (Ok driven) = Ok (driven_from driven)
-ended_from (Err refusal) = Err (refusal_from refusal)
 
 -- what a drive of a workflow asks for next
 abbrev pub turn_from : (workflow : List ℕ) → code_turn.Turn → Driving

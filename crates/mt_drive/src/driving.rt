@@ -6,12 +6,11 @@ ghost use Rattle.mt_plain.specs.Drive as plain;
 ghost use Rattle.mt_plain.specs.Plain.{Plain};
 ghost use Rattle.mt_drive.specs.Drives.{DrivesFrom};
 
-use crate::Driven;
 use crate::turn::{Heard, MOST_TRIES, Turn, take};
-use mt_event::{Event, Refusal};
+use mt_event::{Driven, Event, Refusal};
 use mt_laws::a_drive_fits_in_the_turns_that_are_left;
 use mt_names::{TypeSet, WorkflowName};
-use mt_site::Site;
+use mt_site::Core;
 use mt_watch::Asks;
 
 /// More events than any drive asks for.
@@ -35,19 +34,19 @@ fn begin_of(workflow: &WorkflowName, types: TypeSet, back: bool) -> Event
 /// is `Abandoned`; behind it the way stays open, and the answer is `Stopped`. It asks for at most 400 events, and takes no memory beside
 /// theirs. A refusal is that of the begin, which leaves all as it was. (Vitess: SwitchTraffic, ReverseTraffic)
 pub fn drive<W: Asks>(
-    site: &mut Site<W>,
+    core: &mut Core,
+    watchers: &W,
     workflow: &WorkflowName,
     types: TypeSet,
     back: bool,
 ) -> Result<Driven, Refusal>
-    ensures watchers { site.new.watchers ≡ site.old.watchers }
-    ensures drives { DrivesFrom (W.scopes site.old.watchers) site.old.core workflow.now types back result site.new.core }
+    ensures { DrivesFrom (W.scopes watchers.now) core.old workflow.now types back result core.new }
 {
     a_drive_fits_in_the_turns_that_are_left();
-    site.apply(&begin_of(workflow, types, back))?;
+    core.apply(watchers, &begin_of(workflow, types, back))?;
     let mut turn = Turn::Steps(MOST_TRIES);
     for _ in 1..MOST_TURNS {
-        match take(site, workflow, turn) {
+        match take(core, watchers, workflow, turn) {
             Heard::GoesOn(next) => turn = next,
             Heard::Ends(driven) => return Ok(driven),
         }

@@ -1,17 +1,17 @@
 //! The turns of a drive: what it asks for, and what follows from the answer.
 ghost use Rattle.std.specs.Prelude.{◌≡◌, List, ℕ, option_map};
 ghost use Rattle.mt_event.specs.Events.{refusal_from};
+ghost use Rattle.mt_event.specs.Drives.{driven_from};
 ghost use Rattle.mt_model.specs.declared.entries.Scope.{Scope};
 ghost use Rattle.mt_plain.specs.Drive as plain;
 ghost use Rattle.mt_plain.specs.Plain.{Plain, stands_done, write_journal};
 ghost use Rattle.mt_site_state.specs.Ways.{SiteStands};
 ghost use Rattle.mt_workflow.specs.Workflows.{stream_name, way_from};
-ghost use Rattle.mt_drive.specs.Drives.{Turns, driven_from, heard_from, turn_from};
+ghost use Rattle.mt_drive.specs.Drives.{Turns, heard_from, turn_from};
 
-use crate::Driven;
-use mt_event::{Event, Refusal};
+use mt_event::{Driven, Event, Refusal};
 use mt_names::{Position, WorkflowName};
-use mt_site::Site;
+use mt_site::Core;
 use mt_watch::Asks;
 use mt_workflow::{Slot, Way};
 
@@ -42,10 +42,10 @@ pub(crate) enum Heard {
 }
 
 /// The way that is open on a workflow.
-fn way_of<W: Asks>(site: &Site<W>, workflow: &WorkflowName) -> Option<Way>
-    ensures { (p : Plain) (scopes : List Scope) → SiteStands p scopes site.now.core → option_map way_from result ≡ plain.way_of p workflow.now }
+fn way_of(core: &Core, workflow: &WorkflowName) -> Option<Way>
+    ensures { (p : Plain) (scopes : List Scope) → SiteStands p scopes core.now → option_map way_from result ≡ plain.way_of p workflow.now }
 {
-    site.workflow(workflow)?.way()
+    core.workflow(workflow)?.way()
 }
 
 /// How many of its steps stand done.
@@ -69,12 +69,12 @@ fn is_past_journal(way: Way) -> bool
 }
 
 /// The stream that feeds on a way, and its position.
-fn feeding<W: Asks>(site: &Site<W>, workflow: &WorkflowName) -> (Slot, Position)
-    ensures stream { (p : Plain) (scopes : List Scope) → SiteStands p scopes site.now.core → stream_name result.0 ≡ plain.feeding_stream p workflow.now }
-    ensures position { (p : Plain) (scopes : List Scope) → SiteStands p scopes site.now.core
+fn feeding(core: &Core, workflow: &WorkflowName) -> (Slot, Position)
+    ensures stream { (p : Plain) (scopes : List Scope) → SiteStands p scopes core.now → stream_name result.0 ≡ plain.feeding_stream p workflow.now }
+    ensures position { (p : Plain) (scopes : List Scope) → SiteStands p scopes core.now
         → result.1 ≡ plain.position_of p workflow.now (plain.feeding_stream p workflow.now) }
 {
-    let Some(found) = site.workflow(workflow) else {
+    let Some(found) = core.workflow(workflow) else {
         return (Slot::Forward, 0);
     };
     let slot = match found.way() {
@@ -124,16 +124,18 @@ fn refused_step(way: Option<Way>, tries: u8, refusal: Refusal) -> Heard
 }
 
 /// Tries the next step.
-fn step<W: Asks>(site: &mut Site<W>, workflow: &WorkflowName, tries: u8) -> Heard
-    ensures turn { Turns (W.scopes site.old.watchers) site.old.core (plain.steps workflow.now tries) (heard_from workflow.now result) site.new.core }
-    ensures watchers { site.new.watchers ≡ site.old.watchers }
+fn step<W: Asks>(core: &mut Core, watchers: &W, workflow: &WorkflowName, tries: u8) -> Heard
+    ensures { Turns (W.scopes watchers.now) core.old (plain.steps workflow.now tries) (heard_from workflow.now result) core.new }
 {
-    let at = steps_done(way_of(site, workflow));
-    let answer = site.apply(&Event::Step {
-        workflow: workflow.copied(),
-        at,
-    });
-    let way = way_of(site, workflow);
+    let at = steps_done(way_of(core, workflow));
+    let answer = core.apply(
+        watchers,
+        &Event::Step {
+            workflow: workflow.copied(),
+            at,
+        },
+    );
+    let way = way_of(core, workflow);
     match answer {
         Ok(_) => unless_closed(way, Driven::Done, Turn::Steps(MOST_TRIES)),
         Err(refusal) => refused_step(way, tries, refusal),
@@ -141,48 +143,61 @@ fn step<W: Asks>(site: &mut Site<W>, workflow: &WorkflowName, tries: u8) -> Hear
 }
 
 /// Advances the feeding stream, before the step is tried again.
-fn feed<W: Asks>(site: &mut Site<W>, workflow: &WorkflowName, tries: u8) -> Heard
-    ensures turn { Turns (W.scopes site.old.watchers) site.old.core (plain.feeds workflow.now tries) (heard_from workflow.now result) site.new.core }
-    ensures watchers { site.new.watchers ≡ site.old.watchers }
+fn feed<W: Asks>(core: &mut Core, watchers: &W, workflow: &WorkflowName, tries: u8) -> Heard
+    ensures { Turns (W.scopes watchers.now) core.old (plain.feeds workflow.now tries) (heard_from workflow.now result) core.new }
 {
-    let (stream, at) = feeding(site, workflow);
-    let answer = site.apply(&Event::Advance {
-        workflow: workflow.copied(),
-        stream,
-        at,
-        max: MOST_AT_ONCE,
-    });
+    let (stream, at) = feeding(core, workflow);
+    let answer = core.apply(
+        watchers,
+        &Event::Advance {
+            workflow: workflow.copied(),
+            stream,
+            at,
+            max: MOST_AT_ONCE,
+        },
+    );
     match answer {
         Ok(_) => Heard::GoesOn(Turn::Steps(tries)),
-        Err(refusal) => fail(way_of(site, workflow), refusal),
+        Err(refusal) => fail(way_of(core, workflow), refusal),
     }
 }
 
 /// Undoes the last step that stands done, after a refusal.
-fn give_up<W: Asks>(site: &mut Site<W>, workflow: &WorkflowName, refusal: Refusal) -> Heard
-    ensures turn { Turns (W.scopes site.old.watchers) site.old.core (plain.gives_up workflow.now (refusal_from refusal)) (heard_from workflow.now result) site.new.core }
-    ensures watchers { site.new.watchers ≡ site.old.watchers }
+fn give_up<W: Asks>(
+    core: &mut Core,
+    watchers: &W,
+    workflow: &WorkflowName,
+    refusal: Refusal,
+) -> Heard
+    ensures { Turns (W.scopes watchers.now) core.old (plain.gives_up workflow.now (refusal_from refusal)) (heard_from workflow.now result) core.new }
 {
-    let at = steps_done(way_of(site, workflow));
-    let _ = site.apply(&Event::Undo {
-        workflow: workflow.copied(),
-        at,
-    });
+    let at = steps_done(way_of(core, workflow));
+    let _ = core.apply(
+        watchers,
+        &Event::Undo {
+            workflow: workflow.copied(),
+            at,
+        },
+    );
     unless_closed(
-        way_of(site, workflow),
+        way_of(core, workflow),
         Driven::Abandoned(refusal.copied()),
         Turn::GivesUp(refusal),
     )
 }
 
 /// Takes one turn: asks for the event that is due, and says what follows from its answer.
-pub(crate) fn take<W: Asks>(site: &mut Site<W>, workflow: &WorkflowName, turn: Turn) -> Heard
-    ensures turn { Turns (W.scopes site.old.watchers) site.old.core (turn_from workflow.now turn) (heard_from workflow.now result) site.new.core }
-    ensures watchers { site.new.watchers ≡ site.old.watchers }
+pub(crate) fn take<W: Asks>(
+    core: &mut Core,
+    watchers: &W,
+    workflow: &WorkflowName,
+    turn: Turn,
+) -> Heard
+    ensures { Turns (W.scopes watchers.now) core.old (turn_from workflow.now turn) (heard_from workflow.now result) core.new }
 {
     match turn {
-        Turn::Steps(tries) => step(site, workflow, tries),
-        Turn::Feeds(tries) => feed(site, workflow, tries),
-        Turn::GivesUp(refusal) => give_up(site, workflow, refusal),
+        Turn::Steps(tries) => step(core, watchers, workflow, tries),
+        Turn::Feeds(tries) => feed(core, watchers, workflow, tries),
+        Turn::GivesUp(refusal) => give_up(core, watchers, workflow, refusal),
     }
 }

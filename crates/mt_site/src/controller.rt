@@ -1,5 +1,5 @@
 //! The core of the controller: the topology, a primary for each of its keyspaces, the live workflows, and what is kept of ways.
-ghost use Rattle.std.specs.Prelude.{◌≡◌, ◌≤◌, ℕ, IfErr, IfOk, List, OnErr, length, option_copied, string_bytes};
+ghost use Rattle.std.specs.Prelude.{◌≡◌, ◌≤◌, ℕ, IfErr, IfOk, List, [], ◌∷◌, OnErr, length, option_copied, string_bytes};
 ghost use Rattle.mt_names.specs.Tables.{most_tables};
 ghost use Rattle.mt_primary.specs.Primary.{IsPrimary};
 ghost use Rattle.mt_event.specs.Events.{answer_from, event_of};
@@ -14,6 +14,7 @@ ghost use Rattle.mt_site_state.specs.ByHand.{AddsKeyspace, AddsTable, EditsRule,
 ghost use Rattle.mt_site_state.specs.Core.{primary_of, workflow_at};
 ghost use Rattle.mt_site.specs.Applies.{Applies};
 ghost use Rattle.mt_site.specs.GivenUp.{CanBeGivenUp};
+ghost use Rattle.mt_site.specs.Headline.{KeepsTheHeadline};
 ghost use Rattle.mt_site.specs.Owed.{owed_to};
 ghost use Rattle.mt_site_state.specs.Switching.{BeginsReverse, BeginsSwitch, Completes, StepsWorkflow, UndoesWorkflow};
 ghost use Rattle.mt_site_state.specs.Ways.{SiteStands, SiteSteps, empty_site};
@@ -27,6 +28,7 @@ use crate::{OpenWays, Primaries, Workflows, advance, by_hand, cancel, create, ow
 use indexmap::IndexMap;
 use mt_event::{Event, Refusal, Reply};
 use mt_journal::Journal;
+use mt_laws::every_run_keeps_the_headline;
 use mt_model::{Op, TopologyFault};
 use mt_names::{
     KeyspaceName, Position, RuleKey, RuleTarget, TableName, TabletType, TypeSet, WorkflowName,
@@ -430,13 +432,20 @@ impl Core {
     /// definitions allow in each state that the core stands for, and the core then stands for the next one. Of the events Read,
     /// Undo, Cancel, Complete and Show take no memory. Create asks the watchers of its target's primary, and of the steps a refresh
     /// those of the primary that it is about; no other event asks anybody. (Vitess: MoveTables)
+    ///
+    /// `headline` is the promise of the whole: whatever client calls, stream steps, rule edits and workflow commands were applied
+    /// before, in whatever order, Cancel gives back the workflow's part of the topology from before Create, ReverseTraffic that
+    /// from before SwitchTraffic, an abandoned switch that from its start; no moved table is ever writable in two keyspaces, and
+    /// each primary read answers from the acknowledged writes, each once.
     pub fn apply<W: Asks>(&mut self, watchers: &W, event: &Event) -> Result<Reply, Refusal>
         ensures applies { Applies (W.scopes watchers.now) (W.may_answer watchers.now) self.old (event_of event.now) (answer_from result) self.new }
         ensures steps { SiteSteps (W.scopes watchers.now) self.old (event_of event.now) (answer_from result) self.new }
         ensures unchanged { OnErr result (self.new ≡ self.old) }
         ensures given_up { CanBeGivenUp self.old (event_of event.now) → answer_from result ≡ plain.done }
+        ensures headline { KeepsTheHeadline (W.scopes watchers.now) self.old (event_of event.now ∷ []) (answer_from result ∷ []) self.new }
     {
         a_move_can_be_given_up(watchers);
+        every_run_keeps_the_headline();
         self.apply_event(watchers, event)
     }
 

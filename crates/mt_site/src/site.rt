@@ -17,7 +17,6 @@ ghost use Rattle.mt_site.specs.Owed.{owed_to};
 
 use crate::Core;
 use mt_event::{Event, Refusal, Reply};
-use mt_laws::every_run_keeps_the_headline;
 use mt_model::TopologyFault;
 use mt_names::{RuleKey, RuleTarget, TabletType, WorkflowName};
 use mt_rules::RulesFault;
@@ -48,11 +47,6 @@ impl<W: Asks> Site<W> {
     }
 
     /// Applies an event: see `Core::apply`. The watchers are those that the site was opened with.
-    ///
-    /// `headline` is the promise of the whole: whatever client calls, stream steps, rule edits and workflow commands were applied
-    /// before, in whatever order, Cancel gives back the workflow's part of the topology from before Create, ReverseTraffic that
-    /// from before SwitchTraffic, an abandoned switch that from its start; no moved table is ever writable in two keyspaces, and
-    /// each primary read answers from the acknowledged writes, each once.
     pub fn apply(&mut self, event: &Event) -> Result<Reply, Refusal>
         ensures watchers { self.new.watchers ≡ self.old.watchers }
         ensures applies { Applies (W.scopes self.old.watchers) (W.may_answer self.old.watchers) self.old.core (event_of event.now) (answer_from result) self.new.core }
@@ -61,7 +55,6 @@ impl<W: Asks> Site<W> {
         ensures given_up { CanBeGivenUp self.old.core (event_of event.now) → answer_from result ≡ plain.done }
         ensures headline { KeepsTheHeadline (W.scopes self.old.watchers) self.old.core (event_of event.now ∷ []) (answer_from result ∷ []) self.new.core }
     {
-        every_run_keeps_the_headline();
         self.core.apply(&self.watchers, event)
     }
 

@@ -4,20 +4,21 @@ use Rattle.std.proofs.lemmas.Result.{err_from_is_err_and}
 use Rattle.mt_event.specs.declared.refusal.Refusal.{Refusal}
 use Rattle.mt_event.specs.declared.refusal.Refusal.TheVariants as refusal
 use Rattle.mt_event.specs.Events.{answer_from, event_of, refusal_from}
+use Rattle.mt_event.specs.Drives.{driven_from}
 use Rattle.mt_plain.specs.Drive as plain
 use Rattle.mt_plain.specs.Drive.{begins}
-use Rattle.mt_drive.specs.declared.driven.Driven.{Driven}
-use Rattle.mt_drive.specs.declared.driven.Driven.TheVariants as driven
-use Rattle.mt_drive.specs.Drives.{DrivesFrom, IsOnItsWay, Turns, driven_from, turn_from}
+use Rattle.mt_event.specs.declared.driven.Driven.{Driven}
+use Rattle.mt_event.specs.declared.driven.Driven.TheVariants as driven
+use Rattle.mt_drive.specs.Drives.{DrivesFrom, IsOnItsWay, Turns, turn_from}
 use Rattle.mt_drive.proofs.TurnLemmas.{begun, ends_so, goes_further, never_out, refused_begin, starts, turn_taken}
 use Rattle.mt_drive.proofs.driving.drive.Goals as goal
 
-pub returns-in_err-apply-clause-drives : goal.returns-in_err-apply-clause-drives
-returns-in_err-apply-clause-drives g c =
-    let scopes = g.W.Asks.scopes c.args.site.now.watchers in
+pub returns-in_err-apply : goal.returns-in_err-apply
+returns-in_err-apply g c =
+    let scopes = g.W.Asks.scopes c.args.watchers.now in
     let start = begins c.args.workflow.now c.args.types c.args.back in
-    let old = c.args.site.now.core in
-    let new = c.apply.new.self.core in
+    let old = c.args.core.now in
+    let new = c.apply.new.self in
     let e = err_from_is_err_and c.from_residual.result c.from_residual.ensures.1 in
     let same : e.0 ≡ c.in_err-apply.field-0.0 = search (e.2) in
     let ended : Result Driven Refusal = c.from_residual.result in
@@ -29,68 +30,56 @@ returns-in_err-apply-clause-drives g c =
 
 pub loop-init : goal.loop-init
 loop-init g c =
-    let scopes = g.W.Asks.scopes c.args.site.now.watchers in
+    let scopes = g.W.Asks.scopes c.args.watchers.now in
     let start = begins c.args.workflow.now c.args.types c.args.back in
-    let old = c.args.site.now.core in
-    let new = c.apply.new.self.core in
+    let old = c.args.core.now in
+    let new = c.apply.new.self in
     let law = c.a_drive_fits_in_the_turns_that_are_left.ensures in
-    record {
-      watchers = c.apply.ensures.watchers;
-      on = goes_further scopes old old new start start (plain.steps c.args.workflow.now 64) 399 law.goes_on
-          (starts scopes old start (λ p. law.begins p c.args.workflow.now c.args.types c.args.back))
-          (turn_taken scopes old new start (plain.goes_on (plain.steps c.args.workflow.now 64)) (event_of c.begin_of.result) (answer_from c.apply.result) c.apply.ensures.steps
-          (λ p stands. c.begin_of.ensures p)
-          (λ q stands. ap (λ r. plain.heard q start (answer_from r)) c.in_ok-apply.was ∙ begun q c.args.workflow.now c.args.types c.args.back c.in_ok-apply.field-0));
-    }
+    goes_further scopes old old new start start (plain.steps c.args.workflow.now 64) 399 law.goes_on
+    (starts scopes old start (λ p. law.begins p c.args.workflow.now c.args.types c.args.back))
+    (turn_taken scopes old new start (plain.goes_on (plain.steps c.args.workflow.now 64)) (event_of c.begin_of.result) (answer_from c.apply.result) c.apply.ensures.steps
+    (λ p stands. c.begin_of.ensures p)
+    (λ q stands. ap (λ r. plain.heard q start (answer_from r)) c.in_ok-apply.was ∙ begun q c.args.workflow.now c.args.types c.args.back c.in_ok-apply.field-0))
 
-pub returns-in-Ends-clause-watchers : goal.returns-in-Ends-clause-watchers
-returns-in-Ends-clause-watchers g c = c.take.ensures.watchers ∙ c.loop.invariant.watchers
-
-pub returns-in-Ends-clause-drives : goal.returns-in-Ends-clause-drives
-returns-in-Ends-clause-drives g c =
+pub returns-in-Ends : goal.returns-in-Ends
+returns-in-Ends g c =
     let name = c.args.workflow.now in
-    let scopes = g.W.Asks.scopes c.args.site.now.watchers in
+    let scopes = g.W.Asks.scopes c.args.watchers.now in
     let start = begins name c.args.types c.args.back in
-    let old = c.args.site.now.core in
-    let now = c.loop.site.core in
-    let new = c.take.new.site.core in
+    let old = c.args.core.now in
+    let now = c.loop.core in
+    let new = c.take.new.core in
     let driving = turn_from name c.loop.turn in
     let turn : Turns scopes now driving (plain.ends (Ok (driven_from c.in-Ends.driven))) new
-    = subst (λ w. Turns (g.W.Asks.scopes w) now driving (plain.ends (Ok (driven_from c.in-Ends.driven))) new) c.loop.invariant.watchers c.in-Ends.ensures.turn in
+    = c.in-Ends.ensures in
     let left : 400 - c.loop.counter ≡ suc (399 - c.loop.counter) = omega (arith, c.loop-test.true) in
     ends_so scopes old now new start driving c.in-Ends.driven (399 - c.loop.counter)
-    (subst (λ n. IsOnItsWay scopes old start n driving now) left c.loop.invariant.on) turn
+    (subst (λ n. IsOnItsWay scopes old start n driving now) left c.loop.invariant) turn
 
 pub loop-preserved : goal.loop-preserved
 loop-preserved g c =
     let name = c.args.workflow.now in
-    let scopes = g.W.Asks.scopes c.args.site.now.watchers in
+    let scopes = g.W.Asks.scopes c.args.watchers.now in
     let start = begins name c.args.types c.args.back in
-    let old = c.args.site.now.core in
-    let now = c.loop.site.core in
-    let new = c.take.new.site.core in
+    let old = c.args.core.now in
+    let now = c.loop.core in
+    let new = c.take.new.core in
     let driving = turn_from name c.loop.turn in
     let after = turn_from name c.in-GoesOn.next in
     let turn : Turns scopes now driving (plain.goes_on after) new
-    = subst (λ w. Turns (g.W.Asks.scopes w) now driving (plain.goes_on after) new) c.loop.invariant.watchers c.in-GoesOn.ensures.turn in
+    = c.in-GoesOn.ensures in
     let left : 400 - c.loop.counter ≡ suc (400 - (c.loop.counter + 1)) = omega (arith, c.loop-test.true) in
-    record {
-      watchers = c.take.ensures.watchers ∙ c.loop.invariant.watchers;
-      on = goes_further scopes old now new start driving after (400 - (c.loop.counter + 1)) c.a_drive_fits_in_the_turns_that_are_left.ensures.goes_on
-          (subst (λ n. IsOnItsWay scopes old start n driving now) left c.loop.invariant.on) turn;
-    }
+    goes_further scopes old now new start driving after (400 - (c.loop.counter + 1)) c.a_drive_fits_in_the_turns_that_are_left.ensures.goes_on
+    (subst (λ n. IsOnItsWay scopes old start n driving now) left c.loop.invariant) turn
 
-pub returns-clause-watchers : goal.returns-clause-watchers
-returns-clause-watchers g c = c.loop.invariant.watchers
-
-pub returns-clause-drives : goal.returns-clause-drives
-returns-clause-drives g c =
+pub returns : goal.returns
+returns g c =
     let name = c.args.workflow.now in
-    let scopes = g.W.Asks.scopes c.args.site.now.watchers in
+    let scopes = g.W.Asks.scopes c.args.watchers.now in
     let start = begins name c.args.types c.args.back in
-    let old = c.args.site.now.core in
-    let now = c.loop.site.core in
+    let old = c.args.core.now in
+    let now = c.loop.core in
     let driving = turn_from name c.loop.turn in
     let none : 400 - c.loop.counter ≡ 0 = omega (arith, c.loop-test.false) in
     never_out scopes old now now start driving (Ok (driven.Stopped refusal.NotLevel 0)) c.a_drive_fits_in_the_turns_that_are_left.ensures.never_runs_out
-    (subst (λ n. IsOnItsWay scopes old start n driving now) none c.loop.invariant.on)
+    (subst (λ n. IsOnItsWay scopes old start n driving now) none c.loop.invariant)

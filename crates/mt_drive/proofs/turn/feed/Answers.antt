@@ -8,21 +8,21 @@ use Rattle.mt_drive.specs.Drives.{heard_from}
 use Rattle.mt_drive.proofs.TurnLemmas.{advance_due, fed, turn_taken}
 use Rattle.mt_drive.proofs.turn.feed.Goals as goal
 
-pub returns-in-Ok-clause-turn : goal.returns-in-Ok-clause-turn
-returns-in-Ok-clause-turn g c =
-    let scopes = g.W.Asks.scopes c.args.site.now.watchers in
+pub returns-in-Ok : goal.returns-in-Ok
+returns-in-Ok g c =
+    let scopes = g.W.Asks.scopes c.args.watchers.now in
     let name = c.args.workflow.now in
-    turn_taken scopes c.args.site.now.core c.apply-answer.new.self.core (plain.feeds name c.args.tries) (plain.goes_on (plain.steps name c.args.tries))
+    turn_taken scopes c.args.core.now c.apply-answer.new.self (plain.feeds name c.args.tries) (plain.goes_on (plain.steps name c.args.tries))
     (advance c.copied.result (stream_name c.feeding-stream.result.0) c.feeding-stream.result.1 100) (answer_from c.apply-answer.result) c.apply-answer.ensures.steps
     (λ p stands. ap (λ n. advance n (stream_name c.feeding-stream.result.0) c.feeding-stream.result.1 100) c.copied.ensures
     ∙ advance_due p name c.args.tries (stream_name c.feeding-stream.result.0) c.feeding-stream.result.1 (c.feeding-stream.ensures.stream p scopes stands) (c.feeding-stream.ensures.position p scopes stands))
     (λ q stands. ap (λ r. plain.heard q (plain.feeds name c.args.tries) (answer_from r)) c.in-Ok.is ∙ fed q name c.args.tries c.in-Ok.field-0)
 
-pub returns-in-Err-clause-turn : goal.returns-in-Err-clause-turn
-returns-in-Err-clause-turn g c =
-    let scopes = g.W.Asks.scopes c.args.site.now.watchers in
+pub returns-in-Err : goal.returns-in-Err
+returns-in-Err g c =
+    let scopes = g.W.Asks.scopes c.args.watchers.now in
     let name = c.args.workflow.now in
-    turn_taken scopes c.args.site.now.core c.apply-answer.new.self.core (plain.feeds name c.args.tries) (heard_from name c.fail.result)
+    turn_taken scopes c.args.core.now c.apply-answer.new.self (plain.feeds name c.args.tries) (heard_from name c.fail.result)
     (advance c.copied.result (stream_name c.feeding-stream.result.0) c.feeding-stream.result.1 100) (answer_from c.apply-answer.result) c.apply-answer.ensures.steps
     (λ p stands. ap (λ n. advance n (stream_name c.feeding-stream.result.0) c.feeding-stream.result.1 100) c.copied.ensures
     ∙ advance_due p name c.args.tries (stream_name c.feeding-stream.result.0) c.feeding-stream.result.1 (c.feeding-stream.ensures.stream p scopes stands) (c.feeding-stream.ensures.position p scopes stands))

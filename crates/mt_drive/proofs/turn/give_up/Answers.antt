@@ -8,12 +8,12 @@ use Rattle.mt_drive.specs.Drives.{heard_from}
 use Rattle.mt_drive.proofs.TurnLemmas.{turn_taken}
 use Rattle.mt_drive.proofs.turn.give_up.Goals as goal
 
-pub returns-clause-turn : goal.returns-clause-turn
-returns-clause-turn g c =
-    let scopes = g.W.Asks.scopes c.args.site.now.watchers in
+pub returns : goal.returns
+returns g c =
+    let scopes = g.W.Asks.scopes c.args.watchers.now in
     let name = c.args.workflow.now in
     let why = refusal_from c.args.refusal in
-    turn_taken scopes c.args.site.now.core c.apply.new.self.core (plain.gives_up name why) (heard_from name c.unless_closed.result)
+    turn_taken scopes c.args.core.now c.apply.new.self (plain.gives_up name why) (heard_from name c.unless_closed.result)
     (undo c.copied.result c.steps_done-at.result) (answer_from c.apply.result) c.apply.ensures.steps
     (λ p stands. ap (λ n. undo n c.steps_done-at.result) c.copied.ensures ∙ ap (undo name) (c.steps_done-at.ensures p name (c.way_of.ensures p scopes stands)))
     (λ q stands. ap (λ w. plain.unless_closed w (plain.abandoned why) (plain.gives_up name why)) (sym (c.way_of-2.ensures q scopes stands))

@@ -1,5 +1,5 @@
 -- The end is that of the core's drive.
-use Rattle.mt_event.specs.Events.{ended_from}
+use Rattle.mt_event.specs.Drives.{ended_from}
 use Rattle.mt_plain.specs.Drive.{begins}
 use Rattle.mt_run.proofs.RunLemmas.{drives_told}
 use Rattle.mt_run.proofs.script.drive_whole.Goals as goal
