@@ -17,33 +17,13 @@ use Rattle.mt_model.specs.declared.rows.Op.TheVariants.{Insert, Update, Append, 
 use Rattle.mt_model.specs.Rows.{RowValue}
 use Rattle.mt_plain.specs.Events.{add_keyspace, add_table, edit_rule, read, write}
 use Rattle.mt_plain.specs.Events as core
-use Rattle.mt_plain.specs.Script.{Command, Request, event, write_through, read_through, drive, rules_document, dump_document, advance, begin_reverse, begin_switch, cancel, change, complete, create, four_words, get, is_for_reads, is_row_verb, one_word, read_advance, read_number, read_row_command, read_value, request_of, reverse, show, step, switch, two_words, undo, with_number, with_types}
+use Rattle.mt_plain.specs.Script.{Command, Request, event, write_through, read_through, drive, rules_document, dump_document, change, get, is_for_reads, is_row_verb, one_word, read_number, read_row_command, read_value, read_workflow_command, request_of, two_words}
 use Rattle.mt_plain.specs.Script as plain
 use Rattle.mt_workflow.specs.Workflows.{stream_name}
 
--- what stands behind `create`
-abbrev pub read_create : List (List ℕ) → Option Command
-read_create words = option_map (λ w. create w.0 w.1 w.2 w.3) (four_words words)
-
--- a command on a workflow, by its verb
-abbrev pub workflow_command : (verb : List ℕ) → List (List ℕ) → Option Command
-workflow_command verb words =
-    if same_text verb (codes "create") then read_create words
-    else if same_text verb (codes "advance") then read_advance words
-    else if same_text verb (codes "begin-switch") then with_types begin_switch words
-    else if same_text verb (codes "begin-reverse") then with_types begin_reverse words
-    else if same_text verb (codes "step") then with_number step words
-    else if same_text verb (codes "undo") then with_number undo words
-    else if same_text verb (codes "switch") then with_types switch words
-    else if same_text verb (codes "reverse") then with_types reverse words
-    else if same_text verb (codes "cancel") then option_map cancel (one_word words)
-    else if same_text verb (codes "complete") then option_map complete (one_word words)
-    else if same_text verb (codes "show") then option_map show (one_word words)
-    else None
-
 -- an operation on a row, or a command on a workflow
 abbrev pub other_command : (verb : List ℕ) → List (List ℕ) → Option Command
-other_command verb words = if is_row_verb verb then read_row_command change get verb words else workflow_command verb words
+other_command verb words = if is_row_verb verb then read_row_command change get verb words else read_workflow_command verb words
 
 -- what is done to a row, behind a name
 abbrev pub work_of : (List ℕ → Op → Command) → (List ℕ → ℕ → Command) → (name : List ℕ) → RowWork → Option Command

@@ -1,8 +1,8 @@
 //! Commands on workflows.
 ghost use Rattle.std.specs.Prelude.{◌≡◌, true, option_map};
-ghost use Rattle.mt_plain.specs.Script.{advance, begin_reverse, begin_switch, cancel, complete, create, is_readable, read_advance, read_stream, request_of, reverse, show, step, switch, undo, words_of};
+ghost use Rattle.mt_plain.specs.Script.{advance, begin_reverse, begin_switch, cancel, complete, create, four_words, is_readable, read_advance, read_stream, read_workflow_command, request_of, reverse, show, step, switch, undo, words_of};
 ghost use Rattle.mt_workflow.specs.Workflows.{stream_name};
-ghost use Rattle.mt_script.specs.Requests.{read_create, read_from, workflow_command};
+ghost use Rattle.mt_script.specs.Requests.{read_from};
 
 use crate::lines::Request;
 use crate::numbers::{read_number, read_small_number};
@@ -113,7 +113,7 @@ fn show_request(workflow: &str) -> Result<Request, NameFault>
 /// Reads what stands behind `create`: the workflow, the source, the target, the tables.
 fn create_command(words: &[u8]) -> Option<Result<Request, NameFault>>
     requires { is_readable words.now ≡ true }
-    ensures { option_map read_from result ≡ option_map request_of (read_create (words_of words.now)) }
+    ensures { option_map read_from result ≡ option_map request_of (option_map (λ w. create w.0 w.1 w.2 w.3) (four_words (words_of words.now))) }
 {
     let (workflow, source, target, tables) = four_words(words)?;
     Some(create_request(workflow, source, target, tables))
@@ -134,7 +134,7 @@ fn advance_command(words: &[u8]) -> Option<Result<Request, NameFault>>
 /// Reads a command on a workflow, behind its verb.
 pub fn workflow_command(verb: &str, words: &[u8]) -> Option<Result<Request, NameFault>>
     requires { is_readable words.now ≡ true }
-    ensures { option_map read_from result ≡ option_map request_of (workflow_command verb.now (words_of words.now)) }
+    ensures { option_map read_from result ≡ option_map request_of (read_workflow_command verb.now (words_of words.now)) }
 {
     match verb {
         "create" => create_command(words),
