@@ -1,20 +1,20 @@
 -- A turn that is taken, and a drive that is on its way.
-use Rattle.std.proofs.Common.{◌≡◌, ℕ, suc, Bool, List, Result, Ok, Err, refl, sym, ap, subst, ◌∙◌}
+use Rattle.std.proofs.Common.{◌≡◌, ℕ, suc, Bool, List, Option, Result, Ok, Err, refl, sym, ap, subst, ◌∙◌}
 use Rattle.mt_event.specs.declared.refusal.Refusal.{Refusal}
 use Rattle.mt_event.specs.declared.reply.Reply.{Reply}
 use Rattle.mt_event.specs.declared.reply.Reply.TheVariants as reply
 use Rattle.mt_event.specs.Events.{refusal_from, reply_from}
-use Rattle.mt_event.specs.Drives.{driven_from, ended_from}
 use Rattle.mt_laws.specs.Turns.{Fits, FitsHeard}
 use Rattle.mt_model.specs.declared.entries.Scope.{Scope}
 use Rattle.mt_names.specs.declared.types.TypeSet.{TypeSet}
 use Rattle.mt_plain.specs.Answers.{Answers}
-use Rattle.mt_plain.specs.Drive.{Drives, Driving, GoesOn, Heard, begins, done, ends, event_of, feeding_stream, feeds, goes_on, heard, most_at_once, most_tries, most_turns, position_of, steps, unless_closed, way_of}
-use Rattle.mt_plain.specs.Events.{Answer, Event, StreamName, advance}
+use Rattle.mt_plain.specs.Drive.{Drives, Driving, GoesOn, Heard, abandoned, begins, done, ends, event_of, feeding_stream, feeds, gives_up, goes_on, heard, most_at_once, most_tries, most_turns, position_of, steps, unless_closed, way_of}
+use Rattle.mt_plain.specs.Events.{Answer, Event, StreamName, Way, advance}
 use Rattle.mt_plain.specs.Next.{next}
 use Rattle.mt_plain.specs.Plain.{Plain}
 use Rattle.mt_site_state.specs.Ways.{SiteStands, SiteState, SiteSteps}
 use Rattle.mt_event.specs.declared.driven.Driven.{Driven}
+use Rattle.mt_event.specs.Drives.{driven_from, ended_from}
 use Rattle.mt_drive.specs.Drives.{EndsFrom, IsOnItsWay, Turns}
 
 -- ---- one turn
@@ -55,6 +55,13 @@ fed q workflow tries reply.Done = refl
 fed q workflow tries (reply.Row row) = refl
 fed q workflow tries (reply.Advanced counts) = refl
 fed q workflow tries (reply.Shown shown) = refl
+
+-- what follows from any answer to an undo
+pub undone : (q : Plain) (workflow : List ℕ) (why told : Refusal) (way : Option Way) (answer : Answer) (said : Heard) → way ≡ way_of q workflow → told ≡ why
+    → said ≡ unless_closed way (abandoned (refusal_from told)) (gives_up workflow (refusal_from why)) → heard q (gives_up workflow (refusal_from why)) answer ≡ said
+undone q workflow why told way answer said same tells is =
+    ap (λ w. unless_closed w (abandoned (refusal_from why)) (gives_up workflow (refusal_from why))) (sym same)
+    ∙ ap (λ r. unless_closed way (abandoned (refusal_from r)) (gives_up workflow (refusal_from why))) (sym tells) ∙ sym is
 
 -- ---- turn after turn
 

@@ -1,18 +1,21 @@
 -- What a drive of the controller means: a whole switch of traffic, or its reversal (MoveTables: SwitchTraffic, ReverseTraffic).
-use Rattle.std.specs.Prelude.{◌≡◌, ℕ, Bool, List, Result, Ok, Err}
+use Rattle.std.specs.Prelude.{◌≡◌, ℕ, Bool, List, [], ◌∷◌, ◌++◌, Result, Ok, Err}
 use Rattle.mt_event.specs.declared.refusal.Refusal.{Refusal}
-use Rattle.mt_event.specs.Events.{refusal_from}
 use Rattle.mt_event.specs.Drives.{driven_from, ended_from}
+use Rattle.mt_event.specs.Events.{refusal_from}
 use Rattle.mt_model.specs.declared.entries.Scope.{Scope}
 use Rattle.mt_names.specs.declared.types.TypeSet.{TypeSet}
-use Rattle.mt_plain.specs.Answers.{Answers}
-use Rattle.mt_plain.specs.Drive.{Drives, Driving, begins, Heard, event_of, heard, most_turns}
+use Rattle.mt_plain.specs.Answers.{Answers, after}
+use Rattle.mt_plain.specs.Drive.{Drives, Driving, GoesOn, begins, Heard, event_of, heard, most_turns}
 use Rattle.mt_plain.specs.Drive as plain
-use Rattle.mt_plain.specs.Events.{Answer}
+use Rattle.mt_plain.specs.Events.{Answer, Event}
 use Rattle.mt_plain.specs.Events as events
 use Rattle.mt_plain.specs.Next.{next}
 use Rattle.mt_plain.specs.Plain.{Plain}
+use Rattle.mt_laws.specs.Headline.{Headline}
+use Rattle.mt_laws.specs.Scripts.{IsDrive}
 use Rattle.mt_laws.specs.Turns.{Fits}
+use Rattle.mt_site.specs.Headline.{HasRun}
 use Rattle.mt_site_state.specs.Ways.{SiteStands, SiteState}
 use Rattle.mt_event.specs.declared.driven.Driven.{Driven}
 use Rattle.mt_drive.specs.declared.turn.Heard as code_heard
@@ -48,6 +51,15 @@ EndsFrom scopes turns driving p result new =
 abbrev pub DrivesFrom : List Scope → (old : SiteState) → (workflow : List ℕ) → TypeSet → (back : Bool) → Result Driven Refusal → (new : SiteState) → Type 0
 DrivesFrom scopes old workflow types back result new =
     (p : Plain) → SiteStands p scopes old → EndsFrom scopes most_turns (begins workflow types back) p result new
+
+-- whatever run the controller had made before, it goes on with the events of a drive, which ends so, and of the whole of it the headline
+-- holds, word for word
+abbrev pub DriveKeepsTheHeadline : List Scope → (old : SiteState) → (workflow : List ℕ) → TypeSet → (back : Bool) → Result Driven Refusal → (new : SiteState) → Type 0
+DriveKeepsTheHeadline scopes old workflow types back result new = (p : Plain) (earlier : List Event) (earlier_answers : List Answer)
+    → HasRun scopes old p earlier earlier_answers
+    → (events : List Event) × (answers : List Answer)
+    × IsDrive (after p earlier earlier_answers) (begins workflow types back) events answers (ended_from result)
+    × HasRun scopes new p (earlier ++ events) (earlier_answers ++ answers) × Headline p (earlier ++ events) (earlier_answers ++ answers)
 
 -- a drive that is on its way, with some turns left: it fits in them, and as it ends from here, so the whole drive ends
 abbrev pub IsOnItsWay : List Scope → (old : SiteState) → (start : Driving) → (left : ℕ) → Driving → (now : SiteState) → Type 0

@@ -1,14 +1,14 @@
 //! Whole switches and reversals of traffic.
-ghost use Rattle.std.specs.Prelude.{◌≡◌};
+ghost use Rattle.std.specs.Prelude.{◌≡◌, OnErr};
 ghost use Rattle.mt_event.specs.Events.{event_of};
 ghost use Rattle.mt_plain.specs.Drive.{begins};
 ghost use Rattle.mt_plain.specs.Drive as plain;
 ghost use Rattle.mt_plain.specs.Plain.{Plain};
-ghost use Rattle.mt_drive.specs.Drives.{DrivesFrom};
+ghost use Rattle.mt_drive.specs.Drives.{DriveKeepsTheHeadline, DrivesFrom};
 
 use crate::turn::{Heard, MOST_TRIES, Turn, take};
 use mt_event::{Driven, Event, Refusal};
-use mt_laws::a_drive_fits_in_the_turns_that_are_left;
+use mt_laws::{a_drive_fits_in_the_turns_that_are_left, every_run_keeps_the_headline};
 use mt_names::{TypeSet, WorkflowName};
 use mt_site::Core;
 use mt_watch::Asks;
@@ -40,8 +40,11 @@ pub fn drive<W: Asks>(
     types: TypeSet,
     back: bool,
 ) -> Result<Driven, Refusal>
-    ensures { DrivesFrom (W.scopes watchers.now) core.old workflow.now types back result core.new }
+    ensures drives { DrivesFrom (W.scopes watchers.now) core.old workflow.now types back result core.new }
+    ensures headline { DriveKeepsTheHeadline (W.scopes watchers.now) core.old workflow.now types back result core.new }
+    ensures unchanged { OnErr result (core.new ≡ core.old) }
 {
+    every_run_keeps_the_headline();
     a_drive_fits_in_the_turns_that_are_left();
     core.apply(watchers, &begin_of(workflow, types, back))?;
     let mut turn = Turn::Steps(MOST_TRIES);

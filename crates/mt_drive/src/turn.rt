@@ -1,7 +1,7 @@
 //! The turns of a drive: what it asks for, and what follows from the answer.
 ghost use Rattle.std.specs.Prelude.{◌≡◌, List, ℕ, option_map};
-ghost use Rattle.mt_event.specs.Events.{refusal_from};
 ghost use Rattle.mt_event.specs.Drives.{driven_from};
+ghost use Rattle.mt_event.specs.Events.{refusal_from};
 ghost use Rattle.mt_model.specs.declared.entries.Scope.{Scope};
 ghost use Rattle.mt_plain.specs.Drive as plain;
 ghost use Rattle.mt_plain.specs.Plain.{Plain, stands_done, write_journal};
@@ -20,6 +20,9 @@ pub(crate) const MOST_TRIES: u8 = 64;
 
 /// How many entries are read before a step is tried again.
 const MOST_AT_ONCE: u16 = 100;
+
+/// The number of the step that writes the journal.
+const JOURNAL: u16 = 6;
 
 /// What a drive that is begun asks for next.
 #[derive(Drop)]
@@ -65,7 +68,7 @@ fn is_past_journal(way: Way) -> bool
     let has_reads = way.before.replica != way.after.replica
         || way.before.rdonly != way.after.rdonly;
     let first = if has_reads { 0 } else { 1 };
-    u16::from(way.done) + first > 6
+    u16::from(way.done) + first > JOURNAL
 }
 
 /// The stream that feeds on a way, and its position.

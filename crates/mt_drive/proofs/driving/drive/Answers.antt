@@ -4,17 +4,18 @@ use Rattle.std.proofs.lemmas.Result.{err_from_is_err_and}
 use Rattle.mt_event.specs.declared.refusal.Refusal.{Refusal}
 use Rattle.mt_event.specs.declared.refusal.Refusal.TheVariants as refusal
 use Rattle.mt_event.specs.Events.{answer_from, event_of, refusal_from}
-use Rattle.mt_event.specs.Drives.{driven_from}
 use Rattle.mt_plain.specs.Drive as plain
-use Rattle.mt_plain.specs.Drive.{begins}
+use Rattle.mt_plain.specs.Drive.{begins, most_turns}
 use Rattle.mt_event.specs.declared.driven.Driven.{Driven}
 use Rattle.mt_event.specs.declared.driven.Driven.TheVariants as driven
+use Rattle.mt_event.specs.Drives.{driven_from}
 use Rattle.mt_drive.specs.Drives.{DrivesFrom, IsOnItsWay, Turns, turn_from}
+use Rattle.mt_drive.proofs.RunLemmas.{drive_keeps}
 use Rattle.mt_drive.proofs.TurnLemmas.{begun, ends_so, goes_further, never_out, refused_begin, starts, turn_taken}
 use Rattle.mt_drive.proofs.driving.drive.Goals as goal
 
-pub returns-in_err-apply : goal.returns-in_err-apply
-returns-in_err-apply g c =
+pub returns-in_err-apply-clause-drives : goal.returns-in_err-apply-clause-drives
+returns-in_err-apply-clause-drives g c =
     let scopes = g.W.Asks.scopes c.args.watchers.now in
     let start = begins c.args.workflow.now c.args.types c.args.back in
     let old = c.args.core.now in
@@ -27,6 +28,11 @@ returns-in_err-apply g c =
     (refused_begin scopes old new c.args.workflow.now c.args.types c.args.back c.in_err-apply.field-0.0 399
     (turn_taken scopes old new start (plain.ends (Err (refusal_from c.in_err-apply.field-0.0))) (event_of c.begin_of.result) (answer_from c.apply.result) c.apply.ensures.steps
     (λ p stands. c.begin_of.ensures p) (λ q stands. ap (λ r. plain.heard q start (answer_from r)) c.in_err-apply.was)))
+
+pub returns-in_err-apply-clause-headline : goal.returns-in_err-apply-clause-headline
+returns-in_err-apply-clause-headline g c =
+    drive_keeps (g.W.Asks.scopes c.args.watchers.now) c.args.core.now c.apply.new.self c.args.workflow.now c.args.types c.args.back c.from_residual.result most_turns
+    (returns-in_err-apply-clause-drives g c) c.every_run_keeps_the_headline.ensures.with_earlier_lines
 
 pub loop-init : goal.loop-init
 loop-init g c =
@@ -41,8 +47,8 @@ loop-init g c =
     (λ p stands. c.begin_of.ensures p)
     (λ q stands. ap (λ r. plain.heard q start (answer_from r)) c.in_ok-apply.was ∙ begun q c.args.workflow.now c.args.types c.args.back c.in_ok-apply.field-0))
 
-pub returns-in-Ends : goal.returns-in-Ends
-returns-in-Ends g c =
+pub returns-in-Ends-clause-drives : goal.returns-in-Ends-clause-drives
+returns-in-Ends-clause-drives g c =
     let name = c.args.workflow.now in
     let scopes = g.W.Asks.scopes c.args.watchers.now in
     let start = begins name c.args.types c.args.back in
@@ -55,6 +61,11 @@ returns-in-Ends g c =
     let left : 400 - c.loop.counter ≡ suc (399 - c.loop.counter) = omega (arith, c.loop-test.true) in
     ends_so scopes old now new start driving c.in-Ends.driven (399 - c.loop.counter)
     (subst (λ n. IsOnItsWay scopes old start n driving now) left c.loop.invariant) turn
+
+pub returns-in-Ends-clause-headline : goal.returns-in-Ends-clause-headline
+returns-in-Ends-clause-headline g c =
+    drive_keeps (g.W.Asks.scopes c.args.watchers.now) c.args.core.now c.take.new.core c.args.workflow.now c.args.types c.args.back (Ok c.in-Ends.driven) most_turns
+    (returns-in-Ends-clause-drives g c) c.every_run_keeps_the_headline.ensures.with_earlier_lines
 
 pub loop-preserved : goal.loop-preserved
 loop-preserved g c =
@@ -72,8 +83,8 @@ loop-preserved g c =
     goes_further scopes old now new start driving after (400 - (c.loop.counter + 1)) c.a_drive_fits_in_the_turns_that_are_left.ensures.goes_on
     (subst (λ n. IsOnItsWay scopes old start n driving now) left c.loop.invariant) turn
 
-pub returns : goal.returns
-returns g c =
+pub returns-clause-drives : goal.returns-clause-drives
+returns-clause-drives g c =
     let name = c.args.workflow.now in
     let scopes = g.W.Asks.scopes c.args.watchers.now in
     let start = begins name c.args.types c.args.back in
@@ -83,3 +94,8 @@ returns g c =
     let none : 400 - c.loop.counter ≡ 0 = omega (arith, c.loop-test.false) in
     never_out scopes old now now start driving (Ok (driven.Stopped refusal.NotLevel 0)) c.a_drive_fits_in_the_turns_that_are_left.ensures.never_runs_out
     (subst (λ n. IsOnItsWay scopes old start n driving now) none c.loop.invariant)
+
+pub returns-clause-headline : goal.returns-clause-headline
+returns-clause-headline g c =
+    drive_keeps (g.W.Asks.scopes c.args.watchers.now) c.args.core.now c.loop.core c.args.workflow.now c.args.types c.args.back (Ok (driven.Stopped refusal.NotLevel 0)) most_turns
+    (returns-clause-drives g c) c.every_run_keeps_the_headline.ensures.with_earlier_lines

@@ -1,11 +1,11 @@
 -- The undo of the last step that stands done is asked for, and what follows is what the definitions say, whatever its answer.
-use Rattle.std.proofs.Common.{ap, option_map, sym, ◌∙◌}
+use Rattle.std.proofs.Common.{ap, option_map, ◌∙◌}
 use Rattle.mt_event.specs.Events.{answer_from, refusal_from}
 use Rattle.mt_plain.specs.Drive as plain
 use Rattle.mt_plain.specs.Events.{undo}
 use Rattle.mt_workflow.specs.Workflows.{way_from}
 use Rattle.mt_drive.specs.Drives.{heard_from}
-use Rattle.mt_drive.proofs.TurnLemmas.{turn_taken}
+use Rattle.mt_drive.proofs.TurnLemmas.{turn_taken, undone}
 use Rattle.mt_drive.proofs.turn.give_up.Goals as goal
 
 pub returns : goal.returns
@@ -16,5 +16,5 @@ returns g c =
     turn_taken scopes c.args.core.now c.apply.new.self (plain.gives_up name why) (heard_from name c.unless_closed.result)
     (undo c.copied.result c.steps_done-at.result) (answer_from c.apply.result) c.apply.ensures.steps
     (λ p stands. ap (λ n. undo n c.steps_done-at.result) c.copied.ensures ∙ ap (undo name) (c.steps_done-at.ensures p name (c.way_of.ensures p scopes stands)))
-    (λ q stands. ap (λ w. plain.unless_closed w (plain.abandoned why) (plain.gives_up name why)) (sym (c.way_of-2.ensures q scopes stands))
-    ∙ ap (λ r. plain.unless_closed (option_map way_from c.way_of-2.result) (plain.abandoned (refusal_from r)) (plain.gives_up name why)) (sym c.copied-2.ensures) ∙ sym (c.unless_closed.ensures name))
+    (λ q stands. undone q name c.args.refusal c.copied-2.result (option_map way_from c.way_of-2.result) (answer_from c.apply.result) (heard_from name c.unless_closed.result)
+    (c.way_of-2.ensures q scopes stands) c.copied-2.ensures (c.unless_closed.ensures name))
