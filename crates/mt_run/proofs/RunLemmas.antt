@@ -9,7 +9,8 @@ use Rattle.mt_model.specs.declared.entries.Scope.{Scope}
 use Rattle.mt_model.specs.Documents.{dump_text, rules_text}
 use Rattle.mt_plain.specs.Events.{Answer, Event, Refusal}
 use Rattle.mt_plain.specs.Answers.{Answers}
-use Rattle.mt_plain.specs.Drive.{Driven, Drives, Driving, EndRule, GoesOn, Heard, goes_on, ends, event_of, heard, most_turns}
+use Rattle.mt_plain.specs.Drive.{Driven, Drives, Driving, EndRule, GoesOn, Heard, event_of, heard, most_turns}
+use Rattle.mt_plain.specs.Drive as turn
 use Rattle.mt_plain.specs.Next.{next}
 use Rattle.mt_plain.specs.Output.{Adds, IsOutputBy, Output, Told, asks, drives, line_feed, nothing, output_from, says, told, told_request}
 use Rattle.mt_plain.specs.Output as plain
@@ -41,8 +42,8 @@ goes_end : (Ends : EndRule) (turns : ℕ)
     → ((d : Driving) (p : Plain) → Drives Answers turns Ends d p → (r : Plain) × (ended : Result Driven Refusal) × Ends ended r × ((Ends' : EndRule) → Ends' ended r → Drives Answers turns Ends' d p))
     → (q : Plain) (h : Heard) → GoesOn (Drives Answers turns Ends) Ends q h
     → (r : Plain) × (ended : Result Driven Refusal) × Ends ended r × ((Ends' : EndRule) → Ends' ended r → GoesOn (Drives Answers turns Ends') Ends' q h)
-goes_end Ends turns again q (goes_on d) went = again d q went
-goes_end Ends turns again q (ends ended) held = (q, ended, held, λ Ends' then. then)
+goes_end Ends turns again q (turn.goes_on d) went = again d q went
+goes_end Ends turns again q (turn.ends ended) held = (q, ended, held, λ Ends' then. then)
 
 -- the same of a drive
 drive_end : (Ends : EndRule) (turns : ℕ) (d : Driving) (p : Plain) → Drives Answers turns Ends d p
