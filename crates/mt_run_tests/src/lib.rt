@@ -24,4 +24,6 @@ mod steps;
 #[cfg(test)]
 mod way_refusals;
 #[cfg(test)]
+mod whole_switches;
+#[cfg(test)]
 mod workflows;
