@@ -417,17 +417,6 @@ fn a_switch_begins(rt: HostRuntime) -> Result<(), Fail> {
 }
 
 #[test]
-fn a_step_is_done(rt: HostRuntime) -> Result<(), Fail> {
-    let lists = [
-        COPIED.as_slice(),
-        OPENED.as_slice(),
-        READS_SWITCHED.as_slice(),
-    ];
-    assert_eq!(rt; play(rt.alloc(), &BOTH, &lists), Played::AllSo);
-    Ok(())
-}
-
-#[test]
 fn a_step_is_undone(rt: HostRuntime) -> Result<(), Fail> {
     let lists = [
         COPIED.as_slice(),
