@@ -416,58 +416,40 @@ fn a_switch_begins(rt: HostRuntime) -> Result<(), Fail> {
     Ok(())
 }
 
-#[test]
-fn a_step_is_undone(rt: HostRuntime) -> Result<(), Fail> {
-    let lists = [
-        COPIED.as_slice(),
-        OPENED.as_slice(),
-        READS_SWITCHED.as_slice(),
-        READS_BACK.as_slice(),
-        OPENED.as_slice(),
-    ];
-    assert_eq!(rt; play(rt.alloc(), &BOTH, &lists), Played::AllSo);
-    Ok(())
-}
+/// Ways, each as lists of acts, one behind the other: a step undone; a reversal begun; a move completed; a whole way there and back.
+const WAYS: [&[&[Act]]; 4] = [
+    &[&COPIED, &OPENED, &READS_SWITCHED, &READS_BACK, &OPENED],
+    &[
+        &COPIED,
+        &OPENED,
+        &READS_SWITCHED,
+        &BEFORE_JOURNAL,
+        &PAST_JOURNAL,
+        &REVERSE_BEGUN,
+    ],
+    &[
+        &COPIED,
+        &OPENED,
+        &READS_SWITCHED,
+        &BEFORE_JOURNAL,
+        &PAST_JOURNAL,
+        &ENDED,
+    ],
+    &[
+        &COPIED,
+        &OPENED,
+        &READS_SWITCHED,
+        &BEFORE_JOURNAL,
+        &PAST_JOURNAL,
+        &REVERSED,
+    ],
+];
 
 #[test]
-fn a_reversal_begins(rt: HostRuntime) -> Result<(), Fail> {
-    let lists = [
-        COPIED.as_slice(),
-        OPENED.as_slice(),
-        READS_SWITCHED.as_slice(),
-        BEFORE_JOURNAL.as_slice(),
-        PAST_JOURNAL.as_slice(),
-        REVERSE_BEGUN.as_slice(),
-    ];
-    assert_eq!(rt; play(rt.alloc(), &BOTH, &lists), Played::AllSo);
-    Ok(())
-}
-
-#[test]
-fn a_workflow_is_completed(rt: HostRuntime) -> Result<(), Fail> {
-    let lists = [
-        COPIED.as_slice(),
-        OPENED.as_slice(),
-        READS_SWITCHED.as_slice(),
-        BEFORE_JOURNAL.as_slice(),
-        PAST_JOURNAL.as_slice(),
-        ENDED.as_slice(),
-    ];
-    assert_eq!(rt; play(rt.alloc(), &BOTH, &lists), Played::AllSo);
-    Ok(())
-}
-
-#[test]
-fn a_whole_way_there_and_back(rt: HostRuntime) -> Result<(), Fail> {
-    let lists = [
-        COPIED.as_slice(),
-        OPENED.as_slice(),
-        READS_SWITCHED.as_slice(),
-        BEFORE_JOURNAL.as_slice(),
-        PAST_JOURNAL.as_slice(),
-        REVERSED.as_slice(),
-    ];
-    assert_eq!(rt; play(rt.alloc(), &BOTH, &lists), Played::AllSo);
+fn ways_go_as_they_must(rt: HostRuntime) -> Result<(), Fail> {
+    for (at, lists) in WAYS.iter().enumerate() {
+        assert_eq!(rt; play(rt.alloc(), &BOTH, lists), Played::AllSo, "at {at}");
+    }
     Ok(())
 }
 
