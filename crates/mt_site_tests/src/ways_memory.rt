@@ -148,16 +148,43 @@ fn are_done(site: &mut Site<Watchers>, list: &[Ask]) -> bool {
     true
 }
 
+/// What happens next at the site.
+#[derive(Clone, Copy)]
+enum Phase {
+    /// Each event is answered so, at once or at a second try.
+    Answered(&'static [(Ask, Answer)]),
+    /// Each event is done, at once or at a second try.
+    Done(&'static [Ask]),
+    /// Each act is so, at once.
+    AllSo(&'static [Act]),
+}
+
+/// A switch that is undone, one that is done and reversed, and one behind which the workflow is completed.
+const PHASES: [Phase; 8] = [
+    Phase::Answered(&COPIED),
+    Phase::Done(&BEFORE_JOURNAL),
+    Phase::AllSo(&UNDONE),
+    Phase::Done(&SWITCH),
+    Phase::Answered(&WRITTEN),
+    Phase::Done(&REVERSAL),
+    Phase::Done(&SWITCH),
+    Phase::AllSo(&COMPLETED),
+];
+
+/// Whether a phase goes so.
+fn goes(site: &mut Site<Watchers>, phase: Phase) -> bool {
+    match phase {
+        Phase::Answered(list) => are_answered(site, list),
+        Phase::Done(list) => are_done(site, list),
+        Phase::AllSo(list) => play_on(site, list) == Played::AllSo,
+    }
+}
+
 #[test]
 fn want_of_memory_is_no_other_answer(rt: HostRuntime) -> Result<(), Fail> {
     let mut site = site_of(rt.alloc()).ok_or("no watchers")?;
-    assert!(rt; are_answered(&mut site, &COPIED));
-    assert!(rt; are_done(&mut site, &BEFORE_JOURNAL));
-    assert_eq!(rt; play_on(&mut site, &UNDONE), Played::AllSo);
-    assert!(rt; are_done(&mut site, &SWITCH));
-    assert!(rt; are_answered(&mut site, &WRITTEN));
-    assert!(rt; are_done(&mut site, &REVERSAL));
-    assert!(rt; are_done(&mut site, &SWITCH));
-    assert_eq!(rt; play_on(&mut site, &COMPLETED), Played::AllSo);
+    for (at, phase) in PHASES.iter().enumerate() {
+        assert!(rt; goes(&mut site, *phase), "at {at}");
+    }
     Ok(())
 }
