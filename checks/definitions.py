@@ -7,7 +7,6 @@ from dataclasses import dataclass, field
 
 TYPES = ("primary", "replica", "rdonly")
 MOST_KEYSPACES, MOST_TABLES, MOST_RULES, MOST_WORKFLOWS, MOST_JOURNAL, MOST_TRIES, MOST_AT_ONCE = 32, 256, 4096, 16, 4096, 64, 100
-LAST_KEY = 2**64 - 1
 
 READS, DENY, REFRESH_SOURCE, CATCH_UP, STOP, CREATE_BACK, JOURNAL, ALLOW, REFRESH_TARGET, WRITE_RULES, START_BACK, FREEZE = range(12)
 
@@ -486,7 +485,8 @@ class Plain:
             return self.drive(*words, verb == "reverse")
         calls = {"keyspace": self.add_keyspace, "table": self.add_table, "rule": self.edit_rule}
         call = calls.get(verb) or getattr(self, verb.replace("-", "_"))
-        return call(*[int(word) if at and word.isdigit() else word for at, word in enumerate(words)])
+        first_number = {"step": 1, "undo": 1, "advance": 2}.get(verb, len(words))
+        return call(*words[:first_number], *map(int, words[first_number:]))
 
     def answer(self, line):
         """What a line is answered, in this state; the state behind it is this one."""
