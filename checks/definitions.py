@@ -17,7 +17,7 @@ F15, F16, F17, F18 = "F15 NothingToSwitch", "F16 NothingToReverse", "F17 Copying
 F19, F20, F21, F22 = "F19 PastJournal", "F20 TrafficSwitched", "F21 NotAllSwitched", "F22 RuleOwned"
 F24, F25, F26, F27 = "F24 NoWatcher", "F25 Stale", "F26 Stopped", "F27 Full"
 F28, F29, F30 = "F28 Undoing", "F29 TooLong", "F30 Exists"
-T2, T3 = "T2 NoTable", "T3 Ambiguous"
+NOT_FOUND, AMBIGUOUS = "T2 NoTable", "T3 Ambiguous"
 
 
 class Refused(Exception):
@@ -213,8 +213,8 @@ class Plain:
         if target or "." in plain:
             return (target or plain).split(".")
         having = [keyspace for keyspace in self.keyspaces if self.has_table(keyspace, plain)]
-        refuse_if(not having, T2)
-        refuse_if(len(having) > 1, T3)
+        refuse_if(not having, NOT_FOUND)
+        refuse_if(len(having) > 1, AMBIGUOUS)
         return having[0], plain
 
     # ---- rows
