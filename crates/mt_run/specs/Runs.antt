@@ -51,6 +51,7 @@ AsksDocument line = (request : Request) × (is_document request ≡ true) × (So
 abbrev pub IsLineOutput : List Scope → Plain → Told → (IsDocument : Type 0) → code.LineOutput → SiteState → Type 0
 IsLineOutput scopes p t IsDocument output.Silent core = Tells scopes p t None core
 IsLineOutput scopes p t IsDocument (output.Line text) core = Tells scopes p t (Some text.items) core
+IsLineOutput scopes p t IsDocument (output.Row text) core = Tells scopes p t (Some text.items) core
 IsLineOutput scopes p t IsDocument (output.Document text) core = Tells scopes p t (Some (string_bytes text ++ line_feed)) core
 IsLineOutput scopes p t IsDocument output.NoMemory core = IsDocument × SiteStands p scopes core
 
@@ -58,6 +59,10 @@ IsLineOutput scopes p t IsDocument output.NoMemory core = IsDocument × SiteStan
 abbrev pub IsRequestOutput : List Scope → SiteState → Request → code.LineOutput → SiteState → Type 0
 IsRequestOutput scopes old request result new =
     (p : Plain) → SiteStands p scopes old → IsLineOutput scopes p (told_request p (Ok request)) (is_document request ≡ true) result new
+
+-- what a request for a row adds to the output, with whatever watchers: they aren't asked
+abbrev pub IsRowOutput : SiteState → Request → (text : List ℕ) → SiteState → Type 0
+IsRowOutput old request text new = (scopes : List Scope) (p : Plain) → SiteStands p scopes old → Tells scopes p (told_request p (Ok request)) (Some text) new
 
 -- a line is answered, and its text is written behind what waited. Where a document finds no memory, all that waited is
 -- written, and nothing more

@@ -4,6 +4,7 @@
 
 mod canon;
 mod command;
+mod rows;
 mod script;
 mod watching;
 

@@ -4,7 +4,7 @@ ghost use Rattle.mt_model.specs.declared.entries.Scope.{Scope};
 ghost use Rattle.mt_plain.specs.Output.{told};
 ghost use Rattle.mt_plain.specs.Events as plain;
 ghost use Rattle.mt_plain.specs.Plain.{Plain};
-ghost use Rattle.mt_plain.specs.Script.{drive, dump_document, event, read_through, rules_document, write_through};
+ghost use Rattle.mt_plain.specs.Script.{drive, dump_document, event, rules_document};
 ghost use Rattle.mt_plain.specs.Script as language;
 ghost use Rattle.mt_script.specs.Requests.{request_from};
 ghost use Rattle.mt_event.specs.Events.{event_of};
@@ -12,17 +12,16 @@ ghost use Rattle.mt_site_state.specs.Ways.{SiteStands};
 ghost use Rattle.mt_workflow.specs.Workflows.{stream_name};
 ghost use Rattle.mt_run.specs.Runs.{AsksDocument, IsLineOutput, IsRequestOutput, Runs, RunsLine, RunsLines};
 
+use crate::rows::row_output;
 use arrayvec::ArrayVec;
 use mt_drive::drive;
 use mt_event::Event;
 use mt_io::{ScriptFault, Waiting, flush, put_document, put_line, read_script};
 use mt_model::Op;
-use mt_names::{
-    KeyspaceName, MAX_TABLES, Position, RuleKey, TableName, TabletType, TypeSet, WorkflowName,
-};
+use mt_names::{KeyspaceName, MAX_TABLES, Position, TableName, TabletType, TypeSet, WorkflowName};
 use mt_script::{
-    Line, LineText, Request, answer_line, driven_line, first_line, look_up_line, read_line,
-    refusal_line,
+    Line, LineText, Request, RowText, answer_line, driven_line, first_line, read_line,
+    refusal_line, row_line,
 };
 use mt_site::Core;
 use mt_watch::Asks;
@@ -37,6 +36,8 @@ pub enum LineOutput {
     Silent,
     /// A line, with its line feed.
     Line(LineText),
+    /// The line of a row, with its line feed.
+    Row(RowText),
     /// A document, without a line feed.
     Document(String),
     /// There was no memory for a document.
@@ -92,32 +93,6 @@ fn read_at<A: Asks>(
             type_of,
         },
     )
-}
-
-/// Looks a name up for the primary, and writes there.
-fn write<A: Asks>(core: &mut Core, watchers: &A, key: &RuleKey, op: Op) -> LineOutput
-    ensures { IsRequestOutput (A.scopes watchers.now) core.old (write_through key.now op) result core.new }
-{
-    match core.resolve(key, TabletType::Primary) {
-        Ok(target) => write_at(core, watchers, target.keyspace, target.table, op),
-        Err(fault) => LineOutput::Line(look_up_line(fault)),
-    }
-}
-
-/// Looks a name up for a type, and reads there.
-fn read<A: Asks>(
-    core: &mut Core,
-    watchers: &A,
-    name: &RuleKey,
-    key: u64,
-    type_of: TabletType,
-) -> LineOutput
-    ensures { IsRequestOutput (A.scopes watchers.now) core.old (read_through name.now key type_of) result core.new }
-{
-    match core.resolve(name, type_of) {
-        Ok(target) => read_at(core, watchers, target.keyspace, target.table, key, type_of),
-        Err(fault) => LineOutput::Line(look_up_line(fault)),
-    }
 }
 
 /// Creates a workflow.
@@ -235,8 +210,7 @@ fn request_output<A: Asks>(core: &mut Core, watchers: &A, request: Request) -> L
             Event::AddTable { keyspace, table },
         ),
         Request::EditRule(key, target) => ask(core, watchers, Event::EditRule { key, target }),
-        Request::Write(name, op) => write(core, watchers, &name, op),
-        Request::Read(name, key, type_of) => read(core, watchers, &name, key, type_of),
+        Request::Row(row) => LineOutput::Row(row_output(core, row)),
         Request::WriteAt(keyspace, table, op) => write_at(core, watchers, keyspace, table, op),
         Request::ReadAt(keyspace, table, key, type_of) => read_at(
             core, watchers, keyspace, table, key, type_of,
@@ -275,7 +249,8 @@ fn line_output<A: Asks>(core: &mut Core, watchers: &A, line: &[u8]) -> LineOutpu
 
 /// Answers a line of a script, and adds the answer to what waits to be written. A document is written at once; where there
 /// is no memory for it, what waits is.
-fn run_line<W: Write, A: Asks>(
+#[inline(never)]
+fn run_other<W: Write, A: Asks>(
     core: &mut Core,
     watchers: &A,
     waiting: &mut Waiting,
@@ -288,11 +263,30 @@ fn run_line<W: Write, A: Asks>(
     match line_output(core, watchers, line) {
         LineOutput::Silent => Ok(()),
         LineOutput::Line(text) => put_line(waiting, writer, &text),
+        LineOutput::Row(text) => put_line(waiting, writer, &text),
         LineOutput::Document(text) => put_document(waiting, writer, text.as_bytes()),
         LineOutput::NoMemory => {
             flush(waiting, writer)?;
             Err(ScriptFault::Memory)
         }
+    }
+}
+
+/// Answers a line of a script, as `run_other` does. A line that asks for a row takes a short way: what other lines need is
+/// larger by far.
+fn run_line<W: Write, A: Asks>(
+    core: &mut Core,
+    watchers: &A,
+    waiting: &mut Waiting,
+    writer: &mut W,
+    line: &[u8],
+) -> Result<(), ScriptFault>
+    ensures { (p : Plain) → SiteStands p (A.scopes watchers.now) core.old
+        → RunsLine (A.scopes watchers.now) p line.now core.new (W.contents writer.old) (W.contents writer.new) waiting.old.items waiting.new.items result }
+{
+    match row_line(line) {
+        Some(row) => put_line(waiting, writer, &row_output(core, row)),
+        None => run_other(core, watchers, waiting, writer, line),
     }
 }
 

@@ -9,6 +9,8 @@ use Rattle.mt_script.specs.declared.lines.LineRefusal.TheVariants as refusal
 use Rattle.mt_script.specs.declared.lines.Line as asked
 use Rattle.mt_script.specs.declared.lines.Request as code
 use Rattle.mt_script.specs.declared.lines.Request.TheVariants as request
+use Rattle.mt_script.specs.declared.lines.RowRequest.{RowRequest}
+use Rattle.mt_script.specs.declared.lines.RowRequest.TheVariants as row
 use Rattle.mt_script.specs.declared.commands.RowWork.{RowWork}
 use Rattle.mt_script.specs.declared.commands.RowWork.TheVariants as work
 use Rattle.mt_names.specs.Keys.{after, at_sign, dot}
@@ -57,13 +59,22 @@ read_work verb words =
 abbrev pub is_mark : ℕ → Bool
 is_mark byte = (byte == dot) || (byte == at_sign)
 
+-- what is asked of a row where a name leads
+abbrev pub row_from : RowRequest → Request
+row_from (row.Write key op) = write_through key op
+row_from (row.Read key number tablet_type) = read_through key number tablet_type
+
+-- the same where the name is read, or in fault
+abbrev pub row_read_from : Result RowRequest NameFault → Result Request NameFault
+row_read_from (Ok r) = Ok (row_from r)
+row_read_from (Err fault) = Err fault
+
 -- what a request asks for
 abbrev pub request_from : code.Request → Request
 request_from (request.AddKeyspace keyspace) = event (add_keyspace keyspace)
 request_from (request.AddTable keyspace table) = event (add_table keyspace table)
 request_from (request.EditRule key target) = event (edit_rule key target)
-request_from (request.Write key op) = write_through key op
-request_from (request.Read key number tablet_type) = read_through key number tablet_type
+request_from (request.Row r) = row_from r
 request_from (request.WriteAt keyspace table op) = event (write keyspace table op)
 request_from (request.ReadAt keyspace table number tablet_type) = event (read keyspace table number tablet_type)
 request_from (request.Create workflow source target tables) = event (core.create workflow source target tables.items)

@@ -2,9 +2,9 @@
 ghost use Rattle.std.specs.Prelude.{◌≡◌, true, find, option_copied, option_map};
 ghost use Rattle.mt_names.specs.Keys.{after, at_sign};
 ghost use Rattle.mt_plain.specs.Script.{change, change_at, command_of, get, get_at, is_for_reads, is_qualified, is_readable, is_row_verb, keyspace, read_at, read_row_command, read_rule_target, read_value, request_of, rule, table, words_of};
-ghost use Rattle.mt_script.specs.Requests.{is_mark, other_command, read_from, read_last_number, read_number_and_value, read_work, work_of};
+ghost use Rattle.mt_script.specs.Requests.{is_mark, other_command, read_from, read_last_number, read_number_and_value, read_work, row_read_from, work_of};
 
-use crate::lines::Request;
+use crate::lines::{Request, RowRequest};
 use crate::numbers::read_number;
 use crate::words::{first_word, no_word, one_word, text_of, two_words};
 use crate::workflows::workflow_command;
@@ -124,24 +124,24 @@ fn row_work(verb: &str, words: &[u8]) -> Option<RowWork>
     }
 }
 
-fn write_request(name: &str, op: Op) -> Result<Request, NameFault>
-    ensures { read_from result ≡ request_of (change name.now op) }
+fn write_request(name: &str, op: Op) -> Result<RowRequest, NameFault>
+    ensures { row_read_from result ≡ request_of (change name.now op) }
 {
     let key = RuleKey::parse(name)?;
-    Ok(Request::Write(key, op))
+    Ok(RowRequest::Write(key, op))
 }
 
-fn get_request(name: &str, number: u64) -> Result<Request, NameFault>
-    ensures { read_from result ≡ request_of (get name.now number) }
+fn get_request(name: &str, number: u64) -> Result<RowRequest, NameFault>
+    ensures { row_read_from result ≡ request_of (get name.now number) }
 {
     let key = RuleKey::parse(name)?;
     let tablet_type = key.tablet_type.unwrap_or(TabletType::Primary);
-    Ok(Request::Read(key, number, tablet_type))
+    Ok(RowRequest::Read(key, number, tablet_type))
 }
 
 /// The request of some work on a table that is looked up by its name.
-fn work_by_name(name: &str, work: RowWork) -> Option<Result<Request, NameFault>>
-    ensures { option_map read_from result ≡ option_map request_of (work_of change get name.now work) }
+fn work_by_name(name: &str, work: RowWork) -> Option<Result<RowRequest, NameFault>>
+    ensures { option_map row_read_from result ≡ option_map request_of (work_of change get name.now work) }
 {
     match work {
         RowWork::Read(number) => Some(get_request(name, number)),
@@ -155,9 +155,9 @@ fn work_by_name(name: &str, work: RowWork) -> Option<Result<Request, NameFault>>
 }
 
 /// Reads an operation on a row, behind its verb: the name of its table, which is looked up, and the work.
-fn row_command(verb: &str, words: &[u8]) -> Option<Result<Request, NameFault>>
+pub fn row_command(verb: &str, words: &[u8]) -> Option<Result<RowRequest, NameFault>>
     requires { is_readable words.now ≡ true }
-    ensures { option_map read_from result ≡ option_map request_of (read_row_command change get verb.now (words_of words.now)) }
+    ensures { option_map row_read_from result ≡ option_map request_of (read_row_command change get verb.now (words_of words.now)) }
 {
     let (name, rest) = first_word(words)?;
     let work = row_work(verb, rest)?;
@@ -246,7 +246,7 @@ fn at_command(words: &[u8]) -> Option<Result<Request, NameFault>>
 }
 
 /// Whether a verb is that of an operation on a row.
-fn is_row_verb(verb: &str) -> bool
+pub fn is_row_verb(verb: &str) -> bool
     ensures { result ≡ is_row_verb verb.now }
 {
     verb == "insert" || verb == "update" || verb == "append" || verb == "delete" || verb == "get"
@@ -258,7 +258,10 @@ fn other_command(verb: &str, words: &[u8]) -> Option<Result<Request, NameFault>>
     ensures { option_map read_from result ≡ option_map request_of (other_command verb.now (words_of words.now)) }
 {
     if is_row_verb(verb) {
-        return row_command(verb, words);
+        return match row_command(verb, words)? {
+            Ok(row) => Some(Ok(Request::Row(row))),
+            Err(fault) => Some(Err(fault)),
+        };
     }
     workflow_command(verb, words)
 }

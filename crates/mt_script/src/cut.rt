@@ -2,11 +2,13 @@
 ghost use Rattle.std.specs.Prelude.{◌≡◌, ◌∷◌, [], ◌==◌, position, MatchOption};
 ghost use Rattle.std.specs.Str.Lines.{lines, strip_carriage_return};
 
+use memchr::memchr;
+
 /// The place of the first line feed.
 fn line_end(input: &[u8]) -> Option<usize>
     ensures { result ≡ position (λ byte. byte == 10) input.now }
 {
-    input.iter().position(|&byte| byte == b'\n')
+    memchr(b'\n', input)
 }
 
 /// The line without a carriage return at its end.

@@ -11,5 +11,8 @@ mod words;
 mod workflows;
 
 pub use cut::first_line;
-pub use lines::{Line, LineRefusal, MAX_LINE_LENGTH, Request, read_line};
-pub use texts::{LineText, answer_line, driven_line, look_up_line, refusal_line};
+pub use lines::{Line, LineRefusal, MAX_LINE_LENGTH, Request, RowRequest, read_line, row_line};
+pub use texts::{
+    LONGEST_ROW_LINE, LineText, RowText, answer_line, driven_line, look_up_line, refusal_line,
+    row_answer_line, row_refused_line, written_line,
+};

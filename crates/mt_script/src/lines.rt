@@ -1,11 +1,11 @@
 //! Lines of a script.
-ghost use Rattle.std.specs.Prelude.{◌≡◌, ◌||◌};
+ghost use Rattle.std.specs.Prelude.{◌≡◌, ◌||◌, IfSome, Ok, Some};
 ghost use Rattle.std.specs.List.{list_all};
 ghost use Rattle.mt_plain.specs.Script.{is_blank, is_readable, is_silent, read_line};
-ghost use Rattle.mt_script.specs.Requests.{meaning_from, meaning_of};
+ghost use Rattle.mt_script.specs.Requests.{meaning_from, meaning_of, row_from};
 
-use crate::commands::read_command;
-use crate::words::{is_blank, is_visible};
+use crate::commands::{is_row_verb, read_command, row_command};
+use crate::words::{first_word, is_blank, is_visible, text_of};
 use arrayvec::ArrayVec;
 use mt_model::Op;
 use mt_names::{
@@ -17,6 +17,15 @@ use mt_workflow::Slot;
 /// The longest line that is read, in bytes, without its line end.
 pub const MAX_LINE_LENGTH: usize = 4096;
 
+/// What is asked of a row where a name leads.
+#[derive(Debug, Drop)]
+pub enum RowRequest {
+    /// `insert NAME N V`, or `update`, `append`, `delete`: looks the name up for the primary, and writes there.
+    Write(RuleKey, Op),
+    /// `get NAME N`: looks the name up for its type, which is the primary where none is given, and reads there.
+    Read(RuleKey, u64, TabletType),
+}
+
 /// What a line asks for, with its names read.
 #[derive(Debug, Drop)]
 pub enum Request {
@@ -26,10 +35,8 @@ pub enum Request {
     AddTable(KeyspaceName, TableName),
     /// `rule KEY TARGET`: sets a routing rule, or takes it away where the target is `-`.
     EditRule(RuleKey, Option<RuleTarget>),
-    /// `insert NAME N V`, or `update`, `append`, `delete`: looks the name up for the primary, and writes there.
-    Write(RuleKey, Op),
-    /// `get NAME N`: looks the name up for its type, which is the primary where none is given, and reads there.
-    Read(RuleKey, u64, TabletType),
+    /// A row is written or read where a name leads.
+    Row(RowRequest),
     /// `at K.T insert N V`, or `update`, `append`, `delete`: writes to the table of the keyspace, without a look-up.
     WriteAt(KeyspaceName, TableName, Op),
     /// `at K.T get N`: reads the table of the keyspace for the name's type, without a look-up.
@@ -98,11 +105,11 @@ fn is_all_blank(line: &[u8]) -> bool
     line.iter().all(|&byte| is_blank(byte))
 }
 
-/// Whether each byte of a line may stand in a line.
+/// Whether each byte of a line may stand in a line. It looks at all of them, without an early end, which is faster.
 fn is_readable(line: &[u8]) -> bool
     ensures { result ≡ is_readable line.now }
 {
-    line.iter().all(|&byte| is_blank(byte) || is_visible(byte))
+    line.iter().fold(true, |all, &byte| all & (is_blank(byte) | is_visible(byte)))
 }
 
 /// Reads a line: what it asks for, with each name and number as it is written, or its first fault, a bad byte with its
@@ -124,4 +131,20 @@ pub fn read_line(line: &[u8]) -> Line
         Some(Err(fault)) => Line::Refused(LineRefusal::Name(fault)),
         Some(Ok(request)) => Line::Request(request),
     }
+}
+
+/// Reads a line that asks for a row where a name leads, as `read_line` reads it. `None` is any other line, and one that
+/// `read_line` refuses.
+pub fn row_line(line: &[u8]) -> Option<RowRequest>
+    ensures { IfSome result (λ row. Some (Ok (row_from row)) ≡ meaning_of (read_line line.now)) }
+{
+    if is_silent(line) || line.len() > MAX_LINE_LENGTH || !is_readable(line) {
+        return None;
+    }
+    let (verb, rest) = first_word(line)?;
+    let verb = text_of(verb);
+    if !is_row_verb(verb) {
+        return None;
+    }
+    row_command(verb, rest)?.ok()
 }

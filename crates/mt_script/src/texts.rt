@@ -1,9 +1,10 @@
 //! The texts of answers.
-ghost use Rattle.std.specs.Prelude.{◌≡◌, ◌+◌, ◌<◌, ◌++◌, length};
+ghost use Rattle.std.specs.Prelude.{◌≡◌, ◌+◌, ◌<◌, ◌++◌, Ok, length};
 ghost use Rattle.mt_plain.specs.Drive.{stopped};
-ghost use Rattle.mt_plain.specs.Events.{advanced};
+ghost use Rattle.mt_plain.specs.Events.{advanced, done, refused};
 ghost use Rattle.mt_plain.specs.Output.{answer_text, driven_text, ended_text, line_feed, refused_text};
 ghost use Rattle.mt_event.specs.Drives.{ended_from};
+ghost use Rattle.mt_event.specs.declared.reply.Reply.TheVariants as reply;
 ghost use Rattle.mt_event.specs.Events.{answer_from, refusal_from};
 ghost use Rattle.mt_model.specs.Faults.{topology_fault_text};
 ghost use Rattle.mt_script.specs.Requests.{line_refusal_text};
@@ -14,17 +15,24 @@ use arrayvec::ArrayVec;
 use mt_event::{Driven, Refusal, Reply};
 use mt_io::LONGEST_LINE;
 use mt_model::TopologyFault;
+use mt_names::Value;
 use mt_stream::Advanced;
 
 /// The text of a line of output, with its line feed.
 pub type LineText = ArrayVec<u8, LONGEST_LINE>;
 
+/// The longest line that answers for a row, in bytes, and more: `row `, a value of 64 bytes, and the line feed are 69.
+pub const LONGEST_ROW_LINE: usize = 96;
+
+/// The text of a line that answers for a row, with its line feed.
+pub type RowText = ArrayVec<u8, LONGEST_ROW_LINE>;
+
 /// A line of the two texts, one behind the other.
-fn line_of(first: &[u8], second: &[u8]) -> LineText
-    requires { length first.now + length second.now < LONGEST_LINE }
+fn line_of<const N: usize>(first: &[u8], second: &[u8]) -> ArrayVec<u8, N>
+    requires { length first.now + length second.now < N }
     ensures { result.items ≡ first.now ++ second.now ++ line_feed }
 {
-    let mut line = LineText::new();
+    let mut line = ArrayVec::new();
     let _fits = line.try_extend_from_slice(first);
     let _fits = line.try_extend_from_slice(second);
     line.push(b'\n');
@@ -86,8 +94,32 @@ pub fn refusal_line(refusal: LineRefusal) -> LineText
     line_of(b"refused ", text.as_bytes())
 }
 
+/// The line that tells that a row is written.
+pub fn written_line() -> RowText
+    ensures { result.items ≡ answer_text done ++ line_feed }
+{
+    line_of(b"ok", b"")
+}
+
+/// The line that tells of a row that was read, or that there is none.
+pub fn row_answer_line(row: &Option<Value>) -> RowText
+    ensures { result.items ≡ answer_text (answer_from (Ok (reply.Row row.now))) ++ line_feed }
+{
+    match row {
+        None => line_of(b"none", b""),
+        Some(value) => line_of(b"row ", value),
+    }
+}
+
+/// The line that tells why a row is refused.
+pub fn row_refused_line(refusal: &Refusal) -> RowText
+    ensures { result.items ≡ answer_text (refused (refusal_from refusal.now)) ++ line_feed }
+{
+    line_of(b"refused ", refusal.as_str().as_bytes())
+}
+
 /// The line that tells why a look-up is refused.
-pub fn look_up_line(fault: TopologyFault) -> LineText
+pub fn look_up_line(fault: TopologyFault) -> RowText
     ensures { result.items ≡ refused_text (topology_fault_text fault) ++ line_feed }
 {
     line_of(b"refused ", fault.as_str().as_bytes())

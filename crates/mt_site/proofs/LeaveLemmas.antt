@@ -3,6 +3,7 @@ use Rattle.std.proofs.Common.{◌≡◌, ℕ, Bool, true, false, List, Option, N
 use Rattle.std.proofs.lemmas.Bool.{true≢false}
 use Rattle.std.proofs.lemmas.Map.Steps.{set_value_same}
 use Rattle.std.specs.Map.{set_value}
+use Rattle.std.specs.Prelude.{⊤}
 use Rattle.std.specs.Result.{OnErr}
 use Rattle.mt_names.specs.Names.{same_text}
 use Rattle.mt_model.specs.declared.faults.PrimaryFault.{PrimaryFault}
@@ -21,6 +22,7 @@ use Rattle.mt_stream.specs.declared.fault.StreamFault.TheVariants as stream
 use Rattle.mt_stream.specs.Advance.{Advances}
 use Rattle.mt_stream.specs.Streams.{StreamValue}
 use Rattle.mt_workflow.specs.Workflows.{WorkflowState, live_of, slot_of, with_slot}
+use Rattle.mt_site.specs.ByHand.{written_from}
 use Rattle.mt_site_state.specs.ByHand.{WritesAt}
 use Rattle.mt_site_state.specs.Core.{CoreState, Does, Primaries, Workflows, primary_at, primary_of, workflow_at}
 use Rattle.mt_site_state.specs.Workflows.{AdvancesAt, AdvancesStream, CancelsAt, cancelled}
@@ -41,12 +43,12 @@ write_leaves : (before after : PrimaryState) (table : List ℕ) (op : Op) (f : P
 write_leaves before after table op fault.Memory is = is.1
 write_leaves before after table op other is = is.1
 
-pub writes_leave : (old new : CoreState) (keyspace table : List ℕ) (op : Op) (result : Result Reply code.Refusal) (o : Option PrimaryState) → primary_at old.primaries keyspace ≡ o
-    → WritesAt o old keyspace table op (answer_from result) new → OnErr result (new ≡ old)
-writes_leave old new keyspace table op (Ok reply) o found is = tt
-writes_leave old new keyspace table op (Err r) None found is = is.1
-writes_leave old new keyspace table op (Err r) (Some before) found (Ok position, after, writes, told, made) = absurd cc
-writes_leave old new keyspace table op (Err r) (Some before) found (Err f, after, writes, told, made) =
+pub rows_leave : (old new : CoreState) (keyspace table : List ℕ) (op : Op) (result : Result ⊤ code.Refusal) (o : Option PrimaryState) → primary_at old.primaries keyspace ≡ o
+    → WritesAt o old keyspace table op (written_from result) new → OnErr result (new ≡ old)
+rows_leave old new keyspace table op (Ok is-done) o found is = tt
+rows_leave old new keyspace table op (Err r) None found is = is.1
+rows_leave old new keyspace table op (Err r) (Some before) found (Ok position, after, writes, told, made) = absurd cc
+rows_leave old new keyspace table op (Err r) (Some before) found (Err f, after, writes, told, made) =
     let with_primaries : Primaries → CoreState = λ ps. record old { primaries = ps } in
     made ∙ ap with_primaries (ap (set_value (same_text keyspace) old.primaries) (write_leaves before after table op f writes) ∙ set_value_same (same_text keyspace) old.primaries before found)
 

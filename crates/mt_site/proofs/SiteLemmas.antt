@@ -53,8 +53,8 @@ abbrev pub whole : CoreState → WaysState → SiteState
 whole core ways = record { core = core; ways = ways }
 
 -- a refusal that leaves the core leaves the whole
-pub lifted : (r : Result Reply code.Refusal) (ways : WaysState) (new old : CoreState) → OnErr r (new ≡ old) → OnErr r (whole new ways ≡ whole old ways)
-lifted (Ok reply) ways new old leaves = tt
+pub lifted : {X : Type 0} (r : Result X code.Refusal) (ways : WaysState) (new old : CoreState) → OnErr r (new ≡ old) → OnErr r (whole new ways ≡ whole old ways)
+lifted (Ok made) ways new old leaves = tt
 lifted (Err refusal) ways new old leaves = ap (λ core. whole core ways) leaves
 
 -- a text that is one is the other

@@ -1,6 +1,6 @@
 -- What the controller tells of the refusals of its layers, and what becomes of primaries and of the topology as a table is made and taken
 -- back (this profile's own).
-use Rattle.std.specs.Prelude.{◌≡◌, ⊤, ℕ, false, List, is_some, length, Result, Ok, Err}
+use Rattle.std.specs.Prelude.{◌≡◌, ⊤, ℕ, false, List, is_some, length, Option, Result, Ok, Err}
 use Rattle.mt_model.specs.declared.entries.Entry.TheVariants.{Present}
 use Rattle.mt_model.specs.declared.entries.EntryKey.TheVariants as about
 use Rattle.mt_model.specs.declared.faults.PrimaryFault.{PrimaryFault}
@@ -10,6 +10,10 @@ use Rattle.mt_model.specs.declared.faults.TopologyFault.TheVariants as topology
 use Rattle.mt_model.specs.Topology.{TopologyState, has_place, is_present, keyspace_at, with_entry, with_keyspace_state, without_table_place}
 use Rattle.mt_event.specs.declared.refusal.Refusal.{Refusal}
 use Rattle.mt_event.specs.declared.refusal.Refusal.TheVariants as refusal
+use Rattle.mt_event.specs.Events.{refusal_from}
+use Rattle.mt_model.specs.Rows.{RowValue}
+use Rattle.mt_plain.specs.Events.{Answer, refused, row}
+use Rattle.mt_plain.specs.Events as plain
 use Rattle.mt_primary.specs.Primary.{has_table}
 use Rattle.mt_primary.specs.Writes.{with_new_table}
 use Rattle.mt_site_state.specs.Core.{Primaries, primary_at, primary_of, with_primary}
@@ -29,6 +33,16 @@ refusal_by_primary primary.RowExists = refusal.RowExists
 refusal_by_primary primary.NoRow = refusal.NoRow
 refusal_by_primary primary.TooLong = refusal.TooLong
 refusal_by_primary primary.LogFull = refusal.Full
+
+-- the answer of a row that is written, or not
+abbrev pub written_from : Result ⊤ Refusal → Answer
+written_from (Ok done) = plain.done
+written_from (Err r) = refused (refusal_from r)
+
+-- and of one that is read
+abbrev pub read_from : Result (Option RowValue) Refusal → Answer
+read_from (Ok r) = row r
+read_from (Err r) = refused (refusal_from r)
 
 -- a table is made at the primary of its keyspace, or all is as it was
 abbrev pub CreatesTable : Primaries → (keyspace table : List ℕ) → Result ⊤ PrimaryFault → Primaries → Type 0

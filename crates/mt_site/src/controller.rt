@@ -13,6 +13,7 @@ ghost use Rattle.mt_plain.specs.Serve.{served};
 ghost use Rattle.mt_site_state.specs.ByHand.{AddsKeyspace, AddsTable, EditsRule, ReadsRow, WritesRow};
 ghost use Rattle.mt_site_state.specs.Core.{primary_of, workflow_at};
 ghost use Rattle.mt_site.specs.Applies.{Applies};
+ghost use Rattle.mt_site.specs.ByHand.{read_from, written_from};
 ghost use Rattle.mt_site.specs.GivenUp.{CanBeGivenUp};
 ghost use Rattle.mt_site.specs.Headline.{KeepsTheHeadline};
 ghost use Rattle.mt_site.specs.Owed.{owed_to};
@@ -31,7 +32,8 @@ use mt_journal::Journal;
 use mt_laws::every_run_keeps_the_headline;
 use mt_model::{Op, TopologyFault};
 use mt_names::{
-    KeyspaceName, Position, RuleKey, RuleTarget, TableName, TabletType, TypeSet, WorkflowName,
+    KeyspaceName, Position, RuleKey, RuleTarget, TableName, TabletType, TypeSet, Value,
+    WorkflowName,
 };
 use mt_rules::RulesFault;
 use mt_site_events::{
@@ -197,7 +199,41 @@ impl Core {
     }
 
     /// Writes a row: `F1 NoKeyspace`, `F2 NoTable`, `F3 Denied`, `F4 RowExists` or `F5 NoRow`, `F29 TooLong`, `F27 Full`,
-    /// `F0 Memory`.
+    /// `F0 Memory`. It is the event Write, as `apply` applies it, without the event: a refusal leaves the core as it was.
+    pub fn write_row(
+        &mut self,
+        keyspace: &KeyspaceName,
+        table: &TableName,
+        op: Op,
+    ) -> Result<(), Refusal>
+        ensures does { WritesRow self.old.core keyspace.now table.now op (written_from result) self.new.core }
+        ensures ways { self.new.ways ≡ self.old.ways }
+        ensures steps { (scopes : List Scope) → SiteSteps scopes self.old (plain.write keyspace.now table.now op) (written_from result) self.new }
+        ensures unchanged { OnErr result (self.new ≡ self.old) }
+        ensures headline { (scopes : List Scope) → KeepsTheHeadline scopes self.old (plain.write keyspace.now table.now op ∷ []) (written_from result ∷ []) self.new }
+    {
+        events_by_hand_step_and_leave_the_ways();
+        every_run_keeps_the_headline();
+        self.write_at(keyspace, table, op)
+    }
+
+    /// The same, for the core alone.
+    fn write_at(
+        &mut self,
+        keyspace: &KeyspaceName,
+        table: &TableName,
+        op: Op,
+    ) -> Result<(), Refusal>
+        ensures does { WritesRow self.old.core keyspace.now table.now op (written_from result) self.new.core }
+        ensures ways { self.new.ways ≡ self.old.ways }
+        ensures unchanged { OnErr result (self.new ≡ self.old) }
+    {
+        a_site_stays_one();
+        events_by_hand_step_and_leave_the_ways();
+        rows::write_row(&mut self.primaries, keyspace, table, op)
+    }
+
+    /// The same, as an answer.
     fn write(
         &mut self,
         keyspace: &KeyspaceName,
@@ -208,12 +244,31 @@ impl Core {
         ensures ways { self.new.ways ≡ self.old.ways }
         ensures unchanged { OnErr result (self.new ≡ self.old) }
     {
-        a_site_stays_one();
-        events_by_hand_step_and_leave_the_ways();
-        rows::write_row(&mut self.primaries, keyspace, table, op)
+        match self.write_at(keyspace, table, op) {
+            Ok(()) => Ok(Reply::Done),
+            Err(refusal) => Err(refusal),
+        }
     }
 
-    /// Reads a row: `F1 NoKeyspace`, `F2 NoTable`, and of type primary `F3 Denied`. It takes no memory.
+    /// Reads a row, or none: `F1 NoKeyspace`, `F2 NoTable`, and of type primary `F3 Denied`. It is the event Read, as `apply`
+    /// applies it, without the event. It takes no memory.
+    pub fn read_row(
+        &self,
+        keyspace: &KeyspaceName,
+        table: &TableName,
+        key: u64,
+        tablet_type: TabletType,
+    ) -> Result<Option<Value>, Refusal>
+        ensures does { ReadsRow self.now.core keyspace.now table.now key tablet_type (read_from result) self.now.core }
+        ensures steps { (scopes : List Scope) → SiteSteps scopes self.now (plain.read keyspace.now table.now key tablet_type) (read_from result) self.now }
+        ensures headline { (scopes : List Scope) → KeepsTheHeadline scopes self.now (plain.read keyspace.now table.now key tablet_type ∷ []) (read_from result ∷ []) self.now }
+    {
+        events_by_hand_step_and_leave_the_ways();
+        every_run_keeps_the_headline();
+        rows::read_row(&self.primaries, keyspace, table, key, tablet_type)
+    }
+
+    /// The same, as an answer.
     fn read(
         &self,
         keyspace: &KeyspaceName,
@@ -223,7 +278,10 @@ impl Core {
     ) -> Result<Reply, Refusal>
         ensures { ReadsRow self.now.core keyspace.now table.now key tablet_type (answer_from result) self.now.core }
     {
-        rows::read_row(&self.primaries, keyspace, table, key, tablet_type)
+        match rows::read_row(&self.primaries, keyspace, table, key, tablet_type) {
+            Ok(row) => Ok(Reply::Row(row)),
+            Err(refusal) => Err(refusal),
+        }
     }
 
     /// Creates a workflow, as `create::create` tells.

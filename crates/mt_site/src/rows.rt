@@ -1,16 +1,15 @@
 //! Clients' rows: they are written and read at the primary of a keyspace.
 ghost use Rattle.std.specs.Prelude.{◌≡◌};
-ghost use Rattle.mt_event.specs.Events.{answer_from};
 ghost use Rattle.mt_model.specs.Topology.{TopologyState};
 ghost use Rattle.mt_site_state.specs.ByHand.{WritesRow, read_at};
 ghost use Rattle.mt_site_state.specs.Core.{primary_at};
 ghost use Rattle.mt_site_state.specs.Core as core;
-ghost use Rattle.mt_site.specs.ByHand.{refusal_by_primary};
+ghost use Rattle.mt_site.specs.ByHand.{read_from, refusal_by_primary, written_from};
 
 use crate::Primaries;
-use mt_event::{Refusal, Reply};
+use mt_event::Refusal;
 use mt_model::{Op, PrimaryFault};
-use mt_names::{KeyspaceName, TableName, TabletType};
+use mt_names::{KeyspaceName, TableName, TabletType, Value};
 
 /// The refusal of the core for one of a primary.
 fn refusal_by_primary(fault: PrimaryFault) -> Refusal
@@ -33,15 +32,15 @@ pub(crate) fn write_row(
     keyspace: &KeyspaceName,
     table: &TableName,
     op: Op,
-) -> Result<Reply, Refusal>
+) -> Result<(), Refusal>
     ensures { (topology : TopologyState) (workflows : core.Workflows)
-        → WritesRow (record { topology = topology; primaries = primaries.old.entries; workflows = workflows }) keyspace.now table.now op (answer_from result)
+        → WritesRow (record { topology = topology; primaries = primaries.old.entries; workflows = workflows }) keyspace.now table.now op (written_from result)
         (record { topology = topology; primaries = primaries.new.entries; workflows = workflows }) }
 {
     match primaries.get_mut(keyspace) {
         None => Err(Refusal::NoKeyspace),
         Some(primary) => match primary.write(table, op) {
-            Ok(_) => Ok(Reply::Done),
+            Ok(_) => Ok(()),
             Err(fault) => Err(refusal_by_primary(fault)),
         },
     }
@@ -54,13 +53,13 @@ pub(crate) fn read_row(
     table: &TableName,
     key: u64,
     tablet_type: TabletType,
-) -> Result<Reply, Refusal>
-    ensures { answer_from result ≡ read_at (primary_at primaries.now.entries keyspace.now) table.now key tablet_type }
+) -> Result<Option<Value>, Refusal>
+    ensures { read_from result ≡ read_at (primary_at primaries.now.entries keyspace.now) table.now key tablet_type }
 {
     match primaries.get(keyspace) {
         None => Err(Refusal::NoKeyspace),
         Some(primary) => match primary.read(table, key, tablet_type) {
-            Ok(row) => Ok(Reply::Row(row)),
+            Ok(row) => Ok(row),
             Err(fault) => Err(refusal_by_primary(fault)),
         },
     }

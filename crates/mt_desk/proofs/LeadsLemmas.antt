@@ -1,0 +1,56 @@
+-- A history that leads on.
+use Rattle.std.proofs.Common.{◌≡◌, ℕ, List, [], ◌∷◌, ◌++◌, Result, refl, sym, subst}
+use Rattle.std.proofs.Math.Logic.{∥∥₁_elim}
+use Rattle.mt_laws.specs.Headline.{Headline}
+use Rattle.mt_laws.specs.WayBack.{IsReached}
+use Rattle.mt_event.specs.declared.event.Event.{Event}
+use Rattle.mt_event.specs.declared.refusal.Refusal.{Refusal}
+use Rattle.mt_event.specs.declared.reply.Reply.{Reply}
+use Rattle.mt_event.specs.Events.{answer_from, event_of}
+use Rattle.mt_model.specs.declared.entries.Scope.{Scope}
+use Rattle.mt_plain.specs.Answers.{Answers, IsLegal, Run, after}
+use Rattle.mt_plain.specs.Events as plain
+use Rattle.mt_plain.specs.Next.{next}
+use Rattle.mt_plain.specs.Plain.{Plain}
+use Rattle.mt_site_state.specs.Ways.{SiteStands, SiteState, SiteSteps}
+use Rattle.mt_desk.specs.declared.history.Line.{Line}
+use Rattle.mt_desk.specs.Histories.{Leads, answered, asked, history_from, line}
+
+-- no line leads nowhere
+pub leads_nowhere : (scopes : List Scope) (s : SiteState) → Leads scopes s [] s
+leads_nowhere scopes s = λ p stands. (tt, stands)
+
+-- a legal history goes on with one line more
+more : (lines : List Line) (p : Plain) (l : Line) → IsLegal p (history_from lines)
+    → Answers (after p (asked lines) (answered lines)) (event_of l.event) (answer_from l.answer)
+    → IsLegal p (history_from (lines ++ l ∷ []))
+    × (after p (asked (lines ++ l ∷ [])) (answered (lines ++ l ∷ [])) ≡ next (after p (asked lines) (answered lines)) (event_of l.event) (answer_from l.answer))
+more [] p l legal given = ((given, tt), refl)
+more (x ∷ lines) p l legal given =
+    let r = more lines (next p (event_of x.event) (answer_from x.answer)) l legal.1 given in
+    ((legal.0, r.0), r.1)
+
+pub leads_more : (scopes : List Scope) (opening now later : SiteState) (lines : List Line) (l : Line) → Leads scopes opening lines now
+    → SiteSteps scopes now (event_of l.event) (answer_from l.answer) later → Leads scopes opening (lines ++ l ∷ []) later
+leads_more scopes opening now later lines l leads step = λ p stands.
+    let was = leads p stands in
+    let stepped = step (after p (asked lines) (answered lines)) was.1 in
+    let r = more lines p l was.0 stepped.0 in
+    (r.0, subst (λ q. SiteStands q scopes later) (sym r.1) stepped.1)
+
+-- of a history that leads on the headline holds
+pub headline_holds : (scopes : List Scope) (opening now : SiteState) (lines : List Line)
+    → ((p : Plain) (events : List plain.Event) (answers : List plain.Answer) → IsReached p → Run p events answers → Headline p events answers)
+    → ∥ Leads scopes opening lines now ∥₁ → (p : Plain) → SiteStands p scopes opening → ∥ Headline p (asked lines) (answered lines) ∥₁
+headline_holds scopes opening now lines law leads p stands =
+    ∥∥₁_elim leads (hlevel) (λ l. ∣ law p (asked lines) (answered lines) stands.core.reached (l p stands).0 ∣₁)
+
+-- the same, kept
+pub kept_nowhere : (scopes : List Scope) (opening s : SiteState) → s ≡ opening → ∥ Leads scopes opening [] s ∥₁
+kept_nowhere scopes opening s is = ∣ subst (λ o. Leads scopes o [] s) is (leads_nowhere scopes s) ∣₁
+
+pub kept_more : (scopes : List Scope) (opening now later : SiteState) (lines : List Line) (client : ℕ) (event : Event) (answer : Result Reply Refusal)
+    → ∥ Leads scopes opening lines now ∥₁ → SiteSteps scopes now (event_of event) (answer_from answer) later
+    → ∥ Leads scopes opening (lines ++ line client event answer ∷ []) later ∥₁
+kept_more scopes opening now later lines client event answer leads step =
+    ∥∥₁_elim leads (hlevel) (λ l. ∣ leads_more scopes opening now later lines (line client event answer) l step ∣₁)

@@ -1,0 +1,2 @@
+mod LeadsLemmas
+mod PassLemmas

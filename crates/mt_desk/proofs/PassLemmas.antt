@@ -1,0 +1,68 @@
+-- What some passes list.
+use Rattle.std.proofs.Common.{◌≡◌, ◌==◌, ◌||◌, ℕ, zero, suc, ◌+◌, ◌<◌, add-one, Bool, true, false, All, List, [], ◌∷◌, ◌++◌, get_or, length, map, take, refl, sym, ap, ◌∙◌, subst, arith}
+use Rattle.std.proofs.Math.Seq.{take-suc}
+use Rattle.std.proofs.lemmas.List.Elements.{All-push}
+use Rattle.std.proofs.lemmas.Bool.Decides.{nat_tests}
+use Rattle.std.proofs.Math.Logic.{∥∥₁_elim}
+use Rattle.mt_model.specs.declared.entries.Scope.{Scope}
+use Rattle.mt_site_state.specs.Ways.{SiteState}
+use Rattle.mt_desk.specs.declared.history.Call.{Call}
+use Rattle.mt_desk.specs.declared.history.Line.{Line}
+use Rattle.mt_desk.specs.Histories.{Leads}
+use Rattle.mt_desk.specs.Passes.{HaveOneHistory, IsOf, has_pass}
+
+-- two numbers, and the test of them
+agree : (n m : ℕ) → n ≡ m → (n == m) ≡ true
+agree n m is = grind (is, arith, nat_tests)
+
+differ : (n m : ℕ) → (n ≡ m → ⊥) → (n == m) ≡ false
+differ n m isnt = grind (isnt, arith, nat_tests)
+
+-- one item more of a list
+map_suc : {X Y : Type 0} (f : X → Y) (xs : List X) (i : ℕ) (x : X) → i < length xs → x ≡ get_or xs i x → map f (take i xs) ++ f x ∷ [] ≡ map f (take (suc i) xs)
+map_suc f [] i x inside is = absurd (omega (arith, inside))
+map_suc f (y ∷ ys) zero x inside is = rw is refl
+map_suc f (y ∷ ys) (suc i) x inside is = ap (λ l. f y ∷ l) (map_suc f ys i x (omega (arith, inside)) is)
+
+map_next : {X Y : Type 0} (f : X → Y) (xs : List X) (i : ℕ) (x : X) → i < length xs → x ≡ get_or xs i x → map f (take i xs) ++ f x ∷ [] ≡ map f (take (i + 1) xs)
+map_next f xs i x inside is = subst (λ n. map f (take i xs) ++ f x ∷ [] ≡ map f (take n xs)) (sym (add-one i)) (map_suc f xs i x inside is)
+
+-- what holds of those before holds with one more
+pub all_next : {X Y : Type 0} (P : Y → Type 0) (f : X → Y) (xs : List X) (i : ℕ) (x : X) → i < length xs → x ≡ get_or xs i x → All P (map f (take i xs)) → P (f x)
+    → All P (map f (take (i + 1) xs))
+all_next P f xs i x inside is all new = subst (All P) (map_next f xs i x inside is) (All-push P (map f (take i xs)) (f x) all new)
+
+pub all_more : {X : Type 0} (P : X → Type 0) (xs : List X) (i : ℕ) (d : X) → i < length xs → All P (take i xs) → P (get_or xs i d) → All P (take (i + 1) xs)
+all_more P xs i d inside all new =
+    subst (λ n. All P (take n xs)) (sym (add-one i))
+    (subst (All P) (sym (take-suc xs i d inside)) (All-push P (take i xs) (get_or xs i d) all new))
+
+-- one pass more
+or_false : (a b c : Bool) → (a || b) ≡ false → (b ≡ false → c ≡ false) → (a || c) ≡ false
+or_false true b c is f = is
+or_false false b c is f = f is
+
+has_push : (passes : List (ℕ × List Call)) (pass : ℕ × List Call) (client : ℕ) → has_pass passes client ≡ false → (pass.0 == client) ≡ false → has_pass (passes ++ pass ∷ []) client ≡ false
+has_push [] pass client none other = rw other refl
+has_push (p ∷ passes) pass client none other =
+    or_false (p.0 == client) (has_pass passes client) (has_pass (passes ++ pass ∷ []) client) none (λ n. has_push passes pass client n other)
+
+pub has_next : {X : Type 0} (f : X → ℕ × List Call) (xs : List X) (i : ℕ) (x : X) (client : ℕ) → i < length xs → x ≡ get_or xs i x
+    → has_pass (map f (take i xs)) client ≡ false → ((f x).0 ≡ client → ⊥) → has_pass (map f (take (i + 1) xs)) client ≡ false
+has_next f xs i x client inside is none other = subst (λ l. has_pass l client ≡ false) (map_next f xs i x inside is) (has_push (map f (take i xs)) (f x) client none (differ (f x).0 client other))
+
+-- one of them is the client's
+or_true : (a : Bool) → (a || true) ≡ true
+or_true true = refl
+or_true false = refl
+
+pub has_at : {X : Type 0} (f : X → ℕ × List Call) (xs : List X) (i : ℕ) (x : X) (client : ℕ) → i < length xs → x ≡ get_or xs i x → (f x).0 ≡ client → has_pass (map f xs) client ≡ true
+has_at f [] i x client inside is same = absurd (omega (arith, inside))
+has_at f (y ∷ ys) zero x client inside is same = ap (λ b. b || has_pass (map f ys) client) (agree (f y).0 client (subst (λ z. (f z).0 ≡ client) is same))
+has_at f (y ∷ ys) (suc i) x client inside is same =
+    ap (λ b. ((f y).0 == client) || b) (has_at f ys i x client (omega (arith, inside)) is same) ∙ or_true ((f y).0 == client)
+
+-- the history that is kept is the one
+pub one_history : (scopes : List Scope) (opening now : SiteState) (passes : List (ℕ × List Call)) (lines : List Line) → ∥ Leads scopes opening lines now ∥₁ → IsOf passes lines
+    → HaveOneHistory scopes opening passes
+one_history scopes opening now passes lines leads is = ∥∥₁_elim leads (hlevel) (λ l. ∣ (lines, now, l, is) ∣₁)

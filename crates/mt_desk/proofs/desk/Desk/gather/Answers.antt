@@ -1,0 +1,8 @@
+-- What was compared is what was handed in.
+use Rattle.std.proofs.Common.{map, subst}
+use Rattle.mt_desk.specs.Passes.{HaveOneHistory}
+use Rattle.mt_desk.proofs.desk.Desk.gather.Goals as goal
+
+pub returns-in-Ok-clause-one : goal.returns-in-Ok-clause-one
+returns-in-Ok-clause-one g c =
+    subst (λ ps. HaveOneHistory g.D.DeskName.scopes g.D.DeskName.opening (map (λ pass. (pass.client, pass.calls.items)) ps)) c.as_slice.ensures.value c.in_default.ensures

@@ -1,0 +1,43 @@
+-- Who has a pass (this profile's own).
+use Rattle.std.specs.Prelude.{◌≡◌, ◌==◌, ◌||◌, ℕ, Bool, true, false, [], ◌∷◌, ◌++◌, List, All, Contains, Result, Ok, Err, ⊤}
+use Rattle.mt_model.specs.declared.entries.Scope.{Scope}
+use Rattle.mt_site_state.specs.Ways.{SiteState}
+use Rattle.mt_desk.specs.declared.history.Call.{Call}
+use Rattle.mt_desk.specs.declared.history.Line.{Line}
+use Rattle.mt_desk.specs.Histories.{Leads, calls_of}
+use Rattle.mt_desk.specs.declared.fault.DeskFault.{DeskFault}
+use Rattle.mt_desk.specs.declared.fault.DeskFault.TheVariants.{Memory, HistoryDiffers, ClientTaken, PassMissing}
+
+-- a client is listed, once: it is taken exactly where it is there, and want of memory is told last
+abbrev pub Admits : (old : List ℕ) → (client : ℕ) → Result ⊤ DeskFault → (new : List ℕ) → Type 0
+Admits old client (Ok done) new = (¬ Contains old client) × (new ≡ old ++ client ∷ [])
+Admits old client (Err ClientTaken) new = Contains old client × (new ≡ old)
+Admits old client (Err Memory) new = (¬ Contains old client) × (new ≡ old)
+Admits old client (Err other) new = ⊥
+
+-- one of some passes, each a client with its calls, is that of a client
+abbrev pub has_pass : List (ℕ × List Call) → (client : ℕ) → Bool
+has_pass [] client = false
+has_pass (pass ∷ passes) client = (pass.0 == client) || has_pass passes client
+
+-- a client has one of some passes; a line is that of such a client
+abbrev pub HasPass : List (ℕ × List Call) → (client : ℕ) → Type 0
+HasPass passes client = has_pass passes client ≡ true
+
+abbrev pub IsOfPass : List (ℕ × List Call) → Line → Type 0
+IsOfPass passes l = has_pass passes l.client ≡ true
+
+-- a pass lists the calls of its client
+abbrev pub ListsCalls : List Line → ℕ × List Call → Type 0
+ListsCalls lines pass = calls_of pass.0 lines ≡ pass.1
+
+-- a history is that of some passes: the calls of each client are those that its pass lists, with its answers, in its order, each once, and
+-- there are no others
+pub record IsOf (passes : List (ℕ × List Call)) (lines : List Line) : Type 0 where
+  pub each : All (ListsCalls lines) passes
+  pub others : All (IsOfPass passes) lines
+
+-- there is one such history, and it is legal from each state that the controller stood for at the opening
+abbrev pub HaveOneHistory : List Scope → (opening : SiteState) → List (ℕ × List Call) → Type 0
+HaveOneHistory scopes opening passes =
+    ∥ ((lines : List Line) × (now : SiteState) × Leads scopes opening lines now × IsOf passes lines) ∥₁

@@ -1,0 +1,130 @@
+//! The controller with the history of all that was asked of it.
+ghost use Rattle.std.specs.Prelude.{◌≡◌, ◌++◌, [], ◌∷◌, All, IfErr, IfOk, OnErr, OnOk, map};
+ghost use Rattle.mt_event.specs.Events.{answer_from, event_of};
+ghost use Rattle.mt_plain.specs.Events as plain;
+ghost use Rattle.mt_plain.specs.Plain.{Plain};
+ghost use Rattle.mt_laws.specs.Headline.{Headline};
+ghost use Rattle.mt_site.specs.Applies.{Applies};
+ghost use Rattle.mt_site_state.specs.Ways.{SiteStands, SiteSteps};
+ghost use Rattle.mt_desk.specs.Histories.{Leads, answered, asked, line};
+ghost use Rattle.mt_desk.specs.Passes.{Admits, HasPass, HaveOneHistory, IsOf};
+
+use crate::account::{are_there, first_stranger, first_that_differs};
+use crate::history::{Answer, Line, copied_answer};
+use crate::{DeskFault, DeskName, Pass};
+use mt_event::Event;
+use mt_laws::every_run_keeps_the_headline;
+use mt_site::Core;
+use mt_watch::Asks;
+use std::alloc::Global;
+use std::sync::ledger;
+use std::sync::ledger::Blank;
+
+/// The core of the controller, with the history of all that was asked of it since the desk was opened. The history is always legal,
+/// and leads from each state that the core stood for at the opening to one that it stands for now. (Vitess: what MoveTables works on)
+#[derive(Drop)]
+pub struct Book<D: DeskName> {
+    core: Core,
+    history: Vec<Line>,
+    clients: Vec<u16>,
+    ledger: ledger::Book<D>,
+    ghost legal: { ∥ Leads D.scopes D.opening history.items core ∥₁ },
+}
+
+impl<D: DeskName> Book<D> {
+    /// A book without lines, under the name of its blank. It takes no memory.
+    pub fn open(alloc: Global, blank: Blank, core: Core) -> Self
+        requires name { (blank.name ≡ D.name) × (blank.parts ≡ D.parts) }
+        requires opening { core ≡ D.opening }
+        ensures core { result.core ≡ core }
+        ensures history { result.history.items ≡ [] }
+        ensures clients { result.clients.items ≡ [] }
+    {
+        let (ledger, _) = blank.open::<D>();
+        Book {
+            core,
+            history: Vec::new(alloc),
+            clients: Vec::new(alloc),
+            ledger,
+        }
+    }
+
+    /// Applies an event, as `Core::apply` tells, and adds its line to the history. `K0 Memory` where the history found no place
+    /// for the line: then no event was taken.
+    pub fn take<W: Asks>(
+        &mut self,
+        watchers: &W,
+        client: u16,
+        event: Event,
+    ) -> Result<Answer, DeskFault>
+        requires scopes { W.scopes watchers.now ≡ D.scopes }
+        ensures line { IfOk result (λ r. self.new.history.items ≡ self.old.history.items ++ line client event r ∷ []) }
+        ensures applies { IfOk result (λ r. Applies (W.scopes watchers.now) (W.may_answer watchers.now) self.old.core (event_of event) (answer_from r) self.new.core) }
+        ensures steps { IfOk result (λ r. SiteSteps (W.scopes watchers.now) self.old.core (event_of event) (answer_from r) self.new.core) }
+        ensures none { OnErr result ((self.new.history.items ≡ self.old.history.items) × (self.new.core ≡ self.old.core)) }
+        ensures clients { self.new.clients.items ≡ self.old.clients.items }
+        ensures memory { IfErr result (λ fault. fault ≡ DeskFault.Memory) }
+    {
+        let Book { core, history, .. } = self;
+        if history.reserve(1).is_err() {
+            return Err(DeskFault::Memory);
+        }
+        let answer = core.apply(watchers, &event);
+        let told = copied_answer(&answer);
+        history.push_reserved(Line {
+            client,
+            event,
+            answer,
+        });
+        Ok(told)
+    }
+
+    /// Lists a client among those to whom a pass was given: `K6 ClientTaken` exactly where it is there, and `K0 Memory`, which leave
+    /// all as it was. No event is taken.
+    pub(crate) fn admit(&mut self, client: u16) -> Result<(), DeskFault>
+        ensures admits { Admits self.old.clients.items client result self.new.clients.items }
+        ensures history { self.new.history.items ≡ self.old.history.items }
+        ensures core { self.new.core ≡ self.old.core }
+    {
+        let Book { clients, .. } = self;
+        if clients.contains(&client) {
+            return Err(DeskFault::ClientTaken);
+        }
+        if clients.reserve(1).is_err() {
+            return Err(DeskFault::Memory);
+        }
+        clients.push_reserved(client);
+        Ok(())
+    }
+
+    /// Compares what some passes list with the history: `K7 PassMissing` where a client to whom a pass was given has none of them, and
+    /// `K1 HistoryDiffers` with the client whose calls differ. It takes no memory.
+    pub(crate) fn compare(&self, passes: &[Pass<D>]) -> Result<(), DeskFault>
+        ensures clients { OnOk result (All (HasPass (map (λ pass. (pass.client, pass.calls.items)) passes.now)) self.now.clients.items) }
+        ensures passes { OnOk result (IsOf (map (λ pass. (pass.client, pass.calls.items)) passes.now) self.now.history.items) }
+        ensures one { OnOk result (HaveOneHistory D.scopes D.opening (map (λ pass. (pass.client, pass.calls.items)) passes.now)) }
+    {
+        if !are_there(passes, self.clients.as_slice()) {
+            return Err(DeskFault::PassMissing);
+        }
+        let history = self.history.as_slice();
+        if let Some(client) = first_that_differs(passes, history) {
+            return Err(DeskFault::HistoryDiffers(client));
+        }
+        match first_stranger(passes, history) {
+            Some(client) => Err(DeskFault::HistoryDiffers(client)),
+            None => Ok(()),
+        }
+    }
+
+    /// The lines of the history, in their order. It is legal from each state that the core stood for at the opening, and of it the
+    /// headline holds. It takes no memory.
+    pub fn lines(&self) -> &[Line]
+        ensures lines { result.now ≡ self.now.history.items }
+        ensures leads { ∥ Leads D.scopes D.opening result.now self.now.core ∥₁ }
+        ensures headline { (p : Plain) → SiteStands p D.scopes D.opening → ∥ Headline p (asked result.now) (answered result.now) ∥₁ }
+    {
+        every_run_keeps_the_headline();
+        self.history.as_slice()
+    }
+}

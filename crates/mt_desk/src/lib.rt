@@ -1,0 +1,18 @@
+//! The desk: many threads at one controller, behind one lock, with the history of all that was asked.
+#![tactic(auto)]
+
+mod account;
+mod book;
+mod desk;
+mod fault;
+mod history;
+mod name;
+mod pass;
+
+pub use account::Account;
+pub use book::Book;
+pub use desk::Desk;
+pub use fault::DeskFault;
+pub use history::{Answer, Call, Line};
+pub use name::DeskName;
+pub use pass::Pass;

@@ -1,0 +1,53 @@
+-- The exchange that adds a publication keeps the rule.
+use Rattle.std.proofs.Common.{◌≡◌, ℕ, ◌+◌, ◌<◌, ◌≤◌, ◌==◌, Bool, true, false, List, [], ◌∷◌, ◌++◌, length, refl, ap, sym, subst, arith, inl, length-append, None}
+use Rattle.std.proofs.lemmas.List.{append-nil}
+use Rattle.std.proofs.lemmas.Bool.Decides.{nat_tests}
+use mathlib.Core.List.{IsPrefix}
+use prog.Atomic.{either}
+use Rattle.logbook.specs.Pages.{Cell, cell, keeps, no_nib, step, Moves, Goes}
+use Rattle.mt_routes.specs.declared.publication.Publication.{Publication}
+use Rattle.mt_routes.specs.Publications.{Rises, last_front}
+use Rattle.mt_routes.specs.Rules.{IsKept, Adds}
+use Rattle.mt_routes.proofs.Lists.{prefix_whole, rises-added}
+
+abbrev pub shown : List Publication → List Publication
+shown list = []
+
+abbrev pub moved : List Publication → List Publication → ℕ → Type 0
+moved xs ys n = Unit {0}
+
+pub adds_goes : (log v : List Publication) (e : Publication) (old : ℕ) → length v ≡ old → last_front v ≤ e.front → Rises log → IsPrefix v log
+    → (b : Bool) → (length log == old) ≡ b
+    → Goes IsKept shown moved 0 (v, (no_nib, None)) (λ n. either (n == old) (old + 1) n) (Adds (step 0 old (old + 1) e) (v, (no_nib, None))) ((length log, true) ∷ (0, true) ∷ []) log
+adds_goes log v e old len may rises pre true is =
+    let here : length log ≡ old = grind (arith, nat_tests) in
+    let same : v ≡ log = prefix_whole v log pre (omega arith) in
+    let rises' : Rises (log ++ e ∷ []) = rises-added None log e rises (subst (λ w. last_front w ≤ e.front) same may) in
+    let n : either (length log == old) (old + 1) (length log) ≡ length (log ++ e ∷ []) = rw is (omega (arith, length-append log (e ∷ []))) in (
+      keeps,
+      e ∷ [],
+      None,
+      tt,
+      record { words = ap (λ (k : ℕ). (k, true) ∷ (0, true) ∷ []) n; rises = rises' },
+      inl (refl, refl),
+      rw is (ap (λ w. w ++ e ∷ []) (sym same), rises'),
+    )
+adds_goes log v e old len may rises pre false is =
+    let all : log ++ [] ≡ log = append-nil log in
+    let rises' : Rises (log ++ []) = subst Rises (sym all) rises in
+    let n : either (length log == old) (old + 1) (length log) ≡ length (log ++ []) = rw is (ap length (sym all)) in (
+      keeps,
+      [],
+      None,
+      tt,
+      record { words = ap (λ (k : ℕ). (k, true) ∷ (0, true) ∷ []) n; rises = rises' },
+      inl (refl, refl),
+      rw is (ap length all, rises'),
+    )
+
+-- whatever the list is, the exchange adds the publication to all that was seen, or finds that the list is longer
+pub adds_moves : (v : List Publication) (e : Publication) (old : ℕ) → length v ≡ old → last_front v ≤ e.front
+    → Moves IsKept shown moved 0 (v, (no_nib, None)) (λ n. either (n == old) (old + 1) n) (Adds (step 0 old (old + 1) e) (v, (no_nib, None)))
+adds_moves v e old len may cs log kept pre away =
+    let P : List Cell → Type 0 = λ c. (0 < length c) × ((cell c 0).1 ≡ true) × Goes IsKept shown moved 0 (v, (no_nib, None)) (λ n. either (n == old) (old + 1) n) (Adds (step 0 old (old + 1) e) (v, (no_nib, None))) c log in
+    subst P (sym kept.words) (omega arith, refl, adds_goes log v e old len may kept.rises pre (length log == old) refl)

@@ -1,0 +1,16 @@
+-- The answer is that of the core where the name leads.
+use Rattle.std.proofs.Common.{Some, ap, subst}
+use Rattle.mt_plain.specs.Events as plain
+use Rattle.mt_plain.specs.Output.{asked_there}
+use Rattle.mt_run.specs.Runs.{Tells}
+use Rattle.mt_run.proofs.rows.write.Goals as goal
+
+pub returns-in-Ok : goal.returns-in-Ok
+returns-in-Ok c = λ scopes p stands.
+    subst (λ r. Tells scopes p (asked_there r (λ keyspace table. plain.write keyspace table c.args.op)) (Some c.write_there.result.items) c.write_there.new.core)
+    (c.in-Ok.ensures.served p scopes stands) (c.write_there.ensures scopes p stands)
+
+pub returns-in-Err : goal.returns-in-Err
+returns-in-Err c = λ scopes p stands.
+    subst (λ r. Tells scopes p (asked_there r (λ keyspace table. plain.write keyspace table c.args.op)) (Some c.look_up_line.result.items) c.args.core.now)
+    (c.in-Err.ensures.served p scopes stands) (ap Some c.look_up_line.ensures, stands)
