@@ -11,4 +11,6 @@ mod scene;
 #[cfg(test)]
 mod sizes;
 #[cfg(test)]
+mod speed;
+#[cfg(test)]
 mod threads;

@@ -54,6 +54,15 @@ pub fn many_routes(alloc: Global, rules: usize, tables: usize) -> Result<Next, F
     })
 }
 
+/// The names that have rules, if there are as many as there may be.
+pub fn many_keys(alloc: Global) -> Result<Vec<RuleKey>, Fail> {
+    let mut keys = Vec::new(alloc);
+    for number in 0..MAX_RULES {
+        keys.push(key(alloc, number)?)?;
+    }
+    Ok(keys)
+}
+
 /// How many of so many names lead where they should.
 fn led<J: Naming>(alloc: Global, router: &mut Router<J>, many: usize) -> Result<usize, Fail> {
     let mut right = 0usize;
