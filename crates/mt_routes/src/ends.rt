@@ -1,5 +1,6 @@
 //! The writer of routes.
-ghost use Rattle.std.specs.Prelude.{◌≡◌, [], ◌∷◌, ◌++◌, drop, IfOk};
+ghost use Rattle.std.specs.Prelude.{◌≡◌, List, [], ◌∷◌, ◌++◌, drop, Some, option_map, IfOk};
+ghost use Rattle.mt_routes.specs.declared.publication.Publication.{Publication};
 
 use crate::{Naming, Router, Showing, Ties, Told, Update, View};
 use left_right::writer::Writer;
@@ -33,17 +34,21 @@ impl<J: Naming, R: Wait + Drop> Drop for Ends<J, R> {
 }
 
 impl<J: Naming, R: Wait + Drop> Ends<J, R> {
-    /// A writer that shows a publication, with room for eight routers. It is refused for want of memory alone.
+    /// A writer that shows a publication, with room for eight routers and for the next publication. It is refused only if it
+    /// runs out of memory.
     pub fn open(alloc: Global, rt: R, first: &Showing) -> Result<Ends<J, R>, AllocError>
         requires { first.now.known.seen.book ≡ J.book }
+        ensures { IfOk result (λ e. option_map {U = List Publication} (λ w. w.desk.shown.value.known.seen.log) e.writer ≡ Some first.now.known.seen.log) }
     {
         let shown = View::new(alloc, first)?;
         let spare = View::new(alloc, first)?;
         let writer = Writer::new(alloc, shown, spare, MAX_ROUTERS)?;
-        Ok(Ends {
+        let mut ends = Ends {
             rt,
             writer: Some(writer),
-        })
+        };
+        ends.reserve()?;
+        Ok(ends)
     }
 
     /// A router, which knows of the list what it is told. `RoutersFull` where there are eight.
@@ -59,21 +64,28 @@ impl<J: Naming, R: Wait + Drop> Ends<J, R> {
         }
     }
 
-    /// Makes room for the next publication, and changes nothing. It is refused for want of memory alone.
-    pub fn reserve(&mut self) -> Result<(), AllocError> {
+    /// Makes room for the next publication, and changes nothing that is shown. It is refused only if it runs out of memory,
+    /// and where there has been a `reserve` since the last publication there is room already.
+    pub fn reserve(&mut self) -> Result<(), AllocError>
+        ensures { option_map {U = List Publication} (λ w. w.desk.shown.value.known.seen.log) self.new.writer ≡ option_map (λ w. w.desk.shown.value.known.seen.log) self.old.writer }
+    {
         let Some(writer) = &mut self.writer else {
             return Err(AllocError);
         };
+        if writer.has_pending_operations() {
+            return Ok(());
+        }
         match writer.append(Update::Keep) {
             Ok(()) => Ok(()),
             Err(_) => Err(AllocError),
         }
     }
 
-    /// Shows readers a publication. It waits for those that still read the one before the last. There must have been a
-    /// `reserve` since the last one: where there is no room it never returns.
+    /// Shows readers a publication. It waits for those that still read the one before the last. Where there has been no
+    /// `reserve` since the last one it may need memory, and then waits until there is some.
     pub fn publish(&mut self, showing: Showing)
         requires { showing.known.seen.book ≡ J.book }
+        ensures { option_map {U = List Publication} (λ w. w.desk.shown.value.known.seen.log) self.new.writer ≡ option_map (λ w. showing.known.seen.log) self.old.writer }
     {
         let Some(writer) = self.writer.take() else {
             return;
@@ -88,12 +100,13 @@ impl<J: Naming, R: Wait + Drop> Ends<J, R> {
 /// Shows readers a publication.
 fn show<J: Naming, R: Wait>(rt: &R, writer: RouteWriter<J>, showing: Showing) -> RouteWriter<J>
     requires { showing.known.seen.book ≡ J.book }
+    ensures { result.desk.shown.value.known.seen.log ≡ showing.known.seen.log }
 {
     let writer = append(rt, writer, showing);
     writer.publish_as::<Ties<J>, R>(rt).0
 }
 
-/// Puts a publication behind what is pending. Where there is no memory it never returns.
+/// Puts a publication behind what is pending. Where there is no memory it tries again until there is.
 fn append<J: Naming, R: Wait>(
     rt: &R,
     mut writer: RouteWriter<J>,
@@ -102,19 +115,12 @@ fn append<J: Naming, R: Wait>(
     ensures desk { result.desk ≡ writer.desk }
     ensures pending { drop result.behind result.log.items ≡ drop writer.behind writer.log.items ++ Update.Show showing ∷ [] }
 {
-    match writer.append(Update::Show(showing)) {
-        Ok(()) => writer,
-        Err(_) => {
-            stop(rt);
-            writer
+    let mut update = Update::Show(showing);
+    for _ in rt.forever() {
+        match writer.append(update) {
+            Ok(()) => return writer,
+            Err(back) => update = back,
         }
     }
-}
-
-/// Never returns.
-fn stop<R: Wait>(rt: &R)
-    ensures { ⊥ }
-{
-    for _ in rt.forever() {}
     unreachable!()
 }

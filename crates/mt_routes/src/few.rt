@@ -1,5 +1,5 @@
 //! Whether a view has room for the routes of a publication.
-ghost use Rattle.std.specs.Prelude.{◌≡◌, IsTrue, length};
+ghost use Rattle.std.specs.Prelude.{◌≡◌, ◌↔◌, IsTrue, length};
 ghost use Rattle.std.specs.List.{flat_map};
 ghost use Rattle.mt_routes.specs.LookUp.{rule_in, table_in};
 ghost use Rattle.mt_routes.specs.Places.{AreFew};
@@ -11,7 +11,7 @@ impl Next {
     /// Whether there are at most 4,096 rules and 8,192 tables among the routes, as in every topology: for so many each
     /// view has room. It takes no memory.
     pub fn is_few(&self) -> bool
-        ensures { IsTrue result → AreFew self.now.entries.items }
+        ensures { IsTrue result ↔ AreFew self.now.entries.items }
     {
         rule_count(&self.entries) <= MAX_RULES && table_count(&self.entries) <= MAX_TABLES
     }

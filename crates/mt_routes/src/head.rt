@@ -9,6 +9,7 @@ use logbook::{Offer, Seen, Start, Word};
 use std::marker::PhantomData;
 
 /// An empty list, which has no name yet.
+#[derive(Drop)]
 pub struct Opened {
     word: Word<Publication, u64, Law>,
     pub seen: Seen<Publication, u64, Law>,
