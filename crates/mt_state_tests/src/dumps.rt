@@ -15,7 +15,7 @@ const DENIED: &str =
     "{\"denied\":[\"b.t\"],\"keyspaces\":[{\"name\":\"a\",\"tables\":[]},{\"name\":\"b\",\"tables\":[\"t\"]}],\"rules\":[{\"from_table\":\"x\",\"to_tables\":[\"b.t\"]}],\"version\":1}";
 
 /// The keyspaces `a` and `b`, the table in `b`, and a rule. The part of the table's move to `a` is reserved, and it is denied.
-const WITH_DENIAL: [(Call<'static>, &str); 6] = [
+static WITH_DENIAL: [(Call<'static>, &str); 6] = [
     (Call::Keyspace("b"), "ok"),
     (Call::Keyspace("a"), "ok"),
     (Call::Table("b", "t"), "ok"),

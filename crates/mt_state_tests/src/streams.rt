@@ -97,13 +97,13 @@ fn create_table(primary: &mut Primary, name: &str) -> Result<(), Fail> {
 }
 
 /// A client's row.
-const A_WRITE: [(Call<'static>, Answer<'static>); 1] = [(
+static A_WRITE: [(Call<'static>, Answer<'static>); 1] = [(
     Call::Insert("t", 1, b"a"),
     Answer::At(1),
 )];
 
 /// The row as a stream left it.
-const A_READ: [(Call<'static>, Answer<'static>); 1] = [(
+static A_READ: [(Call<'static>, Answer<'static>); 1] = [(
     Call::Read("t", 1, TabletType::Primary),
     Answer::Row(b"b"),
 )];
@@ -120,7 +120,7 @@ fn a_stream_writes_behind_a_client(rt: HostRuntime) -> Result<(), Fail> {
 }
 
 /// Rows set, overwritten and taken away, one of them where none stands.
-const PUTS: [Row<'static>; 5] = [
+static PUTS: [Row<'static>; 5] = [
     ("t", 5, Some(b"a")),
     ("t", 5, Some(b"b")),
     ("t", 5, None),
@@ -129,7 +129,7 @@ const PUTS: [Row<'static>; 5] = [
 ];
 
 /// The log of these, each with the row that stood here before it.
-const LOG: [Entry<'static>; 5] = [
+static LOG: [Entry<'static>; 5] = [
     (("t", 5, Some(b"a")), None),
     (("t", 5, Some(b"b")), Some(b"a")),
     (("t", 5, None), Some(b"b")),
@@ -138,7 +138,7 @@ const LOG: [Entry<'static>; 5] = [
 ];
 
 /// The rows that are left.
-const LEFT: [(Call<'static>, Answer<'static>); 2] = [
+static LEFT: [(Call<'static>, Answer<'static>); 2] = [
     (Call::Read("t", 5, TabletType::Primary), Answer::NoRow),
     (
         Call::Read("u", 5, TabletType::Primary),
@@ -157,7 +157,7 @@ fn rows_are_put_and_logged(rt: HostRuntime) -> Result<(), Fail> {
 }
 
 /// Rows in another order than that of their keys.
-const ROWS: [Row<'static>; 5] = [
+static ROWS: [Row<'static>; 5] = [
     ("t", 9, Some(b"i")),
     ("t", u64::MAX, Some(b"z")),
     ("t", 2, Some(b"b")),
@@ -192,14 +192,14 @@ fn rows_follow_one_another_by_their_keys(rt: HostRuntime) -> Result<(), Fail> {
 }
 
 /// What a client is answered of tables that are denied, behind a stream's write to one.
-const DENIED_TO_CLIENTS: [(Call<'static>, Answer<'static>); 3] = [
+static DENIED_TO_CLIENTS: [(Call<'static>, Answer<'static>); 3] = [
     (Call::Insert("u", 3, b"c"), DENIED),
     (Call::Read("u", 2, TabletType::Primary), DENIED),
     (Call::Read("u", 2, TabletType::Replica), Answer::Row(b"b")),
 ];
 
 /// What is answered where the denied table `u` was dropped.
-const U_IS_GONE: [(Call<'static>, Answer<'static>); 3] = [
+static U_IS_GONE: [(Call<'static>, Answer<'static>); 3] = [
     (
         Call::Insert("u", 3, b"c"),
         Answer::Refused(PrimaryFault::NoTable),
@@ -212,7 +212,7 @@ const U_IS_GONE: [(Call<'static>, Answer<'static>); 3] = [
 ];
 
 /// What is answered where it was made again: it has no rows, and is not denied.
-const U_IS_MADE_AGAIN: [(Call<'static>, Answer<'static>); 3] = [
+static U_IS_MADE_AGAIN: [(Call<'static>, Answer<'static>); 3] = [
     (Call::Read("u", 2, TabletType::Primary), Answer::NoRow),
     (Call::Insert("u", 2, b"d"), Answer::At(3)),
     (Call::Insert("t", 3, b"c"), DENIED),
