@@ -165,29 +165,30 @@ static ROWS: [Row<'static>; 5] = [
     ("t", 0, Some(b"0")),
 ];
 
+/// A table, a key or none, and the row that follows.
+type Next<'a> = (&'a str, Option<u64>, Option<(u64, &'a [u8])>);
+
+/// What follows: the first row of each table, and the first above a key.
+static FOLLOWING: [Next<'static>; 12] = [
+    ("t", None, Some((0, b"0"))),
+    ("t", Some(0), Some((2, b"b"))),
+    ("t", Some(1), Some((2, b"b"))),
+    ("t", Some(2), Some((9, b"i"))),
+    ("t", Some(9), Some((u64::MAX, b"z"))),
+    ("t", Some(u64::MAX), None),
+    ("u", None, Some((3, b"u"))),
+    ("u", Some(2), Some((3, b"u"))),
+    ("u", Some(3), None),
+    ("v", None, None),
+    ("w", None, None),
+    ("w", Some(0), None),
+];
+
 #[test]
 fn rows_follow_one_another_by_their_keys(rt: HostRuntime) -> Result<(), Fail> {
     let mut primary = primary_with(rt.alloc(), &["t", "u", "v"])?;
     assert!(rt; all_put(&mut primary, &ROWS));
-    assert!(rt;
-        all_next(
-            &primary,
-            &[
-                ("t", None, Some((0, b"0"))),
-                ("t", Some(0), Some((2, b"b"))),
-                ("t", Some(1), Some((2, b"b"))),
-                ("t", Some(2), Some((9, b"i"))),
-                ("t", Some(9), Some((u64::MAX, b"z"))),
-                ("t", Some(u64::MAX), None),
-                ("u", None, Some((3, b"u"))),
-                ("u", Some(2), Some((3, b"u"))),
-                ("u", Some(3), None),
-                ("v", None, None),
-                ("w", None, None),
-                ("w", Some(0), None),
-            ]
-        )
-    );
+    assert!(rt; all_next(&primary, &FOLLOWING));
     Ok(())
 }
 
