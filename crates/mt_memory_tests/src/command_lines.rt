@@ -46,7 +46,7 @@ fn same_help(rt: &HostRuntime, words: &[&str]) -> bool {
 }
 
 /// Command lines, each with the kind of its answer.
-const ANSWERS: [(&[&str], Answer); 10] = [
+static ANSWERS: [(&[&str], Answer); 10] = [
     (
         &["mt", "run", "commerce", "--", "customer"],
         Answer::Keyspaces(2),
@@ -63,7 +63,7 @@ const ANSWERS: [(&[&str], Answer); 10] = [
 ];
 
 /// Command lines that ask for help.
-const HELPS: [&[&str]; 4] = [
+static HELPS: [&[&str]; 4] = [
     &["mt", "help"],
     &["mt", "--help"],
     &["mt", "race", "-h"],

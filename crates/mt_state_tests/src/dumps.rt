@@ -15,7 +15,7 @@ const DENIED: &str =
     "{\"denied\":[\"b.t\"],\"keyspaces\":[{\"name\":\"a\",\"tables\":[]},{\"name\":\"b\",\"tables\":[\"t\"]}],\"rules\":[{\"from_table\":\"x\",\"to_tables\":[\"b.t\"]}],\"version\":1}";
 
 /// The keyspaces `a` and `b`, the table in `b`, and a rule. The part of the table's move to `a` is reserved, and it is denied.
-const WITH_DENIAL: [(Call<'static>, &str); 6] = [
+static WITH_DENIAL: [(Call<'static>, &str); 6] = [
     (Call::Keyspace("b"), "ok"),
     (Call::Keyspace("a"), "ok"),
     (Call::Table("b", "t"), "ok"),
@@ -63,46 +63,52 @@ fn a_dump_is_sorted_and_read_back(rt: HostRuntime) -> Result<(), Fail> {
     Ok(())
 }
 
+/// Texts that are read as a topology.
+static TAKEN: [&str; 4] = [
+    "{\"version\":1}",
+    "{\"version\":1,\"rules\":null,\"shards\":3}",
+    "{\"rules\":[],\"version\":1,\"keyspaces\":[{\"tables\":[\"t\"],\"name\":\"a\"}],\"denied\":[\"a.t\"]}",
+    "{\"version\":2,\"version\":1}",
+];
+
 #[test]
 fn what_is_taken(rt: HostRuntime) -> Result<(), Fail> {
-    for text in [
-        "{\"version\":1}",
-        "{\"version\":1,\"rules\":null,\"shards\":3}",
-        "{\"rules\":[],\"version\":1,\"keyspaces\":[{\"tables\":[\"t\"],\"name\":\"a\"}],\"denied\":[\"a.t\"]}",
-        "{\"version\":2,\"version\":1}",
-    ] {
+    for text in &TAKEN {
         assert_eq!(rt; loaded(rt.alloc(), text), "ok", "at {text}");
     }
     Ok(())
 }
 
+/// Texts that are no dumps.
+static REFUSED: [&str; 23] = [
+    "{",
+    "[]",
+    "{}",
+    "{\"version\":2}",
+    "{\"version\":1.0}",
+    "{\"version\":\"1\"}",
+    "{\"version\":1,\"denied\":null}",
+    "{\"version\":1,\"keyspaces\":null}",
+    "{\"version\":1,\"keyspaces\":{}}",
+    "{\"version\":1,\"keyspaces\":[\"a\"]}",
+    "{\"version\":1,\"keyspaces\":[{\"tables\":[]}]}",
+    "{\"version\":1,\"keyspaces\":[{\"name\":\"-a\"}]}",
+    "{\"version\":1,\"keyspaces\":[{\"name\":\"a\",\"tables\":null}]}",
+    "{\"version\":1,\"keyspaces\":[{\"name\":\"a\"},{\"name\":\"a\"}]}",
+    "{\"version\":1,\"keyspaces\":[{\"name\":\"a\",\"tables\":[\"t\",\"t\"]}]}",
+    "{\"version\":1,\"keyspaces\":[{\"name\":\"a\",\"tables\":[\"t.\"]}]}",
+    "{\"version\":1,\"keyspaces\":[{\"name\":\"a\",\"tables\":[\"t\"]}],\"denied\":[\"a.u\"]}",
+    "{\"version\":1,\"keyspaces\":[{\"name\":\"a\",\"tables\":[\"t\"]}],\"denied\":[\"b.t\"]}",
+    "{\"version\":1,\"keyspaces\":[{\"name\":\"a\",\"tables\":[\"t\"]}],\"denied\":[\"a.t\",\"a.t\"]}",
+    "{\"version\":1,\"keyspaces\":[{\"name\":\"a\",\"tables\":[\"t\"]}],\"denied\":[\"t\"]}",
+    "{\"version\":1,\"rules\":{}}",
+    "{\"version\":1,\"rules\":[{\"from_table\":\"x\",\"to_tables\":[]}]}",
+    "{\"version\":1,\"rules\":[{\"from_table\":\"x\",\"to_tables\":[\"a.x\"]},{\"from_table\":\"x\",\"to_tables\":[\"a.x\"]}]}",
+];
+
 #[test]
 fn what_is_refused(rt: HostRuntime) -> Result<(), Fail> {
-    for text in [
-        "{",
-        "[]",
-        "{}",
-        "{\"version\":2}",
-        "{\"version\":1.0}",
-        "{\"version\":\"1\"}",
-        "{\"version\":1,\"denied\":null}",
-        "{\"version\":1,\"keyspaces\":null}",
-        "{\"version\":1,\"keyspaces\":{}}",
-        "{\"version\":1,\"keyspaces\":[\"a\"]}",
-        "{\"version\":1,\"keyspaces\":[{\"tables\":[]}]}",
-        "{\"version\":1,\"keyspaces\":[{\"name\":\"-a\"}]}",
-        "{\"version\":1,\"keyspaces\":[{\"name\":\"a\",\"tables\":null}]}",
-        "{\"version\":1,\"keyspaces\":[{\"name\":\"a\"},{\"name\":\"a\"}]}",
-        "{\"version\":1,\"keyspaces\":[{\"name\":\"a\",\"tables\":[\"t\",\"t\"]}]}",
-        "{\"version\":1,\"keyspaces\":[{\"name\":\"a\",\"tables\":[\"t.\"]}]}",
-        "{\"version\":1,\"keyspaces\":[{\"name\":\"a\",\"tables\":[\"t\"]}],\"denied\":[\"a.u\"]}",
-        "{\"version\":1,\"keyspaces\":[{\"name\":\"a\",\"tables\":[\"t\"]}],\"denied\":[\"b.t\"]}",
-        "{\"version\":1,\"keyspaces\":[{\"name\":\"a\",\"tables\":[\"t\"]}],\"denied\":[\"a.t\",\"a.t\"]}",
-        "{\"version\":1,\"keyspaces\":[{\"name\":\"a\",\"tables\":[\"t\"]}],\"denied\":[\"t\"]}",
-        "{\"version\":1,\"rules\":{}}",
-        "{\"version\":1,\"rules\":[{\"from_table\":\"x\",\"to_tables\":[]}]}",
-        "{\"version\":1,\"rules\":[{\"from_table\":\"x\",\"to_tables\":[\"a.x\"]},{\"from_table\":\"x\",\"to_tables\":[\"a.x\"]}]}",
-    ] {
+    for text in &REFUSED {
         assert_eq!(rt; loaded(rt.alloc(), text), "T6 BadDump", "at {text}");
     }
     Ok(())

@@ -99,7 +99,7 @@ pub fn primary_with(alloc: Global, tables: &[&str]) -> Result<Primary, Fail> {
 }
 
 /// Writes and reads of a table, of which each type reads the acknowledged writes.
-const WRITES_AND_READS: [(Call<'static>, Answer<'static>); 11] = [
+static WRITES_AND_READS: [(Call<'static>, Answer<'static>); 11] = [
     (
         Call::Read("customer", 1, TabletType::Primary),
         Answer::NoRow,
@@ -151,7 +151,7 @@ fn a_row_is_written_and_read(rt: HostRuntime) -> Result<(), Fail> {
 }
 
 /// Refusals, of which each leaves what the primary holds.
-const REFUSALS: [(Call<'static>, Answer<'static>); 18] = [
+static REFUSALS: [(Call<'static>, Answer<'static>); 18] = [
     (Call::Insert("customer", 7, &LONGEST), Answer::At(1)),
     (
         Call::Insert("customer", 7, b"b"),
@@ -232,7 +232,7 @@ fn each_refusal_leaves_the_primary(rt: HostRuntime) -> Result<(), Fail> {
 }
 
 /// Two tables with rows of the same key.
-const TWO_TABLES: [(Call<'static>, Answer<'static>); 9] = [
+static TWO_TABLES: [(Call<'static>, Answer<'static>); 9] = [
     (Call::Insert("customer", 1, b"a"), Answer::At(1)),
     (Call::Read("orders", 1, TabletType::Primary), Answer::NoRow),
     (Call::Insert("orders", 1, b"b"), Answer::At(2)),

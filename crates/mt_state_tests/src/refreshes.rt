@@ -43,7 +43,7 @@ fn refresh_both(
 }
 
 /// The row that is there.
-const ROW: [(Call<'static>, Answer<'static>); 1] = [(
+static ROW: [(Call<'static>, Answer<'static>); 1] = [(
     Call::Insert("t", 7, &LONGEST),
     Answer::At(1),
 )];
@@ -61,10 +61,10 @@ pub fn refreshed(alloc: Global, notices: &[(&str, &[(&str, bool)])]) -> Result<P
 }
 
 /// Both tables are denied.
-pub const BOTH: [(&str, bool); 2] = [("t", true), ("u", true)];
+pub static BOTH: [(&str, bool); 2] = [("t", true), ("u", true)];
 
 /// What is answered where `t` is denied and `u` isn't: a denied table is read by the other types.
-const T_IS_DENIED: [(Call<'static>, Answer<'static>); 7] = [
+static T_IS_DENIED: [(Call<'static>, Answer<'static>); 7] = [
     (Call::Insert("t", 2, b"b"), DENIED),
     (Call::Insert("u", 2, b"b"), Answer::At(2)),
     (Call::Read("t", 7, TabletType::Primary), DENIED),
@@ -81,7 +81,7 @@ const T_IS_DENIED: [(Call<'static>, Answer<'static>); 7] = [
 ];
 
 /// A write that is taken behind the one to `u`.
-const T_IS_ALLOWED: [(Call<'static>, Answer<'static>); 1] = [(
+static T_IS_ALLOWED: [(Call<'static>, Answer<'static>); 1] = [(
     Call::Insert("t", 2, b"b"),
     Answer::At(3),
 )];
@@ -97,13 +97,13 @@ fn a_refresh_concerns_the_named_table(rt: HostRuntime) -> Result<(), Fail> {
 }
 
 /// What is answered where `u` is denied and `t` isn't.
-const U_IS_DENIED: [(Call<'static>, Answer<'static>); 2] = [
+static U_IS_DENIED: [(Call<'static>, Answer<'static>); 2] = [
     (Call::Insert("t", 1, b"a"), Answer::At(2)),
     (Call::Insert("u", 1, b"a"), DENIED),
 ];
 
 /// What is answered where both are denied. A denial is told before what is wrong with the row.
-const BOTH_ARE_DENIED: [(Call<'static>, Answer<'static>); 10] = [
+static BOTH_ARE_DENIED: [(Call<'static>, Answer<'static>); 10] = [
     (Call::Insert("u", 2, b"a"), DENIED),
     (Call::Insert("t", 7, b"b"), DENIED),
     (Call::Insert("t", 8, b"b"), DENIED),
@@ -120,7 +120,7 @@ const BOTH_ARE_DENIED: [(Call<'static>, Answer<'static>); 10] = [
 ];
 
 /// Of several entries for a table the last one counts.
-const ALLOWED: [(&str, bool); 3] = [("t", true), ("t", false), ("u", false)];
+static ALLOWED: [(&str, bool); 3] = [("t", true), ("t", false), ("u", false)];
 
 #[test]
 fn an_undo_gives_back_the_named_table(rt: HostRuntime) -> Result<(), Fail> {

@@ -97,13 +97,13 @@ fn create_table(primary: &mut Primary, name: &str) -> Result<(), Fail> {
 }
 
 /// A client's row.
-const A_WRITE: [(Call<'static>, Answer<'static>); 1] = [(
+static A_WRITE: [(Call<'static>, Answer<'static>); 1] = [(
     Call::Insert("t", 1, b"a"),
     Answer::At(1),
 )];
 
 /// The row as a stream left it.
-const A_READ: [(Call<'static>, Answer<'static>); 1] = [(
+static A_READ: [(Call<'static>, Answer<'static>); 1] = [(
     Call::Read("t", 1, TabletType::Primary),
     Answer::Row(b"b"),
 )];
@@ -120,7 +120,7 @@ fn a_stream_writes_behind_a_client(rt: HostRuntime) -> Result<(), Fail> {
 }
 
 /// Rows set, overwritten and taken away, one of them where none stands.
-const PUTS: [Row<'static>; 5] = [
+static PUTS: [Row<'static>; 5] = [
     ("t", 5, Some(b"a")),
     ("t", 5, Some(b"b")),
     ("t", 5, None),
@@ -129,7 +129,7 @@ const PUTS: [Row<'static>; 5] = [
 ];
 
 /// The log of these, each with the row that stood here before it.
-const LOG: [Entry<'static>; 5] = [
+static LOG: [Entry<'static>; 5] = [
     (("t", 5, Some(b"a")), None),
     (("t", 5, Some(b"b")), Some(b"a")),
     (("t", 5, None), Some(b"b")),
@@ -138,7 +138,7 @@ const LOG: [Entry<'static>; 5] = [
 ];
 
 /// The rows that are left.
-const LEFT: [(Call<'static>, Answer<'static>); 2] = [
+static LEFT: [(Call<'static>, Answer<'static>); 2] = [
     (Call::Read("t", 5, TabletType::Primary), Answer::NoRow),
     (
         Call::Read("u", 5, TabletType::Primary),
@@ -157,7 +157,7 @@ fn rows_are_put_and_logged(rt: HostRuntime) -> Result<(), Fail> {
 }
 
 /// Rows in another order than that of their keys.
-const ROWS: [Row<'static>; 5] = [
+static ROWS: [Row<'static>; 5] = [
     ("t", 9, Some(b"i")),
     ("t", u64::MAX, Some(b"z")),
     ("t", 2, Some(b"b")),
@@ -165,41 +165,42 @@ const ROWS: [Row<'static>; 5] = [
     ("t", 0, Some(b"0")),
 ];
 
+/// A table, a key or none, and the row that follows.
+type Next<'a> = (&'a str, Option<u64>, Option<(u64, &'a [u8])>);
+
+/// What follows: the first row of each table, and the first above a key.
+static FOLLOWING: [Next<'static>; 12] = [
+    ("t", None, Some((0, b"0"))),
+    ("t", Some(0), Some((2, b"b"))),
+    ("t", Some(1), Some((2, b"b"))),
+    ("t", Some(2), Some((9, b"i"))),
+    ("t", Some(9), Some((u64::MAX, b"z"))),
+    ("t", Some(u64::MAX), None),
+    ("u", None, Some((3, b"u"))),
+    ("u", Some(2), Some((3, b"u"))),
+    ("u", Some(3), None),
+    ("v", None, None),
+    ("w", None, None),
+    ("w", Some(0), None),
+];
+
 #[test]
 fn rows_follow_one_another_by_their_keys(rt: HostRuntime) -> Result<(), Fail> {
     let mut primary = primary_with(rt.alloc(), &["t", "u", "v"])?;
     assert!(rt; all_put(&mut primary, &ROWS));
-    assert!(rt;
-        all_next(
-            &primary,
-            &[
-                ("t", None, Some((0, b"0"))),
-                ("t", Some(0), Some((2, b"b"))),
-                ("t", Some(1), Some((2, b"b"))),
-                ("t", Some(2), Some((9, b"i"))),
-                ("t", Some(9), Some((u64::MAX, b"z"))),
-                ("t", Some(u64::MAX), None),
-                ("u", None, Some((3, b"u"))),
-                ("u", Some(2), Some((3, b"u"))),
-                ("u", Some(3), None),
-                ("v", None, None),
-                ("w", None, None),
-                ("w", Some(0), None),
-            ]
-        )
-    );
+    assert!(rt; all_next(&primary, &FOLLOWING));
     Ok(())
 }
 
 /// What a client is answered of tables that are denied, behind a stream's write to one.
-const DENIED_TO_CLIENTS: [(Call<'static>, Answer<'static>); 3] = [
+static DENIED_TO_CLIENTS: [(Call<'static>, Answer<'static>); 3] = [
     (Call::Insert("u", 3, b"c"), DENIED),
     (Call::Read("u", 2, TabletType::Primary), DENIED),
     (Call::Read("u", 2, TabletType::Replica), Answer::Row(b"b")),
 ];
 
 /// What is answered where the denied table `u` was dropped.
-const U_IS_GONE: [(Call<'static>, Answer<'static>); 3] = [
+static U_IS_GONE: [(Call<'static>, Answer<'static>); 3] = [
     (
         Call::Insert("u", 3, b"c"),
         Answer::Refused(PrimaryFault::NoTable),
@@ -212,7 +213,7 @@ const U_IS_GONE: [(Call<'static>, Answer<'static>); 3] = [
 ];
 
 /// What is answered where it was made again: it has no rows, and is not denied.
-const U_IS_MADE_AGAIN: [(Call<'static>, Answer<'static>); 3] = [
+static U_IS_MADE_AGAIN: [(Call<'static>, Answer<'static>); 3] = [
     (Call::Read("u", 2, TabletType::Primary), Answer::NoRow),
     (Call::Insert("u", 2, b"d"), Answer::At(3)),
     (Call::Insert("t", 3, b"c"), DENIED),

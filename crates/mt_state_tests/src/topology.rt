@@ -140,14 +140,14 @@ pub fn made_by(alloc: Global, calls: &[(Call<'_>, &str)]) -> Result<Topology, Fa
 }
 
 /// The keyspaces `a` and `b`, of which `b` has the table `t`.
-pub const TWO_KEYSPACES: [(Call<'static>, &str); 3] = [
+pub static TWO_KEYSPACES: [(Call<'static>, &str); 3] = [
     (Call::Keyspace("b"), "ok"),
     (Call::Keyspace("a"), "ok"),
     (Call::Table("b", "t"), "ok"),
 ];
 
 /// A name leads by the rule for its type, else by that for all types, else it is looked up among the keyspaces.
-const LOOK_UPS: [(Call<'static>, &str); 19] = [
+static LOOK_UPS: [(Call<'static>, &str); 19] = [
     (Call::Set("x", "b.t"), "ok"),
     (Call::Set("x@replica", "a.x"), "ok"),
     (Call::Find("x", TabletType::Primary), "b.t"),
@@ -177,7 +177,7 @@ fn rows_of_look_ups(rt: HostRuntime) -> Result<(), Fail> {
 }
 
 /// A part is reserved, of which one rule is there before. Places that hold something stay when it is released.
-const PARTS: [(Call<'static>, &str); 16] = [
+static PARTS: [(Call<'static>, &str); 16] = [
     (Call::Deny(true), "no place"),
     (Call::Reserve("b", "c"), "T1 NoKeyspace"),
     (Call::Set("t@replica", "b.t"), "ok"),
@@ -237,7 +237,7 @@ fn set_rules(topology: &mut Topology, alloc: Global, count: u32) -> Result<bool,
 }
 
 /// What is refused at the limits of keyspaces and tables, and what is taken.
-const AT_THE_LIMITS: [(Call<'static>, &str); 5] = [
+static AT_THE_LIMITS: [(Call<'static>, &str); 5] = [
     (Call::Keyspace("k7"), "T4 Exists"),
     (Call::Keyspace("k"), "T5 Full"),
     (Call::Table("a", "t7"), "T4 Exists"),
@@ -246,7 +246,7 @@ const AT_THE_LIMITS: [(Call<'static>, &str); 5] = [
 ];
 
 /// The same of rules: one that is there may be changed or taken away.
-const AT_THE_LAST_RULE: [(Call<'static>, &str); 5] = [
+static AT_THE_LAST_RULE: [(Call<'static>, &str); 5] = [
     (Call::Set("t", "k.t"), "T5 Full"),
     (Call::Take("t"), "ok"),
     (Call::Set("t9", "k.u"), "ok"),
@@ -266,7 +266,7 @@ fn limits(rt: HostRuntime) -> Result<(), Fail> {
 }
 
 /// A part that finds no room behind 4,085 rules, and leaves all as it was; with one rule less it finds room.
-const WITHOUT_ROOM: [(Call<'static>, &str); 5] = [
+static WITHOUT_ROOM: [(Call<'static>, &str); 5] = [
     (Call::Reserve("b", "a"), "T5 Full"),
     (Call::Deny(true), "no place"),
     (Call::Take("t0"), "ok"),

@@ -67,7 +67,7 @@ pub fn answers(
 }
 
 /// A place is kept while it has a rule.
-const ONE_KEY: [(Call, &str); 11] = [
+static ONE_KEY: [(Call, &str); 11] = [
     (Call::Set, "no place"),
     (Call::Reserve, "ok"),
     (Call::Reserve, "ok"),
