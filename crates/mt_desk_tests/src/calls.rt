@@ -1,7 +1,9 @@
 //! Passes, what they are answered with, and what is gathered.
 
 use crate::acts::{Act, Played};
-use crate::opened::{Trial, tried};
+use crate::opened::{Trial, core_of, tried, two_watchers};
+use crate::texts::{event_of, is_written};
+use crate::two_calls;
 use mt_desk::DeskFault;
 use std::test::Fail;
 
@@ -47,6 +49,18 @@ fn each_call_is_gathered_once(rt: HostRuntime) -> Result<(), Fail> {
             Played::AllSo
         );
     }
+    Ok(())
+}
+
+#[test]
+fn two_calls_are_answered(rt: HostRuntime) -> Result<(), Fail> {
+    let watchers = two_watchers(rt.alloc()).ok_or("no watchers")?;
+    let core = core_of(rt.alloc(), &watchers, &TABLE).ok_or("no core")?;
+    let insert = event_of("at commerce.corder insert 1 a").ok_or("no insert")?;
+    let get = event_of("at commerce.corder get 1").ok_or("no get")?;
+    let answers = two_calls(&rt, rt.alloc(), core, watchers, insert, get).ok_or("no answers")?;
+    assert!(rt; is_written(&answers.0, "ok"));
+    assert!(rt; is_written(&answers.1, "row a"));
     Ok(())
 }
 

@@ -2,6 +2,10 @@
 //! allocation fails.
 #![tactic(auto)]
 
+mod caller;
+
+pub use caller::two_calls;
+
 #[cfg(test)]
 mod acts;
 #[cfg(test)]

@@ -48,7 +48,7 @@ fn watcher_of(alloc: Global, keyspace: &str) -> Option<Watcher> {
 }
 
 /// Watchers of the primaries of two keyspaces.
-fn two_watchers(alloc: Global) -> Option<Watchers> {
+pub fn two_watchers(alloc: Global) -> Option<Watchers> {
     let mut watchers = Watchers::new(alloc);
     watchers.add(watcher_of(alloc, "commerce")?).ok()?;
     watchers.add(watcher_of(alloc, "customer")?).ok()?;
@@ -68,7 +68,7 @@ fn applies<W: Asks>(core: &mut Core, watchers: &W, line: &str) -> bool {
 }
 
 /// A core to which events were applied.
-fn core_of<W: Asks>(alloc: Global, watchers: &W, lines: &[&str]) -> Option<Core> {
+pub fn core_of<W: Asks>(alloc: Global, watchers: &W, lines: &[&str]) -> Option<Core> {
     let mut core = Core::new(alloc);
     for line in lines {
         if !applies(&mut core, watchers, line) {
