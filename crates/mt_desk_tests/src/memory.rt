@@ -103,7 +103,7 @@ fn answer_of<D: DeskName, W: Asks + Drop>(
 }
 
 /// What the client is told now.
-fn told<D: DeskName, W: Asks + Drop>(
+fn standing_of<D: DeskName, W: Asks + Drop>(
     rt: &impl Wait,
     desk: &Desk<D, W>,
     pass: &mut Pass<D>,
