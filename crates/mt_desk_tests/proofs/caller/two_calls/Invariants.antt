@@ -1,0 +1,8 @@
+-- The desk has the name of its blank, and opens with this core and the scopes of these watchers.
+use Rattle.mt_desk_tests.proofs.caller.two_calls.Given as goal
+
+abbrev pub ghosts-ask_both-D-Ledger : goal.ghosts-ask_both-D-Ledger
+ghosts-ask_both-D-Ledger g a = record { name = a.blank.name; parts = a.blank.parts }
+
+abbrev pub ghosts-ask_both-D-DeskName : goal.ghosts-ask_both-D-DeskName
+ghosts-ask_both-D-DeskName g a = record { opening = a.core; scopes = g.W.Asks.scopes a.watchers }
