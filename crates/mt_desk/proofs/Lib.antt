@@ -1,2 +1,3 @@
 mod LeadsLemmas
 mod PassLemmas
+mod RoomLemmas

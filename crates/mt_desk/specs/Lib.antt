@@ -1,3 +1,4 @@
 pub mod Faults
 pub mod Histories
 pub mod Passes
+pub mod Room

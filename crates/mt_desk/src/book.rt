@@ -1,27 +1,34 @@
 //! The controller with the history of all that was asked of it.
-ghost use Rattle.std.specs.Prelude.{◌≡◌, ◌++◌, [], ◌∷◌, All, IfErr, IfOk, OnErr, OnOk, map};
+ghost use Rattle.std.specs.Prelude.{◌≡◌, ◌+◌, ◌≤◌, ◌++◌, [], ◌∷◌, All, IfErr, IfOk, IsOk, OnErr, OnOk, Ok, map};
+ghost use Rattle.std.specs.Vec.{vec_capacity, vec_len};
+ghost use Rattle.mt_event.specs.declared.reply.Reply.TheVariants.{Done};
 ghost use Rattle.mt_event.specs.Events.{answer_from, event_of};
 ghost use Rattle.mt_plain.specs.Events as plain;
 ghost use Rattle.mt_plain.specs.Plain.{Plain};
 ghost use Rattle.mt_laws.specs.Headline.{Headline};
 ghost use Rattle.mt_site.specs.Applies.{Applies};
+ghost use Rattle.mt_site.specs.GivenUp.{CanBeGivenUp};
+ghost use Rattle.mt_site.specs.Owed.{owed_to};
 ghost use Rattle.mt_site_state.specs.Ways.{SiteStands, SiteSteps};
 ghost use Rattle.mt_desk.specs.Histories.{Leads, answered, asked, line};
 ghost use Rattle.mt_desk.specs.Passes.{Admits, HasPass, HaveOneHistory, IsOf};
+ghost use Rattle.mt_desk.specs.Room.{HasRoom};
 
 use crate::account::{are_there, first_stranger, first_that_differs};
 use crate::history::{Answer, Line, copied_answer};
+use crate::room::{make_room, new_history};
 use crate::{DeskFault, DeskName, Pass};
 use mt_event::Event;
-use mt_laws::every_run_keeps_the_headline;
-use mt_site::Core;
+use mt_laws::{each_event_owes_one_at_most, every_run_keeps_the_headline};
+use mt_site::{Core, a_core_owes_what_its_state_owes};
 use mt_watch::Asks;
 use std::alloc::Global;
 use std::sync::ledger;
 use std::sync::ledger::Blank;
 
 /// The core of the controller, with the history of all that was asked of it since the desk was opened. The history is always legal,
-/// and leads from each state that the core stood for at the opening to one that it stands for now. (Vitess: what MoveTables works on)
+/// and leads from each state that the core stood for at the opening to one that it stands for now. It keeps a place free for each
+/// event that is owed, so that each move can always be given up. (Vitess: what MoveTables works on)
 #[derive(Drop)]
 pub struct Book<D: DeskName> {
     core: Core,
@@ -29,28 +36,48 @@ pub struct Book<D: DeskName> {
     clients: Vec<u16>,
     ledger: ledger::Book<D>,
     ghost legal: { ∥ Leads D.scopes D.opening history.items core ∥₁ },
+    ghost room: { ∥ HasRoom D.scopes D.opening (vec_len history) core (vec_capacity history) ∥₁ },
 }
 
 impl<D: DeskName> Book<D> {
-    /// A book without lines, under the name of its blank. It takes no memory.
-    pub fn open(alloc: Global, blank: Blank, core: Core) -> Self
+    /// A book without lines, under the name of its blank: `K0 Memory`, where there was no place for the events that are owed; then
+    /// the core is gone. Where no workflow is live, it takes no memory.
+    pub fn open(alloc: Global, blank: Blank, core: Core) -> Result<Self, DeskFault>
         requires name { (blank.name ≡ D.name) × (blank.parts ≡ D.parts) }
         requires opening { core ≡ D.opening }
-        ensures core { result.core ≡ core }
-        ensures history { result.history.items ≡ [] }
-        ensures clients { result.clients.items ≡ [] }
+        ensures core { IfOk result (λ book. book.core ≡ core) }
+        ensures history { IfOk result (λ book. book.history.items ≡ []) }
+        ensures clients { IfOk result (λ book. book.clients.items ≡ []) }
+        ensures memory { IfErr result (λ fault. fault ≡ DeskFault.Memory) }
+        ensures none_live { core.core.workflows ≡ [] → IsOk result }
     {
+        let Ok(history) = new_history(alloc, &core) else {
+            return Err(DeskFault::Memory);
+        };
         let (ledger, _) = blank.open::<D>();
+        Ok(Book::begun(core, history, Vec::new(alloc), ledger))
+    }
+
+    /// A book with a history without lines, which has a place for each event that is owed.
+    fn begun(core: Core, history: Vec<Line>, clients: Vec<u16>, ledger: ledger::Book<D>) -> Self
+        requires opening { core ≡ D.opening }
+        requires none { history.items ≡ [] }
+        requires room { vec_len history + owed_to core.core.workflows ≤ vec_capacity history }
+        ensures core { result.core ≡ core }
+        ensures history { result.history ≡ history }
+        ensures clients { result.clients ≡ clients }
+    {
         Book {
             core,
-            history: Vec::new(alloc),
-            clients: Vec::new(alloc),
+            history,
+            clients,
             ledger,
         }
     }
 
     /// Applies an event, as `Core::apply` tells, and adds its line to the history. `K0 Memory` where the history found no place
-    /// for the line: then no event was taken.
+    /// for the line and for the events that are owed: then no event was taken. An undo with the right number before the journal, and a
+    /// Cancel where nothing is switched and no way is open, take no memory and are done, if the core stood for any state at the opening.
     pub fn take<W: Asks>(
         &mut self,
         watchers: &W,
@@ -64,9 +91,13 @@ impl<D: DeskName> Book<D> {
         ensures none { OnErr result ((self.new.history.items ≡ self.old.history.items) × (self.new.core ≡ self.old.core)) }
         ensures clients { self.new.clients.items ≡ self.old.clients.items }
         ensures memory { IfErr result (λ fault. fault ≡ DeskFault.Memory) }
+        ensures given_up { (p : Plain) → SiteStands p D.scopes D.opening → CanBeGivenUp self.old.core (event_of event) → result ≡ Ok (Ok Done) }
+        ensures places { CanBeGivenUp self.old.core (event_of event) → vec_capacity self.new.history ≡ vec_capacity self.old.history }
     {
+        each_event_owes_one_at_most();
+        a_core_owes_what_its_state_owes();
         let Book { core, history, .. } = self;
-        if history.reserve(1).is_err() {
+        if !make_room(history, core, &event) {
             return Err(DeskFault::Memory);
         }
         let answer = core.apply(watchers, &event);

@@ -1,5 +1,5 @@
 //! The desk: many threads at one controller.
-ghost use Rattle.std.specs.Prelude.{◌≡◌, ◌⊎◌, ◌++◌, [], ◌∷◌, IfErr, IfOk, OnErr, OnOk, length, map};
+ghost use Rattle.std.specs.Prelude.{◌≡◌, ◌⊎◌, ◌++◌, [], ◌∷◌, IfErr, IfOk, IsOk, OnErr, OnOk, length, map};
 ghost use Rattle.mt_desk.specs.Histories.{call};
 ghost use Rattle.mt_desk.specs.Passes.{HaveOneHistory};
 
@@ -54,18 +54,20 @@ pub struct Desk<D: DeskName, W: Asks + Drop> {
 }
 
 impl<D: DeskName, W: Asks + Drop> Desk<D, W> {
-    /// A desk for a controller, under the name of its blank. It takes no memory.
-    pub fn open(alloc: Global, blank: Blank, core: Core, watchers: W) -> Self
+    /// A desk for a controller, under the name of its blank: `K0 Memory`, as `Book::open` tells.
+    pub fn open(alloc: Global, blank: Blank, core: Core, watchers: W) -> Result<Self, DeskFault>
         requires name { (blank.name ≡ D.name) × (blank.parts ≡ D.parts) }
         requires opening { core ≡ D.opening }
         requires scopes { W.scopes watchers ≡ D.scopes }
+        ensures memory { IfErr result (λ fault. fault ≡ DeskFault.Memory) }
+        ensures none_live { core.core.workflows ≡ [] → IsOk result }
     {
-        Desk {
-            alloc,
-            locked: Mutex::new(Locked {
-                book: Book::open(alloc, blank, core),
-                watchers,
+        match Book::open(alloc, blank, core) {
+            Ok(book) => Ok(Desk {
+                alloc,
+                locked: Mutex::new(Locked { book, watchers }),
             }),
+            Err(fault) => Err(fault),
         }
     }
 

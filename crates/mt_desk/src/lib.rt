@@ -8,6 +8,7 @@ mod fault;
 mod history;
 mod name;
 mod pass;
+mod room;
 
 pub use account::Account;
 pub use book::Book;

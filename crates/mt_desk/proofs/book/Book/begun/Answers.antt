@@ -1,0 +1,18 @@
+-- No line leads nowhere, and there is a place for each event that is owed.
+use Rattle.std.proofs.Common.{sym, subst}
+use Rattle.std.specs.Vec.{vec_capacity, vec_len}
+use Rattle.mt_desk.specs.Histories.{Leads}
+use Rattle.mt_desk.proofs.LeadsLemmas.{kept_nowhere}
+use Rattle.mt_desk.proofs.RoomLemmas.{room_at_opening}
+use Rattle.mt_desk.proofs.book.Book.begun.Goals as goal
+
+pub invariant_of-result : goal.invariant_of-result
+invariant_of-result g c =
+    let scopes = g.D.DeskName.scopes in
+    let opening = g.D.DeskName.opening in
+    let core = c.args.core in
+    let history = c.args.history in
+    record {
+      legal = subst (λ lines. ∥ Leads scopes opening lines core ∥₁) (sym c.requires.none) (kept_nowhere scopes opening core c.requires.opening);
+      room = room_at_opening scopes opening core (vec_len history) (vec_capacity history) c.requires.room;
+    }

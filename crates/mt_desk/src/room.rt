@@ -1,0 +1,98 @@
+//! The places that the history keeps free, so that each move can always be given up.
+ghost use Rattle.std.specs.Prelude.{◌≡◌, ◌+◌, ◌<◌, ◌≤◌, [], false, true, IfOk, IsOk};
+ghost use Rattle.std.specs.Vec.{vec_capacity, vec_len};
+ghost use Rattle.mt_event.specs.Events.{event_of};
+ghost use Rattle.mt_plain.specs.Plain.{stands_done, write_journal};
+ghost use Rattle.mt_workflow.specs.Workflows.{way_from};
+ghost use Rattle.mt_site.specs.Owed.{owed_to};
+ghost use Rattle.mt_desk.specs.Room.{can_cancel, can_undo, gives_up};
+
+use crate::Line;
+use mt_event::Event;
+use mt_site::Core;
+use mt_workflow::{Way, Workflow};
+use std::alloc::{AllocError, Global};
+
+/// The number of the step that writes the journal.
+const JOURNAL: u16 = 6;
+
+/// Whether the journal has the entry of a way: its step stands done.
+fn is_past_journal(way: Way) -> bool
+    ensures { result ≡ stands_done (way_from way) write_journal }
+{
+    let has_reads = way.before.replica != way.after.replica
+        || way.before.rdonly != way.after.rdonly;
+    let first = if has_reads { 0 } else { 1 };
+    u16::from(way.done) + first > JOURNAL
+}
+
+/// Whether an undo has the right number, before the journal.
+fn can_undo(way: Way, at: u64) -> bool
+    ensures { result ≡ can_undo at (way_from way) }
+{
+    !is_past_journal(way) && at == u64::from(way.done)
+}
+
+/// Whether nothing of a workflow is switched, and no way is open on it.
+fn can_cancel(workflow: &Workflow) -> bool
+    ensures { result ≡ can_cancel workflow.now }
+{
+    let switched = workflow.switched();
+    workflow.way().is_none() && !(switched.primary || switched.replica || switched.rdonly)
+}
+
+/// Whether an event gives a move up: an undo with the right number before the journal, or a Cancel where nothing is switched and
+/// no way is open. It takes no memory.
+pub(crate) fn gives_up(core: &Core, event: &Event) -> bool
+    ensures { result ≡ gives_up core.now (event_of event.now) }
+{
+    match event {
+        Event::Undo { workflow, at } => match core.workflow(workflow) {
+            Some(found) => match found.way() {
+                Some(way) => can_undo(way, *at),
+                None => false,
+            },
+            None => false,
+        },
+        Event::Cancel { workflow } => match core.workflow(workflow) {
+            Some(found) => can_cancel(found),
+            None => false,
+        },
+        _ => false,
+    }
+}
+
+/// Makes the places that a history needs before an event, and says whether they are there. An event that gives a move up finds its
+/// own, and for it nothing grows; before each other there are then at least two more than are owed.
+pub(crate) fn make_room(history: &mut Vec<Line>, core: &Core, event: &Event) -> bool
+    ensures items { history.new.items ≡ history.old.items }
+    ensures len { vec_len history.new ≡ vec_len history.old }
+    ensures place { result ≡ true → vec_len history.new < vec_capacity history.new }
+    ensures kept { vec_capacity history.old ≤ vec_capacity history.new }
+    ensures same { gives_up core.now (event_of event.now) ≡ true → vec_capacity history.new ≡ vec_capacity history.old }
+    ensures found { gives_up core.now (event_of event.now) ≡ true → vec_len history.old < vec_capacity history.old → result ≡ true }
+    ensures others { gives_up core.now (event_of event.now) ≡ false → result ≡ true
+        → vec_len history.old + owed_to core.now.core.workflows + 2 ≤ vec_capacity history.new }
+{
+    if gives_up(core, event) {
+        return history.len() < history.capacity();
+    }
+    match core.owed().checked_add(2) {
+        Some(places) => history.reserve(places).is_ok(),
+        None => false,
+    }
+}
+
+/// A history without lines, which has a place for each event that is owed. It is refused for want of memory alone, and takes none where
+/// no workflow is live.
+pub(crate) fn new_history(alloc: Global, core: &Core) -> Result<Vec<Line>, AllocError>
+    ensures none { IfOk result (λ history. history.items ≡ []) }
+    ensures room { IfOk result (λ history. vec_len history + owed_to core.now.core.workflows ≤ vec_capacity history) }
+    ensures none_live { core.now.core.workflows ≡ [] → IsOk result }
+{
+    let mut history = Vec::new(alloc);
+    match history.reserve(core.owed()) {
+        Ok(()) => Ok(history),
+        Err(why) => Err(why),
+    }
+}
