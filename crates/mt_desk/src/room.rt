@@ -83,7 +83,7 @@ pub(crate) fn make_room(history: &mut Vec<Line>, core: &Core, event: &Event) -> 
     }
 }
 
-/// A history without lines, which has a place for each event that is owed. It is refused for want of memory alone, and takes none where
+/// A history without lines, which has a place for each event that is owed. It is refused only when out of memory, and takes none where
 /// no workflow is live.
 pub(crate) fn new_history(alloc: Global, core: &Core) -> Result<Vec<Line>, AllocError>
     ensures none { IfOk result (λ history. history.items ≡ []) }
