@@ -1,3 +1,4 @@
+mod CallLemmas
 mod LeadsLemmas
 mod PassLemmas
 mod RoomLemmas

@@ -1,5 +1,6 @@
 -- What some passes list.
-use Rattle.std.proofs.Common.{◌≡◌, ◌==◌, ◌||◌, ℕ, zero, suc, ◌+◌, ◌<◌, add-one, Bool, true, false, All, List, [], ◌∷◌, ◌++◌, get_or, length, map, take, refl, sym, ap, ◌∙◌, subst, arith}
+use Rattle.std.specs.Prelude.{IfSome}
+use Rattle.std.proofs.Common.{◌≡◌, inl, inr, Option, None, Some, ◌==◌, ◌||◌, ℕ, zero, suc, ◌+◌, ◌<◌, add-one, Bool, true, false, All, Contains, List, [], ◌∷◌, ◌++◌, get_or, length, map, take, refl, sym, ap, ◌∙◌, subst, arith}
 use Rattle.std.proofs.Math.Seq.{take-suc}
 use Rattle.std.proofs.lemmas.List.Elements.{All-push}
 use Rattle.std.proofs.lemmas.Bool.Decides.{nat_tests}
@@ -8,8 +9,9 @@ use Rattle.mt_model.specs.declared.entries.Scope.{Scope}
 use Rattle.mt_site_state.specs.Ways.{SiteState}
 use Rattle.mt_desk.specs.declared.history.Call.{Call}
 use Rattle.mt_desk.specs.declared.history.Line.{Line}
-use Rattle.mt_desk.specs.Histories.{Leads}
-use Rattle.mt_desk.specs.Passes.{HaveOneHistory, IsOf, has_pass}
+use Rattle.mt_desk.specs.Histories.{Leads, calls_of}
+use Rattle.mt_desk.specs.Passes.{Differs, HaveOneHistory, IsCaused, IsOf, IsStranger, ListsOthers, has_pass}
+use Rattle.mt_desk.specs.declared.fault.DeskFault.TheVariants.{HistoryDiffers}
 
 -- two numbers, and the test of them
 agree : (n m : ℕ) → n ≡ m → (n == m) ≡ true
@@ -66,3 +68,34 @@ has_at f (y ∷ ys) (suc i) x client inside is same =
 pub one_history : (scopes : List Scope) (opening now : SiteState) (passes : List (ℕ × List Call)) (lines : List Line) → ∥ Leads scopes opening lines now ∥₁ → IsOf passes lines
     → HaveOneHistory scopes opening passes
 one_history scopes opening now passes lines leads is = ∥∥₁_elim leads (hlevel) (λ l. ∣ (lines, now, l, is) ∣₁)
+
+-- ---- why a history isn't that of some passes
+
+-- one of some is one of what is made of them
+pub contains_at : {X Y : Type 0} (f : X → Y) (xs : List X) (i : ℕ) (x : X) → i < length xs → x ≡ get_or xs i x → Contains (map f xs) (f x)
+contains_at f [] i x inside is = absurd (omega (arith, inside))
+contains_at f (y ∷ ys) zero x inside is = (zero, omega arith, ap f (sym is))
+contains_at f (y ∷ ys) (suc i) x inside is = let (k, below, at) = contains_at f ys i x (omega (arith, inside)) is in (suc k, omega (arith, below), at)
+
+-- the history that is kept is one from which they differ
+pub cause_kept : (scopes : List Scope) (opening now : SiteState) (passes : List (ℕ × List Call)) (lines : List Line) (client : ℕ) → ∥ Leads scopes opening lines now ∥₁ → Differs passes lines client
+    → IsCaused scopes opening passes (HistoryDiffers client)
+cause_kept scopes opening now passes lines client leads differs = ∥∥₁_elim leads (hlevel) (λ l. ∣ (lines, now, l, differs) ∣₁)
+
+-- a pass that lists other calls than the history has, and a line of a client that has no pass
+pub lists_others : {X : Type 0} (f : X → ℕ × List Call) (xs : List X) (lines : List Line) (i : ℕ) (x : X) (client : ℕ) → i < length xs → x ≡ get_or xs i x → (f x).0 ≡ client
+    → (calls_of client lines ≡ (f x).1 → ⊥) → ListsOthers (map f xs) lines client
+lists_others f xs lines i x client inside is of differ = (f x, contains_at f xs i x inside is, of, λ same. differ (subst (λ n. calls_of n lines ≡ (f x).1) of same))
+
+pub is_stranger : (passes : List (ℕ × List Call)) (lines : List Line) (i : ℕ) (l : Line) → i < length lines → l ≡ get_or lines i l → has_pass passes l.client ≡ false
+    → IsStranger passes lines l.client
+is_stranger passes lines i l inside is none = (l, (i, inside, sym is), refl, none)
+
+-- so they differ
+pub others_differ : (passes : List (ℕ × List Call)) (lines : List Line) (found : Option ℕ) → IfSome found (λ client. ListsOthers passes lines client) → IfSome found (λ client. Differs passes lines client)
+others_differ passes lines None is = is
+others_differ passes lines (Some client) is = inl is
+
+pub strangers_differ : (passes : List (ℕ × List Call)) (lines : List Line) (found : Option ℕ) → IfSome found (λ client. IsStranger passes lines client) → IfSome found (λ client. Differs passes lines client)
+strangers_differ passes lines None is = is
+strangers_differ passes lines (Some client) is = inr is

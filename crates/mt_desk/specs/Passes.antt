@@ -1,5 +1,5 @@
 -- Who has a pass (this profile's own).
-use Rattle.std.specs.Prelude.{◌≡◌, ◌==◌, ◌||◌, ℕ, Bool, true, false, [], ◌∷◌, ◌++◌, List, All, Contains, Result, Ok, Err, ⊤}
+use Rattle.std.specs.Prelude.{◌≡◌, ◌==◌, ◌||◌, ◌⊎◌, ℕ, Bool, true, false, [], ◌∷◌, ◌++◌, List, All, Contains, Result, Ok, Err, ⊤}
 use Rattle.mt_model.specs.declared.entries.Scope.{Scope}
 use Rattle.mt_site_state.specs.Ways.{SiteState}
 use Rattle.mt_desk.specs.declared.history.Call.{Call}
@@ -41,3 +41,32 @@ pub record IsOf (passes : List (ℕ × List Call)) (lines : List Line) : Type 0 
 abbrev pub HaveOneHistory : List Scope → (opening : SiteState) → List (ℕ × List Call) → Type 0
 HaveOneHistory scopes opening passes =
     ∥ ((lines : List Line) × (now : SiteState) × Leads scopes opening lines now × IsOf passes lines) ∥₁
+
+-- ---- why a history isn't that of some passes
+
+-- one of them is the client's, and lists other calls than the history has
+abbrev pub ListsOthers : List (ℕ × List Call) → List Line → (client : ℕ) → Type 0
+ListsOthers passes lines client = (pass : ℕ × List Call) × Contains passes pass × (pass.0 ≡ client) × (¬ ListsCalls lines pass)
+
+-- none of them is the client's, and the history has a line of it
+abbrev pub IsStranger : List (ℕ × List Call) → List Line → (client : ℕ) → Type 0
+IsStranger passes lines client = (l : Line) × Contains lines l × (l.client ≡ client) × (has_pass passes client ≡ false)
+
+abbrev pub Differs : List (ℕ × List Call) → List Line → (client : ℕ) → Type 0
+Differs passes lines client = ListsOthers passes lines client ⊎ IsStranger passes lines client
+
+-- what some passes are answered: one is missing exactly where a client to whom a pass was given has none of them, and that is told first;
+-- else the history is theirs, or differs from them by the calls of a client
+abbrev pub Compares : (clients : List ℕ) → List (ℕ × List Call) → List Line → Result ⊤ DeskFault → Type 0
+Compares clients passes lines (Ok done) = All (HasPass passes) clients × IsOf passes lines
+Compares clients passes lines (Err PassMissing) = ¬ All (HasPass passes) clients
+Compares clients passes lines (Err (HistoryDiffers client)) = All (HasPass passes) clients × Differs passes lines client
+Compares clients passes lines (Err other) = ⊥
+
+-- a desk refuses to gather passes as it tells: there is a history, legal as above, from which the calls of the client that it names differ.
+-- Passes are refused for no other reason but that one is missing, or that no memory is left
+abbrev pub IsCaused : List Scope → (opening : SiteState) → List (ℕ × List Call) → DeskFault → Type 0
+IsCaused scopes opening passes (HistoryDiffers client) = ∥ ((lines : List Line) × (now : SiteState) × Leads scopes opening lines now × Differs passes lines client) ∥₁
+IsCaused scopes opening passes PassMissing = ⊤
+IsCaused scopes opening passes Memory = ⊤
+IsCaused scopes opening passes other = ⊥

@@ -1,5 +1,5 @@
 //! The controller with the history of all that was asked of it.
-ghost use Rattle.std.specs.Prelude.{◌≡◌, ◌+◌, ◌≤◌, ◌++◌, [], ◌∷◌, All, IfErr, IfOk, IsOk, OnErr, OnOk, Ok, map};
+ghost use Rattle.std.specs.Prelude.{◌≡◌, ◌+◌, ◌≤◌, ◌++◌, [], ◌∷◌, IfErr, IfOk, IsOk, OnErr, OnOk, Ok, map};
 ghost use Rattle.std.specs.Vec.{vec_capacity, vec_len};
 ghost use Rattle.mt_event.specs.declared.reply.Reply.TheVariants.{Done};
 ghost use Rattle.mt_event.specs.Events.{answer_from, event_of};
@@ -11,10 +11,10 @@ ghost use Rattle.mt_site.specs.GivenUp.{CanBeGivenUp};
 ghost use Rattle.mt_site.specs.Owed.{owed_to};
 ghost use Rattle.mt_site_state.specs.Ways.{SiteStands, SiteSteps};
 ghost use Rattle.mt_desk.specs.Histories.{Leads, answered, asked, line};
-ghost use Rattle.mt_desk.specs.Passes.{Admits, HasPass, HaveOneHistory, IsOf};
+ghost use Rattle.mt_desk.specs.Passes.{Admits, Compares, HaveOneHistory, IsCaused};
 ghost use Rattle.mt_desk.specs.Room.{HasRoom};
 
-use crate::account::{are_there, first_stranger, first_that_differs};
+use crate::account::{are_there, first_cause};
 use crate::history::{Answer, Line, copied_answer};
 use crate::room::{make_room, new_history};
 use crate::{DeskFault, DeskName, Pass};
@@ -128,21 +128,17 @@ impl<D: DeskName> Book<D> {
         Ok(())
     }
 
-    /// Compares what some passes list with the history: `K7 PassMissing` where a client to whom a pass was given has none of them, and
-    /// `K1 HistoryDiffers` with the client whose calls differ. It takes no memory.
+    /// Compares what some passes list with the history: `K7 PassMissing` exactly where a client to whom a pass was given has none of
+    /// them, and else `K1 HistoryDiffers` with a client whose calls differ. It takes no memory.
     pub(crate) fn compare(&self, passes: &[Pass<D>]) -> Result<(), DeskFault>
-        ensures clients { OnOk result (All (HasPass (map (λ pass. (pass.client, pass.calls.items)) passes.now)) self.now.clients.items) }
-        ensures passes { OnOk result (IsOf (map (λ pass. (pass.client, pass.calls.items)) passes.now) self.now.history.items) }
+        ensures compares { Compares self.now.clients.items (map (λ pass. (pass.client, pass.calls.items)) passes.now) self.now.history.items result }
         ensures one { OnOk result (HaveOneHistory D.scopes D.opening (map (λ pass. (pass.client, pass.calls.items)) passes.now)) }
+        ensures caused { IfErr result (λ fault. IsCaused D.scopes D.opening (map (λ pass. (pass.client, pass.calls.items)) passes.now) fault) }
     {
         if !are_there(passes, self.clients.as_slice()) {
             return Err(DeskFault::PassMissing);
         }
-        let history = self.history.as_slice();
-        if let Some(client) = first_that_differs(passes, history) {
-            return Err(DeskFault::HistoryDiffers(client));
-        }
-        match first_stranger(passes, history) {
+        match first_cause(passes, self.history.as_slice()) {
             Some(client) => Err(DeskFault::HistoryDiffers(client)),
             None => Ok(()),
         }

@@ -1,9 +1,10 @@
 //! The desk: many threads at one controller.
-ghost use Rattle.std.specs.Prelude.{◌≡◌, ◌⊎◌, ◌++◌, [], ◌∷◌, IfErr, IfOk, IsOk, OnErr, OnOk, length, map};
+ghost use Rattle.std.specs.Prelude.{◌≡◌, ◌⊎◌, ◌++◌, [], ◌∷◌, IfErr, IfOk, IsOk, IsPermutation, OnErr, OnOk, length, map};
+ghost use Rattle.std.specs.List.Sorted.{IsNonDecreasingBy};
 ghost use Rattle.mt_desk.specs.Histories.{call};
-ghost use Rattle.mt_desk.specs.Passes.{HaveOneHistory};
+ghost use Rattle.mt_desk.specs.Passes.{HaveOneHistory, IsCaused};
 
-use crate::account::counted;
+use crate::account::counted_by_client;
 use crate::history::copied_answer;
 use crate::{Account, Answer, Book, Call, DeskFault, DeskName, Pass};
 use mt_event::Event;
@@ -40,7 +41,8 @@ impl<D: DeskName, W: Asks + Drop> Locked<D, W> {
 
     /// See `Book::compare`.
     fn compare(&self, passes: &[Pass<D>]) -> Result<(), DeskFault>
-        ensures { OnOk result (HaveOneHistory D.scopes D.opening (map (λ pass. (pass.client, pass.calls.items)) passes.now)) }
+        ensures one { OnOk result (HaveOneHistory D.scopes D.opening (map (λ pass. (pass.client, pass.calls.items)) passes.now)) }
+        ensures caused { IfErr result (λ fault. IsCaused D.scopes D.opening (map (λ pass. (pass.client, pass.calls.items)) passes.now) fault) }
     {
         self.book.compare(passes)
     }
@@ -104,9 +106,9 @@ impl<D: DeskName, W: Asks + Drop> Desk<D, W> {
         Ok(answer)
     }
 
-    /// Compares what all passes list with the history, and answers how many calls each client made: `K7 PassMissing` where a client
-    /// to whom this desk ever gave a pass isn't among them, `K1 HistoryDiffers`, `K0 Memory`; then the passes are given back. It is
-    /// one period under the lock. At Ok there is one history, legal from each state that the controller stood for at the opening, in
+    /// Compares what all passes list with the history, and answers how many calls each client made, by client: `K7 PassMissing` where
+    /// a client to whom this desk ever gave a pass isn't among them, `K1 HistoryDiffers` with a client whose calls differ, `K0 Memory`;
+    /// then the passes are given back. It is one period under the lock. At Ok there is one history, legal from each state that the controller stood for at the opening, in
     /// which the calls of each client are those of its pass, with its answers, in its order, each once, and there are no others.
     pub fn gather(
         &self,
@@ -114,13 +116,15 @@ impl<D: DeskName, W: Asks + Drop> Desk<D, W> {
         passes: Vec<Pass<D>>,
     ) -> Result<Account, (DeskFault, Vec<Pass<D>>)>
         ensures one { OnOk result (HaveOneHistory D.scopes D.opening (map (λ pass. (pass.client, pass.calls.items)) passes.items)) }
-        ensures numbers { IfOk result (λ account. account.calls.items ≡ map (λ pass. (pass.client, length pass.calls.items)) passes.items) }
+        ensures numbers { IfOk result (λ account. IsPermutation (map (λ pass. (pass.client, length pass.calls.items)) passes.items) account.calls.items) }
+        ensures order { IfOk result (λ account. IsNonDecreasingBy (λ call. call.0) account.calls.items) }
+        ensures caused { IfErr result (λ refused. IsCaused D.scopes D.opening (map (λ pass. (pass.client, pass.calls.items)) passes.items) refused.0) }
         ensures back { IfErr result (λ refused. refused.1 ≡ passes) }
     {
         if let Err(fault) = self.locked.lock(rt).compare(passes.as_slice()) {
             return Err((fault, passes));
         }
-        match counted(self.alloc, passes.as_slice()) {
+        match counted_by_client(self.alloc, passes.as_slice()) {
             Ok(calls) => Ok(Account { calls }),
             Err(_) => Err((DeskFault::Memory, passes)),
         }

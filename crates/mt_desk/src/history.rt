@@ -1,5 +1,5 @@
 //! The history of a desk: who asked for what, and what was answered.
-ghost use Rattle.std.specs.Prelude.{◌≡◌, true};
+ghost use Rattle.std.specs.Prelude.{◌≡◌, ◌↔◌, false, true};
 ghost use Rattle.mt_desk.specs.Histories.{calls_of, call_of};
 
 use mt_event::{Event, Refusal, Reply, events_and_answers_are_told_apart};
@@ -39,7 +39,7 @@ pub(crate) fn copied_answer(answer: &Answer) -> Answer
 
 /// Whether two answers are the same.
 fn is_same(answer: &Answer, other: &Answer) -> bool
-    ensures { result ≡ true → answer.now ≡ other.now }
+    ensures { (result ≡ true) ↔ (answer.now ≡ other.now) }
 {
     events_and_answers_are_told_apart();
     match (answer, other) {
@@ -51,7 +51,7 @@ fn is_same(answer: &Answer, other: &Answer) -> bool
 
 /// Whether a line is of this call.
 fn is_of(line: &Line, call: &Call) -> bool
-    ensures { result ≡ true → call_of line.now ≡ call.now }
+    ensures { (result ≡ true) ↔ (call_of line.now ≡ call.now) }
 {
     events_and_answers_are_told_apart();
     if line.event != call.event {
@@ -62,7 +62,8 @@ fn is_of(line: &Line, call: &Call) -> bool
 
 /// Whether the calls of a client in a history are these, in their order, and no others. It takes no memory.
 pub(crate) fn has_calls(history: &[Line], client: u16, calls: &[Call]) -> bool
-    ensures { result ≡ true → calls_of client history.now ≡ calls.now }
+    ensures same { result ≡ true → calls_of client history.now ≡ calls.now }
+    ensures other { result ≡ false → ¬ (calls_of client history.now ≡ calls.now) }
 {
     let mut next = 0;
     for line in history {

@@ -5,4 +5,4 @@ use Rattle.mt_desk.proofs.desk.Desk.gather.Goals as goal
 
 pub returns-in-Ok-clause-one : goal.returns-in-Ok-clause-one
 returns-in-Ok-clause-one g c =
-    subst (λ ps. HaveOneHistory g.D.DeskName.scopes g.D.DeskName.opening (map (λ pass. (pass.client, pass.calls.items)) ps)) c.as_slice.ensures.value c.in_default.ensures
+    subst (λ ps. HaveOneHistory g.D.DeskName.scopes g.D.DeskName.opening (map (λ pass. (pass.client, pass.calls.items)) ps)) c.as_slice.ensures.value c.in_default.ensures.one
