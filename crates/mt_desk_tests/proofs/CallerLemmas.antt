@@ -1,5 +1,6 @@
 -- Two passes that are gathered.
-use Rattle.std.proofs.Common.{◌≡◌, ℕ, true, List, [], ◌∷◌, Result, Ok, Err, subst, sym, true≢false}
+use Rattle.std.proofs.Common.{◌≡◌, ℕ, true, List, [], ◌∷◌, Result, Ok, Err, subst, sym}
+use Rattle.std.proofs.lemmas.Bool.{true≢false}
 use Rattle.std.specs.Result.{OnOk, is_ok}
 use Rattle.mt_desk.specs.declared.history.Call.{Call}
 
