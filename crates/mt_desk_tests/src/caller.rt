@@ -1,9 +1,9 @@
 //! Two clients at a new desk: how a desk is opened, asked and gathered.
-ghost use Rattle.std.specs.Prelude.{◌≡◌, [], ◌∷◌, IfSome};
+ghost use Rattle.std.specs.Prelude.{◌≡◌, [], ◌∷◌, true, IfSome};
 ghost use Rattle.mt_desk.specs.Histories.{call};
 ghost use Rattle.mt_desk.specs.Passes.{HaveOneHistory};
 
-use mt_desk::{Answer, Desk, DeskName};
+use mt_desk::{Answer, Desk, DeskName, Pass};
 use mt_event::Event;
 use mt_site::Core;
 use mt_watch::Asks;
@@ -11,6 +11,40 @@ use std::alloc::Global;
 use std::marker::Brand;
 use std::sync::Wait;
 use std::sync::ledger::Blank;
+
+/// A new client asks for an event. Answers its pass, which lists just this call, and the answer, if there was memory for all.
+fn ask_once<D: DeskName, W: Asks + Drop, R: Wait>(
+    rt: &R,
+    desk: &Desk<D, W>,
+    client: u16,
+    event: Event,
+) -> Option<(Pass<D>, Answer)>
+    ensures { IfSome result (λ told. (told.0.client ≡ client) × (told.0.calls.items ≡ call event told.1 ∷ [])) }
+{
+    let Ok(mut pass) = desk.pass(rt, client) else {
+        return None;
+    };
+    match desk.ask(rt, &mut pass, event) {
+        Ok(answer) => Some((pass, answer)),
+        Err(_) => None,
+    }
+}
+
+/// Hands in two passes, and says whether they are gathered: then there is one legal history with just their calls.
+fn gather_two<D: DeskName, W: Asks + Drop, R: Wait>(
+    rt: &R,
+    alloc: Global,
+    desk: &Desk<D, W>,
+    one: Pass<D>,
+    two: Pass<D>,
+) -> bool
+    ensures { result ≡ true → HaveOneHistory D.scopes D.opening ((one.client, one.calls.items) ∷ (two.client, two.calls.items) ∷ []) }
+{
+    match Vec::from_array(alloc, [one, two]) {
+        Ok(passes) => desk.gather(rt, passes).is_ok(),
+        Err(_) => false,
+    }
+}
 
 /// Opens a desk under the name of a blank, at which clients 1 and 2 ask for an event each. Answers both answers, if there was
 /// memory for all.
@@ -29,14 +63,12 @@ fn ask_both<D: DeskName, W: Asks + Drop, R: Wait>(
     ensures { IfSome result (λ answers. HaveOneHistory D.scopes D.opening ((1, call first answers.0 ∷ []) ∷ (2, call second answers.1 ∷ []) ∷ [])) }
 {
     let desk: Desk<D, W> = Desk::open(alloc, blank, core, watchers);
-    let mut one = desk.pass(rt, 1).ok()?;
-    let mut two = desk.pass(rt, 2).ok()?;
-    let mine = desk.ask(rt, &mut one, first).ok()?;
-    let theirs = desk.ask(rt, &mut two, second).ok()?;
-    let passes = Vec::from_array(alloc, [one, two]).ok()?;
-    match desk.gather(rt, passes) {
-        Ok(_) => Some((mine, theirs)),
-        Err(_) => None,
+    let (one, mine) = ask_once(rt, &desk, 1, first)?;
+    let (two, theirs) = ask_once(rt, &desk, 2, second)?;
+    if gather_two(rt, alloc, &desk, one, two) {
+        Some((mine, theirs))
+    } else {
+        None
     }
 }
 
