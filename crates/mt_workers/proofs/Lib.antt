@@ -1,0 +1,2 @@
+mod AdvanceLemmas
+mod RunLemmas

@@ -1,0 +1,13 @@
+//! Workers: the loops of the threads that share one desk. Each ends after a bounded number of calls, and gives its pass back.
+#![tactic(auto)]
+
+mod asking;
+mod controlling;
+mod course;
+mod fault;
+mod stream;
+mod turn;
+
+pub use controlling::controller;
+pub use fault::ControlFault;
+pub use stream::stream_worker;
