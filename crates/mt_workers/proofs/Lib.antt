@@ -1,2 +1,3 @@
 mod AdvanceLemmas
+mod CallLemmas
 mod RunLemmas

@@ -7,6 +7,7 @@ use Rattle.mt_desk.specs.declared.history.Call.{Call}
 use Rattle.mt_event.specs.declared.driven.Driven.{Driven}
 use Rattle.mt_event.specs.declared.refusal.Refusal.{Refusal}
 use Rattle.mt_event.specs.declared.refusal.Refusal.TheVariants as refusal
+use Rattle.mt_event.specs.declared.reply.Reply.TheVariants as reply
 use Rattle.mt_workers.specs.Advances.{Answer}
 use Rattle.mt_workers.specs.Controls.{GoesOnOr, Runs, advance_refused, again, due, ended, fails, heard, most_steps, next_step, one_try_fewer, step_refused, stepped, undo_refused, undone, with_done, with_position}
 use Rattle.mt_workers.specs.declared.course.Course.{Course}
@@ -126,7 +127,10 @@ undo_refused_less why course (refusal.Stale current) done behind = by (nat_lt 1 
 undo_refused_less why course other done behind = tt
 
 heard_less : (turn : Turn) (course : Course) (answer : Answer) → course.done ≤ most_steps → course.behind ≤ most_steps → IsLess (size turn course) (heard turn course answer)
-heard_less Steps course (Ok taken) done behind = stepped_less course done behind
+heard_less Steps course (Ok reply.Done) done behind = stepped_less course done behind
+heard_less Steps course (Ok (reply.Row row)) done behind = tt
+heard_less Steps course (Ok (reply.Advanced counts)) done behind = tt
+heard_less Steps course (Ok (reply.Shown shown)) done behind = tt
 heard_less Steps course (Err why) done behind = step_refused_less course why done behind
 heard_less Feeds course (Ok taken) done behind = (omega arith, done, behind)
 heard_less Feeds course (Err why) done behind = advance_refused_less course why done behind

@@ -1,5 +1,6 @@
 -- What a controller asks for, and what follows from each answer (MoveTables: SwitchTraffic, ReverseTraffic; the tries are this profile's own).
-use Rattle.std.specs.Prelude.{◌≡◌, ◌+◌, ◌-◌, ℕ, min, nat_lt, Bool, true, false, if◌then◌else◌, List, [], ◌∷◌, Result, Ok, Err}
+use Rattle.std.specs.Prelude.{◌≡◌, ◌+◌, ◌-◌, ℕ, min, nat_lt, Bool, true, false, if◌then◌else◌, List, [], ◌∷◌, ◌++◌, Result, Ok, Err}
+use Rattle.std.specs.List.{AllByRecursion}
 use Rattle.std.specs.Option.{option_map_or}
 use Rattle.mt_desk.specs.declared.history.Call.{Call}
 use Rattle.mt_event.specs.declared.driven.Driven.{Driven}
@@ -110,9 +111,10 @@ undo_refused why course (refusal.Stale current) =
     if nat_lt 1 course.tries then GoesOn (GivesUp why) (one_try_fewer (with_done course (min current most_steps))) else Ends (Err (refusal.Stale current))
 undo_refused why course other = Ends (Err other)
 
--- what follows from the answer
+-- what follows from the answer; a step is answered by no other reply
 abbrev pub heard : Turn → Course → Answer → Heard
-heard Steps course (Ok taken) = stepped course
+heard Steps course (Ok reply.Done) = stepped course
+heard Steps course (Ok other) = Ends (Err refusal.NothingUnderWay)
 heard Steps course (Err why) = step_refused course why
 heard Feeds course (Ok taken) = GoesOn Steps (with_position course (next_position course.position (Ok taken)))
 heard Feeds course (Err why) = advance_refused course why
@@ -170,3 +172,33 @@ abbrev pub Controls : (workflow : List ℕ) → TypeSet → (back : Bool) → (t
 Controls workflow types back tries [] result = IsDeskFault result
 Controls workflow types back tries (call ∷ calls) result =
     (call.event ≡ begin_event workflow types back) × LooksOr workflow tries (none_open call.answer) calls result
+
+-- ---- what follows
+
+-- an event that a controller of this workflow asks for
+abbrev pub IsOfController : (workflow : List ℕ) → Event → Type 0
+IsOfController workflow (event.Advance name stream at max) = name ≡ workflow
+IsOfController workflow (event.BeginSwitch name types) = name ≡ workflow
+IsOfController workflow (event.BeginReverse name types) = name ≡ workflow
+IsOfController workflow (event.Step name at) = name ≡ workflow
+IsOfController workflow (event.Undo name at) = name ≡ workflow
+IsOfController workflow (event.Show name) = name ≡ workflow
+IsOfController workflow other = ⊥
+
+-- a step of it that is done
+abbrev pub IsStepDone : (workflow : List ℕ) → Call → Type 0
+IsStepDone workflow call = (at : ℕ) × (call.event ≡ event.Step workflow at) × (call.answer ≡ Ok reply.Done)
+
+-- the last of some calls is one
+abbrev pub EndsInStep : (workflow : List ℕ) → List Call → Type 0
+EndsInStep workflow calls = (before : List Call) × (last : Call) × (calls ≡ before ++ last ∷ []) × IsStepDone workflow last
+
+-- whatever a controller asks for is of its workflow
+abbrev pub AsksForItsOwn : Type 0
+AsksForItsOwn = (workflow : List ℕ) (types : TypeSet) (back : Bool) (tries : ℕ) (calls : List Call) (result : Result Driven ControlFault)
+    → Controls workflow types back tries calls result → AllByRecursion (λ call. IsOfController workflow call.event) calls
+
+-- where it answers Done, its last call is a step that is done
+abbrev pub EndsWithAStep : Type 0
+EndsWithAStep = (workflow : List ℕ) (types : TypeSet) (back : Bool) (tries : ℕ) (calls : List Call) → Controls workflow types back tries calls (Ok Done)
+    → EndsInStep workflow calls

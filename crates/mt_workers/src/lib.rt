@@ -5,9 +5,11 @@ mod asking;
 mod controlling;
 mod course;
 mod fault;
+mod laws;
 mod stream;
 mod turn;
 
 pub use controlling::controller;
 pub use fault::ControlFault;
+pub use laws::a_controller_asks_for_its_workflow_alone;
 pub use stream::stream_worker;

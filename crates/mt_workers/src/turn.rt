@@ -5,7 +5,7 @@ ghost use Rattle.mt_workers.specs.Controls.{advance_refused, again, due, fails, 
 use crate::course::{Course, steps_told};
 use crate::stream::next_position;
 use mt_desk::Answer;
-use mt_event::{Driven, Event, Refusal};
+use mt_event::{Driven, Event, Refusal, Reply};
 use mt_names::WorkflowName;
 use mt_workflow::Slot;
 
@@ -179,7 +179,9 @@ pub(crate) fn hear(turn: Turn, course: Course, answer: Answer) -> Heard
 {
     let position = next_position(course.position, &answer);
     match (turn, answer) {
-        (Turn::Steps, Ok(_)) => stepped(course),
+        (Turn::Steps, Ok(Reply::Done)) => stepped(course),
+        // (a step is answered by no other reply)
+        (Turn::Steps, Ok(_)) => Heard::Ends(Err(Refusal::NothingUnderWay)),
         (Turn::Steps, Err(refusal)) => step_refused(course, refusal),
         (Turn::Feeds, Ok(_)) => Heard::GoesOn(Turn::Steps, Course { position, ..course }),
         (Turn::Feeds, Err(refusal)) => advance_refused(course, refusal),
