@@ -1,5 +1,5 @@
 -- Which calls a controller makes.
-use Rattle.std.proofs.Common.{◌≡◌, ◌+◌, ◌-◌, ℕ, min, nat_lt, Bool, true, false, cond, List, [], ◌∷◌, ◌++◌, Result, Ok, Err, refl, sym, ap, ◌∙◌, subst}
+use Rattle.std.proofs.Common.{◌≡◌, ◌+◌, ◌-◌, ℕ, min, nat_lt, Bool, true, false, cond, List, [], ◌∷◌, Result, Ok, Err, refl, sym, ap, subst}
 use Rattle.std.specs.List.{AllByRecursion}
 use Rattle.mt_desk.specs.declared.history.Call.{Call}
 use Rattle.mt_event.specs.declared.driven.Driven.{Driven}
@@ -8,12 +8,10 @@ use Rattle.mt_event.specs.declared.event.Event.{Event}
 use Rattle.mt_event.specs.declared.refusal.Refusal.{Refusal}
 use Rattle.mt_event.specs.declared.refusal.Refusal.TheVariants as refusal
 use Rattle.mt_event.specs.declared.reply.Reply.TheVariants as reply
-use Rattle.mt_names.specs.declared.types.TypeSet.{TypeSet}
 use Rattle.mt_workers.specs.Advances.{Answer}
-use Rattle.mt_workers.specs.Controls.{AsksForItsOwn, Controls, EndsInStep, EndsWithAStep, GoesOnOr, IsOfController, IsStepDone, Looks, LooksOr, Runs, RunsFrom, advance_refused, again, begin_event, course_of, due, ended, fails, heard, most_steps, next_step, none_open, one_try_fewer, step_refused, stepped, undo_refused, undone, with_done, with_position}
+use Rattle.mt_workers.specs.Controls.{AsksForItsOwn, EndsInStep, EndsWithAStep, GoesOnOr, IsOfController, IsStepDone, Looks, LooksOr, Runs, RunsFrom, advance_refused, again, begin_event, course_of, due, ended, fails, heard, most_steps, next_step, none_open, one_try_fewer, step_refused, stepped, undo_refused, undone, with_done, with_position}
 use Rattle.mt_workers.specs.declared.course.Course.{Course}
 use Rattle.mt_workers.specs.declared.fault.ControlFault.{ControlFault}
-use Rattle.mt_workers.specs.declared.fault.ControlFault.TheVariants as fault
 use Rattle.mt_workers.specs.declared.turn.Heard.{Heard}
 use Rattle.mt_workers.specs.declared.turn.Heard.TheVariants.{GoesOn, Ends}
 use Rattle.mt_workers.specs.declared.turn.Turn.{Turn}
