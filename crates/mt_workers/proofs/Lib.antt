@@ -1,0 +1,3 @@
+mod AdvanceLemmas
+mod CallLemmas
+mod RunLemmas

@@ -1,0 +1,96 @@
+//! What a controller knows of the way that it goes.
+ghost use Rattle.std.specs.Prelude.{◌≡◌, ◌≤◌, IfOk, min};
+ghost use Rattle.mt_plain.specs.Plain.{behind_last, first_step};
+ghost use Rattle.mt_workflow.specs.Workflows.{way_from};
+ghost use Rattle.mt_workers.specs.Controls.{course_of, course_on, most_steps};
+
+use mt_desk::Answer;
+use mt_event::{Refusal, Reply, Shown};
+use mt_names::Position;
+use mt_workflow::Way;
+
+/// No way has more steps.
+const MOST_STEPS: u64 = 12;
+
+/// What a controller knows of the way that it goes.
+#[derive(Clone, Copy, Debug, Eq, PartialEq)]
+pub(crate) struct Course {
+    /// Whether it is a reversal.
+    pub back: bool,
+    /// The number of its first step.
+    pub first: u8,
+    /// The number behind its last step.
+    pub behind: u8,
+    /// How many of its steps stand done.
+    pub done: u8,
+    /// The position of the feeding stream.
+    pub position: Position,
+    /// How many tries are left.
+    pub tries: u64,
+}
+
+/// The number of steps that are told to stand done, at most those of a way.
+pub(crate) fn steps_told(told: u64) -> u8
+    ensures told { result ≡ min told most_steps }
+    ensures few { result ≤ most_steps }
+{
+    if told < MOST_STEPS { told as u8 } else { 12 }
+}
+
+/// The number of the first step of a way.
+fn first_of(way: Way) -> u8
+    ensures { result ≡ first_step (way_from way) }
+{
+    let has_reads = way.before.replica != way.after.replica
+        || way.before.rdonly != way.after.rdonly;
+    if has_reads { 0 } else { 1 }
+}
+
+/// The number behind the last step of a way.
+fn behind_of(way: Way) -> u8
+    ensures behind { result ≡ behind_last (way_from way) }
+    ensures few { result ≤ most_steps }
+{
+    if way.before.primary != way.after.primary {
+        12
+    } else {
+        1
+    }
+}
+
+/// What Show told of the way that is open.
+fn course_on(tries: u64, shown: &Shown, way: Way) -> Course
+    ensures course { result ≡ course_on tries shown.now way }
+    ensures done { result.done ≤ most_steps }
+    ensures behind { result.behind ≤ most_steps }
+{
+    let position = match (way.back, shown.back) {
+        (false, _) => shown.forward.position,
+        (true, Some(stream)) => stream.position,
+        (true, None) => 0,
+    };
+    Course {
+        back: way.back,
+        first: first_of(way),
+        behind: behind_of(way),
+        done: steps_told(u64::from(way.done)),
+        position,
+        tries,
+    }
+}
+
+/// What an answer to Show tells of the way that is open; if none is, the refusal that the controller ends with.
+pub(crate) fn course_of(tries: u64, none: Refusal, answer: Answer) -> Result<Course, Refusal>
+    ensures course { result ≡ course_of tries none answer }
+    ensures few { IfOk result (λ course. (course.done ≤ most_steps) × (course.behind ≤ most_steps)) }
+{
+    let shown = match answer {
+        Ok(Reply::Shown(shown)) => shown,
+        Ok(_) => return Err(none),
+        Err(refusal) => return Err(refusal),
+    };
+    match shown.way {
+        Some(way) => Ok(course_on(tries, &shown, way)),
+        None => Err(none),
+    }
+}

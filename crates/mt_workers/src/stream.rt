@@ -1,0 +1,71 @@
+//! The worker that advances a stream.
+ghost use Rattle.std.specs.Prelude.{◌≡◌, ◌+◌, ◌++◌, List, ℕ};
+ghost use Rattle.mt_desk.specs.declared.history.Call.{Call};
+ghost use Rattle.mt_workers.specs.Advances.{IsAdvancing, next_position, one_if_taken};
+
+use crate::asking::ask;
+use mt_desk::{Answer, Desk, DeskName, Pass};
+use mt_event::{Event, Refusal, Reply};
+use mt_messages::Gate;
+use mt_names::{Position, WorkflowName};
+use mt_watch::Asks;
+use mt_workflow::Slot;
+use std::sync::Wait;
+
+/// The position at which a stream is expected after an answer to an advance of it.
+pub(crate) fn next_position(at: Position, answer: &Answer) -> Position
+    ensures { result ≡ next_position at answer.now }
+{
+    match answer {
+        Ok(Reply::Advanced(advanced)) => at.saturating_add(u64::from(advanced.events)),
+        Err(Refusal::Stale(current)) => *current,
+        _ => at,
+    }
+}
+
+/// 1 where an advance was taken.
+fn one_if_taken(answer: &Answer) -> u64
+    ensures { result ≡ one_if_taken answer.now }
+{
+    match answer {
+        Ok(Reply::Advanced(_)) => 1,
+        _ => 0,
+    }
+}
+
+/// Advances a stream of a workflow again and again, so many times at most, each time by at most `max` rows or entries: the first time
+/// at position 0, and then where the last answer says that it is. A refusal takes a turn too; `F25 Stale` says where the stream is. It
+/// gives its pass back, and the number of advances that were taken. It ends early only where the desk refuses a call, with its
+/// `DeskFault` told by nobody. (Vitess: a VReplication stream, which goes on by itself)
+pub fn stream_worker<R: Wait, G: Gate, D: DeskName, W: Asks + Drop>(
+    rt: &R,
+    gate: &G,
+    desk: &Desk<D, W>,
+    mut pass: Pass<D>,
+    worker: u16,
+    workflow: &WorkflowName,
+    stream: Slot,
+    max: u16,
+    turns: u64,
+) -> (Pass<D>, u64)
+    ensures client { result.0.client ≡ pass.client }
+    ensures gains { (calls : List Call) × (result.0.calls.items ≡ pass.calls.items ++ calls)
+        × IsAdvancing workflow.now stream max turns calls result.1 }
+{
+    let mut at = 0;
+    let mut taken = 0;
+    for line in 0..turns {
+        let event = Event::Advance {
+            workflow: workflow.copied(),
+            stream,
+            at,
+            max,
+        };
+        let Ok(answer) = ask(rt, gate, desk, &mut pass, worker, line, event) else {
+            return (pass, taken);
+        };
+        at = next_position(at, &answer);
+        taken += one_if_taken(&answer);
+    }
+    (pass, taken)
+}
