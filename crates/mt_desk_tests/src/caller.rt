@@ -3,7 +3,7 @@ ghost use Rattle.std.specs.Prelude.{◌≡◌, [], ◌∷◌, true, IfSome};
 ghost use Rattle.mt_desk.specs.Histories.{call};
 ghost use Rattle.mt_desk.specs.Passes.{HaveOneHistory};
 
-use mt_desk::{Answer, Desk, DeskName, Pass};
+use mt_desk::{Answer, Desk, DeskFault, DeskName, Pass};
 use mt_event::Event;
 use mt_site::Core;
 use mt_watch::Asks;
@@ -62,7 +62,10 @@ fn ask_both<D: DeskName, W: Asks + Drop, R: Wait>(
     requires scopes { W.scopes watchers ≡ D.scopes }
     ensures { IfSome result (λ answers. HaveOneHistory D.scopes D.opening ((1, call first answers.0 ∷ []) ∷ (2, call second answers.1 ∷ []) ∷ [])) }
 {
-    let desk: Desk<D, W> = Desk::open(alloc, blank, core, watchers);
+    let opened: Result<Desk<D, W>, DeskFault> = Desk::open(alloc, blank, core, watchers);
+    let Ok(desk) = opened else {
+        return None;
+    };
     let (one, mine) = ask_once(rt, &desk, 1, first)?;
     let (two, theirs) = ask_once(rt, &desk, 2, second)?;
     if gather_two(rt, alloc, &desk, one, two) {

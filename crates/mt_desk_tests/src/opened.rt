@@ -7,7 +7,7 @@ use crate::memory::is_moved;
 use crate::no_memory::is_given_up;
 use crate::texts::event_of;
 use crate::threads::two_ask;
-use mt_desk::{Desk, DeskName};
+use mt_desk::{Desk, DeskFault, DeskName};
 use mt_event::Refusal;
 use mt_names::KeyspaceName;
 use mt_site::Core;
@@ -91,7 +91,10 @@ fn at_a_desk<D: DeskName + Send + Sync, W: Asks + Drop + Send, R: Threads + Wait
     requires opening { core ≡ D.opening }
     requires scopes { W.scopes watchers ≡ D.scopes }
 {
-    let desk: Desk<D, W> = Desk::open(alloc, blank, core, watchers);
+    let opened: Result<Desk<D, W>, DeskFault> = Desk::open(alloc, blank, core, watchers);
+    let Ok(desk) = opened else {
+        return Played::NotMade;
+    };
     match trial {
         Trial::Acts(acts) => play(rt, alloc, &desk, acts),
         Trial::TwoThreads(asks) => two_ask(rt, alloc, &desk, asks),
