@@ -46,7 +46,7 @@ fn same_help(rt: &HostRuntime, words: &[&str]) -> bool {
 }
 
 /// Command lines, each with the kind of its answer.
-static ANSWERS: [(&[&str], Answer); 10] = [
+const ANSWERS: [(&[&str], Answer); 10] = [
     (
         &["mt", "run", "commerce", "--", "customer"],
         Answer::Keyspaces(2),
@@ -63,7 +63,7 @@ static ANSWERS: [(&[&str], Answer); 10] = [
 ];
 
 /// Command lines that ask for help.
-static HELPS: [&[&str]; 4] = [
+const HELPS: [&[&str]; 4] = [
     &["mt", "help"],
     &["mt", "--help"],
     &["mt", "race", "-h"],

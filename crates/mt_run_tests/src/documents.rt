@@ -13,7 +13,7 @@ const TWO: &str =
     "{\"denied\":[],\"keyspaces\":[{\"name\":\"a\",\"tables\":[]},{\"name\":\"b\",\"tables\":[\"t\"]}],\"rules\":[],\"version\":1}";
 
 /// Two keyspaces, and their dump.
-static DUMPED: [(&str, &str); 4] = [
+const DUMPED: [(&str, &str); 4] = [
     ("keyspace b", "ok"),
     ("keyspace a", "ok"),
     ("table b t", "ok"),
@@ -27,7 +27,7 @@ fn dump_of_two_keyspaces(rt: HostRuntime) -> Result<(), Fail> {
 }
 
 /// Rules that are set and taken away, and their documents.
-static LISTED: [(&str, &str); 10] = [
+const LISTED: [(&str, &str); 10] = [
     ("rules", "{\"rules\":[]}"),
     (
         "dump",
@@ -80,7 +80,7 @@ fn writes_canon<R: Read>(
 }
 
 /// Documents, each with whether it is taken, and the line that is written.
-static DOCUMENTS: [(Kind, &str, bool, &str); 4] = [
+const DOCUMENTS: [(Kind, &str, bool, &str); 4] = [
     (
         Kind::Rules,
         "{\"rules\":[{\"fromTable\":\"b\",\"toTables\":[\"k.b\"],\"x\":1},{\"from_table\":\"a@replica\",\"to_tables\":[\"k.a\"]}]}",

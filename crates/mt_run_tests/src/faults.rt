@@ -243,7 +243,7 @@ fn beginning(output: &[u8], length: usize) -> &[u8] {
 const LONGEST: &str = "row aaaaaaaaaaaaaaaaaaaaaaaaaaaaaaaaaaaaaaaaaaaaaaaaaaaaaaaaaaaaaaaa";
 
 /// A row of the longest value.
-static LONGEST_ROW: [(&str, &str); 3] = [
+const LONGEST_ROW: [(&str, &str); 3] = [
     ("keyspace a", "ok"),
     ("table a t", "ok"),
     (

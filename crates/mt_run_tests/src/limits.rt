@@ -34,7 +34,7 @@ fn fills(
 }
 
 /// What is refused behind the last keyspace, and what is taken.
-static MORE_KEYSPACES: [(&str, &str); 8] = [
+const MORE_KEYSPACES: [(&str, &str); 8] = [
     ("keyspace k32", "refused F27 Full"),
     ("keyspace k31", "refused F30 Exists"),
     ("keyspace -k", "refused N3 BadByte"),
@@ -52,10 +52,10 @@ fn keyspaces(rt: HostRuntime) -> Result<(), Fail> {
 }
 
 /// Two keyspaces without tables.
-static TWO_KEYSPACES: [(&str, &str); 2] = [("keyspace a", "ok"), ("keyspace b", "ok")];
+const TWO_KEYSPACES: [(&str, &str); 2] = [("keyspace a", "ok"), ("keyspace b", "ok")];
 
 /// What is refused behind the last table of a keyspace, and what is taken.
-static MORE_TABLES: [(&str, &str); 12] = [
+const MORE_TABLES: [(&str, &str); 12] = [
     ("table a t256", "refused F27 Full"),
     ("table a t255", "refused F30 Exists"),
     ("table a -t", "refused N3 BadByte"),
@@ -84,14 +84,14 @@ fn tables(rt: HostRuntime) -> Result<(), Fail> {
 }
 
 /// A table with a row.
-static ONE_ROW: [(&str, &str); 3] = [
+const ONE_ROW: [(&str, &str); 3] = [
     ("keyspace a", "ok"),
     ("table a t", "ok"),
     ("insert t 1 v", "ok"),
 ];
 
 /// What is refused behind the last rule, and what is taken.
-static MORE_RULES: [(&str, &str); 15] = [
+const MORE_RULES: [(&str, &str); 15] = [
     ("rule r4096 a.t", "refused F27 Full"),
     ("rule -r a.t", "refused N3 BadByte"),
     ("rule r4096 t", "refused N8 NoKeyspace"),
@@ -116,7 +116,7 @@ fn rules(rt: HostRuntime) -> Result<(), Fail> {
 }
 
 /// The largest number and the longest value, and those behind them.
-static LARGEST: [(&str, &str); 8] = [
+const LARGEST: [(&str, &str); 8] = [
     ("keyspace a", "ok"),
     ("table a t", "ok"),
     (

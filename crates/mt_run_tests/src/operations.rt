@@ -7,7 +7,7 @@ use std::test::Fail;
 const LONGEST: &str = "aaaaaaaaaaaaaaaaaaaaaaaaaaaaaaaaaaaaaaaaaaaaaaaaaaaaaaaaaaaaaaaa";
 
 /// Operations of clients, and what refuses them.
-static OPERATIONS: [(&str, &str); 15] = [
+const OPERATIONS: [(&str, &str); 15] = [
     ("keyspace commerce", "ok"),
     ("keyspace customer", "ok"),
     ("table commerce corder", "ok"),
@@ -32,7 +32,7 @@ fn client_operations_and_refusals(rt: HostRuntime) -> Result<(), Fail> {
 }
 
 /// Rows of the largest key.
-static LARGEST_KEY: [(&str, &str); 6] = [
+const LARGEST_KEY: [(&str, &str); 6] = [
     ("insert corder 18446744073709551615 z", "ok"),
     ("insert corder 18446744073709551616 z", "refused X1 BadLine"),
     ("append corder 18446744073709551615 yx", "ok"),
@@ -64,7 +64,7 @@ fn longest_value_and_largest_key(rt: HostRuntime) -> Result<(), Fail> {
 }
 
 /// Operations at a table whose rule leads elsewhere.
-static AT_A_TABLE: [(&str, &str); 15] = [
+const AT_A_TABLE: [(&str, &str); 15] = [
     ("keyspace a", "ok"),
     ("table a t", "ok"),
     ("rule a.t nosuch.t", "ok"),
@@ -89,7 +89,7 @@ fn a_table_is_reached_without_its_rule(rt: HostRuntime) -> Result<(), Fail> {
 }
 
 /// Lines of operations that are refused before they are asked.
-static BAD_OPERATIONS: [(&str, &str); 20] = [
+const BAD_OPERATIONS: [(&str, &str); 20] = [
     ("update t 1", "refused X1 BadLine"),
     ("append t@replica 1 v", "refused X1 BadLine"),
     ("update t@rdonly 1 v", "refused X1 BadLine"),

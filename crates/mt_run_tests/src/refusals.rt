@@ -14,7 +14,7 @@ fn long_line(case: &mut Case, line: &str) -> Result<(), Fail> {
 }
 
 /// Lines that are refused or answered where they aren't too long.
-static LINES: [&str; 9] = [
+const LINES: [&str; 9] = [
     "\x01",
     "frobnicate",
     "keyspace",
@@ -43,7 +43,7 @@ fn a_long_line_is_told_first(rt: HostRuntime) -> Result<(), Fail> {
 }
 
 /// Bad lines in which a name or an answer could be refused too.
-static BAD_LINES: [(&str, &str); 19] = [
+const BAD_LINES: [(&str, &str); 19] = [
     ("keyspace a", "ok"),
     ("table a t", "ok"),
     ("insert t 1 v", "ok"),
@@ -72,7 +72,7 @@ fn a_bad_line_is_told_before_names_and_answers(rt: HostRuntime) -> Result<(), Fa
 }
 
 /// Lines with two bad names, or with one that is bad twice.
-static BAD_NAMES: [(&str, &str); 11] = [
+const BAD_NAMES: [(&str, &str); 11] = [
     ("table -a -b", "refused N3 BadByte"),
     ("table -a @", "refused N3 BadByte"),
     ("rule -a b", "refused N3 BadByte"),
@@ -100,7 +100,7 @@ fn line_with_long(case: &mut Case, before: &str, after: &str, answer: &str) -> R
 }
 
 /// What stands before and behind that word, and the answer.
-static AROUND: [(&str, &str, &str); 7] = [
+const AROUND: [(&str, &str, &str); 7] = [
     ("keyspace ", "", "refused N2 TooLong"),
     ("keyspace -", "", "refused N2 TooLong"),
     ("table ", " -a", "refused N2 TooLong"),
@@ -127,7 +127,7 @@ fn a_long_name_is_told_in_its_place(rt: HostRuntime) -> Result<(), Fail> {
 }
 
 /// Lines with a bad name of which the answer would be a refusal too.
-static NAMES_FIRST: [(&str, &str); 12] = [
+const NAMES_FIRST: [(&str, &str); 12] = [
     ("keyspace a", "ok"),
     ("table a t", "ok"),
     ("insert t 1 v", "ok"),
@@ -149,7 +149,7 @@ fn names_are_told_before_answers(rt: HostRuntime) -> Result<(), Fail> {
 }
 
 /// Lines that are answered, each by what those before it did.
-static IN_ORDER: [(&str, &str); 15] = [
+const IN_ORDER: [(&str, &str); 15] = [
     ("keyspace a", "ok"),
     ("keyspace a", "refused F30 Exists"),
     ("table nosuch t", "refused F1 NoKeyspace"),

@@ -13,7 +13,7 @@ const AT_TARGET: &str =
     "{\"rules\":[{\"from_table\":\"commerce.corder\",\"to_tables\":[\"customer.corder\"]},{\"from_table\":\"commerce.corder@rdonly\",\"to_tables\":[\"customer.corder\"]},{\"from_table\":\"commerce.corder@replica\",\"to_tables\":[\"customer.corder\"]},{\"from_table\":\"corder\",\"to_tables\":[\"customer.corder\"]},{\"from_table\":\"corder@rdonly\",\"to_tables\":[\"customer.corder\"]},{\"from_table\":\"corder@replica\",\"to_tables\":[\"customer.corder\"]},{\"from_table\":\"customer.corder@rdonly\",\"to_tables\":[\"customer.corder\"]},{\"from_table\":\"customer.corder@replica\",\"to_tables\":[\"customer.corder\"]}]}";
 
 /// A workflow whose copy has ended.
-static COPIED: [(&str, &str); 6] = [
+const COPIED: [(&str, &str); 6] = [
     ("keyspace commerce", "ok"),
     ("keyspace customer", "ok"),
     ("table commerce corder", "ok"),
@@ -23,13 +23,13 @@ static COPIED: [(&str, &str); 6] = [
 ];
 
 /// A switch of all types begins.
-static BEGIN_SWITCH: [(&str, &str); 1] = [("begin-switch mv all", "ok")];
+const BEGIN_SWITCH: [(&str, &str); 1] = [("begin-switch mv all", "ok")];
 
 /// A reversal of all types begins.
-static BEGIN_REVERSE: [(&str, &str); 1] = [("begin-reverse mv all", "ok")];
+const BEGIN_REVERSE: [(&str, &str); 1] = [("begin-reverse mv all", "ok")];
 
 /// An empty table. No switch begins before its copy has ended.
-static EMPTY_TABLE: [(&str, &str); 7] = [
+const EMPTY_TABLE: [(&str, &str); 7] = [
     ("keyspace commerce", "ok"),
     ("keyspace customer", "ok"),
     ("table commerce corder", "ok"),
@@ -40,7 +40,7 @@ static EMPTY_TABLE: [(&str, &str); 7] = [
 ];
 
 /// The traffic is switched.
-static EMPTY_SWITCHED: [(&str, &str); 2] = [
+const EMPTY_SWITCHED: [(&str, &str); 2] = [
     (
         "show mv",
         "mv commerce customer corder switched primary,replica,rdonly way none forward frozen 0 copied back running 0",
@@ -60,14 +60,14 @@ fn an_empty_table_is_switched(rt: HostRuntime) -> Result<(), Fail> {
 }
 
 /// Clients write at the target, and the stream back brings it to the source.
-static WRITTEN_AT_TARGET: [(&str, &str); 3] = [
+const WRITTEN_AT_TARGET: [(&str, &str); 3] = [
     ("insert corder 2 b", "ok"),
     ("append corder 1 x", "ok"),
     ("advance mv back 1 100", "events 2 rows 0"),
 ];
 
 /// The traffic is with the source again.
-static REVERSED: [(&str, &str); 6] = [
+const REVERSED: [(&str, &str); 6] = [
     ("get corder 1", "row ax"),
     ("get corder 2", "row b"),
     (
@@ -95,10 +95,10 @@ fn a_switch_is_reversed(rt: HostRuntime) -> Result<(), Fail> {
 }
 
 /// The new stream forward brings what was written since.
-static CAUGHT_UP: [(&str, &str); 1] = [("advance mv forward 3 100", "events 1 rows 0")];
+const CAUGHT_UP: [(&str, &str); 1] = [("advance mv forward 3 100", "events 1 rows 0")];
 
 /// The traffic is switched once more, and the workflow is completed.
-static SWITCHED_AGAIN: [(&str, &str); 10] = [
+const SWITCHED_AGAIN: [(&str, &str); 10] = [
     (
         "show mv",
         "mv commerce customer corder switched primary,replica,rdonly way none forward frozen 4 copied back running 4",
@@ -137,10 +137,10 @@ fn a_second_switch_after_a_reversal(rt: HostRuntime) -> Result<(), Fail> {
 }
 
 /// A switch of writes begins.
-static BEGIN_PRIMARY: [(&str, &str); 1] = [("begin-switch mv primary", "ok")];
+const BEGIN_PRIMARY: [(&str, &str); 1] = [("begin-switch mv primary", "ok")];
 
 /// The reads are switched too, by one step, and the workflow is completed.
-static COMPLETED: [(&str, &str); 8] = [
+const COMPLETED: [(&str, &str); 8] = [
     ("complete mv", "refused F21 NotAllSwitched"),
     ("begin-switch mv all", "ok"),
     ("step mv 0", "ok"),
@@ -164,7 +164,7 @@ fn a_complete_once_all_is_switched(rt: HostRuntime) -> Result<(), Fail> {
 }
 
 /// The reads of replicas are switched, which one step does, and reversed.
-static REPLICA_READS: [(&str, &str); 18] = [
+const REPLICA_READS: [(&str, &str); 18] = [
     ("keyspace commerce", "ok"),
     ("keyspace customer", "ok"),
     ("table commerce corder", "ok"),
@@ -192,7 +192,7 @@ fn reads_of_replicas_alone(rt: HostRuntime) -> Result<(), Fail> {
 }
 
 /// All reads are switched, once the target has each write.
-static READS_SWITCHED: [(&str, &str); 10] = [
+const READS_SWITCHED: [(&str, &str); 10] = [
     ("insert corder 2 b", "ok"),
     ("begin-switch mv replica,rdonly", "ok"),
     ("step mv 0", "refused F18 NotLevel"),
@@ -209,7 +209,7 @@ static READS_SWITCHED: [(&str, &str); 10] = [
 ];
 
 /// Then all types are, of which primary alone is left: the step of reads isn't among the eleven.
-static WRITES_SWITCHED: [(&str, &str); 16] = [
+const WRITES_SWITCHED: [(&str, &str); 16] = [
     ("begin-switch mv all", "ok"),
     (
         "show mv",
@@ -235,10 +235,10 @@ static WRITES_SWITCHED: [(&str, &str); 16] = [
 ];
 
 /// Writes are reversed alone.
-static WRITES_REVERSED: [(&str, &str); 1] = [("begin-reverse mv primary", "ok")];
+const WRITES_REVERSED: [(&str, &str); 1] = [("begin-reverse mv primary", "ok")];
 
 /// Then what is left, and the workflow is cancelled.
-static READS_REVERSED: [(&str, &str); 8] = [
+const READS_REVERSED: [(&str, &str); 8] = [
     (
         "show mv",
         "mv commerce customer corder switched replica,rdonly way none forward running 3 copied back none",
@@ -273,7 +273,7 @@ fn reads_and_then_writes(rt: HostRuntime) -> Result<(), Fail> {
 }
 
 /// A reversal up to the step before its journal.
-static REVERSED_HALFWAY: [(&str, &str); 16] = [
+const REVERSED_HALFWAY: [(&str, &str); 16] = [
     ("insert corder 2 b", "ok"),
     ("begin-reverse mv all", "ok"),
     (
@@ -302,7 +302,7 @@ static REVERSED_HALFWAY: [(&str, &str); 16] = [
 ];
 
 /// It is given up, step by step: the target has the traffic as before.
-static REVERSAL_ABANDONED: [(&str, &str); 16] = [
+const REVERSAL_ABANDONED: [(&str, &str); 16] = [
     ("undo mv 6", "ok"),
     (
         "show mv",
@@ -328,7 +328,7 @@ static REVERSAL_ABANDONED: [(&str, &str); 16] = [
 ];
 
 /// A second one comes to its end.
-static REVERSED_AFTERWARDS: [(&str, &str); 4] = [
+const REVERSED_AFTERWARDS: [(&str, &str); 4] = [
     (
         "show mv",
         "mv commerce customer corder switched - way none forward running 3 copied back none",
@@ -355,7 +355,7 @@ fn a_reversal_is_given_up(rt: HostRuntime) -> Result<(), Fail> {
 }
 
 /// A rule stood before the workflow.
-static RULED: [(&str, &str); 4] = [
+const RULED: [(&str, &str); 4] = [
     ("keyspace commerce", "ok"),
     ("keyspace customer", "ok"),
     ("table commerce corder", "ok"),
@@ -363,13 +363,13 @@ static RULED: [(&str, &str); 4] = [
 ];
 
 /// A workflow of the empty table.
-static RULED_CREATE: [(&str, &str); 2] = [
+const RULED_CREATE: [(&str, &str); 2] = [
     ("create mv commerce customer corder", "ok"),
     ("advance mv forward 0 100", "events 0 rows 0"),
 ];
 
 /// A Cancel after a reversal gives the rule back.
-static RULE_KEPT: [(&str, &str); 2] = [
+const RULE_KEPT: [(&str, &str); 2] = [
     ("cancel mv", "ok"),
     (
         "rules",
@@ -378,7 +378,7 @@ static RULE_KEPT: [(&str, &str); 2] = [
 ];
 
 /// A Complete takes it away.
-static RULE_GONE: [(&str, &str); 3] = [
+const RULE_GONE: [(&str, &str); 3] = [
     ("complete mv", "ok"),
     ("rules", "{\"rules\":[]}"),
     ("get corder 1", "none"),
@@ -404,7 +404,7 @@ fn a_rule_from_before(rt: HostRuntime) -> Result<(), Fail> {
 }
 
 /// Two workflows with open switches, one before its journal and one past it.
-static TWO_OPEN: [(&str, &str); 29] = [
+const TWO_OPEN: [(&str, &str); 29] = [
     ("keyspace commerce", "ok"),
     ("keyspace customer", "ok"),
     ("table commerce a", "ok"),
@@ -443,7 +443,7 @@ static TWO_OPEN: [(&str, &str); 29] = [
 ];
 
 /// The steps of the one are undone between those of the other.
-static ONE_UNDONE: [(&str, &str); 19] = [
+const ONE_UNDONE: [(&str, &str); 19] = [
     ("undo m2 7", "refused F19 PastJournal"),
     ("undo m1 6", "ok"),
     ("step m2 7", "ok"),
@@ -472,7 +472,7 @@ static ONE_UNDONE: [(&str, &str); 19] = [
 ];
 
 /// The one is cancelled, and the other completed.
-static BOTH_ENDED: [(&str, &str); 8] = [
+const BOTH_ENDED: [(&str, &str); 8] = [
     ("advance m1 forward 2 100", "events 1 rows 0"),
     ("advance m2 back 2 100", "events 2 rows 0"),
     ("cancel m1", "ok"),

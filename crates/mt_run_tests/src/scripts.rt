@@ -153,7 +153,7 @@ const GET_BACK_THROUGH_A_RULE: &[u8] = b"keyspace commerce\ntable commerce corde
 rule c commerce.corder\ninsert c 1 a\nget c 1\n";
 
 /// Scripts, each with what it must print.
-static WORKED: [(&[u8], &[u8]); 4] = [
+const WORKED: [(&[u8], &[u8]); 4] = [
     (b"", b""),
     (GET_WITHOUT_A_RULE, b"ok\nok\nok\nok\nrow a\n"),
     (
@@ -169,7 +169,7 @@ fn worked_rows(rt: HostRuntime) {
 }
 
 /// Ends of lines.
-static ENDS: [(&[u8], &[u8]); 9] = [
+const ENDS: [(&[u8], &[u8]); 9] = [
     (b"keyspace a", b"ok\n"),
     (b"keyspace a\n", b"ok\n"),
     (b"keyspace a\r\nkeyspace b\r\n", b"ok\nok\n"),
@@ -187,7 +187,7 @@ fn ends_of_lines(rt: HostRuntime) {
 }
 
 /// Blanks, comments, and bytes that no line may have.
-static BLANKS: [(&[u8], &[u8]); 5] = [
+const BLANKS: [(&[u8], &[u8]); 5] = [
     (b"\tkeyspace\t \ta\t\n  table  a\tt  \n", b"ok\nok\n"),
     (b" \t \n\t\n", b""),
     (b"#\n# keyspace a\n#\xff\x00\n", b""),

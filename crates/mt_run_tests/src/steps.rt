@@ -4,10 +4,10 @@ use crate::scripts::answers_in_turn;
 use std::test::Fail;
 
 /// The keyspaces whose primaries are watched.
-pub static BOTH: [&str; 2] = ["commerce", "customer"];
+pub const BOTH: [&str; 2] = ["commerce", "customer"];
 
 /// The twelve steps of a way of all types.
-pub static STEPS: [(&str, &str); 12] = [
+pub const STEPS: [(&str, &str); 12] = [
     ("step mv 0", "ok"),
     ("step mv 1", "ok"),
     ("step mv 2", "ok"),
@@ -23,7 +23,7 @@ pub static STEPS: [(&str, &str); 12] = [
 ];
 
 /// The eleven steps of a way of the type primary alone.
-pub static STEPS_OF_WRITES: [(&str, &str); 11] = [
+pub const STEPS_OF_WRITES: [(&str, &str); 11] = [
     ("step mv 0", "ok"),
     ("step mv 1", "ok"),
     ("step mv 2", "ok"),
@@ -38,7 +38,7 @@ pub static STEPS_OF_WRITES: [(&str, &str); 11] = [
 ];
 
 /// A switch up to where clients are refused: its fourth step waits for a write that the target lacks.
-static UNTIL_LEVEL: [(&str, &str); 15] = [
+const UNTIL_LEVEL: [(&str, &str); 15] = [
     ("keyspace commerce", "ok"),
     ("keyspace customer", "ok"),
     ("table commerce corder", "ok"),
@@ -57,7 +57,7 @@ static UNTIL_LEVEL: [(&str, &str); 15] = [
 ];
 
 /// Then it is given up: the source takes writes again.
-static GIVEN_UP: [(&str, &str); 12] = [
+const GIVEN_UP: [(&str, &str); 12] = [
     ("step mv 4", "ok"),
     ("step mv 5", "ok"),
     ("undo mv 6", "ok"),
@@ -76,7 +76,7 @@ static GIVEN_UP: [(&str, &str); 12] = [
 ];
 
 /// Or it goes on, past its journal, where no step is undone.
-static PAST_THE_JOURNAL: [(&str, &str); 10] = [
+const PAST_THE_JOURNAL: [(&str, &str); 10] = [
     ("step mv 4", "ok"),
     ("step mv 5", "ok"),
     ("step mv 6", "ok"),
@@ -93,14 +93,14 @@ static PAST_THE_JOURNAL: [(&str, &str); 10] = [
 ];
 
 /// Then the source is closed.
-static OLD_OWNER_CLOSED: [(&str, &str); 3] = [
+const OLD_OWNER_CLOSED: [(&str, &str); 3] = [
     ("at commerce.corder insert 4 d", "refused F3 Denied"),
     ("get corder 4", "none"),
     ("at commerce.corder@replica get 4", "none"),
 ];
 
 /// Or it is shown while it is open, and while it is being given up.
-static SHOWN: [(&str, &str); 5] = [
+const SHOWN: [(&str, &str); 5] = [
     (
         "show mv",
         "mv commerce customer corder switched - way forward primary,replica,rdonly 4 forward running 2 copied back none",
@@ -115,7 +115,7 @@ static SHOWN: [(&str, &str); 5] = [
 ];
 
 /// Positions and counts of steps that don't hold, and a Cancel while a switch is open.
-static STALE: [(&str, &str); 15] = [
+const STALE: [(&str, &str); 15] = [
     ("keyspace commerce", "ok"),
     ("keyspace customer", "ok"),
     ("table commerce corder", "ok"),
@@ -134,7 +134,7 @@ static STALE: [(&str, &str); 15] = [
 ];
 
 /// A switch is given up before its first step, and the last step ends it.
-static WITHOUT_STEPS: [(&str, &str); 11] = [
+const WITHOUT_STEPS: [(&str, &str); 11] = [
     ("keyspace commerce", "ok"),
     ("keyspace customer", "ok"),
     ("table commerce corder", "ok"),
@@ -152,7 +152,7 @@ static WITHOUT_STEPS: [(&str, &str); 11] = [
 ];
 
 /// The name and the table of a workflow that lives are taken.
-static LIVE_NAME: [(&str, &str); 6] = [
+const LIVE_NAME: [(&str, &str); 6] = [
     ("keyspace commerce", "ok"),
     ("keyspace customer", "ok"),
     ("table commerce corder", "ok"),
@@ -168,7 +168,7 @@ static LIVE_NAME: [(&str, &str); 6] = [
 ];
 
 /// Of two workflows with open switches one is given up, and the other goes on.
-static TWO_AT_ONCE: [(&str, &str); 31] = [
+const TWO_AT_ONCE: [(&str, &str); 31] = [
     ("keyspace commerce", "ok"),
     ("keyspace customer", "ok"),
     ("table commerce a", "ok"),

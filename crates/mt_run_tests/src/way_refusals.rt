@@ -5,7 +5,7 @@ use crate::steps::{BOTH, STEPS_OF_WRITES};
 use std::test::Fail;
 
 /// The source's primary has no watcher: the third step is refused, and the switch is given up.
-static UNWATCHED_SOURCE: [(&str, &str); 13] = [
+const UNWATCHED_SOURCE: [(&str, &str); 13] = [
     ("keyspace commerce", "ok"),
     ("keyspace customer", "ok"),
     ("table commerce corder", "ok"),
@@ -25,7 +25,7 @@ static UNWATCHED_SOURCE: [(&str, &str); 13] = [
 ];
 
 /// No workflow lives, whatever else is wrong with the line.
-static NO_WORKFLOW: [(&str, &str); 8] = [
+const NO_WORKFLOW: [(&str, &str); 8] = [
     ("begin-switch mv all", "refused F7 NoWorkflow"),
     ("begin-switch mv -", "refused F7 NoWorkflow"),
     ("begin-switch mv rdonly,primary", "refused F7 NoWorkflow"),
@@ -37,7 +37,7 @@ static NO_WORKFLOW: [(&str, &str); 8] = [
 ];
 
 /// No way is open.
-static NO_WAY: [(&str, &str); 12] = [
+const NO_WAY: [(&str, &str); 12] = [
     ("keyspace commerce", "ok"),
     ("keyspace customer", "ok"),
     ("table commerce corder", "ok"),
@@ -53,7 +53,7 @@ static NO_WAY: [(&str, &str); 12] = [
 ];
 
 /// A way is open.
-static A_WAY: [(&str, &str); 7] = [
+const A_WAY: [(&str, &str); 7] = [
     ("begin-switch mv primary", "ok"),
     ("begin-switch mv -", "refused F13 UnderWay"),
     ("begin-reverse mv all", "refused F13 UnderWay"),
@@ -64,7 +64,7 @@ static A_WAY: [(&str, &str); 7] = [
 ];
 
 /// Writes are switched, and no reads.
-static WRITES_ARE_SWITCHED: [(&str, &str); 12] = [
+const WRITES_ARE_SWITCHED: [(&str, &str); 12] = [
     ("step mv 11", "refused F14 NothingUnderWay"),
     ("undo mv 11", "refused F14 NothingUnderWay"),
     ("begin-switch mv primary", "refused F15 NothingToSwitch"),
@@ -89,7 +89,7 @@ static WRITES_ARE_SWITCHED: [(&str, &str); 12] = [
 ];
 
 /// Lines with too few words or too many, with numbers that are none, and with names and types in fault.
-static BAD_LINES: [(&str, &str); 24] = [
+const BAD_LINES: [(&str, &str); 24] = [
     ("begin-switch", "refused X1 BadLine"),
     ("begin-switch mv", "refused X1 BadLine"),
     ("begin-switch mv primary replica", "refused X1 BadLine"),

@@ -102,7 +102,7 @@ const ABANDONED: [(&str, &str); 8] = [
 ];
 
 /// Scripts, each with the keyspaces whose primaries are watched.
-static WORKED: [(&[&str], &[(&str, &str)]); 5] = [
+const WORKED: [(&[&str], &[(&str, &str)]); 5] = [
     (&BOTH, &SWITCHED),
     (&BOTH, &REVERSED),
     (&BOTH, &READS),
@@ -111,7 +111,7 @@ static WORKED: [(&[&str], &[(&str, &str)]); 5] = [
 ];
 
 /// Where a watcher refuses to allow the target, a switch stops behind its journal, and stays open.
-static STOPPED: [(&str, &str); 9] = [
+const STOPPED: [(&str, &str); 9] = [
     ("keyspace commerce", "ok"),
     ("keyspace customer", "ok"),
     ("table commerce corder", "ok"),

@@ -139,7 +139,7 @@ const REFUSED_CREATES: [(&str, &str); 8] = [
 ];
 
 /// Scripts, each with the keyspaces whose primaries are watched.
-static WORKED: [(&[&str], &[(&str, &str)]); 8] = [
+const WORKED: [(&[&str], &[(&str, &str)]); 8] = [
     (&BOTH, &CREATED),
     (&BOTH, &CANCELLED),
     (&BOTH, &RULE_GIVEN_BACK),
@@ -159,7 +159,7 @@ fn worked_rows_of_workflows(rt: HostRuntime) -> Result<(), Fail> {
 }
 
 /// Two workflows side by side, each with its own table: what one does leaves the other as it was.
-static SIDE_BY_SIDE: [(&str, &str); 39] = [
+const SIDE_BY_SIDE: [(&str, &str); 39] = [
     ("keyspace commerce", "ok"),
     ("keyspace customer", "ok"),
     ("table commerce a", "ok"),

@@ -17,7 +17,7 @@ const BARE: &str =
 
 /// A workflow is taken back where no rule stood before: its name, its table at the target and its rules are gone, and a next
 /// one may have them.
-static GIVES_BACK: [Act; 20] = [
+const GIVES_BACK: [Act; 20] = [
     Act::Asks(Ask::Keyspace("commerce"), Answer::Done),
     Act::Asks(Ask::Keyspace("customer"), Answer::Done),
     Act::Asks(Ask::Table(("commerce", "corder")), Answer::Done),
@@ -73,7 +73,7 @@ const RULED_DUMP: &str =
     "{\"denied\":[],\"keyspaces\":[{\"name\":\"commerce\",\"tables\":[\"corder\"]},{\"name\":\"customer\",\"tables\":[]}],\"rules\":[{\"from_table\":\"commerce.corder@replica\",\"to_tables\":[\"commerce.corder\"]},{\"from_table\":\"corder\",\"to_tables\":[\"commerce.corder\"]}],\"version\":1}";
 
 /// The rules that stood before are those that stand again.
-static GIVES_BACK_RULES: [Act; 11] = [
+const GIVES_BACK_RULES: [Act; 11] = [
     Act::Asks(Ask::Keyspace("commerce"), Answer::Done),
     Act::Asks(Ask::Keyspace("customer"), Answer::Done),
     Act::Asks(Ask::Table(("commerce", "corder")), Answer::Done),
@@ -101,7 +101,7 @@ const OTHERS: &str =
     "{\"denied\":[],\"keyspaces\":[{\"name\":\"commerce\",\"tables\":[\"corder\"]},{\"name\":\"customer\",\"tables\":[\"cart\"]}],\"rules\":[{\"from_table\":\"x\",\"to_tables\":[\"commerce.x\"]}],\"version\":1}";
 
 /// What is edited beside a workflow stays as it was edited.
-static LEAVES_OTHERS: [Act; 12] = [
+const LEAVES_OTHERS: [Act; 12] = [
     Act::Asks(Ask::Keyspace("commerce"), Answer::Done),
     Act::Asks(Ask::Keyspace("customer"), Answer::Done),
     Act::Asks(Ask::Table(("commerce", "corder")), Answer::Done),
@@ -127,7 +127,7 @@ const RULES_OF_B: &str =
     "{\"rules\":[{\"from_table\":\"b\",\"to_tables\":[\"commerce.b\"]},{\"from_table\":\"b@rdonly\",\"to_tables\":[\"commerce.b\"]},{\"from_table\":\"b@replica\",\"to_tables\":[\"commerce.b\"]},{\"from_table\":\"commerce.b@rdonly\",\"to_tables\":[\"commerce.b\"]},{\"from_table\":\"commerce.b@replica\",\"to_tables\":[\"commerce.b\"]},{\"from_table\":\"customer.b\",\"to_tables\":[\"commerce.b\"]},{\"from_table\":\"customer.b@rdonly\",\"to_tables\":[\"commerce.b\"]},{\"from_table\":\"customer.b@replica\",\"to_tables\":[\"commerce.b\"]}]}";
 
 /// Two workflows side by side: one is cancelled, and the other goes on.
-static SIDE_BY_SIDE: [Act; 23] = [
+const SIDE_BY_SIDE: [Act; 23] = [
     Act::Asks(Ask::Keyspace("commerce"), Answer::Done),
     Act::Asks(Ask::Keyspace("customer"), Answer::Done),
     Act::Asks(Ask::Table(("commerce", "a")), Answer::Done),
@@ -190,7 +190,7 @@ static SIDE_BY_SIDE: [Act; 23] = [
 ];
 
 /// A table that is named twice is moved once, in the place in which it is first named.
-static NAMED_TWICE: [Act; 9] = [
+const NAMED_TWICE: [Act; 9] = [
     Act::Asks(Ask::Keyspace("commerce"), Answer::Done),
     Act::Asks(Ask::Keyspace("customer"), Answer::Done),
     Act::Asks(Ask::Table(("commerce", "b")), Answer::Done),
@@ -216,7 +216,7 @@ const TWO_TABLES: &str =
     "{\"denied\":[],\"keyspaces\":[{\"name\":\"commerce\",\"tables\":[\"cart\",\"corder\"]},{\"name\":\"customer\",\"tables\":[]}],\"rules\":[],\"version\":1}";
 
 /// A watcher refuses what denies `corder`.
-static REFUSED: [Act; 12] = [
+const REFUSED: [Act; 12] = [
     Act::Asks(Ask::Keyspace("commerce"), Answer::Done),
     Act::Asks(Ask::Keyspace("customer"), Answer::Done),
     Act::Asks(Ask::Table(("commerce", "corder")), Answer::Done),
@@ -241,7 +241,7 @@ static REFUSED: [Act; 12] = [
 ];
 
 /// Nobody watches the target.
-static NO_WATCHER: [Act; 7] = [
+const NO_WATCHER: [Act; 7] = [
     Act::Asks(Ask::Keyspace("commerce"), Answer::Done),
     Act::Asks(Ask::Keyspace("customer"), Answer::Done),
     Act::Asks(Ask::Table(("commerce", "corder")), Answer::Done),

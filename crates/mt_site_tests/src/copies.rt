@@ -9,7 +9,7 @@ use mt_workflow::{Slot, Way};
 use std::test::Fail;
 
 /// Each event, and of some a second one that differs in one place.
-static EVENTS: [Ask; 33] = [
+const EVENTS: [Ask; 33] = [
     Ask::Insert(("k", "t"), 1, "a"),
     Ask::Insert(("k", "t"), 1, "b"),
     Ask::Insert(("j", "t"), 1, "a"),
@@ -64,7 +64,7 @@ const UNDOING: Way = Way {
 };
 
 /// The same of replies.
-static REPLIES: [Answer; 16] = [
+const REPLIES: [Answer; 16] = [
     Answer::Done,
     Answer::NoRow,
     Answer::Row(""),

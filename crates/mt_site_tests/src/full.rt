@@ -12,7 +12,7 @@ use std::test::Fail;
 type Moved = &'static [&'static str];
 
 /// Workflows that each move one table.
-static WORKFLOWS: [(&str, Moved); 16] = [
+const WORKFLOWS: [(&str, Moved); 16] = [
     ("m0", &["t0"]),
     ("m1", &["t1"]),
     ("m2", &["t2"]),
@@ -32,7 +32,7 @@ static WORKFLOWS: [(&str, Moved); 16] = [
 ];
 
 /// Three keyspaces, of which nobody watches `other`, and a table that no workflow moves yet.
-static BEGUN: [Act; 4] = [
+const BEGUN: [Act; 4] = [
     Act::Asks(Ask::Keyspace("commerce"), Answer::Done),
     Act::Asks(Ask::Keyspace("customer"), Answer::Done),
     Act::Asks(Ask::Keyspace("other"), Answer::Done),
@@ -40,7 +40,7 @@ static BEGUN: [Act; 4] = [
 ];
 
 /// One more is refused, until one of them is taken back.
-static ONE_MORE: [Act; 8] = [
+const ONE_MORE: [Act; 8] = [
     Act::Asks(
         Ask::Create("m16", "commerce", "customer", &["t15"]),
         Answer::Refused("F8 TableInWorkflow"),

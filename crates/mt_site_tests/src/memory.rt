@@ -19,13 +19,13 @@ const SIXTEEN: [&str; 16] = [
 ];
 
 /// Two keyspaces.
-static BEGUN: [(Ask, Answer); 2] = [
+const BEGUN: [(Ask, Answer); 2] = [
     (Ask::Keyspace("commerce"), Answer::Done),
     (Ask::Keyspace("customer"), Answer::Done),
 ];
 
 /// Rules and a row of the tables, and a rule of another.
-static FILLED: [(Ask, Answer); 4] = [
+const FILLED: [(Ask, Answer); 4] = [
     (Ask::Rule("a", "commerce.a"), Answer::Done),
     (Ask::Rule("commerce.p@replica", "commerce.p"), Answer::Done),
     (Ask::Rule("x", "customer.x"), Answer::Done),
@@ -36,7 +36,7 @@ static FILLED: [(Ask, Answer); 4] = [
 const CREATE: Ask = Ask::Create("mv", "commerce", "customer", &SIXTEEN);
 
 /// What is answered as long as the workflow isn't created.
-static NOT_CREATED: [Act; 6] = [
+const NOT_CREATED: [Act; 6] = [
     Act::Asks(Ask::Show("mv"), Answer::Refused("F7 NoWorkflow")),
     Act::Asks(
         Ask::Insert(("customer", "a"), 1, "a"),
@@ -55,7 +55,7 @@ static NOT_CREATED: [Act; 6] = [
 ];
 
 /// What is answered once it is created.
-static CREATED: [Act; 5] = [
+const CREATED: [Act; 5] = [
     Act::Asks(
         Ask::Show("mv"),
         Answer::Shown("mv", "commerce", "customer", &SIXTEEN, 1, false),
@@ -178,7 +178,7 @@ fn want_of_memory_is_no_other_answer(rt: HostRuntime) -> Result<(), Fail> {
 }
 
 /// What takes no memory, with a workflow that is created.
-static WITHOUT_MEMORY: [Act; 13] = [
+const WITHOUT_MEMORY: [Act; 13] = [
     Act::Asks(
         Ask::Show("mv"),
         Answer::Shown("mv", "commerce", "customer", &SIXTEEN, 1, false),

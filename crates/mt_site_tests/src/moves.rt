@@ -17,7 +17,7 @@ const DUMP: &str =
     "{\"denied\":[\"customer.corder\"],\"keyspaces\":[{\"name\":\"commerce\",\"tables\":[\"corder\"]},{\"name\":\"customer\",\"tables\":[\"corder\"]}],\"rules\":[{\"from_table\":\"commerce.corder@rdonly\",\"to_tables\":[\"commerce.corder\"]},{\"from_table\":\"commerce.corder@replica\",\"to_tables\":[\"commerce.corder\"]},{\"from_table\":\"corder\",\"to_tables\":[\"commerce.corder\"]},{\"from_table\":\"corder@rdonly\",\"to_tables\":[\"commerce.corder\"]},{\"from_table\":\"corder@replica\",\"to_tables\":[\"commerce.corder\"]},{\"from_table\":\"customer.corder\",\"to_tables\":[\"commerce.corder\"]},{\"from_table\":\"customer.corder@rdonly\",\"to_tables\":[\"commerce.corder\"]},{\"from_table\":\"customer.corder@replica\",\"to_tables\":[\"commerce.corder\"]}],\"version\":1}";
 
 /// A workflow is created over two rows.
-static CREATED: [Act; 14] = [
+const CREATED: [Act; 14] = [
     Act::Asks(Ask::Keyspace("commerce"), Answer::Done),
     Act::Asks(Ask::Keyspace("customer"), Answer::Done),
     Act::Asks(Ask::Table(("commerce", "corder")), Answer::Done),
@@ -45,7 +45,7 @@ static CREATED: [Act; 14] = [
 
 /// Rows are copied, with writes between: of those past the stream's position it applies the ones to rows that it has copied, and
 /// copies on once none is left.
-static COPIED: [Act; 12] = [
+const COPIED: [Act; 12] = [
     Act::Asks(
         Ask::Advance("mv", Slot::Forward, 2, 1),
         Answer::Advanced(0, 1),
@@ -88,7 +88,7 @@ static COPIED: [Act; 12] = [
 ];
 
 /// Later writes are followed, as many at a time as are asked for.
-static FOLLOWED: [Act; 13] = [
+const FOLLOWED: [Act; 13] = [
     Act::Asks(Ask::Update(("commerce", "corder"), 3, "f"), Answer::Done),
     Act::Asks(Ask::Delete(("commerce", "corder"), 2), Answer::Done),
     Act::Asks(Ask::Append(("commerce", "corder"), 1, "x"), Answer::Done),

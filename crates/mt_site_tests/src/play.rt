@@ -46,7 +46,7 @@ impl Refuses {
 pub type Watch = (&'static str, Refuses);
 
 /// The watchers of the two keyspaces that tables move between.
-pub static BOTH: [Watch; 2] = [
+pub const BOTH: [Watch; 2] = [
     ("commerce", Refuses::Nothing),
     ("customer", Refuses::Nothing),
 ];

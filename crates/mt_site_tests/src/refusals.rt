@@ -13,7 +13,7 @@ const MOVED: Place = ("customer", "a");
 
 /// Three keyspaces, of which nobody watches `other`. The workflow `mv` moves `a`. Of the tables beside `b` has rules that lead
 /// elsewhere, `c` such a rule and a table of its name at the target, and of `d` to `g` each one rule.
-static BEGUN: [Act; 20] = [
+const BEGUN: [Act; 20] = [
     Act::Asks(Ask::Keyspace("commerce"), Answer::Done),
     Act::Asks(Ask::Keyspace("customer"), Answer::Done),
     Act::Asks(Ask::Keyspace("other"), Answer::Done),
@@ -44,7 +44,7 @@ const RULES: &str =
     "{\"rules\":[{\"from_table\":\"a\",\"to_tables\":[\"commerce.a\"]},{\"from_table\":\"a@rdonly\",\"to_tables\":[\"commerce.a\"]},{\"from_table\":\"a@replica\",\"to_tables\":[\"commerce.a\"]},{\"from_table\":\"b\",\"to_tables\":[\"other.b\"]},{\"from_table\":\"b@rdonly\",\"to_tables\":[\"other.b\"]},{\"from_table\":\"c\",\"to_tables\":[\"other.c\"]},{\"from_table\":\"commerce.a@rdonly\",\"to_tables\":[\"commerce.a\"]},{\"from_table\":\"commerce.a@replica\",\"to_tables\":[\"commerce.a\"]},{\"from_table\":\"commerce.f@rdonly\",\"to_tables\":[\"commerce.x\"]},{\"from_table\":\"customer.a\",\"to_tables\":[\"commerce.a\"]},{\"from_table\":\"customer.a@rdonly\",\"to_tables\":[\"commerce.a\"]},{\"from_table\":\"customer.a@replica\",\"to_tables\":[\"commerce.a\"]},{\"from_table\":\"customer.e\",\"to_tables\":[\"commerce.e\"]},{\"from_table\":\"d@replica\",\"to_tables\":[\"customer.d\"]},{\"from_table\":\"g@primary\",\"to_tables\":[\"other.g\"]},{\"from_table\":\"other.e\",\"to_tables\":[\"customer.x\"]}]}";
 
 /// Of two reasons not to create a workflow the first is told, and of two tables the first that is refused.
-static CREATES: [Act; 23] = [
+const CREATES: [Act; 23] = [
     Act::Asks(
         Ask::Create("mv", "commerce", "commerce", &[]),
         Answer::Refused("F6 WorkflowExists"),
@@ -125,7 +125,7 @@ static CREATES: [Act; 23] = [
 ];
 
 /// What else is asked of a workflow, and of its part.
-static WORKFLOWS: [Act; 18] = [
+const WORKFLOWS: [Act; 18] = [
     Act::Asks(
         Ask::Advance("m2", Slot::Back, 9, 1),
         Answer::Refused("F7 NoWorkflow"),
@@ -174,7 +174,7 @@ static WORKFLOWS: [Act; 18] = [
 const SIXTY: &str = "vvvvvvvvvvvvvvvvvvvvvvvvvvvvvvvvvvvvvvvvvvvvvvvvvvvvvvvvvvvv";
 
 /// What clients ask.
-static CLIENTS: [Act; 19] = [
+const CLIENTS: [Act; 19] = [
     Act::Asks(
         Ask::Table(("nosuch", "a")),
         Answer::Refused("F1 NoKeyspace"),

@@ -344,7 +344,7 @@ const ENDED: [Act; 9] = [
 ];
 
 /// The source's watcher refuses what denies the table, and the switch is given up.
-static SOURCE_REFUSES: [Act; 10] = [
+const SOURCE_REFUSES: [Act; 10] = [
     Act::Asks(Ask::Step("mv", 1), Answer::Done),
     Act::Asks(Ask::Step("mv", 2), Answer::Watcher(0)),
     Act::Asks(Ask::Step("mv", 2), Answer::Watcher(0)),
@@ -375,7 +375,7 @@ static SOURCE_REFUSES: [Act; 10] = [
 ];
 
 /// The target's watcher refuses what allows the table: the switch can neither go on nor be given up.
-static TARGET_REFUSES: [Act; 11] = [
+const TARGET_REFUSES: [Act; 11] = [
     Act::Asks(Ask::Step("mv", 6), Answer::Done),
     Act::Asks(Ask::Step("mv", 7), Answer::Done),
     Act::Asks(Ask::Step("mv", 8), Answer::Watcher(1)),
@@ -417,7 +417,7 @@ fn a_switch_begins(rt: HostRuntime) -> Result<(), Fail> {
 }
 
 /// Ways, each as lists of acts, one behind the other: a step undone; a reversal begun; a move completed; a whole way there and back.
-static WAYS: [&[&[Act]]; 4] = [
+const WAYS: [&[&[Act]]; 4] = [
     &[&COPIED, &OPENED, &READS_SWITCHED, &READS_BACK, &OPENED],
     &[
         &COPIED,

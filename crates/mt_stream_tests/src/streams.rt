@@ -16,7 +16,7 @@ fn pair_of(alloc: Global, listed: &str, at: Position, copies: bool) -> Result<Pa
 
 /// Two rows are copied one at a time, and the second is updated between. The entry of that is passed over, since its row
 /// isn't copied yet.
-static UPDATED_BETWEEN: [Step<'static>; 18] = [
+const UPDATED_BETWEEN: [Step<'static>; 18] = [
     Step::Insert("a", 1, b"x"),
     Step::Insert("a", 2, b"y"),
     Step::Stands(2, false, true),
@@ -46,7 +46,7 @@ fn a_row_changes_before_it_is_copied(rt: HostRuntime) -> Result<(), Fail> {
 
 /// Tables are copied in the order in which they are named, and rows in the order of their keys. A table without rows stands
 /// between, and one that isn't named has a row.
-static IN_ORDER: [Step<'static>; 22] = [
+const IN_ORDER: [Step<'static>; 22] = [
     Step::Insert("c", 1, b"c"),
     Step::Insert("a", 3, b"l"),
     Step::Insert("b", u64::MAX, b"k"),
@@ -79,7 +79,7 @@ fn tables_and_rows_are_copied_in_order(rt: HostRuntime) -> Result<(), Fail> {
 }
 
 /// No entry is read and no row is copied, as often as it is asked for.
-static NOTHING_ASKED: [Step<'static>; 13] = [
+const NOTHING_ASKED: [Step<'static>; 13] = [
     Step::Insert("a", 1, b"x"),
     Step::Advances(1, 0, 0, 0),
     Step::Advances(1, 0, 0, 0),
@@ -96,7 +96,7 @@ static NOTHING_ASKED: [Step<'static>; 13] = [
 ];
 
 /// The copy of no rows isn't ended by an advance of none.
-static NOTHING_THERE: [Step<'static>; 4] = [
+const NOTHING_THERE: [Step<'static>; 4] = [
     Step::Advances(0, 0, 0, 0),
     Step::Stands(0, false, true),
     Step::Advances(0, 1, 0, 0),
@@ -113,7 +113,7 @@ fn an_advance_by_none_changes_nothing(rt: HostRuntime) -> Result<(), Fail> {
 }
 
 /// What refuses an advance, in the order in which it is answered. Each leaves the stream and the sink.
-static REFUSALS: [Step<'static>; 17] = [
+const REFUSALS: [Step<'static>; 17] = [
     Step::Insert("a", 1, b"x"),
     Step::Refused(0, 1, StreamFault::Stale(1)),
     Step::Refused(2, 1, StreamFault::Stale(1)),
@@ -141,7 +141,7 @@ fn refusals_come_in_their_order(rt: HostRuntime) -> Result<(), Fail> {
 }
 
 /// Entries about other tables don't count, and those about rows that aren't copied yet do.
-static LEVELS: [Step<'static>; 8] = [
+const LEVELS: [Step<'static>; 8] = [
     Step::Stands(0, false, true),
     Step::Insert("c", 1, b"x"),
     Step::Stands(0, false, true),
@@ -153,7 +153,7 @@ static LEVELS: [Step<'static>; 8] = [
 ];
 
 /// Both were passed over, and the row is copied.
-static LEVEL: [Step<'static>; 5] = [
+const LEVEL: [Step<'static>; 5] = [
     Step::SinkAt(0),
     Step::Stands(2, false, true),
     Step::Advances(2, 9, 0, 1),
@@ -171,7 +171,7 @@ fn a_stream_is_level_by_its_own_tables(rt: HostRuntime) -> Result<(), Fail> {
 
 /// A stream that counts as copied leaves the rows that stand at its start, and follows. Of a row that the sink hasn't, the
 /// entry of its end is written too.
-static RUNNING: [Step<'static>; 13] = [
+const RUNNING: [Step<'static>; 13] = [
     Step::Insert("a", 1, b"x"),
     Step::Stands(1, true, true),
     Step::Advances(1, 9, 0, 0),
@@ -195,7 +195,7 @@ fn a_stream_that_runs_from_its_start_follows(rt: HostRuntime) -> Result<(), Fail
 }
 
 /// Behind the copy the log is followed: deletes, inserts and updates, as many at a time as are asked for.
-static FOLLOWED: [Step<'static>; 20] = [
+const FOLLOWED: [Step<'static>; 20] = [
     Step::Insert("a", 1, b"x"),
     Step::Insert("a", 2, b"y"),
     Step::Advances(2, 9, 0, 2),
@@ -227,7 +227,7 @@ fn deletes_and_inserts_are_followed(rt: HostRuntime) -> Result<(), Fail> {
 
 /// While a table is copied up to a key, the entries about rows up to there are written, and those about later keys and
 /// tables are passed over.
-static BETWEEN: [Step<'static>; 12] = [
+const BETWEEN: [Step<'static>; 12] = [
     Step::Insert("b", 5, b"x"),
     Step::Advances(1, 1, 0, 1),
     Step::Insert("b", 3, b"y"),
@@ -243,7 +243,7 @@ static BETWEEN: [Step<'static>; 12] = [
 ];
 
 /// The rest is copied, and what was copied is followed.
-static TO_THE_END: [Step<'static>; 10] = [
+const TO_THE_END: [Step<'static>; 10] = [
     Step::Row("a", 0, None),
     Step::Delete("b", 5),
     Step::Insert("b", 0, b"v"),

@@ -40,7 +40,7 @@ fn helps(rt: &HostRuntime, words: &[&str], text: &str) -> bool {
 }
 
 /// Command lines that don't parse.
-static MISUSED: [&[&str]; 22] = [
+const MISUSED: [&[&str]; 22] = [
     &["mt"],
     &["mt", ""],
     &["mt", "frobnicate"],
@@ -73,7 +73,7 @@ fn words_that_do_not_parse(rt: HostRuntime) {
 }
 
 /// Runs, each with how many keyspaces it has.
-static RUNS: [(&[&str], usize); 7] = [
+const RUNS: [(&[&str], usize); 7] = [
     (&["mt", "run"], 0),
     (&["/usr/bin/mt", "run", "commerce", "customer"], 2),
     (&["mt", "run", "commerce", "commerce"], 2),
@@ -106,7 +106,7 @@ fn keyspaces_in_their_order(rt: HostRuntime) -> Result<(), Fail> {
 const LONG: &str = "aaaaaaaaaaaaaaaaaaaaaaaaaaaaaaaaaaaaaaaaaaaaaaaaaaaaaaaaaaaaaaaaa";
 
 /// Runs with a word that is no keyspace's name, each with the refusal.
-static BAD_NAMES: [(&[&str], NameFault); 10] = [
+const BAD_NAMES: [(&[&str], NameFault); 10] = [
     (&["mt", "run", ""], NameFault::Empty),
     (&["mt", "run", "commerce", ""], NameFault::Empty),
     (&["mt", "run", "-"], NameFault::BadByte(0)),
@@ -165,7 +165,7 @@ fn documents(rt: HostRuntime) {
 }
 
 /// Races, each with its clients and writes.
-static RACES: [(&[&str], (u16, u16)); 4] = [
+const RACES: [(&[&str], (u16, u16)); 4] = [
     (&["mt", "race"], (2, 10)),
     (&["mt", "race", "--clients", "1", "--writes", "1"], (1, 1)),
     (&["mt", "race", "--writes=1000", "--clients=4"], (4, 1000)),
@@ -173,7 +173,7 @@ static RACES: [(&[&str], (u16, u16)); 4] = [
 ];
 
 /// Races that don't parse.
-static MISUSED_RACES: [&[&str]; 12] = [
+const MISUSED_RACES: [&[&str]; 12] = [
     &["mt", "race", "--clients", "0"],
     &["mt", "race", "--clients", "5"],
     &["mt", "race", "--writes", "0"],
@@ -199,7 +199,7 @@ fn numbers_of_a_race(rt: HostRuntime) {
 }
 
 /// Command lines that ask for help, each with a text that is in it.
-static HELPS: [(&[&str], &str); 8] = [
+const HELPS: [(&[&str], &str); 8] = [
     (&["mt", "--help"], "Usage: mt <COMMAND>"),
     (&["mt", "-h"], "topology"),
     (&["mt", "help"], "Usage: mt <COMMAND>"),

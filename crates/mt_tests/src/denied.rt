@@ -51,7 +51,7 @@ fn answers(
 }
 
 /// A place is kept while its table is denied.
-static ONE_TABLE: [(Call, &str); 11] = [
+const ONE_TABLE: [(Call, &str); 11] = [
     (Call::Deny(true), "no place"),
     (Call::Reserve, "ok"),
     (Call::Deny(true), "allowed"),
@@ -96,7 +96,7 @@ fn with_places(alloc: Global, places: &[(&str, bool)]) -> Result<DeniedTables, F
 }
 
 /// Tables in no order, of which one is allowed.
-static PLACES: [(&str, bool); 5] = [
+const PLACES: [(&str, bool); 5] = [
     ("b", true),
     ("a", true),
     ("ab", true),

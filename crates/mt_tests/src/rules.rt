@@ -67,7 +67,7 @@ pub fn answers(
 }
 
 /// A place is kept while it has a rule.
-static ONE_KEY: [(Call, &str); 11] = [
+const ONE_KEY: [(Call, &str); 11] = [
     (Call::Set, "no place"),
     (Call::Reserve, "ok"),
     (Call::Reserve, "ok"),

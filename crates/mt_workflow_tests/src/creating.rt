@@ -16,7 +16,7 @@ type Case = (
 );
 
 /// Each refusal, and which of two comes first.
-static CASES: [Case; 16] = [
+const CASES: [Case; 16] = [
     ("a", "a", "-", "W2 NoTables", ""),
     ("a", "b", "-", "W2 NoTables", ""),
     ("a", "a", "n", "W1 SameKeyspace", ""),

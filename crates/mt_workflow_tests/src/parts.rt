@@ -18,7 +18,7 @@ enum Key {
 }
 
 /// The keys of a part that moves `y` and `t` from `a` to `b`, in their order.
-static PART: [Key; 30] = [
+const PART: [Key; 30] = [
     Key::Rule("y"),
     Key::Rule("y@primary"),
     Key::Rule("y@replica"),
@@ -81,7 +81,7 @@ fn a_part_has_its_keys_in_their_order(rt: HostRuntime) -> Result<(), Fail> {
 
 /// A key, and what it is to say before any type is switched, once reads are, and once all types are: a target, `-` for no rule,
 /// `yes` or `no`.
-static WANTED: [(Key, [&str; 3]); 19] = [
+const WANTED: [(Key, [&str; 3]); 19] = [
     (Key::Rule("y"), ["a.y", "a.y", "b.y"]),
     (Key::Rule("y@primary"), ["-", "-", "-"]),
     (Key::Rule("y@replica"), ["a.y", "b.y", "b.y"]),
@@ -147,7 +147,7 @@ fn a_part_says_what_the_switched_types_tell(rt: HostRuntime) -> Result<(), Fail>
 }
 
 /// A rule key, and the rule that is kept of it.
-static KEPT: [(&str, &str); 6] = [
+const KEPT: [(&str, &str); 6] = [
     ("y", "a.y"),
     ("a.y", "a.y"),
     ("b.y", "-"),
@@ -174,7 +174,7 @@ fn the_rules_before_are_kept(rt: HostRuntime) -> Result<(), Fail> {
 }
 
 /// A key, and the step with which it changes while the source owns the tables, and while the target does.
-static STEPS: [(Key, [u8; 2]); 6] = [
+const STEPS: [(Key, [u8; 2]); 6] = [
     (Key::Rule("y"), [9, 9]),
     (Key::Rule("b.y@primary"), [9, 9]),
     (Key::Rule("a.y@rdonly"), [0, 0]),
