@@ -118,6 +118,12 @@ pub fn gathers<D: DeskName, W: Asks + Drop>(
     }
 }
 
+/// The pass of a client.
+fn pass_of<D: DeskName>(passes: &mut Vec<Pass<D>>, client: u16) -> Option<&mut Pass<D>> {
+    let place = place_of(passes, client)?;
+    passes.get_mut(place)
+}
+
 /// Whether an act is so.
 fn is_so<D: DeskName, W: Asks + Drop>(
     rt: &impl Wait,
@@ -129,12 +135,12 @@ fn is_so<D: DeskName, W: Asks + Drop>(
     match act {
         Act::Gets(client) => gets(rt, desk, passes, client, None),
         Act::GetsNone(client, refusal) => gets(rt, desk, passes, client, Some(refusal)),
-        Act::Reserves(client, more) => match place_of(passes, client) {
-            Some(place) => passes[place].reserve(more).is_ok(),
+        Act::Reserves(client, more) => match pass_of(passes, client) {
+            Some(pass) => pass.reserve(more).is_ok(),
             None => false,
         },
-        Act::Asks(client, line, want) => match place_of(passes, client) {
-            Some(place) => asks(rt, desk, &mut passes[place], line, want),
+        Act::Asks(client, line, want) => match pass_of(passes, client) {
+            Some(pass) => asks(rt, desk, pass, line, want),
             None => false,
         },
         Act::Gathers(want) => {
