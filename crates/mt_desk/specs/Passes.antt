@@ -8,7 +8,7 @@ use Rattle.mt_desk.specs.Histories.{Leads, calls_of}
 use Rattle.mt_desk.specs.declared.fault.DeskFault.{DeskFault}
 use Rattle.mt_desk.specs.declared.fault.DeskFault.TheVariants.{Memory, HistoryDiffers, ClientTaken, PassMissing}
 
--- a client is listed, once: it is taken exactly where it is there, and want of memory is told last
+-- a client is listed, once: it is taken exactly where it is there, and being out of memory is reported last
 abbrev pub Admits : (old : List ℕ) → (client : ℕ) → Result ⊤ DeskFault → (new : List ℕ) → Type 0
 Admits old client (Ok done) new = (¬ Contains old client) × (new ≡ old ++ client ∷ [])
 Admits old client (Err ClientTaken) new = Contains old client × (new ≡ old)
@@ -55,7 +55,7 @@ IsStranger passes lines client = (l : Line) × Contains lines l × (l.client ≡
 abbrev pub Differs : List (ℕ × List Call) → List Line → (client : ℕ) → Type 0
 Differs passes lines client = ListsOthers passes lines client ⊎ IsStranger passes lines client
 
--- what some passes are answered: one is missing exactly where a client to whom a pass was given has none of them, and that is told first;
+-- what some passes are answered: one is missing exactly where a client to whom a pass was given has none of them, and that is reported first;
 -- else the history is theirs, or differs from them by the calls of a client
 abbrev pub Compares : (clients : List ℕ) → List (ℕ × List Call) → List Line → Result ⊤ DeskFault → Type 0
 Compares clients passes lines (Ok done) = All (HasPass passes) clients × IsOf passes lines

@@ -38,7 +38,7 @@ impl Model for Places {
 }
 
 impl Places {
-    /// No routes, and all the room that is needed. It is refused for want of memory alone.
+    /// No routes, and all the room that is needed. It is refused only when out of memory.
     pub fn new(alloc: Global) -> Result<Places, AllocError>
         ensures { IfOk result (λ p. p ≡ no_places) }
     {

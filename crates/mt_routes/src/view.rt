@@ -37,7 +37,7 @@ impl Absorb<Update> for View {
 }
 
 impl View {
-    /// A view of a publication, with all the room that it will need. It is refused for want of memory alone.
+    /// A view of a publication, with all the room that it will need. It is refused only when out of memory.
     pub(crate) fn new(alloc: Global, showing: &Showing) -> Result<View, AllocError>
         ensures { IfOk result (λ v. (v.known.seen ≡ showing.now.known.seen) × (v.places ≡ places_of showing.now.entries.items)) }
     {
