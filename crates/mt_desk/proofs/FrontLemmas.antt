@@ -1,5 +1,5 @@
 -- Publications of a history, as it grows.
-use Rattle.std.proofs.Common.{◌≡◌, ℕ, ◌≤◌, List, [], ◌∷◌, ◌++◌, get_or, All, AllPairs, Option, None, Some, option_map, slice_get, map, length, take, refl, sym, ap, ◌∙◌, subst, arith, length-append}
+use Rattle.std.proofs.Common.{◌≡◌, ◌≤◌, List, [], ◌∷◌, ◌++◌, get_or, Option, None, Some, option_map, slice_get, map, length, refl, sym, ap, ◌∙◌, subst, arith, length-append}
 use Rattle.std.proofs.Math.Logic.{∥∥₁_elim}
 use Rattle.std.proofs.Props.{props}
 use Rattle.std.proofs.lemmas.List.{length-map, map-append, take-append-le, take_all}
@@ -17,7 +17,7 @@ use Rattle.mt_routes.specs.declared.publication.Publication.{Publication}
 use Rattle.mt_routes.specs.Publications.{front_of, last_front, publication}
 use Rattle.mt_site_state.specs.Ways.{SiteStands, SiteState}
 use Rattle.mt_desk.specs.declared.history.Line.{Line}
-use Rattle.mt_desk.specs.Fronts.{AreFronts, EndsWithAll, Published, Tells, publication_from}
+use Rattle.mt_desk.specs.Fronts.{AreFronts, Published, Tells, publication_from}
 use Rattle.mt_desk.specs.Histories.{Leads, answered, asked, history_from, line_from}
 
 -- ---- with one line more they are those of the longer history

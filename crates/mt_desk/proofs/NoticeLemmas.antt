@@ -1,12 +1,11 @@
--- The notice of a topology's routes for the scope of routes, and why nothing is told.
-use Rattle.std.proofs.Common.{◌≡◌, ◌∙◌, ℕ, ◌+◌, ◌≤◌, Bool, true, false, cond, List, [], ◌∷◌, ◌++◌, filter, Option, None, Some, is_some, length, slice_get, take, refl, sym, ap, subst, arith}
-use Rattle.std.proofs.lemmas.List.{take_all, take_more}
+-- The notice of a topology's routes for the scope of routes, and a walk over them.
+use Rattle.std.proofs.Common.{◌≡◌, ◌∙◌, ℕ, ◌+◌, Bool, true, false, cond, List, [], ◌∷◌, ◌++◌, Option, None, Some, is_some, length, slice_get, take, refl, sym, ap}
+use Rattle.std.proofs.lemmas.List.{take_more}
 use Rattle.std.proofs.lemmas.List.Elements.{filter-append}
 use Rattle.std.proofs.lemmas.Option.{get_or_from_slice_get, slice_get_within}
 use Rattle.std.specs.List.{flat_map}
 use Rattle.mt_model.specs.declared.entries.Entry.{Entry}
 use Rattle.mt_model.specs.declared.entries.Entry.TheVariants as entry
-use Rattle.mt_model.specs.declared.entries.Scope.{Scope}
 use Rattle.mt_model.specs.declared.entries.Scope.TheVariants.{Routes}
 use Rattle.mt_model.specs.Notices.{concerns, notice_of}
 use Rattle.mt_model.specs.Part.{rule_routes, table_routes}
@@ -52,7 +51,3 @@ routes_concern t =
 -- one more
 pub next_taken : {X : Type 0} (xs : List X) (i : ℕ) (x : X) → Some x ≡ slice_get xs i → take i xs ++ x ∷ [] ≡ take (i + 1) xs
 next_taken xs i x is = sym (take_more xs i x (slice_get_within xs i x (sym is)) ∙ ap (λ y. take i xs ++ y ∷ []) (get_or_from_slice_get xs i x x (sym is)))
-
--- and all
-pub all_taken : {X : Type 0} (xs : List X) (i n : ℕ) → n ≡ length xs → i ≡ n → take i xs ≡ xs
-all_taken xs i n whole is = take_all i xs (omega (arith, whole, is))
