@@ -3,10 +3,9 @@
 use crate::acts::Act;
 use crate::answers::Answer;
 use crate::events::Ask;
-use crate::play::{BOTH, Played, Refuses, play};
+use crate::play::{BOTH, Refuses, Watch, all_go};
 use mt_names::TabletType;
 use mt_workflow::Slot;
-use std::test::Fail;
 
 /// The document of no rules.
 const NO_RULES: &str = "{\"rules\":[]}";
@@ -257,45 +256,49 @@ const NO_WATCHER: [Act; 7] = [
     ),
 ];
 
-#[test]
-fn a_cancel_gives_back(rt: HostRuntime) -> Result<(), Fail> {
-    assert_eq!(rt; play(rt.alloc(), &BOTH, &[&GIVES_BACK]), Played::AllSo);
-    assert_eq!(rt;
-        play(rt.alloc(), &BOTH, &[&GIVES_BACK_RULES]),
-        Played::AllSo
-    );
-    assert_eq!(rt; play(rt.alloc(), &BOTH, &[&LEAVES_OTHERS]), Played::AllSo);
-    Ok(())
-}
+/// What a Cancel gives back, and what it leaves.
+static CANCELS: [&[&[Act]]; 3] = [&[&GIVES_BACK], &[&GIVES_BACK_RULES], &[&LEAVES_OTHERS]];
 
 #[test]
-fn one_of_two_is_cancelled(rt: HostRuntime) -> Result<(), Fail> {
-    assert_eq!(rt; play(rt.alloc(), &BOTH, &[&SIDE_BY_SIDE]), Played::AllSo);
-    Ok(())
+fn a_cancel_gives_back(rt: HostRuntime) {
+    all_go(&rt, rt.alloc(), &BOTH, &CANCELS);
 }
 
-#[test]
-fn a_table_counts_once(rt: HostRuntime) -> Result<(), Fail> {
-    assert_eq!(rt; play(rt.alloc(), &BOTH, &[&NAMED_TWICE]), Played::AllSo);
-    Ok(())
-}
+/// The two workflows.
+static TWO: [&[&[Act]]; 1] = [&[&SIDE_BY_SIDE]];
 
 #[test]
-fn a_watcher_refuses(rt: HostRuntime) -> Result<(), Fail> {
-    let watches = [
-        ("commerce", Refuses::Denying("corder")),
-        ("customer", Refuses::Nothing),
-        ("customer", Refuses::Denying("corder")),
-        ("customer", Refuses::Denying("corder")),
-    ];
-    assert_eq!(rt; play(rt.alloc(), &watches, &[&REFUSED]), Played::AllSo);
-    assert_eq!(rt;
-        play(
-            rt.alloc(),
-            &[("commerce", Refuses::Nothing)],
-            &[&NO_WATCHER]
-        ),
-        Played::AllSo
-    );
-    Ok(())
+fn one_of_two_is_cancelled(rt: HostRuntime) {
+    all_go(&rt, rt.alloc(), &BOTH, &TWO);
+}
+
+/// The table that is named twice.
+static ONE_TABLE: [&[&[Act]]; 1] = [&[&NAMED_TWICE]];
+
+#[test]
+fn a_table_counts_once(rt: HostRuntime) {
+    all_go(&rt, rt.alloc(), &BOTH, &ONE_TABLE);
+}
+
+/// Two watchers of the target refuse what denies `corder`, and the source's would.
+static REFUSING: [Watch; 4] = [
+    ("commerce", Refuses::Denying("corder")),
+    ("customer", Refuses::Nothing),
+    ("customer", Refuses::Denying("corder")),
+    ("customer", Refuses::Denying("corder")),
+];
+
+/// What they refuse.
+static DENYING: [&[&[Act]]; 1] = [&[&REFUSED]];
+
+/// The source alone is watched.
+static SOURCE_ALONE: [Watch; 1] = [("commerce", Refuses::Nothing)];
+
+/// What is refused then.
+static UNWATCHED: [&[&[Act]]; 1] = [&[&NO_WATCHER]];
+
+#[test]
+fn a_watcher_refuses(rt: HostRuntime) {
+    all_go(&rt, rt.alloc(), &REFUSING, &DENYING);
+    all_go(&rt, rt.alloc(), &SOURCE_ALONE, &UNWATCHED);
 }

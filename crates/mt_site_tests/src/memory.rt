@@ -18,14 +18,17 @@ const SIXTEEN: [&str; 16] = [
     "a", "b", "c", "d", "e", "f", "g", "h", "i", "j", "k", "l", "m", "n", "o", "p",
 ];
 
+/// The same, to go over.
+static TABLES: [&str; 16] = SIXTEEN;
+
 /// Two keyspaces.
-const BEGUN: [(Ask, Answer); 2] = [
+static BEGUN: [(Ask, Answer); 2] = [
     (Ask::Keyspace("commerce"), Answer::Done),
     (Ask::Keyspace("customer"), Answer::Done),
 ];
 
 /// Rules and a row of the tables, and a rule of another.
-const FILLED: [(Ask, Answer); 4] = [
+static FILLED: [(Ask, Answer); 4] = [
     (Ask::Rule("a", "commerce.a"), Answer::Done),
     (Ask::Rule("commerce.p@replica", "commerce.p"), Answer::Done),
     (Ask::Rule("x", "customer.x"), Answer::Done),
@@ -35,8 +38,14 @@ const FILLED: [(Ask, Answer); 4] = [
 /// A Create of all sixteen.
 const CREATE: Ask = Ask::Create("mv", "commerce", "customer", &SIXTEEN);
 
+/// The same, to ask.
+static CREATE_ASKED: Ask = CREATE;
+
+/// What takes the workflow back.
+static CANCELLED: [Act; 1] = [Act::Asks(Ask::Cancel("mv"), Answer::Done)];
+
 /// What is answered as long as the workflow isn't created.
-const NOT_CREATED: [Act; 6] = [
+static NOT_CREATED: [Act; 6] = [
     Act::Asks(Ask::Show("mv"), Answer::Refused("F7 NoWorkflow")),
     Act::Asks(
         Ask::Insert(("customer", "a"), 1, "a"),
@@ -55,7 +64,7 @@ const NOT_CREATED: [Act; 6] = [
 ];
 
 /// What is answered once it is created.
-const CREATED: [Act; 5] = [
+static CREATED: [Act; 5] = [
     Act::Asks(
         Ask::Show("mv"),
         Answer::Shown("mv", "commerce", "customer", &SIXTEEN, 1, false),
@@ -118,8 +127,8 @@ pub fn are_answered(site: &mut Site<Watchers>, list: &[(Ask, Answer)]) -> bool {
 
 /// Whether the source gets all tables.
 fn has_tables(site: &mut Site<Watchers>) -> bool {
-    for table in SIXTEEN {
-        if !is_answered(site, Ask::Table(("commerce", table)), Answer::Done) {
+    for table in TABLES.iter() {
+        if !is_answered(site, Ask::Table(("commerce", *table)), Answer::Done) {
             return false;
         }
     }
@@ -139,21 +148,45 @@ fn is_created(site: &mut Site<Watchers>, event: &Event) -> bool {
     answer == Ok(Reply::Done)
 }
 
+/// Whether the workflow is created, and stands as it is to.
+fn stands_created(site: &mut Site<Watchers>) -> bool {
+    match event_of(CREATE_ASKED) {
+        Some(event) => is_created(site, &event) && play_on(site, &CREATED) == Played::AllSo,
+        None => false,
+    }
+}
+
+/// Whether the workflow is taken back, so that the documents are these again.
+fn is_taken_back(site: &mut Site<Watchers>, before: &Written) -> bool {
+    if play_on(site, &CANCELLED) != Played::AllSo {
+        return false;
+    }
+    match documents(site) {
+        Some(after) => after == *before && play_on(site, &NOT_CREATED) == Played::AllSo,
+        None => false,
+    }
+}
+
 /// Whether the workflow is created, stands as it is to, and is taken back. Answers the documents with it.
 fn there_and_back(site: &mut Site<Watchers>) -> Option<Written> {
-    let event = event_of(CREATE)?;
     let before = documents(site)?;
-    if !is_created(site, &event) || play_on(site, &CREATED) != Played::AllSo {
-        return None;
+    let with = if stands_created(site) {
+        documents(site)
+    } else {
+        None
+    };
+    if is_taken_back(site, &before) {
+        with
+    } else {
+        None
     }
-    let with = documents(site)?;
-    if play_on(site, &[Act::Asks(Ask::Cancel("mv"), Answer::Done)]) != Played::AllSo {
-        return None;
-    }
-    if documents(site)? != before || play_on(site, &NOT_CREATED) != Played::AllSo {
-        return None;
-    }
-    Some(with)
+}
+
+/// Whether the documents are the same at a second time.
+fn is_same_again(site: &mut Site<Watchers>) -> Result<bool, &'static str> {
+    let once = there_and_back(site).ok_or("not created")?;
+    let again = there_and_back(site).ok_or("not created again")?;
+    Ok(once == again)
 }
 
 /// A site that begins with nothing, at once or at a second try.
@@ -171,14 +204,12 @@ fn want_of_memory_is_no_other_answer(rt: HostRuntime) -> Result<(), Fail> {
     assert!(rt; are_answered(&mut site, &BEGUN));
     assert!(rt; has_tables(&mut site));
     assert!(rt; are_answered(&mut site, &FILLED));
-    let once = there_and_back(&mut site).ok_or("not created")?;
-    let again = there_and_back(&mut site).ok_or("not created again")?;
-    assert!(rt; once == again);
+    assert!(rt; is_same_again(&mut site)?);
     Ok(())
 }
 
 /// What takes no memory, with a workflow that is created.
-const WITHOUT_MEMORY: [Act; 13] = [
+static WITHOUT_MEMORY: [Act; 13] = [
     Act::Asks(
         Ask::Show("mv"),
         Answer::Shown("mv", "commerce", "customer", &SIXTEEN, 1, false),
@@ -217,7 +248,7 @@ fn is_begun(site: &mut Site<Watchers>) -> bool {
     are_answered(site, &BEGUN)
         && has_tables(site)
         && are_answered(site, &FILLED)
-        && is_answered(site, CREATE, Answer::Done)
+        && is_answered(site, CREATE_ASKED, Answer::Done)
 }
 
 /// Passes as well where, from some allocation on, each fails.

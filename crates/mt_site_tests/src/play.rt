@@ -8,6 +8,7 @@ use mt_names::{KeyspaceName, TableName};
 use mt_site::Site;
 use mt_watch::{Callback, Change, Notice, Scope, WatchFault, Watcher, Watchers};
 use std::alloc::Global;
+use std::process::Abort;
 
 /// How a list of acts went.
 #[derive(Clone, Copy, Debug, Eq, PartialEq)]
@@ -46,7 +47,7 @@ impl Refuses {
 pub type Watch = (&'static str, Refuses);
 
 /// The watchers of the two keyspaces that tables move between.
-pub const BOTH: [Watch; 2] = [
+pub static BOTH: [Watch; 2] = [
     ("commerce", Refuses::Nothing),
     ("customer", Refuses::Nothing),
 ];
@@ -111,7 +112,7 @@ pub fn play_on(site: &mut Site<Watchers>, acts: &[Act]) -> Played {
 }
 
 /// How lists of acts go, one behind the other, at a site that begins with nothing and is watched so.
-pub fn play(alloc: Global, watches: &[Watch], lists: &[&[Act]]) -> Played {
+fn play(alloc: Global, watches: &[Watch], lists: &[&[Act]]) -> Played {
     let Some(watchers) = watchers_of(alloc, watches) else {
         return Played::NotMade;
     };
@@ -123,4 +124,12 @@ pub fn play(alloc: Global, watches: &[Watch], lists: &[&[Act]]) -> Played {
         }
     }
     Played::AllSo
+}
+
+/// Asserts of plays, each some lists of acts one behind the other, that all goes so at sites that begin with nothing and are
+/// watched so.
+pub fn all_go(rt: &impl Abort, alloc: Global, watches: &[Watch], plays: &[&[&[Act]]]) {
+    for (at, lists) in plays.iter().enumerate() {
+        assert_eq!(rt; play(alloc, watches, lists), Played::AllSo, "play {at}");
+    }
 }

@@ -3,10 +3,9 @@
 use crate::acts::Act;
 use crate::answers::Answer;
 use crate::events::{Ask, Place};
-use crate::play::{BOTH, Played, play};
+use crate::play::{BOTH, all_go};
 use mt_names::TabletType;
 use mt_workflow::Slot;
-use std::test::Fail;
 
 /// A table that a workflow moves, at its target.
 const MOVED: Place = ("customer", "a");
@@ -232,18 +231,18 @@ const CLIENTS: [Act; 19] = [
     Act::Asks(Ask::Read(MOVED, 1, TabletType::Replica), Answer::Row(SIXTY)),
 ];
 
-#[test]
-fn each_create_is_refused_in_its_order(rt: HostRuntime) -> Result<(), Fail> {
-    let lists = [BEGUN.as_slice(), CREATES.as_slice()];
-    assert_eq!(rt; play(rt.alloc(), &BOTH, &lists), Played::AllSo);
-    Ok(())
-}
+/// The creates, behind what stands before.
+static REFUSED_CREATES: [&[&[Act]]; 1] = [&[&BEGUN, &CREATES]];
 
 #[test]
-fn other_events_are_refused(rt: HostRuntime) -> Result<(), Fail> {
-    let lists = [BEGUN.as_slice(), WORKFLOWS.as_slice()];
-    assert_eq!(rt; play(rt.alloc(), &BOTH, &lists), Played::AllSo);
-    let lists = [BEGUN.as_slice(), CLIENTS.as_slice()];
-    assert_eq!(rt; play(rt.alloc(), &BOTH, &lists), Played::AllSo);
-    Ok(())
+fn each_create_is_refused_in_its_order(rt: HostRuntime) {
+    all_go(&rt, rt.alloc(), &BOTH, &REFUSED_CREATES);
+}
+
+/// The others.
+static REFUSED_EVENTS: [&[&[Act]]; 2] = [&[&BEGUN, &WORKFLOWS], &[&BEGUN, &CLIENTS]];
+
+#[test]
+fn other_events_are_refused(rt: HostRuntime) {
+    all_go(&rt, rt.alloc(), &BOTH, &REFUSED_EVENTS);
 }

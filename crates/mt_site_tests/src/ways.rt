@@ -3,11 +3,10 @@
 use crate::acts::Act;
 use crate::answers::Answer;
 use crate::events::Ask;
-use crate::play::{BOTH, Played, Refuses, play};
+use crate::play::{BOTH, Refuses, Watch, all_go};
 use mt_names::{TabletType, TypeSet};
 use mt_stream::StreamState;
 use mt_workflow::{Slot, Way};
-use std::test::Fail;
 
 /// The type replica alone.
 const REPLICA: TypeSet = TypeSet {
@@ -409,15 +408,16 @@ const TARGET_REFUSES: [Act; 11] = [
     Act::Asks(Ask::Complete("mv"), Answer::Refused("F13 UnderWay")),
 ];
 
+/// A switch that is begun.
+static BEGUN: [&[&[Act]]; 1] = [&[&COPIED, &OPENED]];
+
 #[test]
-fn a_switch_begins(rt: HostRuntime) -> Result<(), Fail> {
-    let lists = [COPIED.as_slice(), OPENED.as_slice()];
-    assert_eq!(rt; play(rt.alloc(), &BOTH, &lists), Played::AllSo);
-    Ok(())
+fn a_switch_begins(rt: HostRuntime) {
+    all_go(&rt, rt.alloc(), &BOTH, &BEGUN);
 }
 
 /// Ways, each as lists of acts, one behind the other: a step undone; a reversal begun; a move completed; a whole way there and back.
-const WAYS: [&[&[Act]]; 4] = [
+static WAYS: [&[&[Act]]; 4] = [
     &[&COPIED, &OPENED, &READS_SWITCHED, &READS_BACK, &OPENED],
     &[
         &COPIED,
@@ -446,42 +446,40 @@ const WAYS: [&[&[Act]]; 4] = [
 ];
 
 #[test]
-fn ways_go_as_they_must(rt: HostRuntime) -> Result<(), Fail> {
-    for (at, lists) in WAYS.iter().enumerate() {
-        assert_eq!(rt; play(rt.alloc(), &BOTH, lists), Played::AllSo, "at {at}");
-    }
-    Ok(())
+fn ways_go_as_they_must(rt: HostRuntime) {
+    all_go(&rt, rt.alloc(), &BOTH, &WAYS);
 }
 
-#[test]
-fn the_watcher_of_the_source_refuses(rt: HostRuntime) -> Result<(), Fail> {
-    let watches = [
-        ("commerce", Refuses::Denying("corder")),
-        ("customer", Refuses::Nothing),
-    ];
-    let lists = [
-        COPIED.as_slice(),
-        OPENED.as_slice(),
-        READS_SWITCHED.as_slice(),
-        SOURCE_REFUSES.as_slice(),
-    ];
-    assert_eq!(rt; play(rt.alloc(), &watches, &lists), Played::AllSo);
-    Ok(())
-}
+/// The source's watcher refuses what denies `corder`.
+static SOURCE_REFUSING: [Watch; 2] = [
+    ("commerce", Refuses::Denying("corder")),
+    ("customer", Refuses::Nothing),
+];
+
+/// A way on which it does.
+static GIVEN_UP: [&[&[Act]]; 1] = [&[&COPIED, &OPENED, &READS_SWITCHED, &SOURCE_REFUSES]];
 
 #[test]
-fn the_watcher_of_the_target_refuses(rt: HostRuntime) -> Result<(), Fail> {
-    let watches = [
-        ("commerce", Refuses::Nothing),
-        ("customer", Refuses::Allowing("corder")),
-    ];
-    let lists = [
-        COPIED.as_slice(),
-        OPENED.as_slice(),
-        READS_SWITCHED.as_slice(),
-        BEFORE_JOURNAL.as_slice(),
-        TARGET_REFUSES.as_slice(),
-    ];
-    assert_eq!(rt; play(rt.alloc(), &watches, &lists), Played::AllSo);
-    Ok(())
+fn the_watcher_of_the_source_refuses(rt: HostRuntime) {
+    all_go(&rt, rt.alloc(), &SOURCE_REFUSING, &GIVEN_UP);
+}
+
+/// The target's watcher refuses what allows `corder`.
+static TARGET_REFUSING: [Watch; 2] = [
+    ("commerce", Refuses::Nothing),
+    ("customer", Refuses::Allowing("corder")),
+];
+
+/// A way on which it does.
+static STOPPED: [&[&[Act]]; 1] = [&[
+    &COPIED,
+    &OPENED,
+    &READS_SWITCHED,
+    &BEFORE_JOURNAL,
+    &TARGET_REFUSES,
+]];
+
+#[test]
+fn the_watcher_of_the_target_refuses(rt: HostRuntime) {
+    all_go(&rt, rt.alloc(), &TARGET_REFUSING, &STOPPED);
 }

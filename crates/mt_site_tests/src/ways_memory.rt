@@ -160,7 +160,7 @@ enum Phase {
 }
 
 /// A switch that is undone, one that is done and reversed, and one behind which the workflow is completed.
-const PHASES: [Phase; 8] = [
+static PHASES: [Phase; 8] = [
     Phase::Answered(&COPIED),
     Phase::Done(&BEFORE_JOURNAL),
     Phase::AllSo(&UNDONE),

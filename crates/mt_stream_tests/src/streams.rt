@@ -14,9 +14,26 @@ fn pair_of(alloc: Global, listed: &str, at: Position, copies: bool) -> Result<Pa
     Ok(Pair::new(source, sink, listed, at, copies)?)
 }
 
+/// Whether lists of steps, one behind the other, answer what they are to at such a stream.
+fn all_so(
+    alloc: Global,
+    listed: &str,
+    at: Position,
+    copies: bool,
+    lists: &[&[Step<'_>]],
+) -> Result<bool, Fail> {
+    let mut pair = pair_of(alloc, listed, at, copies)?;
+    for steps in lists {
+        if !pair.all_so(steps) {
+            return Ok(false);
+        }
+    }
+    Ok(true)
+}
+
 /// Two rows are copied one at a time, and the second is updated between. The entry of that is passed over, since its row
 /// isn't copied yet.
-const UPDATED_BETWEEN: [Step<'static>; 18] = [
+static UPDATED_BETWEEN: [Step<'static>; 18] = [
     Step::Insert("a", 1, b"x"),
     Step::Insert("a", 2, b"y"),
     Step::Stands(2, false, true),
@@ -39,14 +56,13 @@ const UPDATED_BETWEEN: [Step<'static>; 18] = [
 
 #[test]
 fn a_row_changes_before_it_is_copied(rt: HostRuntime) -> Result<(), Fail> {
-    let mut pair = pair_of(rt.alloc(), "a", 2, true)?;
-    assert!(rt; pair.all_so(&UPDATED_BETWEEN));
+    assert!(rt; all_so(rt.alloc(), "a", 2, true, &[&UPDATED_BETWEEN])?);
     Ok(())
 }
 
 /// Tables are copied in the order in which they are named, and rows in the order of their keys. A table without rows stands
 /// between, and one that isn't named has a row.
-const IN_ORDER: [Step<'static>; 22] = [
+static IN_ORDER: [Step<'static>; 22] = [
     Step::Insert("c", 1, b"c"),
     Step::Insert("a", 3, b"l"),
     Step::Insert("b", u64::MAX, b"k"),
@@ -73,13 +89,12 @@ const IN_ORDER: [Step<'static>; 22] = [
 
 #[test]
 fn tables_and_rows_are_copied_in_order(rt: HostRuntime) -> Result<(), Fail> {
-    let mut pair = pair_of(rt.alloc(), "b,d,a", 6, true)?;
-    assert!(rt; pair.all_so(&IN_ORDER));
+    assert!(rt; all_so(rt.alloc(), "b,d,a", 6, true, &[&IN_ORDER])?);
     Ok(())
 }
 
 /// No entry is read and no row is copied, as often as it is asked for.
-const NOTHING_ASKED: [Step<'static>; 13] = [
+static NOTHING_ASKED: [Step<'static>; 13] = [
     Step::Insert("a", 1, b"x"),
     Step::Advances(1, 0, 0, 0),
     Step::Advances(1, 0, 0, 0),
@@ -96,7 +111,7 @@ const NOTHING_ASKED: [Step<'static>; 13] = [
 ];
 
 /// The copy of no rows isn't ended by an advance of none.
-const NOTHING_THERE: [Step<'static>; 4] = [
+static NOTHING_THERE: [Step<'static>; 4] = [
     Step::Advances(0, 0, 0, 0),
     Step::Stands(0, false, true),
     Step::Advances(0, 1, 0, 0),
@@ -105,15 +120,13 @@ const NOTHING_THERE: [Step<'static>; 4] = [
 
 #[test]
 fn an_advance_by_none_changes_nothing(rt: HostRuntime) -> Result<(), Fail> {
-    let mut pair = pair_of(rt.alloc(), "a", 1, true)?;
-    assert!(rt; pair.all_so(&NOTHING_ASKED));
-    let mut pair = pair_of(rt.alloc(), "a", 0, true)?;
-    assert!(rt; pair.all_so(&NOTHING_THERE));
+    assert!(rt; all_so(rt.alloc(), "a", 1, true, &[&NOTHING_ASKED])?);
+    assert!(rt; all_so(rt.alloc(), "a", 0, true, &[&NOTHING_THERE])?);
     Ok(())
 }
 
 /// What refuses an advance, in the order in which it is answered. Each leaves the stream and the sink.
-const REFUSALS: [Step<'static>; 17] = [
+static REFUSALS: [Step<'static>; 17] = [
     Step::Insert("a", 1, b"x"),
     Step::Refused(0, 1, StreamFault::Stale(1)),
     Step::Refused(2, 1, StreamFault::Stale(1)),
@@ -135,13 +148,12 @@ const REFUSALS: [Step<'static>; 17] = [
 
 #[test]
 fn refusals_come_in_their_order(rt: HostRuntime) -> Result<(), Fail> {
-    let mut pair = pair_of(rt.alloc(), "a", 1, true)?;
-    assert!(rt; pair.all_so(&REFUSALS));
+    assert!(rt; all_so(rt.alloc(), "a", 1, true, &[&REFUSALS])?);
     Ok(())
 }
 
 /// Entries about other tables don't count, and those about rows that aren't copied yet do.
-const LEVELS: [Step<'static>; 8] = [
+static LEVELS: [Step<'static>; 8] = [
     Step::Stands(0, false, true),
     Step::Insert("c", 1, b"x"),
     Step::Stands(0, false, true),
@@ -153,7 +165,7 @@ const LEVELS: [Step<'static>; 8] = [
 ];
 
 /// Both were passed over, and the row is copied.
-const LEVEL: [Step<'static>; 5] = [
+static LEVEL: [Step<'static>; 5] = [
     Step::SinkAt(0),
     Step::Stands(2, false, true),
     Step::Advances(2, 9, 0, 1),
@@ -163,15 +175,13 @@ const LEVEL: [Step<'static>; 5] = [
 
 #[test]
 fn a_stream_is_level_by_its_own_tables(rt: HostRuntime) -> Result<(), Fail> {
-    let mut pair = pair_of(rt.alloc(), "a,b", 0, true)?;
-    assert!(rt; pair.all_so(&LEVELS));
-    assert!(rt; pair.all_so(&LEVEL));
+    assert!(rt; all_so(rt.alloc(), "a,b", 0, true, &[&LEVELS, &LEVEL])?);
     Ok(())
 }
 
 /// A stream that counts as copied leaves the rows that stand at its start, and follows. Of a row that the sink hasn't, the
 /// entry of its end is written too.
-const RUNNING: [Step<'static>; 13] = [
+static RUNNING: [Step<'static>; 13] = [
     Step::Insert("a", 1, b"x"),
     Step::Stands(1, true, true),
     Step::Advances(1, 9, 0, 0),
@@ -189,13 +199,12 @@ const RUNNING: [Step<'static>; 13] = [
 
 #[test]
 fn a_stream_that_runs_from_its_start_follows(rt: HostRuntime) -> Result<(), Fail> {
-    let mut pair = pair_of(rt.alloc(), "a", 1, false)?;
-    assert!(rt; pair.all_so(&RUNNING));
+    assert!(rt; all_so(rt.alloc(), "a", 1, false, &[&RUNNING])?);
     Ok(())
 }
 
 /// Behind the copy the log is followed: deletes, inserts and updates, as many at a time as are asked for.
-const FOLLOWED: [Step<'static>; 20] = [
+static FOLLOWED: [Step<'static>; 20] = [
     Step::Insert("a", 1, b"x"),
     Step::Insert("a", 2, b"y"),
     Step::Advances(2, 9, 0, 2),
@@ -220,14 +229,13 @@ const FOLLOWED: [Step<'static>; 20] = [
 
 #[test]
 fn deletes_and_inserts_are_followed(rt: HostRuntime) -> Result<(), Fail> {
-    let mut pair = pair_of(rt.alloc(), "a", 2, true)?;
-    assert!(rt; pair.all_so(&FOLLOWED));
+    assert!(rt; all_so(rt.alloc(), "a", 2, true, &[&FOLLOWED])?);
     Ok(())
 }
 
 /// While a table is copied up to a key, the entries about rows up to there are written, and those about later keys and
 /// tables are passed over.
-const BETWEEN: [Step<'static>; 12] = [
+static BETWEEN: [Step<'static>; 12] = [
     Step::Insert("b", 5, b"x"),
     Step::Advances(1, 1, 0, 1),
     Step::Insert("b", 3, b"y"),
@@ -243,7 +251,7 @@ const BETWEEN: [Step<'static>; 12] = [
 ];
 
 /// The rest is copied, and what was copied is followed.
-const TO_THE_END: [Step<'static>; 10] = [
+static TO_THE_END: [Step<'static>; 10] = [
     Step::Row("a", 0, None),
     Step::Delete("b", 5),
     Step::Insert("b", 0, b"v"),
@@ -258,8 +266,6 @@ const TO_THE_END: [Step<'static>; 10] = [
 
 #[test]
 fn entries_of_the_copied_range_are_written(rt: HostRuntime) -> Result<(), Fail> {
-    let mut pair = pair_of(rt.alloc(), "b,a", 1, true)?;
-    assert!(rt; pair.all_so(&BETWEEN));
-    assert!(rt; pair.all_so(&TO_THE_END));
+    assert!(rt; all_so(rt.alloc(), "b,a", 1, true, &[&BETWEEN, &TO_THE_END])?);
     Ok(())
 }
