@@ -1,4 +1,5 @@
 mod CallLemmas
+mod FrontLemmas
 mod LeadsLemmas
 mod PassLemmas
 mod RoomLemmas

@@ -1,7 +1,9 @@
 -- No line leads nowhere, and there is a place for each event that is owed.
-use Rattle.std.proofs.Common.{sym, subst}
+use Rattle.std.proofs.Common.{[], sym, subst}
 use Rattle.std.specs.Vec.{vec_capacity, vec_len}
+use Rattle.mt_desk.specs.Fronts.{AreFronts}
 use Rattle.mt_desk.specs.Histories.{Leads}
+use Rattle.mt_desk.proofs.FrontLemmas.{fronts_added}
 use Rattle.mt_desk.proofs.LeadsLemmas.{kept_nowhere}
 use Rattle.mt_desk.proofs.RoomLemmas.{room_at_opening}
 use Rattle.mt_desk.proofs.book.Book.begun.Goals as goal
@@ -15,4 +17,7 @@ invariant_of-result g c =
     record {
       legal = subst (λ lines. ∥ Leads scopes opening lines core ∥₁) (sym c.requires.none) (kept_nowhere scopes opening core c.requires.opening);
       room = room_at_opening scopes opening core (vec_len history) (vec_capacity history) c.requires.room;
+      fronts = subst (λ lines. ∥ AreFronts scopes opening lines c.args.told ∥₁) (sym c.requires.none)
+          (subst (λ list. ∥ AreFronts scopes opening [] list ∥₁) (sym c.requires.first)
+          (fronts_added c.routes_of_what_is_served_are_a_view.ensures.routes scopes opening core [] [] (kept_nowhere scopes opening core c.requires.opening) ∣ tt ∣₁));
     }
