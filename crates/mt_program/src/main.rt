@@ -1,19 +1,28 @@
-//! The program `mt`: it runs scripts that make keyspaces, tables and routing rules, and write and read rows through them.
+//! The program `mt`: it runs scripts that make keyspaces, tables and routing rules, and write and read rows through them, and has
+//! clients race while a table moves.
 #![tactic(auto)]
 
-ghost use Rattle.std.specs.Prelude.{◌≡◌};
+ghost use Rattle.std.specs.Prelude.{◌≡◌, IfOk};
 ghost use Rattle.std.specs.Process.{exit_status};
+ghost use Rattle.mt_program.specs.Races.{CanRace};
 ghost use Rattle.mt_program.specs.Statuses.{status_of};
 
+mod race;
+
+use crate::race::tell_race;
 use mt_choice::{Choice, Wrong, choose};
 use mt_io::ScriptFault;
+use mt_messages::NoGate;
+use mt_race::race_watched;
 use mt_run::{Status, perform};
 use std::io;
 use std::io::ErrorKind;
 use std::process::ExitCode;
 
 /// What the words of the command line ask for. Words that are no UTF-8 ask for nothing.
-fn asked(rt: &HostRuntime) -> Result<Choice, Wrong> {
+fn asked(rt: &HostRuntime) -> Result<Choice, Wrong>
+    ensures { IfOk result CanRace }
+{
     let words = match std::env::args(rt) {
         Ok(words) => words,
         Err(error) if error.kind() == ErrorKind::OutOfMemory => return Err(Wrong::Memory),
@@ -40,6 +49,14 @@ fn exit_code(end: Result<Status, ScriptFault>) -> ExitCode
 
 fn main(rt: HostRuntime) -> ExitCode {
     let asked = asked(&rt);
+    if let Ok(Choice::Race { clients, writes }) = asked {
+        let raced = race_watched(&rt, rt.alloc(), &NoGate, clients, writes);
+        return exit_code(tell_race(
+            &mut io::writer(&rt),
+            &mut rt.stderr(),
+            &raced,
+        ));
+    }
     exit_code(perform(
         rt.alloc(),
         asked,
