@@ -1,16 +1,14 @@
 -- A worker that queries by name.
-use Rattle.std.proofs.Common.{◌≡◌, ◌≢◌, ◌+◌, ◌<◌, ◌≤◌, ◌⊎◌, ℕ, List, [], ◌∷◌, ◌++◌, length, drop, get_or, append_assoc, length-append, drop-cons, Result, Ok, Err, inl, inr, refl, sym, ap, ◌∙◌, subst, arith}
-use Rattle.std.proofs.lemmas.List.{append-nil}
+use Rattle.std.proofs.Common.{◌≡◌, ◌≢◌, ◌+◌, ◌<◌, ◌≤◌, ◌⊎◌, ℕ, List, [], ◌∷◌, ◌++◌, length, drop, get_or, append_assoc, length-append, Option, None, Some, Result, Ok, Err, inl, inr, refl, sym, ap, ◌∙◌, subst, arith}
+use Rattle.std.proofs.lemmas.List.{append-nil, drop_more}
 use Rattle.std.specs.List.{AllByRecursion}
 use mathlib.Core.List.{IsPrefix}
-use Rattle.mt_desk.specs.declared.fault.DeskFault.{DeskFault}
 use Rattle.mt_desk.specs.declared.history.Call.{Call}
 use Rattle.mt_event.specs.declared.refusal.Refusal.TheVariants as refusal
+use Rattle.mt_model.specs.declared.faults.TopologyFault.{TopologyFault}
 use Rattle.mt_names.specs.declared.keys.RuleTarget.{RuleTarget}
-use Rattle.mt_routes.specs.declared.publication.Front.{Front}
 use Rattle.mt_routes.specs.declared.publication.Publication.{Publication}
-use Rattle.mt_routes.specs.declared.router.RouteFault.{RouteFault}
-use Rattle.mt_routes.specs.LookUp.{Routes}
+use Rattle.mt_routes.specs.LookUp.{LastLeads}
 use Rattle.mt_workers.specs.Advances.{Answer}
 use Rattle.mt_workers.specs.Queries.{EndsIn, IsAnswered, IsDenied, IsLed, IsTried, IsTry, MayTryAgain, Queries, event_at, key_of, most_tries, type_of}
 use Rattle.mt_workers.specs.declared.line.Line.{Line}
@@ -24,7 +22,7 @@ pub known_before : (xs ys zs : List Publication) → IsPrefix xs ys → IsPrefix
 known_before xs ys zs more further =
     (more.0 ++ further.0, sym (append_assoc xs more.0 further.0) ∙ ap (λ l. l ++ further.0) more.1 ∙ further.1)
 
-led_before : (known later : List Publication) (line : Line) (answer : Result (RuleTarget × Front) RouteFault) → IsPrefix known later → IsLed later line answer
+led_before : (known later : List Publication) (line : Line) (answer : Result RuleTarget TopologyFault) → IsPrefix known later → IsLed later line answer
     → IsLed known line answer
 led_before known later line answer more led = (led.0, known_before known later led.0 more led.1, led.2)
 
@@ -52,16 +50,16 @@ abbrev pub IsDeniedSoFar : (known : List Publication) → Line → (old now : Li
 IsDeniedSoFar known line old now tried =
     (tries : List Call) × (now ≡ old ++ tries) × AllByRecursion (IsTry known line) tries × AllByRecursion IsDenied tries × (length tries ≡ tried)
 
-abbrev pub HasTried : (known : List Publication) → Line → (old new : List Call) → Result Answer DeskFault → Type 0
+abbrev pub HasTried : (known : List Publication) → Line → (old new : List Call) → Option Answer → Type 0
 HasTried known line old new end = (tries : List Call) × (new ≡ old ++ tries) × IsTried known line tries end
 
 pub not_tried : (known : List Publication) (line : Line) (old : List Call) → IsDeniedSoFar known line old old 0
 not_tried known line old = ([], sym (append-nil old), tt, tt, refl)
 
 -- where the name leads, and what is asked for there
-pub is_try : (known later now : List Publication) (line : Line) (target : RuleTarget) (front : Front) (call : Call) → IsPrefix known later → IsPrefix later now
-    → Routes now (key_of line) (type_of line) (Ok (target, front)) → call.event ≡ event_at line target → IsTry known line call
-is_try known later now line target front call before more leads is = (target, front, (now, known_before known later now before more, leads), is)
+pub is_try : (known later now : List Publication) (line : Line) (target : RuleTarget) (front : ℕ) (call : Call) → IsPrefix known later → IsPrefix later now
+    → LastLeads now (key_of line) (type_of line) front (Ok target) → call.event ≡ event_at line target → IsTry known line call
+is_try known later now line target front call before more leads is = (target, (now, known_before known later now before more, (front, leads)), is)
 
 pub denied_again : (known : List Publication) (line : Line) (old now new : List Call) (tried : ℕ) (call : Call) → IsDeniedSoFar known line old now tried → new ≡ now ++ call ∷ []
     → IsTry known line call → IsDenied call → IsDeniedSoFar known line old new (tried + 1)
@@ -74,23 +72,27 @@ denied_again known line old now new tried call so adds is denied = (
 )
 
 -- the desk refuses the next call
-pub refused_here : (known : List Publication) (line : Line) (old now new : List Call) (tried : ℕ) (why : DeskFault) → IsDeniedSoFar known line old now tried → tried < most_tries
-    → new ≡ now → HasTried known line old new (Err why)
-refused_here known line old now new tried why so left same =
+pub refused_here : (known : List Publication) (line : Line) (old now new : List Call) (tried : ℕ) → IsDeniedSoFar known line old now tried → tried < most_tries
+    → new ≡ now → HasTried known line old new None
+refused_here known line old now new tried so left same =
     (so.0, same ∙ so.1, record { each = so.2; ends = (so.3, subst (λ n. n < most_tries) (sym so.4) left) })
 
 -- the name leads nowhere
-pub nowhere : (known later now : List Publication) (line : Line) (old calls : List Call) (tried : ℕ) (why : RouteFault) → IsDeniedSoFar known line old calls tried → tried < most_tries
-    → IsPrefix known later → IsPrefix later now → Routes now (key_of line) (type_of line) (Err why) → HasTried known line old calls (Ok (Err refusal.NoTable))
-nowhere known later now line old calls tried why so left before more leads =
-    (so.0, so.1, record {
-      each = so.2;
-      ends = inr ((so.3, subst (λ n. n < most_tries) (sym so.4) left), (why, (now, known_before known later now before more, leads)), refl);
-    })
+pub nowhere : (known later now : List Publication) (line : Line) (old calls : List Call) (tried : ℕ) (why : TopologyFault) (front : ℕ) → IsDeniedSoFar known line old calls tried
+    → tried < most_tries → IsPrefix known later → IsPrefix later now → LastLeads now (key_of line) (type_of line) front (Err why)
+    → HasTried known line old calls (Some (Err refusal.NoTable))
+nowhere known later now line old calls tried why front so left before more leads = (
+  so.0,
+  so.1,
+  record {
+    each = so.2;
+    ends = inr ((so.3, subst (λ n. n < most_tries) (sym so.4) left), (why, (now, known_before known later now before more, (front, leads))), refl);
+  },
+)
 
 -- another answer than F3 Denied
 pub answered_here : (known : List Publication) (line : Line) (old now new : List Call) (tried : ℕ) (call : Call) → IsDeniedSoFar known line old now tried → tried < most_tries
-    → new ≡ now ++ call ∷ [] → IsTry known line call → call.answer ≢ Err refusal.Denied → HasTried known line old new (Ok call.answer)
+    → new ≡ now ++ call ∷ [] → IsTry known line call → call.answer ≢ Err refusal.Denied → HasTried known line old new (Some call.answer)
 answered_here known line old now new tried call so left adds is other = (
   so.0 ++ call ∷ [],
   adds ∙ ap (λ l. l ++ call ∷ []) so.1 ∙ append_assoc old so.0 (call ∷ []),
@@ -102,7 +104,7 @@ answered_here known line old now new tried call so left adds is other = (
 
 -- no try is left
 pub denied_to_the_end : (known : List Publication) (line : Line) (old now : List Call) (tried : ℕ) → IsDeniedSoFar known line old now tried → tried ≡ most_tries
-    → HasTried known line old now (Ok (Err refusal.Denied))
+    → HasTried known line old now (Some (Err refusal.Denied))
 denied_to_the_end known line old now tried so all = (so.0, so.1, record { each = so.2; ends = inl (by so.0 so.3 (so.4 ∙ all)) })
   where
     by : (tries : List Call) → AllByRecursion IsDenied tries → length tries ≡ most_tries → IsAnswered tries (Err refusal.Denied)
@@ -130,15 +132,15 @@ at_the_first known lines old =
 
 -- what was so of a list that goes on from what was known is so of what was known
 try_before : (known later : List Publication) (line : Line) → IsPrefix known later → (call : Call) → IsTry later line call → IsTry known line call
-try_before known later line more call is = (is.0, is.1, led_before known later line (Ok (is.0, is.1)) more is.2, is.3)
+try_before known later line more call is = (is.0, led_before known later line (Ok is.0) more is.1, is.2)
 
-ends_before : (known later : List Publication) (line : Line) (tries : List Call) (end : Result Answer DeskFault) → IsPrefix known later → EndsIn later line tries end
+ends_before : (known later : List Publication) (line : Line) (tries : List Call) (end : Option Answer) → IsPrefix known later → EndsIn later line tries end
     → EndsIn known line tries end
-ends_before known later line tries (Ok answer) more (inl answered) = inl answered
-ends_before known later line tries (Ok answer) more (inr none) = inr (none.0, (none.1.0, led_before known later line (Err none.1.0) more none.1.1), none.2)
-ends_before known later line tries (Err why) more ends = ends
+ends_before known later line tries (Some answer) more (inl answered) = inl answered
+ends_before known later line tries (Some answer) more (inr none) = inr (none.0, (none.1.0, led_before known later line (Err none.1.0) more none.1.1), none.2)
+ends_before known later line tries None more ends = ends
 
-tried_before : (known later : List Publication) (line : Line) (tries : List Call) (end : Result Answer DeskFault) → IsPrefix known later → IsTried later line tries end
+tried_before : (known later : List Publication) (line : Line) (tries : List Call) (end : Option Answer) → IsPrefix known later → IsTried later line tries end
     → IsTried known line tries end
 tried_before known later line tries end more tried = record {
   each = each_so (IsTry later line) (IsTry known line) (try_before known later line more) tries tried.each;
@@ -146,32 +148,37 @@ tried_before known later line tries end more tried = record {
 }
 
 from_here : (lines : List Line) (at : ℕ) (line : Line) → at < length lines → line ≡ get_or lines at line → drop at lines ≡ line ∷ drop (at + 1) lines
-from_here lines at line inside is = ?
+from_here lines at line inside is = drop_more lines at line inside ∙ ap (λ x. x ∷ drop (at + 1) lines) (sym is)
 
 pub one_more : (known later : List Publication) (lines : List Line) (at : ℕ) (line : Line) (old now new : List Call) (answer : Answer) → IsAtLine known lines at old now → at < length lines
-    → line ≡ get_or lines at line → IsPrefix known later → HasTried later line now new (Ok answer) → IsAtLine known lines (at + 1) old new
+    → line ≡ get_or lines at line → IsPrefix known later → HasTried later line now new (Some answer) → IsAtLine known lines (at + 1) old new
 one_more known later lines at line old now new answer way inside is more tried = (
   way.0 ++ tried.0,
   tried.1 ∙ ap (λ l. l ++ tried.0) way.1 ∙ append_assoc old way.0 tried.0,
   λ rest further queries.
       let here : Queries known (drop at lines) (tried.0 ++ rest) (further + 1) =
-          subst (λ l. Queries known l (tried.0 ++ rest) (further + 1)) (sym (from_here lines at line inside is))
-          (inr (tried.0, rest, answer, further, refl, tried_before known later line tried.0 (Ok answer) more tried.2, queries, refl)) in
-      let all : Queries known lines (way.0 ++ tried.0 ++ rest) (further + 1 + at) = way.2 (tried.0 ++ rest) (further + 1) here in
+      subst (λ l. Queries known l (tried.0 ++ rest) (further + 1)) (sym (from_here lines at line inside is))
+      (inr (tried.0, rest, answer, further, refl, tried_before known later line tried.0 (Some answer) more tried.2, queries, refl)) in
+      let all : Queries known lines (way.0 ++ (tried.0 ++ rest)) (further + 1 + at) = way.2 (tried.0 ++ rest) (further + 1) here in
       subst (λ l. Queries known lines l (further + (at + 1))) (sym (append_assoc way.0 tried.0 rest))
-      (subst (Queries known lines (way.0 ++ tried.0 ++ rest)) (omega arith) all),
+      (subst (Queries known lines (way.0 ++ (tried.0 ++ rest))) (omega arith) all),
 )
 
-pub ends_at : (known later : List Publication) (lines : List Line) (at : ℕ) (line : Line) (old now new : List Call) (end : Result Answer DeskFault) → IsAtLine known lines at old now
+pub ends_at : (known later : List Publication) (lines : List Line) (at : ℕ) (line : Line) (old now new : List Call) (end : Option Answer) → IsAtLine known lines at old now
     → at < length lines → line ≡ get_or lines at line → IsPrefix known later → HasTried later line now new end → HasQueried known lines old new at
 ends_at known later lines at line old now new end way inside is more tried = (
   way.0 ++ tried.0,
   tried.1 ∙ ap (λ l. l ++ tried.0) way.1 ∙ append_assoc old way.0 tried.0,
-  way.2 tried.0 0
+  subst (Queries known lines (way.0 ++ tried.0)) (omega arith)
+      (way.2 tried.0 0
       (subst (λ l. Queries known l tried.0 0) (sym (from_here lines at line inside is))
-      (inl ((end, tried_before known later line tried.0 end more tried.2), refl))),
+      (inl ((end, tried_before known later line tried.0 end more tried.2), refl)))),
 )
 
 pub at_the_end : (known : List Publication) (lines : List Line) (at : ℕ) (old now : List Call) → IsAtLine known lines at old now → drop at lines ≡ [] → HasQueried known lines old now at
-at_the_end known lines at old now way none =
-    (way.0, way.1, subst (λ l. Queries known lines l at) (append-nil way.0) (way.2 [] 0 (subst (λ l. Queries known l [] 0) (sym none) (refl, refl))))
+at_the_end known lines at old now way none = (
+  way.0,
+  way.1,
+  subst (Queries known lines way.0) (omega arith)
+      (subst (λ l. Queries known lines l (0 + at)) (append-nil way.0) (way.2 [] 0 (subst (λ l. Queries known l [] 0) (sym none) (refl, refl)))),
+)

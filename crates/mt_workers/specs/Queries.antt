@@ -1,20 +1,18 @@
 -- What a worker asks for that queries by name (this profile's own).
-use Rattle.std.specs.Prelude.{◌≡◌, ◌≢◌, ◌+◌, ◌<◌, ◌≤◌, ◌⊎◌, ℕ, List, [], ◌∷◌, ◌++◌, length, unwrap_or, Result, Ok, Err}
+use Rattle.std.specs.Prelude.{◌≡◌, ◌≢◌, ◌+◌, ◌<◌, ◌≤◌, ◌⊎◌, ℕ, List, [], ◌∷◌, ◌++◌, length, unwrap_or, Option, None, Some, Result, Ok, Err}
 use Rattle.std.specs.List.{AllByRecursion}
 use mathlib.Core.List.{IsPrefix}
-use Rattle.mt_desk.specs.declared.fault.DeskFault.{DeskFault}
 use Rattle.mt_desk.specs.declared.history.Call.{Call}
 use Rattle.mt_event.specs.declared.event.Event.{Event}
 use Rattle.mt_event.specs.declared.event.Event.TheVariants as event
 use Rattle.mt_event.specs.declared.refusal.Refusal.TheVariants as refusal
+use Rattle.mt_model.specs.declared.faults.TopologyFault.{TopologyFault}
 use Rattle.mt_names.specs.declared.keys.RuleKey.{RuleKey}
 use Rattle.mt_names.specs.declared.keys.RuleTarget.{RuleTarget}
 use Rattle.mt_names.specs.declared.types.TabletType.{TabletType}
 use Rattle.mt_names.specs.declared.types.TabletType.TheVariants.{Primary}
-use Rattle.mt_routes.specs.declared.publication.Front.{Front}
 use Rattle.mt_routes.specs.declared.publication.Publication.{Publication}
-use Rattle.mt_routes.specs.declared.router.RouteFault.{RouteFault}
-use Rattle.mt_routes.specs.LookUp.{Routes}
+use Rattle.mt_routes.specs.LookUp.{LastLeads}
 use Rattle.mt_workers.specs.Advances.{Answer}
 use Rattle.mt_workers.specs.declared.line.Line.{Line}
 use Rattle.mt_workers.specs.declared.line.Line.TheVariants.{Put, Get}
@@ -35,8 +33,9 @@ event_at (Put key op) target = event.Write target.keyspace target.table op
 event_at (Get key row) target = event.Read target.keyspace target.table row (type_of (Get key row))
 
 -- where its name leads, or why nowhere, by the last publication of a list that goes on from what was known before
-abbrev pub IsLed : (known : List Publication) → Line → Result (RuleTarget × Front) RouteFault → Type 0
-IsLed known line answer = (list : List Publication) × IsPrefix known list × Routes list (key_of line) (type_of line) answer
+abbrev pub IsLed : (known : List Publication) → Line → Result RuleTarget TopologyFault → Type 0
+IsLed known line answer =
+    (list : List Publication) × IsPrefix known list × ((front : ℕ) × LastLeads list (key_of line) (type_of line) front answer)
 
 -- ---- the tries of a line
 
@@ -46,7 +45,7 @@ most_tries = 64
 
 -- a try asks for the line at the table that its name leads to
 abbrev pub IsTry : (known : List Publication) → Line → Call → Type 0
-IsTry known line call = (target : RuleTarget) × (front : Front) × IsLed known line (Ok (target, front)) × (call.event ≡ event_at line target)
+IsTry known line call = (target : RuleTarget) × IsLed known line (Ok target) × (call.event ≡ event_at line target)
 
 abbrev pub IsDenied : Call → Type 0
 IsDenied call = call.answer ≡ Err refusal.Denied
@@ -60,16 +59,16 @@ abbrev pub IsAnswered : List Call → Answer → Type 0
 IsAnswered tries answer = (before : List Call) × (last : Call) × (tries ≡ before ++ last ∷ []) × MayTryAgain before × (last.answer ≡ answer)
     × ((answer ≢ Err refusal.Denied) ⊎ (length tries ≡ most_tries))
 
--- what comes of a line: the answer to its last try; F2 NoTable where its name leads nowhere, with no try if that is so at first; or a fault of the
--- desk, which refuses the next call
-abbrev pub EndsIn : (known : List Publication) → Line → List Call → Result Answer DeskFault → Type 0
-EndsIn known line tries (Ok answer) =
+-- what comes of a line: the answer to its last try; F2 NoTable where its name leads nowhere, with no try if that is so at first; or nothing, where
+-- the desk refuses the next call
+abbrev pub EndsIn : (known : List Publication) → Line → List Call → Option Answer → Type 0
+EndsIn known line tries (Some answer) =
     IsAnswered tries answer
-    ⊎ (MayTryAgain tries × ((why : RouteFault) × IsLed known line (Err why)) × (answer ≡ Err refusal.NoTable))
-EndsIn known line tries (Err why) = MayTryAgain tries
+    ⊎ (MayTryAgain tries × ((why : TopologyFault) × IsLed known line (Err why)) × (answer ≡ Err refusal.NoTable))
+EndsIn known line tries None = MayTryAgain tries
 
 -- the tries of a line, and what comes of it
-pub record IsTried (known : List Publication) (line : Line) (tries : List Call) (end : Result Answer DeskFault) : Type 0 where
+pub record IsTried (known : List Publication) (line : Line) (tries : List Call) (end : Option Answer) : Type 0 where
   pub each : AllByRecursion (IsTry known line) tries
   pub ends : EndsIn known line tries end
 
@@ -80,6 +79,6 @@ pub record IsTried (known : List Publication) (line : Line) (tries : List Call) 
 abbrev pub Queries : (known : List Publication) → List Line → List Call → (sent : ℕ) → Type 0
 Queries known [] calls sent = (calls ≡ []) × (sent ≡ 0)
 Queries known (line ∷ lines) calls sent =
-    (((end : Result Answer DeskFault) × IsTried known line calls end) × (sent ≡ 0))
-    ⊎ ((tries rest : List Call) × (answer : Answer) × (further : ℕ) × (calls ≡ tries ++ rest) × IsTried known line tries (Ok answer)
-      × Queries known lines rest further × (sent ≡ further + 1))
+    (((end : Option Answer) × IsTried known line calls end) × (sent ≡ 0))
+    ⊎ ((tries rest : List Call) × (answer : Answer) × (further : ℕ) × (calls ≡ tries ++ rest) × IsTried known line tries (Some answer)
+    × Queries known lines rest further × (sent ≡ further + 1))

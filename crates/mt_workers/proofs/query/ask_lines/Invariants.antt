@@ -2,7 +2,7 @@
 use Rattle.std.proofs.Common.{◌≡◌}
 use mathlib.Core.List.{IsPrefix}
 use Rattle.mt_workers.proofs.QueryLemmas.{IsAtLine}
-use Rattle.mt_workers.proofs.query.query_worker.Given as goal
+use Rattle.mt_workers.proofs.query.ask_lines.Given as goal
 
 abbrev pub invariant-loop-line : goal.invariant-loop-line
 invariant-loop-line g l = record {
