@@ -39,7 +39,7 @@ fn value() -> Value {
 }
 
 /// An insert of each of a client's rows: `Memory`.
-pub(crate) fn inserts(alloc: Global, worker: u16, writes: u16) -> Result<Vec<Line>, RaceFault> {
+fn inserts(alloc: Global, worker: u16, writes: u16) -> Result<Vec<Line>, RaceFault> {
     let mut lines = Vec::new(alloc);
     for number in 1..=writes {
         let op = Op::Insert(key_of(worker, u64::from(number)), value());
@@ -79,8 +79,6 @@ pub(crate) struct Client<D: DeskName> {
     pub router: Router<D>,
     /// What it asks with.
     pub pass: Pass<D>,
-    /// What it asks for.
-    pub lines: Vec<Line>,
 }
 
 /// What a worker leaves.
@@ -92,22 +90,37 @@ pub(crate) struct Left<D: DeskName> {
     pub fault: Option<DeskFault>,
 }
 
-/// Asks for a client's lines.
+/// Asks for some lines as a client.
 pub(crate) fn query<R: Wait, G: Gate, D: DeskName, W: Asks + Drop, H: Wait + Drop>(
     rt: &R,
     gate: &G,
     desk: &Desk<D, W, H>,
     sender: &Sender<Message>,
     client: Client<D>,
-) -> Left<D> {
+    lines: &[Line],
+) -> Pass<D> {
     let Client {
         worker,
         router,
         pass,
-        lines,
     } = client;
-    let (pass, _sent) =
-        query_worker(rt, gate, desk, router, pass, worker, lines.as_slice(), sender);
+    query_worker(rt, gate, desk, router, pass, worker, lines, sender).0
+}
+
+/// Inserts a client's rows; none, if there is no memory for what it is to ask.
+pub(crate) fn insert<R: Wait, G: Gate, D: DeskName, W: Asks + Drop, H: Wait + Drop>(
+    rt: &R,
+    alloc: Global,
+    gate: &G,
+    desk: &Desk<D, W, H>,
+    sender: &Sender<Message>,
+    client: Client<D>,
+    writes: u16,
+) -> Left<D> {
+    let pass = match inserts(alloc, client.worker, writes) {
+        Ok(lines) => query(rt, gate, desk, sender, client, lines.as_slice()),
+        Err(_) => client.pass,
+    };
     Left { pass, fault: None }
 }
 

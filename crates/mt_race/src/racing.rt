@@ -3,7 +3,7 @@ ghost use Rattle.std.specs.Prelude.{◌≡◌, ◌≤◌, true, IfOk};
 
 use crate::RaceFault;
 use crate::counting::{Counted, collect, count};
-use crate::crew::{Client, Left, gets, inserts, query};
+use crate::crew::{Client, Left, gets, query};
 use crate::moving::set_up;
 use crate::threads::run;
 use crossbeam_channel::unbounded;
@@ -12,7 +12,6 @@ use mt_messages::{Gate, NoGate};
 use mt_routes::Opened;
 use mt_site::Core;
 use mt_watch::Asks;
-use mt_workers::Line;
 use std::alloc::Global;
 use std::marker::Brand;
 use std::sync::Wait;
@@ -30,12 +29,11 @@ pub struct Raced {
     pub agree: bool,
 }
 
-/// A client: its pass and its router.
+/// A worker that is a client, with its pass and its router.
 fn client_of<R: Wait, D: DeskName, W: Asks + Drop, H: Wait + Drop>(
     rt: &R,
     desk: &Desk<D, W, H>,
     worker: u16,
-    lines: Vec<Line>,
 ) -> Result<Client<D>, RaceFault> {
     let pass = pass_of(rt, desk, worker)?;
     match desk.router(rt) {
@@ -43,7 +41,6 @@ fn client_of<R: Wait, D: DeskName, W: Asks + Drop, H: Wait + Drop>(
             worker,
             router,
             pass,
-            lines,
         }),
         Err(fault) => Err(RaceFault::Desk(fault)),
     }
@@ -67,12 +64,10 @@ fn clients_of<R: Wait, D: DeskName, W: Asks + Drop, H: Wait + Drop>(
     alloc: Global,
     desk: &Desk<D, W, H>,
     clients: u16,
-    writes: u16,
 ) -> Result<Vec<Client<D>>, RaceFault> {
     let mut all = Vec::new(alloc);
     for worker in 0..clients {
-        let lines = inserts(alloc, worker, writes)?;
-        let client = client_of(rt, desk, worker, lines)?;
+        let client = client_of(rt, desk, worker)?;
         if all.push(client).is_err() {
             return Err(RaceFault::Memory);
         }
@@ -98,56 +93,66 @@ fn write_all<
     let Ok((sender, receiver)) = unbounded(alloc) else {
         return Err(RaceFault::Memory);
     };
-    let all = clients_of(rt, alloc, desk, clients, writes)?;
+    let all = clients_of(rt, alloc, desk, clients)?;
     let (feeder, switcher) = (clients, clients.saturating_add(1));
     let fed = pass_of(rt, desk, feeder)?;
     let switched = pass_of(rt, desk, switcher)?;
     let left = run(
-        rt, alloc, gate, desk, &sender, all, (feeder, fed), (switcher, switched),
+        rt,
+        alloc,
+        gate,
+        desk,
+        &sender,
+        all,
+        writes,
+        (feeder, fed),
+        (switcher, switched),
     )?;
     drop(sender);
     let told = collect(rt, alloc, receiver, clients, writes)?;
     Ok((left, count(&told, clients, writes, Counted::Done)))
 }
 
-/// Reads each row as one more client, and answers its pass with how many there are.
+/// Reads each row as one more client, and answers its pass with how many rows there are.
 fn read_all<R: Wait, D: DeskName, W: Asks + Drop, H: Wait + Drop>(
     rt: &R,
     alloc: Global,
     desk: &Desk<D, W, H>,
     clients: u16,
     writes: u16,
-) -> Result<(Left<D>, u64), RaceFault> {
+) -> Result<(Pass<D>, u64), RaceFault> {
     let Ok((sender, receiver)) = unbounded(alloc) else {
         return Err(RaceFault::Memory);
     };
     let lines = gets(alloc, clients, writes)?;
-    let client = client_of(rt, desk, clients.saturating_add(2), lines)?;
-    let left = query(rt, &NoGate, desk, &sender, Client { worker: 0, ..client });
+    let client = client_of(rt, desk, clients.saturating_add(2))?;
+    let client = Client { worker: 0, ..client };
+    let pass = query(rt, &NoGate, desk, &sender, client, lines.as_slice());
     drop(sender);
     let all = clients.saturating_mul(writes);
     let told = collect(rt, alloc, receiver, 1, all)?;
-    Ok((left, count(&told, 1, all, Counted::Found)))
+    Ok((pass, count(&told, 1, all, Counted::Found)))
 }
 
 /// The passes of all workers: `Desk` where the desk refused a call of one that tells it, and `Memory`.
 fn passes_of<D: DeskName>(
     alloc: Global,
     left: Vec<Left<D>>,
-    reader: Left<D>,
+    reader: Pass<D>,
 ) -> Result<Vec<Pass<D>>, RaceFault> {
     let mut passes = Vec::new(alloc);
-    if passes.reserve(left.len().saturating_add(1)).is_err() {
-        return Err(RaceFault::Memory);
-    }
     for Left { pass, fault } in left {
         if let Some(fault) = fault {
             return Err(RaceFault::Desk(fault));
         }
-        passes.push_reserved(pass);
+        if passes.push(pass).is_err() {
+            return Err(RaceFault::Memory);
+        }
     }
-    passes.push_reserved(reader.pass);
-    Ok(passes)
+    match passes.push(reader) {
+        Ok(()) => Ok(passes),
+        Err(_) => Err(RaceFault::Memory),
+    }
 }
 
 /// A race at a desk that is open.
