@@ -1,5 +1,5 @@
 -- Publications of routes, in the words of the definitions (this profile's own).
-use Rattle.std.specs.Prelude.{◌≡◌, ℕ, ◌≤◌, true, false, List, length, map, None, Some}
+use Rattle.std.specs.Prelude.{◌≡◌, ◌≤◌, true, false, List, length, map, None, Some}
 use Rattle.std.specs.List.{last_or}
 use Rattle.mt_model.specs.declared.entries.Entry.{Entry}
 use Rattle.mt_model.specs.declared.entries.Scope.{Scope}

@@ -29,8 +29,8 @@ pub struct Desk<D: DeskName, W: Asks + Drop, R: Wait + Drop> {
 
 impl<D: DeskName, W: Asks + Drop, R: Wait + Drop> Desk<D, W, R> {
     /// A desk for a controller, under the name of its blank, whose routers are shown the routes of the controller's topology. Two
-    /// copies of them are made, with room for 4,096 rules and 8,192 tables, so that to show others takes no memory. `K0 Memory`, with
-    /// which the controller and the watchers are gone.
+    /// copies of them are made, each with room for 4,096 rules and 8,192 tables, so that showing others needs no larger ones. `K0 Memory`;
+    /// then the controller and the watchers are gone.
     pub fn open(
         alloc: Global,
         rt: R,
@@ -96,10 +96,10 @@ impl<D: DeskName, W: Asks + Drop, R: Wait + Drop> Desk<D, W, R> {
     }
 
     /// Asks each watcher of routes with a change of all rules that stand and all tables that are there, and shows routers the last one's
-    /// notice, with the number of lines of the history as its front. What a router learns of the answer it answers by, or by a later
-    /// one. `K4 NoWatcher` exactly where no watcher has the scope of routes, `K0 Memory`, `K5 WatcherRefused` with the number of the first
-    /// that refuses, `K0 Memory` of the writer; then nothing is shown. It is one period under the lock, and waits for routers that still
-    /// read the publication before the last. (Vitess: routers watch the serving VSchema)
+    /// notice, with the number of lines of the history as its front. A router that learns the answer looks names up in that publication,
+    /// or in a later one. `K4 NoWatcher` exactly where no watcher has the scope of routes, `K0 Memory`, `K5 WatcherRefused` with the number
+    /// of the first that refuses, `K0 Memory` of the writer; then routers are shown nothing new. It is one period under the lock, and
+    /// waits for routers that still read the publication before the last. (Vitess: routers watch the serving VSchema)
     pub fn tell(&self, rt: &impl Wait) -> Result<Told<D>, DeskFault>
         ensures tells { IfOk result (λ told. Tells D.scopes D.opening told) }
         ensures asks { OnOk result (has_scope D.scopes Routes ≡ true) }
