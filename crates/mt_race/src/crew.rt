@@ -164,7 +164,15 @@ pub(crate) fn control<R: Wait, G: Gate, D: DeskName, W: Asks + Drop, H: Wait + D
 ) -> Left<D> {
     let workflow = workflow();
     let (pass, switched) = controller(
-        rt, gate, desk, pass, worker, &workflow, TypeSet::ALL, false, TRIES,
+        rt,
+        gate,
+        desk,
+        pass,
+        worker,
+        &workflow,
+        TypeSet::ALL,
+        false,
+        TRIES,
     );
     if !matches!(switched, Ok(Driven::Done)) {
         return Left {
@@ -173,7 +181,15 @@ pub(crate) fn control<R: Wait, G: Gate, D: DeskName, W: Asks + Drop, H: Wait + D
         };
     }
     let (pass, reversed) = controller(
-        rt, gate, desk, pass, worker, &workflow, TypeSet::ALL, true, TRIES,
+        rt,
+        gate,
+        desk,
+        pass,
+        worker,
+        &workflow,
+        TypeSet::ALL,
+        true,
+        TRIES,
     );
     Left {
         pass,

@@ -126,7 +126,10 @@ fn read_all<R: Wait, D: DeskName, W: Asks + Drop, H: Wait + Drop>(
     };
     let lines = gets(alloc, clients, writes)?;
     let client = client_of(rt, desk, clients.saturating_add(2))?;
-    let client = Client { worker: 0, ..client };
+    let client = Client {
+        worker: 0,
+        ..client
+    };
     let pass = query(rt, &NoGate, desk, &sender, client, lines.as_slice());
     drop(sender);
     let all = clients.saturating_mul(writes);
@@ -206,8 +209,9 @@ fn race_named<
     requires scopes { W.scopes watchers ≡ D.scopes }
     ensures agree { IfOk result (λ raced. raced.agree ≡ true → raced.acknowledged ≡ raced.rows) }
 {
-    let opened: Result<Desk<D, W, &R>, DeskFault> =
-        Desk::open(alloc, rt, blank, opened, core, watchers);
+    let opened: Result<Desk<D, W, &R>, DeskFault> = Desk::open(
+        alloc, rt, blank, opened, core, watchers,
+    );
     let desk = match opened {
         Ok(desk) => desk,
         Err(fault) => return Err(RaceFault::Desk(fault)),
@@ -238,6 +242,14 @@ pub fn race<R: Threads + Wait + Sync, G: Gate + Sync, W: Asks + Drop + Send>(
     let mut core = Core::new(alloc);
     set_up(&mut core, &watchers)?;
     race_named::<R, G, Brand, W>(
-        rt, alloc, gate, Blank::new(1), Opened::new(), core, watchers, clients, writes,
+        rt,
+        alloc,
+        gate,
+        Blank::new(1),
+        Opened::new(),
+        core,
+        watchers,
+        clients,
+        writes,
     )
 }

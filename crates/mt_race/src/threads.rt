@@ -33,7 +33,9 @@ fn start_client<
     client: Client<D>,
     writes: u16,
 ) -> Started<D> {
-    scope.spawn(move || insert(rt, alloc, gate, desk, sender, client, writes)).ok()
+    scope
+        .spawn(move || insert(rt, alloc, gate, desk, sender, client, writes))
+        .ok()
 }
 
 /// Starts the thread of the stream worker.
@@ -73,7 +75,9 @@ fn start_controller<
     worker: u16,
     pass: Pass<D>,
 ) -> Started<D> {
-    scope.spawn(move || control(rt, gate, desk, worker, pass)).ok()
+    scope
+        .spawn(move || control(rt, gate, desk, worker, pass))
+        .ok()
 }
 
 /// Keeps a thread that was started, for which there is room. Answers whether it was.
@@ -152,7 +156,15 @@ pub(crate) fn run<
     }
     thread::scope(thread::scope_env(), rt, move |scope| {
         let writing = start_clients(
-            scope, rt, alloc, gate, desk, sender, clients, writes, &mut threads,
+            scope,
+            rt,
+            alloc,
+            gate,
+            desk,
+            sender,
+            clients,
+            writes,
+            &mut threads,
         );
         let feeding = keep(
             &mut threads,
