@@ -1,10 +1,8 @@
 -- What the program tells of a race.
-use Rattle.std.specs.Prelude.{◌≡◌, ℕ, if◌then◌else◌, ◌≤◌, List, [], ◌++◌, codes, Result, Ok, Err}
+use Rattle.std.specs.Prelude.{ℕ, if◌then◌else◌, List, [], ◌++◌, codes, Result, Ok, Err}
 use Rattle.std.specs.Io.KnownBytes.{Appends}
 use Rattle.mt_plain.specs.Numbers.{number_text}
 use Rattle.mt_plain.specs.Output.{line_feed}
-use Rattle.mt_choice.specs.declared.choice.Choice.{Choice}
-use Rattle.mt_choice.specs.declared.choice.Choice.TheVariants as choice
 use Rattle.mt_io.specs.declared.fault.ScriptFault.{ScriptFault}
 use Rattle.mt_io.specs.Bytes.{Known, Writes, script_fault_text}
 use Rattle.mt_race.specs.declared.fault.RaceFault.{RaceFault}
@@ -14,12 +12,7 @@ use Rattle.mt_run.specs.declared.command.Status.{Status}
 use Rattle.mt_run.specs.declared.command.Status.TheVariants as status
 use Rattle.mt_run.specs.Performs.{Tells}
 
--- a race has 1 to 4 clients, and each of them 1 to 1,000 writes
-abbrev pub CanRace : Choice → Type 0
-CanRace (choice.Race clients writes) = ((1 ≤ clients) × (clients ≤ 4)) × ((1 ≤ writes) × (writes ≤ 1000))
-CanRace other = Unit {0}
-
--- its line: the two numbers, and whether they agree, and the history with the passes
+-- the line of a race: the two numbers, and whether they agree, and the history with the passes
 abbrev pub verdict_text : Raced → List ℕ
 verdict_text raced = if raced.agree then codes " agree" else codes " differ"
 

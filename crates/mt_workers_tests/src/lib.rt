@@ -5,9 +5,9 @@
 #[cfg(test)]
 mod collecting;
 #[cfg(test)]
-mod opened;
-#[cfg(test)]
 mod meeting;
+#[cfg(test)]
+mod opened;
 #[cfg(test)]
 mod racing;
 #[cfg(test)]

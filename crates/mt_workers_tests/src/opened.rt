@@ -113,8 +113,9 @@ fn at_a_desk<D: DeskName + Send + Sync, W: Asks + Drop + Send, R: Threads + Wait
     requires opening { core ≡ D.opening }
     requires scopes { W.scopes watchers ≡ D.scopes }
 {
-    let opened: Result<Desk<D, W, &R>, DeskFault> =
-        Desk::open(alloc, rt, blank, opened, core, watchers);
+    let opened: Result<Desk<D, W, &R>, DeskFault> = Desk::open(
+        alloc, rt, blank, opened, core, watchers,
+    );
     let Ok(desk) = opened else {
         return None;
     };
@@ -124,11 +125,15 @@ fn at_a_desk<D: DeskName + Send + Sync, W: Asks + Drop + Send, R: Threads + Wait
     }
 }
 
-/// Whether a trial goes as it should.
-pub fn tried<R: Threads + Wait + Sync>(rt: &R, alloc: Global, trial: Trial) -> Option<bool> {
-    let watchers = watchers_of(alloc)?;
+/// Whether a trial goes as it should at a desk with these watchers.
+fn watched<W: Asks + Drop + Send, R: Threads + Wait + Sync>(
+    rt: &R,
+    alloc: Global,
+    watchers: W,
+    trial: Trial,
+) -> Option<bool> {
     let core = core_of(alloc, &watchers)?;
-    at_a_desk::<Brand, Watchers, R>(
+    at_a_desk::<Brand, W, R>(
         rt,
         alloc,
         Blank::new(1),
@@ -137,4 +142,9 @@ pub fn tried<R: Threads + Wait + Sync>(rt: &R, alloc: Global, trial: Trial) -> O
         watchers,
         trial,
     )
+}
+
+/// Whether a trial goes as it should.
+pub fn tried<R: Threads + Wait + Sync>(rt: &R, alloc: Global, trial: Trial) -> Option<bool> {
+    watched::<Watchers, R>(rt, alloc, watchers_of(alloc)?, trial)
 }

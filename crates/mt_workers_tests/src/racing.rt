@@ -9,7 +9,9 @@ use std::test::Fail;
 #[test]
 fn four_workers_ask_at_once(rt: HostRuntime) -> Result<(), Fail> {
     let meeting = Meeting::new();
-    let raced = race_watched(&rt, rt.alloc(), &meeting, 2, 2).ok().ok_or("a fault")?;
+    let raced = race_watched(&rt, rt.alloc(), &meeting, 2, 2)
+        .ok()
+        .ok_or("a fault")?;
     assert!(rt; raced.agree);
     assert!(rt; meeting.is_over(&rt));
     Ok(())
@@ -17,7 +19,9 @@ fn four_workers_ask_at_once(rt: HostRuntime) -> Result<(), Fail> {
 
 #[test]
 fn what_is_acknowledged_is_found(rt: HostRuntime) -> Result<(), Fail> {
-    let raced = race_watched(&rt, rt.alloc(), &NoGate, 4, 100).ok().ok_or("a fault")?;
+    let raced = race_watched(&rt, rt.alloc(), &NoGate, 4, 100)
+        .ok()
+        .ok_or("a fault")?;
     assert!(rt; raced.agree && raced.acknowledged == raced.rows && raced.rows > 0);
     Ok(())
 }

@@ -1,5 +1,6 @@
 //! Two controllers and two clients at once.
 
+use crate::opened::{Trial, tried};
 use crate::turns::{is_at_rest, workflow};
 use crossbeam_channel::{Sender, unbounded};
 use mt_desk::{Desk, DeskName, Pass};
@@ -13,8 +14,6 @@ use std::alloc::Global;
 use std::sync::Wait;
 use std::test::Fail;
 use std::thread::{Threads, join};
-
-use crate::opened::{Trial, tried};
 
 /// How many rows a client inserts.
 const ROWS: u64 = 20;
@@ -53,14 +52,14 @@ fn switches<R: Wait, D: DeskName, W: Asks + Drop, H: Wait + Drop>(
     pass: Pass<D>,
 ) -> Option<(Pass<D>, bool)> {
     let name = workflow()?;
-    let (pass, end) = controller(
-        rt, &NoGate, desk, pass, 0, &name, TypeSet::ALL, false, 256,
-    );
+    let (pass, end) = controller(rt, &NoGate, desk, pass, 0, &name, TypeSet::ALL, false, 256);
     match end {
         Ok(Driven::Done) => Some((pass, true)),
-        Err(ControlFault::Refused(
-            Refusal::UnderWay | Refusal::NothingUnderWay | Refusal::NothingToSwitch,
-        )) => Some((pass, false)),
+        Err(
+            ControlFault::Refused(
+                Refusal::UnderWay | Refusal::NothingUnderWay | Refusal::NothingToSwitch,
+            ),
+        ) => Some((pass, false)),
         _ => None,
     }
 }
@@ -71,18 +70,18 @@ pub fn two_controllers<
     D: DeskName + Send + Sync,
     W: Asks + Drop + Send,
     H: Wait + Drop + Send,
->(
-    rt: &R,
-    alloc: Global,
-    desk: &Desk<D, W, H>,
-) -> Option<bool> {
+>(rt: &R, alloc: Global, desk: &Desk<D, W, H>) -> Option<bool> {
     let (sender, _receiver) = unbounded(alloc).ok()?;
     let (one, two) = (desk.pass(rt, 1).ok()?, desk.pass(rt, 2).ok()?);
     let (three, four) = (desk.pass(rt, 3).ok()?, desk.pass(rt, 4).ok()?);
     let told = &sender;
     let ((one, two), (three, four)) = join(
         rt,
-        move || join(rt, move || switches(rt, desk, one), move || switches(rt, desk, two)),
+        move || join(
+            rt,
+            move || switches(rt, desk, one),
+            move || switches(rt, desk, two),
+        ),
         move || {
             join(
                 rt,

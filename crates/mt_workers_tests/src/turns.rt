@@ -39,9 +39,7 @@ fn controls<R: Wait, D: DeskName, W: Asks + Drop, H: Wait + Drop>(
     tries: u64,
 ) -> Option<(Pass<D>, Result<Driven, ControlFault>)> {
     let name = workflow()?;
-    Some(controller(
-        rt, &NoGate, desk, pass, 0, &name, TypeSet::ALL, back, tries,
-    ))
+    Some(controller(rt, &NoGate, desk, pass, 0, &name, TypeSet::ALL, back, tries))
 }
 
 /// Whether an event is done.
@@ -146,7 +144,11 @@ fn writes<R: Wait, D: DeskName, W: Asks + Drop, H: Wait + Drop>(
     let keyspace = KeyspaceName::parse("commerce").ok()?;
     let table = TableName::parse("corder").ok()?;
     let op = Op::Insert(1, Value::new());
-    let write = Event::Write { keyspace, table, op };
+    let write = Event::Write {
+        keyspace,
+        table,
+        op,
+    };
     Some(is_done(rt, desk, pass, write))
 }
 
@@ -157,8 +159,7 @@ fn are_alone<R: Wait, D: DeskName, W: Asks + Drop, H: Wait + Drop>(
     pass: Pass<D>,
 ) -> Option<bool> {
     let name = workflow()?;
-    let (pass, taken) =
-        stream_worker(rt, &NoGate, desk, pass, 0, &name, Slot::Forward, 100, 2);
+    let (pass, taken) = stream_worker(rt, &NoGate, desk, pass, 0, &name, Slot::Forward, 100, 2);
     let (mut pass, end) = controls(rt, desk, pass, false, 64)?;
     let is_at_rest = is_at_rest(rt, desk, &mut pass, TypeSet::ALL)?;
     Some(taken == 2 && end == Ok(Driven::Done) && is_at_rest)
