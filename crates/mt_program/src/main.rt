@@ -1,12 +1,18 @@
-//! The program `mt`: it runs scripts that make keyspaces, tables and routing rules, and write and read rows through them.
+//! The program `mt`: it runs scripts that make keyspaces, tables and routing rules, and write and read rows through them, and has
+//! clients race while a table moves.
 #![tactic(auto)]
 
 ghost use Rattle.std.specs.Prelude.{◌≡◌};
 ghost use Rattle.std.specs.Process.{exit_status};
 ghost use Rattle.mt_program.specs.Statuses.{status_of};
 
+mod race;
+
+use crate::race::tell_race;
 use mt_choice::{Choice, Wrong, choose};
 use mt_io::ScriptFault;
+use mt_messages::NoGate;
+use mt_race::race_watched;
 use mt_run::{Status, perform};
 use std::io;
 use std::io::ErrorKind;
@@ -40,6 +46,13 @@ fn exit_code(end: Result<Status, ScriptFault>) -> ExitCode
 
 fn main(rt: HostRuntime) -> ExitCode {
     let asked = asked(&rt);
+    if let Ok(Choice::Race { clients, writes }) = asked {
+        // (no command line asks for another race)
+        if 1 <= clients && clients <= 4 && 1 <= writes && writes <= 1000 {
+            let raced = race_watched(&rt, rt.alloc(), &NoGate, clients, writes);
+            return exit_code(tell_race(&mut io::writer(&rt), &mut rt.stderr(), &raced));
+        }
+    }
     exit_code(perform(
         rt.alloc(),
         asked,

@@ -1,3 +1,4 @@
 mod AdvanceLemmas
 mod CallLemmas
+mod QueryLemmas
 mod RunLemmas

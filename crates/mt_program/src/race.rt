@@ -1,0 +1,77 @@
+//! What the program tells of a race.
+ghost use Rattle.std.specs.Prelude.{◌≡◌, ◌+◌, ◌≤◌, ◌++◌, length, Result};
+ghost use Rattle.mt_plain.specs.Numbers.{number_text};
+ghost use Rattle.mt_program.specs.Races.{TellsFault, TellsRace, race_text, verdict_text};
+
+use arrayvec::ArrayVec;
+use itoa::Buffer;
+use mt_io::{ScriptFault, write_line};
+use mt_race::{RaceFault, Raced};
+use mt_run::Status;
+use std::io::Write;
+
+/// Two texts, one behind the other.
+fn joined<const N: usize>(first: &[u8], second: &[u8]) -> ArrayVec<u8, N>
+    requires { length first.now + length second.now ≤ N }
+    ensures { result.items ≡ first.now ++ second.now }
+{
+    let mut text = ArrayVec::new();
+    let _fits = text.try_extend_from_slice(first);
+    let _fits = text.try_extend_from_slice(second);
+    text
+}
+
+/// A word, and a number behind it in decimal digits.
+fn numbered(word: &[u8], number: u64) -> ArrayVec<u8, 40>
+    requires { length word.now ≤ 20 }
+    ensures { result.items ≡ word.now ++ number_text number }
+{
+    let mut buffer = Buffer::new();
+    let digits = buffer.format(number);
+    joined(word, digits.as_bytes())
+}
+
+/// Whether the numbers agree, and the history with the passes.
+fn verdict(raced: Raced) -> &'static [u8]
+    ensures { result.now ≡ verdict_text raced }
+{
+    if raced.agree { b" agree" } else { b" differ" }
+}
+
+/// The line of a race that has a result.
+fn line_of(raced: Raced) -> ArrayVec<u8, 96>
+    ensures { result.items ≡ race_text raced }
+{
+    let acknowledged = numbered(b"acknowledged ", raced.acknowledged);
+    let rows = numbered(b" rows ", raced.rows);
+    let numbers: ArrayVec<u8, 80> = joined(&acknowledged, &rows);
+    joined(&numbers, verdict(raced))
+}
+
+/// Tells what came of a race: a line on `output`, or, where it has no result or the line couldn't be written, the fault in a line on
+/// `errors`. `ScriptFault::Write` is answered if that couldn't be written either.
+pub fn tell_race<O: Write, E: Write>(
+    output: &mut O,
+    errors: &mut E,
+    end: &Result<Raced, RaceFault>,
+) -> Result<Status, ScriptFault>
+    ensures { TellsRace end.now (O.contents output.old) (O.contents output.new) (E.contents errors.old) (E.contents errors.new) result }
+{
+    let raced = match end {
+        Ok(raced) => *raced,
+        Err(fault) => return tell_fault(errors, fault.as_str()),
+    };
+    match write_line(output, &line_of(raced), b"") {
+        Ok(()) if raced.agree => Ok(Status::Done),
+        Ok(()) => Ok(Status::Failed),
+        Err(fault) => tell_fault(errors, fault.as_str()),
+    }
+}
+
+/// Tells a fault in a line.
+fn tell_fault<E: Write>(errors: &mut E, name: &str) -> Result<Status, ScriptFault>
+    ensures { TellsFault name.now (E.contents errors.old) (E.contents errors.new) result }
+{
+    write_line(errors, b"fault ", name.as_bytes())?;
+    Ok(Status::Failed)
+}

@@ -1,0 +1,74 @@
+//! The move that a race is about: the table `corder` goes from `commerce` to `customer` by the workflow `mv`.
+
+use crate::RaceFault;
+use arrayvec::ArrayVec;
+use mt_event::Event;
+use mt_names::{KeyspaceName, RuleKey, TableName, WorkflowName};
+use mt_site::Core;
+use mt_watch::Asks;
+use mt_workflow::Slot;
+
+/// The keyspace that the table moves from.
+pub(crate) fn source() -> KeyspaceName {
+    KeyspaceName::parse("commerce").unwrap()
+}
+
+/// The keyspace that it moves to.
+pub(crate) fn target() -> KeyspaceName {
+    KeyspaceName::parse("customer").unwrap()
+}
+
+/// The table.
+fn table() -> TableName {
+    TableName::parse("corder").unwrap()
+}
+
+/// The workflow.
+pub(crate) fn workflow() -> WorkflowName {
+    WorkflowName::parse("mv").unwrap()
+}
+
+/// The name by which clients ask for the table, wherever it is.
+pub(crate) fn name() -> RuleKey {
+    RuleKey {
+        keyspace: None,
+        table: table(),
+        tablet_type: None,
+    }
+}
+
+/// What is applied before a race: both keyspaces, the table without a row, the workflow, and its copy.
+fn events() -> [Event; 5] {
+    let mut tables = ArrayVec::new_in(());
+    tables.push(table());
+    [
+        Event::AddKeyspace { keyspace: source() },
+        Event::AddKeyspace { keyspace: target() },
+        Event::AddTable {
+            keyspace: source(),
+            table: table(),
+        },
+        Event::Create {
+            workflow: workflow(),
+            source: source(),
+            target: target(),
+            tables,
+        },
+        Event::Advance {
+            workflow: workflow(),
+            stream: Slot::Forward,
+            at: 0,
+            max: 100,
+        },
+    ]
+}
+
+/// Applies what comes before a race: `Setup` with the first refusal.
+pub(crate) fn set_up<W: Asks>(core: &mut Core, watchers: &W) -> Result<(), RaceFault> {
+    for event in &events() {
+        if let Err(refusal) = core.apply(watchers, event) {
+            return Err(RaceFault::Setup(refusal));
+        }
+    }
+    Ok(())
+}

@@ -1,0 +1,48 @@
+//! Whom a race has watch the topology.
+ghost use Rattle.std.specs.Prelude.{◌≡◌, ◌≤◌, true, IfOk};
+ghost use Rattle.mt_watch.specs.Notices.{notice_of};
+
+use crate::moving::{source, target};
+use crate::{RaceFault, Raced, race};
+use mt_messages::Gate;
+use mt_watch::{Callback, Change, Notice, Scope, WatchFault, Watcher, Watchers};
+use std::alloc::Global;
+use std::sync::Wait;
+use std::thread::Threads;
+
+/// Has clients race as `race` does, with a watcher for the routers and one for the primary of each of both keyspaces, as those of
+/// `mt run commerce customer`. Each tells itself what of a change concerns its scope, and refuses only if no memory is left.
+pub fn race_watched<R: Threads + Wait + Sync, G: Gate + Sync>(
+    rt: &R,
+    alloc: Global,
+    gate: &G,
+    clients: u16,
+    writes: u16,
+) -> Result<Raced, RaceFault>
+    requires clients { (1 ≤ clients) × (clients ≤ 4) }
+    requires writes { (1 ≤ writes) × (writes ≤ 1000) }
+    ensures agree { IfOk result (λ raced. raced.agree ≡ true → raced.acknowledged ≡ raced.rows) }
+{
+    let mut watchers = Watchers::new(alloc);
+    let scopes = [
+        Scope::Routes,
+        Scope::Primary(source()),
+        Scope::Primary(target()),
+    ];
+    for scope in &scopes {
+        let own = scope.copied();
+        let call: Callback = match Box::new(
+            alloc,
+            move |change: &Change| -> Result<Notice, WatchFault>
+                ensures { IfOk result (λ notice. notice ≡ notice_of own change.now) }
+            { Notice::of(alloc, &own, change).map_err(|_| WatchFault(0)) },
+        ) {
+            Ok(call) => call,
+            Err(_) => return Err(RaceFault::Memory),
+        };
+        if watchers.add(Watcher::new(scope.copied(), call)).is_err() {
+            return Err(RaceFault::Memory);
+        }
+    }
+    race(rt, alloc, gate, clients, writes, watchers)
+}
