@@ -5,7 +5,7 @@ use crate::RaceFault;
 use crate::counting::{Counted, collect, count};
 use crate::crew::{Client, Left, gets, query};
 use crate::moving::set_up;
-use crate::threads::run;
+use crate::threads::{Crew, run};
 use crossbeam_channel::unbounded;
 use mt_desk::{Desk, DeskFault, DeskName, Pass};
 use mt_messages::{Gate, NoGate};
@@ -93,21 +93,14 @@ fn write_all<
     let Ok((sender, receiver)) = unbounded(alloc) else {
         return Err(RaceFault::Memory);
     };
-    let all = clients_of(rt, alloc, desk, clients)?;
     let (feeder, switcher) = (clients, clients.saturating_add(1));
-    let fed = pass_of(rt, desk, feeder)?;
-    let switched = pass_of(rt, desk, switcher)?;
-    let left = run(
-        rt,
-        alloc,
-        gate,
-        desk,
-        &sender,
-        all,
+    let crew = Crew {
+        clients: clients_of(rt, alloc, desk, clients)?,
         writes,
-        (feeder, fed),
-        (switcher, switched),
-    )?;
+        feeder: (feeder, pass_of(rt, desk, feeder)?),
+        switcher: (switcher, pass_of(rt, desk, switcher)?),
+    };
+    let left = run(rt, alloc, gate, desk, &sender, crew)?;
     drop(sender);
     let told = collect(rt, alloc, receiver, clients, writes)?;
     Ok((left, count(&told, clients, writes, Counted::Done)))

@@ -129,6 +129,72 @@ fn join_all<R: Threads, D: DeskName + Send>(
     is_whole
 }
 
+/// Who is to have a thread.
+#[derive(Drop)]
+pub(crate) struct Crew<D: DeskName> {
+    /// The clients.
+    pub clients: Vec<Client<D>>,
+    /// How many writes each makes.
+    pub writes: u16,
+    /// The stream worker: its number, and its pass.
+    pub feeder: (u16, Pass<D>),
+    /// The controller.
+    pub switcher: (u16, Pass<D>),
+}
+
+/// See `run`.
+fn run_in<
+    's,
+    E,
+    R: Threads + Wait + Sync,
+    G: Gate + Sync,
+    D: DeskName + Send + Sync,
+    W: Asks + Drop + Send,
+    H: Wait + Drop + Send,
+>(
+    scope: &Scope<'s, E>,
+    rt: &'s R,
+    alloc: Global,
+    gate: &'s G,
+    desk: &'s Desk<D, W, H>,
+    sender: &'s Sender<Message>,
+    crew: Crew<D>,
+) -> Result<Vec<Left<D>>, RaceFault> {
+    let Crew {
+        clients,
+        writes,
+        feeder,
+        switcher,
+    } = crew;
+    let mut threads = Vec::new(alloc);
+    let mut all_left = Vec::new(alloc);
+    let places = clients.len().saturating_add(2);
+    if threads.reserve(places).is_err() || all_left.reserve(places).is_err() {
+        return Err(RaceFault::Memory);
+    }
+    let writing = start_clients(
+        scope,
+        rt,
+        alloc,
+        gate,
+        desk,
+        sender,
+        clients,
+        writes,
+        &mut threads,
+    );
+    let fed = start_feeder(scope, rt, gate, desk, feeder.0, feeder.1);
+    let feeding = keep(&mut threads, fed);
+    let switched = start_controller(scope, rt, gate, desk, switcher.0, switcher.1);
+    let switching = keep(&mut threads, switched);
+    let joined = join_all(rt, threads, &mut all_left);
+    if writing && feeding && switching && joined {
+        Ok(all_left)
+    } else {
+        Err(RaceFault::Thread)
+    }
+}
+
 /// Starts a thread for each client, one for the stream and one for the controller, and answers what they leave once all have ended.
 /// `Thread` where one couldn't be started, and `Memory`; those that were started have ended then too.
 pub(crate) fn run<
@@ -143,41 +209,9 @@ pub(crate) fn run<
     gate: &G,
     desk: &Desk<D, W, H>,
     sender: &Sender<Message>,
-    clients: Vec<Client<D>>,
-    writes: u16,
-    feeder: (u16, Pass<D>),
-    switcher: (u16, Pass<D>),
+    crew: Crew<D>,
 ) -> Result<Vec<Left<D>>, RaceFault> {
-    let mut threads = Vec::new(alloc);
-    let mut all_left = Vec::new(alloc);
-    let places = clients.len().saturating_add(2);
-    if threads.reserve(places).is_err() || all_left.reserve(places).is_err() {
-        return Err(RaceFault::Memory);
-    }
     thread::scope(thread::scope_env(), rt, move |scope| {
-        let writing = start_clients(
-            scope,
-            rt,
-            alloc,
-            gate,
-            desk,
-            sender,
-            clients,
-            writes,
-            &mut threads,
-        );
-        let feeding = keep(
-            &mut threads,
-            start_feeder(scope, rt, gate, desk, feeder.0, feeder.1),
-        );
-        let switching = keep(
-            &mut threads,
-            start_controller(scope, rt, gate, desk, switcher.0, switcher.1),
-        );
-        if join_all(rt, threads, &mut all_left) && writing && feeding && switching {
-            Ok(all_left)
-        } else {
-            Err(RaceFault::Thread)
-        }
+        run_in(scope, rt, alloc, gate, desk, sender, crew)
     })
 }
