@@ -19,13 +19,16 @@ verdict_text raced = if raced.agree then codes " agree" else codes " differ"
 abbrev pub race_text : Raced → List ℕ
 race_text raced = ((codes "acknowledged " ++ number_text raced.acknowledged) ++ (codes " rows " ++ number_text raced.rows)) ++ verdict_text raced
 
+abbrev pub race_status : Raced → Status
+race_status raced = if raced.agree then status.Done else status.Failed
+
 -- a fault is told by its name
 abbrev pub TellsFault : (name : List ℕ) → (told told' : Known) → Result Status ScriptFault → Type 0
 TellsFault name told told' result = Tells (codes "fault " ++ name ++ line_feed, status.Failed) told told' result
 
 -- the line was written, or cut short by a fault
 abbrev pub TellsWritten : Raced → Result Unit ScriptFault → (told told' : Known) → Result Status ScriptFault → Type 0
-TellsWritten raced (Ok done) told told' result = Tells ([], if raced.agree then status.Done else status.Failed) told told' result
+TellsWritten raced (Ok done) told told' result = Tells ([], race_status raced) told told' result
 TellsWritten raced (Err fault) told told' result = TellsFault (script_fault_text fault) told told' result
 
 -- what is told: on standard output the line of a race that has a result, and on standard error a fault

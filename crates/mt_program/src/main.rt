@@ -50,7 +50,7 @@ fn main(rt: HostRuntime) -> ExitCode {
         // (no command line asks for another race)
         if 1 <= clients && clients <= 4 && 1 <= writes && writes <= 1000 {
             let raced = race_watched(&rt, rt.alloc(), &NoGate, clients, writes);
-            return exit_code(tell_race(&mut io::writer(&rt), &mut rt.stderr(), &raced));
+            return exit_code(tell_race(&mut io::writer(&rt), &mut rt.stderr(), raced));
         }
     }
     exit_code(perform(

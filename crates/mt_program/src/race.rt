@@ -1,7 +1,7 @@
 //! What the program tells of a race.
 ghost use Rattle.std.specs.Prelude.{◌≡◌, ◌+◌, ◌≤◌, ◌++◌, length, Result};
 ghost use Rattle.mt_plain.specs.Numbers.{number_text};
-ghost use Rattle.mt_program.specs.Races.{TellsFault, TellsRace, race_text, verdict_text};
+ghost use Rattle.mt_program.specs.Races.{TellsFault, TellsRace, TellsWritten, race_status, race_text, verdict_text};
 
 use arrayvec::ArrayVec;
 use itoa::Buffer;
@@ -48,23 +48,14 @@ fn line_of(raced: Raced) -> ArrayVec<u8, 96>
     joined(&numbers, verdict(raced))
 }
 
-/// Tells what came of a race: a line on `output`, or, where it has no result or the line couldn't be written, the fault in a line on
-/// `errors`. `ScriptFault::Write` is answered if that couldn't be written either.
-pub fn tell_race<O: Write, E: Write>(
-    output: &mut O,
-    errors: &mut E,
-    end: &Result<Raced, RaceFault>,
-) -> Result<Status, ScriptFault>
-    ensures { TellsRace end.now (O.contents output.old) (O.contents output.new) (E.contents errors.old) (E.contents errors.new) result }
+/// How the program ends behind the line of a race.
+fn status_of(raced: Raced) -> Status
+    ensures { result ≡ race_status raced }
 {
-    let raced = match end {
-        Ok(raced) => *raced,
-        Err(fault) => return tell_fault(errors, fault.as_str()),
-    };
-    match write_line(output, &line_of(raced), b"") {
-        Ok(()) if raced.agree => Ok(Status::Done),
-        Ok(()) => Ok(Status::Failed),
-        Err(fault) => tell_fault(errors, fault.as_str()),
+    if raced.agree {
+        Status::Done
+    } else {
+        Status::Failed
     }
 }
 
@@ -74,4 +65,33 @@ fn tell_fault<E: Write>(errors: &mut E, name: &str) -> Result<Status, ScriptFaul
 {
     write_line(errors, b"fault ", name.as_bytes())?;
     Ok(Status::Failed)
+}
+
+/// Tells how the writing of a race's line ended.
+fn tell_written<E: Write>(
+    errors: &mut E,
+    raced: Raced,
+    end: Result<(), ScriptFault>,
+) -> Result<Status, ScriptFault>
+    ensures { TellsWritten raced end (E.contents errors.old) (E.contents errors.new) result }
+{
+    match end {
+        Ok(()) => Ok(status_of(raced)),
+        Err(fault) => tell_fault(errors, fault.as_str()),
+    }
+}
+
+/// Tells what came of a race: a line on `output`, or, where it has no result or the line couldn't be written, the fault in a line on
+/// `errors`. `ScriptFault::Write` is answered if that couldn't be written either.
+pub fn tell_race<O: Write, E: Write>(
+    output: &mut O,
+    errors: &mut E,
+    end: Result<Raced, RaceFault>,
+) -> Result<Status, ScriptFault>
+    ensures { TellsRace end (O.contents output.old) (O.contents output.new) (E.contents errors.old) (E.contents errors.new) result }
+{
+    match end {
+        Ok(raced) => tell_written(errors, raced, write_line(output, &line_of(raced), b"")),
+        Err(fault) => tell_fault(errors, fault.as_str()),
+    }
 }
