@@ -1,4 +1,6 @@
 mod CallLemmas
+mod FrontLemmas
 mod LeadsLemmas
+mod NoticeLemmas
 mod PassLemmas
 mod RoomLemmas

@@ -1,4 +1,5 @@
 pub mod Faults
+pub mod Fronts
 pub mod Histories
 pub mod Passes
 pub mod Room

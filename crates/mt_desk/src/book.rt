@@ -1,5 +1,5 @@
 //! The controller with the history of all that was asked of it.
-ghost use Rattle.std.specs.Prelude.{◌≡◌, ◌+◌, ◌≤◌, ◌++◌, [], ◌∷◌, IfErr, IfOk, IsOk, OnErr, OnOk, Ok, map};
+ghost use Rattle.std.specs.Prelude.{◌≡◌, ◌+◌, ◌≤◌, ◌++◌, List, [], ◌∷◌, IfErr, IfNone, IfOk, IfSome, OnErr, OnOk, Ok, length, map, option_map};
 ghost use Rattle.std.specs.Vec.{vec_capacity, vec_len};
 ghost use Rattle.mt_event.specs.declared.reply.Reply.TheVariants.{Done};
 ghost use Rattle.mt_event.specs.Events.{answer_from, event_of};
@@ -10,21 +10,32 @@ ghost use Rattle.mt_site.specs.Applies.{Applies};
 ghost use Rattle.mt_site.specs.GivenUp.{CanBeGivenUp};
 ghost use Rattle.mt_site.specs.Owed.{owed_to};
 ghost use Rattle.mt_site_state.specs.Ways.{SiteStands, SiteSteps};
+ghost use Rattle.mt_model.specs.declared.entries.Scope.TheVariants.{Routes};
+ghost use Rattle.mt_model.specs.Topology.{routes_of};
+ghost use Rattle.mt_routes.specs.declared.publication.Publication.{Publication};
+ghost use Rattle.mt_routes.specs.Publications.{publication};
+ghost use Rattle.mt_watch.specs.Asking.{IsTold};
+ghost use Rattle.mt_desk.specs.Fronts.{AreFronts, AsksNone, Published, Tells};
 ghost use Rattle.mt_desk.specs.Histories.{Leads, answered, asked, line};
 ghost use Rattle.mt_desk.specs.Passes.{Admits, Compares, HaveOneHistory, IsCaused};
 ghost use Rattle.mt_desk.specs.Room.{HasRoom};
 
 use crate::account::{are_there, first_cause};
 use crate::history::{Answer, Line, copied_answer};
+use crate::listed::listed;
 use crate::room::{make_room, new_history};
+use crate::tell::{noticed, routes};
 use crate::{DeskFault, DeskName, Pass};
 use mt_event::Event;
 use mt_laws::{each_event_owes_one_at_most, every_run_keeps_the_headline};
+use mt_model::Entry;
+use mt_routes::{Ends, Front, Head, Opened, Showing, Told};
+use mt_rows::routes_of_what_is_served_are_a_view;
 use mt_site::{Core, a_core_owes_what_its_state_owes};
 use mt_watch::Asks;
 use std::alloc::Global;
-use std::sync::ledger;
 use std::sync::ledger::Blank;
+use std::sync::{Wait, ledger};
 
 /// The core of the controller, with the history of all that was asked of it since the desk was opened. The history is always legal,
 /// and leads from each state that the core stood for at the opening to one that it stands for now. It keeps a place free for each
@@ -35,43 +46,149 @@ pub struct Book<D: DeskName> {
     history: Vec<Line>,
     clients: Vec<u16>,
     ledger: ledger::Book<D>,
+    head: Head<D>,
+    told: Told<D>,
     ghost legal: { ∥ Leads D.scopes D.opening history.items core ∥₁ },
     ghost room: { ∥ HasRoom D.scopes D.opening (vec_len history) core (vec_capacity history) ∥₁ },
+    ghost fronts: { ∥ AreFronts D.scopes D.opening history.items told ∥₁ },
 }
 
 impl<D: DeskName> Book<D> {
-    /// A book without lines, under the name of its blank: `K0 Memory`, where there was no place for the events that are owed; then
-    /// the core is gone. Where no workflow is live, it takes no memory.
-    pub fn open(alloc: Global, blank: Blank, core: Core) -> Result<Self, DeskFault>
+    /// A book without lines, under the name of its blank, with the first publication of its list, the routes of the topology, to be
+    /// shown to readers: `K0 Memory`, where there was none for it, or no place for the events that are owed; then the core is gone.
+    pub fn open(
+        alloc: Global,
+        blank: Blank,
+        opened: Opened,
+        core: Core,
+    ) -> Result<(Self, Showing), DeskFault>
         requires name { (blank.name ≡ D.name) × (blank.parts ≡ D.parts) }
+        requires list { opened.seen.book ≡ D.book }
         requires opening { core ≡ D.opening }
-        ensures core { IfOk result (λ book. book.core ≡ core) }
-        ensures history { IfOk result (λ book. book.history.items ≡ []) }
-        ensures clients { IfOk result (λ book. book.clients.items ≡ []) }
+        ensures core { IfOk result (λ r. r.0.core ≡ core) }
+        ensures history { IfOk result (λ r. r.0.history.items ≡ []) }
+        ensures clients { IfOk result (λ r. r.0.clients.items ≡ []) }
+        ensures told { IfOk result (λ r. r.0.told ≡ publication 0 (routes_of core.core.topology) ∷ []) }
+        ensures shows { IfOk result (λ r. (r.1.known.seen.log ≡ r.0.told) × (r.1.known.seen.book ≡ D.book)) }
         ensures memory { IfErr result (λ fault. fault ≡ DeskFault.Memory) }
-        ensures none_live { core.core.workflows ≡ [] → IsOk result }
     {
+        let (head, mut told) = opened.named::<D>();
         let Ok(history) = new_history(alloc, &core) else {
             return Err(DeskFault::Memory);
         };
+        let Ok(entries) = routes(alloc, core.topology()) else {
+            return Err(DeskFault::Memory);
+        };
+        let Some(first) = listed(&head, &mut told, Front(0), entries) else {
+            return Err(DeskFault::Memory);
+        };
         let (ledger, _) = blank.open::<D>();
-        Ok(Book::begun(core, history, Vec::new(alloc), ledger))
+        let clients = Vec::new(alloc);
+        Ok((
+            Book::begun(core, history, clients, ledger, head, told),
+            first,
+        ))
     }
 
-    /// A book with a history without lines, which has a place for each event that is owed.
-    fn begun(core: Core, history: Vec<Line>, clients: Vec<u16>, ledger: ledger::Book<D>) -> Self
+    /// A book with a history without lines, which has a place for each event that is owed, and a list of one publication.
+    fn begun(
+        core: Core,
+        history: Vec<Line>,
+        clients: Vec<u16>,
+        ledger: ledger::Book<D>,
+        head: Head<D>,
+        told: Told<D>,
+    ) -> Self
         requires opening { core ≡ D.opening }
         requires none { history.items ≡ [] }
         requires room { vec_len history + owed_to core.core.workflows ≤ vec_capacity history }
+        requires first { told ≡ publication 0 (routes_of core.core.topology) ∷ [] }
         ensures core { result.core ≡ core }
         ensures history { result.history ≡ history }
         ensures clients { result.clients ≡ clients }
+        ensures told { result.told ≡ told }
     {
+        routes_of_what_is_served_are_a_view();
         Book {
             core,
             history,
             clients,
             ledger,
+            head,
+            told,
+        }
+    }
+
+    /// What is known of the list of publications, which are those of the history. It takes no memory.
+    pub fn told(&self) -> Told<D>
+        ensures list { result ≡ self.now.told }
+        ensures fronts { ∥ AreFronts D.scopes D.opening self.now.history.items result ∥₁ }
+        ensures published { Published D.scopes D.opening result }
+    {
+        self.told.again()
+    }
+
+    /// Adds the routes of the topology to the list of publications, with the number of lines of the history as their front, and hands
+    /// them out to be shown; or adds none, as `listed` tells. It takes no memory, and no event is taken.
+    fn list(&mut self, entries: Vec<Entry>) -> Option<Showing>
+        requires { entries.items ≡ routes_of self.old.core.core.topology }
+        ensures told { IfSome result (λ showing. self.new.told
+            ≡ self.old.told ++ publication (length self.old.history.items) (routes_of self.old.core.core.topology) ∷ []) }
+        ensures shows { IfSome result (λ showing. (showing.known.seen.log ≡ self.new.told) × (showing.known.seen.book ≡ D.book)) }
+        ensures none { IfNone result (self.new.told ≡ self.old.told) }
+        ensures core { self.new.core ≡ self.old.core }
+        ensures history { self.new.history ≡ self.old.history }
+        ensures clients { self.new.clients ≡ self.old.clients }
+    {
+        routes_of_what_is_served_are_a_view();
+        let Book {
+            head,
+            history,
+            told,
+            ..
+        } = self;
+        listed(head, told, Front(history.len() as u64), entries)
+    }
+
+    /// Asks each watcher of routes with a change of all rules that stand and all tables that are there, adds the last one's notice to the
+    /// list of publications, with the number of lines of the history as its front, and has it shown to routers. Answers what is then known
+    /// of the list. `K4 NoWatcher` exactly where no watcher has the scope of routes, `K0 Memory`, `K5 WatcherRefused` with the number of the
+    /// first that refuses, and then `K0 Memory` of the writer; they leave the list, and what is shown, as it was. No event is taken.
+    /// It waits for routers that still read the publication before the last. (Vitess: the serving VSchema is rebuilt, and routers,
+    /// which watch it, take it over)
+    pub fn tell<W: Asks, R: Wait + Drop>(
+        &mut self,
+        alloc: Global,
+        watchers: &W,
+        routes: &mut Ends<D, R>,
+    ) -> Result<Told<D>, DeskFault>
+        ensures told { IfOk result (λ told. self.new.told
+            ≡ self.old.told ++ publication (length self.old.history.items) (routes_of self.old.core.core.topology) ∷ []) }
+        ensures is { IfOk result (λ told. told ≡ self.new.told) }
+        ensures asks { OnOk result (IsTold (W.scopes watchers.now) (W.may_answer watchers.now) Routes (routes_of self.old.core.core.topology) (routes_of self.old.core.core.topology)) }
+        ensures tells { IfOk result (λ told. Tells D.scopes D.opening told) }
+        ensures shows { IfOk result (λ told. option_map {U = List Publication} (λ w. w.desk.shown.value.known.seen.log) routes.new.writer ≡ option_map (λ w. told) routes.old.writer) }
+        ensures none { OnErr result (self.new.told ≡ self.old.told) }
+        ensures caused { IfErr result (λ fault. AsksNone (W.scopes watchers.now) (W.may_answer watchers.now) (routes_of self.old.core.core.topology) fault) }
+        ensures shown { OnErr result (option_map {U = List Publication} (λ w. w.desk.shown.value.known.seen.log) routes.new.writer
+            ≡ option_map (λ w. w.desk.shown.value.known.seen.log) routes.old.writer) }
+        ensures core { self.new.core ≡ self.old.core }
+        ensures history { self.new.history ≡ self.old.history }
+        ensures clients { self.new.clients ≡ self.old.clients }
+    {
+        let entries = match noticed(alloc, self.core.topology(), watchers) {
+            Ok(entries) => entries,
+            Err(fault) => return Err(fault),
+        };
+        if routes.reserve().is_err() {
+            return Err(DeskFault::Memory);
+        }
+        match self.list(entries) {
+            Some(showing) => {
+                routes.publish(showing);
+                Ok(self.told())
+            }
+            None => Err(DeskFault::Memory),
         }
     }
 

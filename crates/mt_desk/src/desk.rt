@@ -1,75 +1,64 @@
 //! The desk: many threads at one controller.
-ghost use Rattle.std.specs.Prelude.{◌≡◌, ◌⊎◌, ◌++◌, [], ◌∷◌, IfErr, IfOk, IsOk, IsPermutation, OnErr, OnOk, length, map};
+ghost use Rattle.std.specs.Prelude.{◌≡◌, ◌⊎◌, ◌++◌, true, [], ◌∷◌, IfErr, IfOk, IsPermutation, OnErr, OnOk, length, map};
 ghost use Rattle.std.specs.List.Sorted.{IsNonDecreasingBy};
+ghost use Rattle.mt_model.specs.declared.entries.Scope.TheVariants.{Routes};
+ghost use Rattle.mt_watch.specs.Scopes.{has_scope};
+ghost use Rattle.mt_desk.specs.Fronts.{Published, Tells, TellsNone};
 ghost use Rattle.mt_desk.specs.Histories.{call};
 ghost use Rattle.mt_desk.specs.Passes.{HaveOneHistory, IsCaused};
 
 use crate::account::counted_by_client;
 use crate::history::copied_answer;
+use crate::locked::Locked;
 use crate::{Account, Answer, Book, Call, DeskFault, DeskName, Pass};
 use mt_event::Event;
+use mt_routes::{Ends, Opened, Router, Told};
 use mt_site::Core;
 use mt_watch::Asks;
 use std::alloc::Global;
 use std::sync::ledger::Blank;
 use std::sync::{Mutex, Wait};
 
-/// What lies under the lock: the book, and the watchers that its controller asks.
+/// The controller behind one lock, with the history of all that was asked of it, and the writer of routes, which waits by `R`. Threads
+/// share a `&` to it. (Vitess: the vtctld server)
 #[derive(Drop)]
-struct Locked<D: DeskName, W: Asks + Drop> {
-    book: Book<D>,
-    watchers: W,
-    ghost scoped: { W.scopes watchers ≡ D.scopes },
-}
-
-impl<D: DeskName, W: Asks + Drop> Locked<D, W> {
-    /// See `Book::take`.
-    fn take(&mut self, client: u16, event: Event) -> Result<Answer, DeskFault>
-        ensures memory { IfErr result (λ fault. fault ≡ DeskFault.Memory) }
-    {
-        let Locked { book, watchers } = self;
-        book.take(watchers, client, event)
-    }
-
-    /// See `Book::admit`.
-    fn admit(&mut self, client: u16) -> Result<(), DeskFault>
-        ensures { IfErr result (λ fault. (fault ≡ DeskFault.ClientTaken) ⊎ (fault ≡ DeskFault.Memory)) }
-    {
-        let Locked { book, .. } = self;
-        book.admit(client)
-    }
-
-    /// See `Book::compare`.
-    fn compare(&self, passes: &[Pass<D>]) -> Result<(), DeskFault>
-        ensures one { OnOk result (HaveOneHistory D.scopes D.opening (map (λ pass. (pass.client, pass.calls.items)) passes.now)) }
-        ensures caused { IfErr result (λ fault. IsCaused D.scopes D.opening (map (λ pass. (pass.client, pass.calls.items)) passes.now) fault) }
-    {
-        self.book.compare(passes)
-    }
-}
-
-/// The controller behind one lock, with the history of all that was asked of it. Threads share a `&` to it. (Vitess: the vtctld server)
-#[derive(Drop)]
-pub struct Desk<D: DeskName, W: Asks + Drop> {
+pub struct Desk<D: DeskName, W: Asks + Drop, R: Wait + Drop> {
     alloc: Global,
-    locked: Mutex<Locked<D, W>>,
+    locked: Mutex<Locked<D, W, R>>,
 }
 
-impl<D: DeskName, W: Asks + Drop> Desk<D, W> {
-    /// A desk for a controller, under the name of its blank: `K0 Memory`, as `Book::open` tells.
-    pub fn open(alloc: Global, blank: Blank, core: Core, watchers: W) -> Result<Self, DeskFault>
+impl<D: DeskName, W: Asks + Drop, R: Wait + Drop> Desk<D, W, R> {
+    /// A desk for a controller, under the name of its blank, whose routers are shown the routes of the controller's topology. Two
+    /// copies of them are made, each with room for 4,096 rules and 8,192 tables, so that showing others needs no larger ones. `K0 Memory`;
+    /// then the controller and the watchers are gone.
+    pub fn open(
+        alloc: Global,
+        rt: R,
+        blank: Blank,
+        opened: Opened,
+        core: Core,
+        watchers: W,
+    ) -> Result<Self, DeskFault>
         requires name { (blank.name ≡ D.name) × (blank.parts ≡ D.parts) }
+        requires list { opened.seen.book ≡ D.book }
         requires opening { core ≡ D.opening }
         requires scopes { W.scopes watchers ≡ D.scopes }
         ensures memory { IfErr result (λ fault. fault ≡ DeskFault.Memory) }
-        ensures none_live { core.core.workflows ≡ [] → IsOk result }
     {
-        match Book::open(alloc, blank, core) {
-            Ok(book) => Ok(Desk {
+        let (book, first) = match Book::open(alloc, blank, opened, core) {
+            Ok(made) => made,
+            Err(fault) => return Err(fault),
+        };
+        match Ends::open(alloc, rt, &first) {
+            Ok(routes) => Ok(Desk {
                 alloc,
-                locked: Mutex::new(Locked { book, watchers }),
+                locked: Mutex::new(Locked {
+                    book,
+                    watchers,
+                    routes,
+                }),
             }),
-            Err(fault) => Err(fault),
+            Err(_) => Err(DeskFault::Memory),
         }
     }
 
@@ -106,6 +95,28 @@ impl<D: DeskName, W: Asks + Drop> Desk<D, W> {
         Ok(answer)
     }
 
+    /// Asks each watcher of routes with a change of all rules that stand and all tables that are there, and shows routers the last one's
+    /// notice, with the number of lines of the history as its front. A router that learns the answer looks names up in that publication,
+    /// or in a later one. `K4 NoWatcher` exactly where no watcher has the scope of routes, `K0 Memory`, `K5 WatcherRefused` with the number
+    /// of the first that refuses, `K0 Memory` of the writer; then routers are shown nothing new. It is one period under the lock, and
+    /// waits for routers that still read the publication before the last. (Vitess: routers watch the serving VSchema)
+    pub fn tell(&self, rt: &impl Wait) -> Result<Told<D>, DeskFault>
+        ensures tells { IfOk result (λ told. Tells D.scopes D.opening told) }
+        ensures asks { OnOk result (has_scope D.scopes Routes ≡ true) }
+        ensures caused { IfErr result (λ fault. TellsNone D.scopes fault) }
+    {
+        self.locked.lock(rt).tell(self.alloc)
+    }
+
+    /// A router, which looks names up without the lock, and knows what was told until now: `K3 RoutersFull`, where there are eight. It is one
+    /// period under the lock. (Vitess: a vtgate)
+    pub fn router(&self, rt: &impl Wait) -> Result<Router<D>, DeskFault>
+        ensures published { IfOk result (λ router. Published D.scopes D.opening router) }
+        ensures full { IfErr result (λ fault. fault ≡ DeskFault.RoutersFull) }
+    {
+        self.locked.lock(rt).router()
+    }
+
     /// Compares what all passes list with the history, and answers how many calls each client made, by client: `K7 PassMissing` where
     /// a client to whom this desk ever gave a pass isn't among them, `K1 HistoryDiffers` with a client whose calls differ, `K0 Memory`;
     /// then the passes are given back. It is one period under the lock. At Ok there is one history, legal from each state that the controller stood for at the opening, in
@@ -128,5 +139,11 @@ impl<D: DeskName, W: Asks + Drop> Desk<D, W> {
             Ok(calls) => Ok(Account { calls }),
             Err(_) => Err((DeskFault::Memory, passes)),
         }
+    }
+
+    /// Ends the desk. It waits until no router reads; those that are left answer that they are closed.
+    pub fn close(self, _rt: &impl Wait) {
+        let Desk { alloc: _, locked } = self;
+        drop(locked);
     }
 }

@@ -3,13 +3,20 @@
 use std::fmt;
 use thiserror::Error;
 
-/// Why a desk refuses a call. What is refused leaves the controller, the history and the passes as they were.
+/// Why a desk refuses a call. What is refused leaves the controller, the history, the list of publications and the
+/// passes as they were.
 #[derive(Clone, Copy, Debug, Eq, Error, PartialEq)]
 pub enum DeskFault {
     /// No memory was left.
     Memory,
     /// The calls of this client in the history aren't those that its pass lists.
     HistoryDiffers(u16),
+    /// There are as many routers as there may be.
+    RoutersFull,
+    /// No watcher has the scope of routes.
+    NoWatcher,
+    /// The watcher of this number, counted from 0 in the order in which they were added, refused.
+    WatcherRefused(usize),
     /// That client has, or had, a pass.
     ClientTaken,
     /// A client to whom the desk gave a pass isn't among those whose passes are handed in.
@@ -27,6 +34,9 @@ impl DeskFault {
         match self {
             DeskFault::Memory => "K0 Memory",
             DeskFault::HistoryDiffers(_) => "K1 HistoryDiffers",
+            DeskFault::RoutersFull => "K3 RoutersFull",
+            DeskFault::NoWatcher => "K4 NoWatcher",
+            DeskFault::WatcherRefused(_) => "K5 WatcherRefused",
             DeskFault::ClientTaken => "K6 ClientTaken",
             DeskFault::PassMissing => "K7 PassMissing",
         }

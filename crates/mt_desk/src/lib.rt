@@ -6,9 +6,12 @@ mod book;
 mod desk;
 mod fault;
 mod history;
+mod listed;
+mod locked;
 mod name;
 mod pass;
 mod room;
+mod tell;
 
 pub use account::Account;
 pub use book::Book;

@@ -1,5 +1,6 @@
 //! Lists of acts at a desk.
 
+use crate::route_acts::{RouteAct, Routing, is_routed};
 use crate::texts::{event_of, is_written};
 use mt_desk::{Account, Desk, DeskFault, DeskName, Pass};
 use mt_watch::Asks;
@@ -21,6 +22,8 @@ pub enum Act {
     Gathers(&'static [(u16, u64)]),
     /// So many passes are handed in, the newest ones, and given back with this refusal.
     GathersNone(usize, DeskFault),
+    /// Something is asked of the routes.
+    Routes(RouteAct),
 }
 
 /// How a list of acts went.
@@ -40,9 +43,9 @@ fn place_of<D: DeskName>(passes: &[Pass<D>], client: u16) -> Option<usize> {
 }
 
 /// Whether a client gets a pass, or this refusal.
-fn gets<D: DeskName, W: Asks + Drop>(
+fn gets<D: DeskName, W: Asks + Drop, R: Wait + Drop>(
     rt: &impl Wait,
-    desk: &Desk<D, W>,
+    desk: &Desk<D, W, R>,
     passes: &mut Vec<Pass<D>>,
     client: u16,
     refusal: Option<DeskFault>,
@@ -54,9 +57,9 @@ fn gets<D: DeskName, W: Asks + Drop>(
 }
 
 /// Whether a client is answered so, and its pass lists one call more.
-pub fn asks<D: DeskName, W: Asks + Drop>(
+pub fn asks<D: DeskName, W: Asks + Drop, R: Wait + Drop>(
     rt: &impl Wait,
-    desk: &Desk<D, W>,
+    desk: &Desk<D, W, R>,
     pass: &mut Pass<D>,
     line: &str,
     want: &str,
@@ -85,10 +88,10 @@ fn newest<D: DeskName>(
 }
 
 /// Whether so many passes are handed in and given back, with this refusal.
-fn gathers_none<D: DeskName, W: Asks + Drop>(
+fn gathers_none<D: DeskName, W: Asks + Drop, R: Wait + Drop>(
     rt: &impl Wait,
     alloc: Global,
-    desk: &Desk<D, W>,
+    desk: &Desk<D, W, R>,
     passes: &mut Vec<Pass<D>>,
     count: usize,
     refusal: DeskFault,
@@ -106,9 +109,9 @@ fn gathers_none<D: DeskName, W: Asks + Drop>(
 }
 
 /// Whether all passes are handed in, and each client is answered with the number of its calls.
-pub fn gathers<D: DeskName, W: Asks + Drop>(
+pub fn gathers<D: DeskName, W: Asks + Drop, R: Wait + Drop>(
     rt: &impl Wait,
-    desk: &Desk<D, W>,
+    desk: &Desk<D, W, R>,
     passes: Vec<Pass<D>>,
     want: &[(u16, u64)],
 ) -> bool {
@@ -125,11 +128,12 @@ fn pass_of<D: DeskName>(passes: &mut Vec<Pass<D>>, client: u16) -> Option<&mut P
 }
 
 /// Whether an act is so.
-fn is_so<D: DeskName, W: Asks + Drop>(
+fn is_so<D: DeskName, W: Asks + Drop, R: Wait + Drop>(
     rt: &impl Wait,
     alloc: Global,
-    desk: &Desk<D, W>,
+    desk: &Desk<D, W, R>,
     passes: &mut Vec<Pass<D>>,
+    routing: &mut Routing<D>,
     act: Act,
 ) -> bool {
     match act {
@@ -148,19 +152,20 @@ fn is_so<D: DeskName, W: Asks + Drop>(
             gathers(rt, desk, handed_in, want)
         }
         Act::GathersNone(count, refusal) => gathers_none(rt, alloc, desk, passes, count, refusal),
+        Act::Routes(act) => is_routed(rt, desk, routing, act),
     }
 }
 
 /// How acts go at a desk, in their order up to the first that isn't so.
-pub fn play<D: DeskName, W: Asks + Drop>(
+pub fn play<D: DeskName, W: Asks + Drop, R: Wait + Drop>(
     rt: &impl Wait,
     alloc: Global,
-    desk: &Desk<D, W>,
+    desk: &Desk<D, W, R>,
     acts: &[Act],
 ) -> Played {
-    let mut passes = Vec::new(alloc);
+    let (mut passes, mut routing) = (Vec::new(alloc), Routing::new(alloc));
     for (index, act) in acts.iter().enumerate() {
-        if !is_so(rt, alloc, desk, &mut passes, *act) {
+        if !is_so(rt, alloc, desk, &mut passes, &mut routing, *act) {
             return Played::Wrong(index);
         }
     }

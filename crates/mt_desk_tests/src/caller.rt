@@ -5,6 +5,7 @@ ghost use Rattle.mt_desk.specs.Passes.{HaveOneHistory};
 
 use mt_desk::{Answer, Desk, DeskFault, DeskName, Pass};
 use mt_event::Event;
+use mt_routes::Opened;
 use mt_site::Core;
 use mt_watch::Asks;
 use std::alloc::Global;
@@ -13,9 +14,9 @@ use std::sync::Wait;
 use std::sync::ledger::Blank;
 
 /// A new client asks for an event. Answers its pass, which lists just this call, and the answer, if there was memory for all.
-fn ask_once<D: DeskName, W: Asks + Drop, R: Wait>(
+fn ask_once<D: DeskName, W: Asks + Drop, R: Wait + Drop>(
     rt: &R,
-    desk: &Desk<D, W>,
+    desk: &Desk<D, W, R>,
     client: u16,
     event: Event,
 ) -> Option<(Pass<D>, Answer)>
@@ -31,10 +32,10 @@ fn ask_once<D: DeskName, W: Asks + Drop, R: Wait>(
 }
 
 /// Hands in two passes, and says whether they are gathered: then there is one legal history with just their calls.
-fn gather_two<D: DeskName, W: Asks + Drop, R: Wait>(
+fn gather_two<D: DeskName, W: Asks + Drop, R: Wait + Drop>(
     rt: &R,
     alloc: Global,
-    desk: &Desk<D, W>,
+    desk: &Desk<D, W, R>,
     one: Pass<D>,
     two: Pass<D>,
 ) -> bool
@@ -48,27 +49,31 @@ fn gather_two<D: DeskName, W: Asks + Drop, R: Wait>(
 
 /// Opens a desk under the name of a blank, at which clients 1 and 2 ask for an event each. Answers both answers, if there was
 /// memory for all.
-fn ask_both<D: DeskName, W: Asks + Drop, R: Wait>(
-    rt: &R,
+fn ask_both<D: DeskName, W: Asks + Drop, R: Wait + Drop + Copy>(
+    rt: R,
     alloc: Global,
     blank: Blank,
+    opened: Opened,
     core: Core,
     watchers: W,
     first: Event,
     second: Event,
 ) -> Option<(Answer, Answer)>
     requires name { (blank.name ≡ D.name) × (blank.parts ≡ D.parts) }
+    requires list { opened.seen.book ≡ D.book }
     requires opening { core ≡ D.opening }
     requires scopes { W.scopes watchers ≡ D.scopes }
     ensures { IfSome result (λ answers. HaveOneHistory D.scopes D.opening ((1, call first answers.0 ∷ []) ∷ (2, call second answers.1 ∷ []) ∷ [])) }
 {
-    let opened: Result<Desk<D, W>, DeskFault> = Desk::open(alloc, blank, core, watchers);
-    let Ok(desk) = opened else {
+    let made: Result<Desk<D, W, R>, DeskFault> = Desk::open(
+        alloc, rt, blank, opened, core, watchers,
+    );
+    let Ok(desk) = made else {
         return None;
     };
-    let (one, mine) = ask_once(rt, &desk, 1, first)?;
-    let (two, theirs) = ask_once(rt, &desk, 2, second)?;
-    if gather_two(rt, alloc, &desk, one, two) {
+    let (one, mine) = ask_once(&rt, &desk, 1, first)?;
+    let (two, theirs) = ask_once(&rt, &desk, 2, second)?;
+    if gather_two(&rt, alloc, &desk, one, two) {
         Some((mine, theirs))
     } else {
         None
@@ -77,8 +82,8 @@ fn ask_both<D: DeskName, W: Asks + Drop, R: Wait>(
 
 /// Clients 1 and 2 ask a controller for an event each. Answers both answers, if there was memory for all: then there is one legal
 /// history with just these two calls.
-pub fn two_calls<W: Asks + Drop, R: Wait>(
-    rt: &R,
+pub fn two_calls<W: Asks + Drop, R: Wait + Drop + Copy>(
+    rt: R,
     alloc: Global,
     core: Core,
     watchers: W,
@@ -87,5 +92,6 @@ pub fn two_calls<W: Asks + Drop, R: Wait>(
 ) -> Option<(Answer, Answer)>
     ensures { IfSome result (λ answers. HaveOneHistory (W.scopes watchers) core ((1, call first answers.0 ∷ []) ∷ (2, call second answers.1 ∷ []) ∷ [])) }
 {
-    ask_both::<Brand, W, R>(rt, alloc, Blank::new(1), core, watchers, first, second)
+    let (blank, opened) = (Blank::new(1), Opened::new());
+    ask_both::<Brand, W, R>(rt, alloc, blank, opened, core, watchers, first, second)
 }

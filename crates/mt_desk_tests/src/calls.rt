@@ -1,10 +1,12 @@
 //! Passes, what they are answered with, and what is gathered.
 
 use crate::acts::{Act, Played};
-use crate::opened::{Trial, core_of, tried, two_watchers};
+use crate::opened::{Trial, Watch, core_of, tried, two_watchers};
 use crate::texts::{event_of, is_written};
 use crate::two_calls;
-use mt_desk::DeskFault;
+use mt_desk::{Answer, DeskFault};
+use std::alloc::Global;
+use std::sync::Wait;
 use std::test::Fail;
 
 /// One keyspace with one table.
@@ -45,20 +47,27 @@ static NOBODY: [Act; 4] = [
 fn each_call_is_gathered_once(rt: HostRuntime) -> Result<(), Fail> {
     for acts in [CALLS.as_slice(), NOBODY.as_slice()] {
         assert_eq!(rt;
-            tried(&rt, rt.alloc(), &TABLE, Trial::Acts(acts)),
+            tried(&rt, rt.alloc(), Watch::Primaries, &TABLE, Trial::Acts(acts)),
             Played::AllSo
         );
     }
     Ok(())
 }
 
+/// What an insert and a get of its row are answered, by two clients.
+fn both_answers<R: Wait + Drop + Copy>(rt: R, alloc: Global) -> Option<(Answer, Answer)> {
+    let insert = event_of("at commerce.corder insert 1 a")?;
+    let get = event_of("at commerce.corder get 1")?;
+    let watchers = two_watchers(alloc)?;
+    match core_of(alloc, &watchers, &TABLE) {
+        Some(core) => two_calls(rt, alloc, core, watchers, insert, get),
+        None => None,
+    }
+}
+
 #[test]
 fn two_calls_are_answered(rt: HostRuntime) -> Result<(), Fail> {
-    let watchers = two_watchers(rt.alloc()).ok_or("no watchers")?;
-    let core = core_of(rt.alloc(), &watchers, &TABLE).ok_or("no core")?;
-    let insert = event_of("at commerce.corder insert 1 a").ok_or("no insert")?;
-    let get = event_of("at commerce.corder get 1").ok_or("no get")?;
-    let answers = two_calls(&rt, rt.alloc(), core, watchers, insert, get).ok_or("no answers")?;
+    let answers = both_answers(&rt, rt.alloc()).ok_or("no answers")?;
     assert!(rt; is_written(&answers.0, "ok"));
     assert!(rt; is_written(&answers.1, "row a"));
     Ok(())
@@ -69,6 +78,9 @@ fn refusals_are_printed_by_number_and_name(rt: HostRuntime) -> Result<(), Fail> 
     for (fault, text) in [
         (DeskFault::Memory, "K0 Memory"),
         (DeskFault::HistoryDiffers(1), "K1 HistoryDiffers"),
+        (DeskFault::RoutersFull, "K3 RoutersFull"),
+        (DeskFault::NoWatcher, "K4 NoWatcher"),
+        (DeskFault::WatcherRefused(2), "K5 WatcherRefused"),
         (DeskFault::ClientTaken, "K6 ClientTaken"),
         (DeskFault::PassMissing, "K7 PassMissing"),
     ] {

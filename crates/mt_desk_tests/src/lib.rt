@@ -1,13 +1,18 @@
-//! Tests of a desk by direct call: passes and what is gathered, two clients on two threads, and those that pass whichever
-//! allocation fails.
+//! Callers of a desk, proved: two clients ask for an event each, and one looks a name up by what it told. Beside them stand tests by
+//! direct call: passes and what is gathered, routers and what they are told, clients and routers in threads, and those that pass
+//! whichever allocation fails.
 #![tactic(auto)]
 
 mod caller;
+mod routing;
 
 pub use caller::two_calls;
+pub use routing::route_told;
 
 #[cfg(test)]
 mod acts;
+#[cfg(test)]
+mod book;
 #[cfg(test)]
 mod calls;
 #[cfg(test)]
@@ -19,8 +24,16 @@ mod no_memory;
 #[cfg(test)]
 mod opened;
 #[cfg(test)]
+mod reading;
+#[cfg(test)]
+mod route_acts;
+#[cfg(test)]
+mod routes;
+#[cfg(test)]
 mod runs;
 #[cfg(test)]
 mod texts;
 #[cfg(test)]
 mod threads;
+#[cfg(test)]
+mod told_memory;

@@ -3,7 +3,7 @@
 
 use crate::acts::{Played, gathers};
 use crate::life::{Asked, LIFE};
-use crate::opened::{Trial, tried};
+use crate::opened::{Trial, Watch, tried};
 use crate::texts::{event_of, is_written};
 use mt_desk::{Answer, Desk, DeskFault, DeskName, Pass};
 use mt_event::{Event, Refusal};
@@ -21,9 +21,9 @@ struct Standing {
 }
 
 /// The answer to what a line asks for, at once or at a second try.
-fn answer_of<D: DeskName, W: Asks + Drop>(
+fn answer_of<D: DeskName, W: Asks + Drop, R: Wait + Drop>(
     rt: &impl Wait,
-    desk: &Desk<D, W>,
+    desk: &Desk<D, W, R>,
     pass: &mut Pass<D>,
     line: &str,
 ) -> Option<Answer> {
@@ -35,9 +35,9 @@ fn answer_of<D: DeskName, W: Asks + Drop>(
 }
 
 /// What the client is told now.
-fn standing_of<D: DeskName, W: Asks + Drop>(
+fn standing_of<D: DeskName, W: Asks + Drop, R: Wait + Drop>(
     rt: &impl Wait,
-    desk: &Desk<D, W>,
+    desk: &Desk<D, W, R>,
     pass: &mut Pass<D>,
 ) -> Standing {
     Standing {
@@ -48,9 +48,9 @@ fn standing_of<D: DeskName, W: Asks + Drop>(
 }
 
 /// Whether an event that was refused, for memory was out, changed nothing, and is answered so when it is asked for again.
-fn is_answered_again<D: DeskName, W: Asks + Drop>(
+fn is_answered_again<D: DeskName, W: Asks + Drop, R: Wait + Drop>(
     rt: &impl Wait,
-    desk: &Desk<D, W>,
+    desk: &Desk<D, W, R>,
     pass: &mut Pass<D>,
     before: &Standing,
     event: Event,
@@ -66,9 +66,9 @@ fn is_answered_again<D: DeskName, W: Asks + Drop>(
 }
 
 /// Whether an event is answered so, at once or at a second try.
-fn is_answered<D: DeskName, W: Asks + Drop>(
+fn is_answered<D: DeskName, W: Asks + Drop, R: Wait + Drop>(
     rt: &impl Wait,
-    desk: &Desk<D, W>,
+    desk: &Desk<D, W, R>,
     pass: &mut Pass<D>,
     asked: Asked,
 ) -> bool {
@@ -86,9 +86,9 @@ fn is_answered<D: DeskName, W: Asks + Drop>(
 }
 
 /// A client's pass, at once or at a second try.
-fn pass_of<D: DeskName, W: Asks + Drop>(
+fn pass_of<D: DeskName, W: Asks + Drop, R: Wait + Drop>(
     rt: &impl Wait,
-    desk: &Desk<D, W>,
+    desk: &Desk<D, W, R>,
     client: u16,
 ) -> Option<Pass<D>> {
     match desk.pass(rt, client) {
@@ -98,10 +98,10 @@ fn pass_of<D: DeskName, W: Asks + Drop>(
 }
 
 /// Whether a pass alone is gathered, at once or at a second try, with the number of its calls.
-fn is_gathered<D: DeskName, W: Asks + Drop>(
+fn is_gathered<D: DeskName, W: Asks + Drop, R: Wait + Drop>(
     rt: &impl Wait,
     alloc: Global,
-    desk: &Desk<D, W>,
+    desk: &Desk<D, W, R>,
     pass: Pass<D>,
 ) -> bool {
     let want = [(pass.client(), pass.calls().len() as u64)];
@@ -117,10 +117,10 @@ fn is_gathered<D: DeskName, W: Asks + Drop>(
 }
 
 /// How the move goes at a desk, up to the first event that is answered otherwise.
-pub fn is_moved<D: DeskName, W: Asks + Drop>(
+pub fn is_moved<D: DeskName, W: Asks + Drop, R: Wait + Drop>(
     rt: &impl Wait,
     alloc: Global,
-    desk: &Desk<D, W>,
+    desk: &Desk<D, W, R>,
 ) -> Played {
     let Some(mut pass) = pass_of(rt, desk, 1) else {
         return Played::NotMade;
@@ -139,6 +139,9 @@ pub fn is_moved<D: DeskName, W: Asks + Drop>(
 
 #[test]
 fn want_of_memory_is_no_other_answer(rt: HostRuntime) -> Result<(), Fail> {
-    assert_eq!(rt; tried(&rt, rt.alloc(), &[], Trial::OneFails), Played::AllSo);
+    assert_eq!(rt;
+        tried(&rt, rt.alloc(), Watch::Primaries, &[], Trial::OneFails),
+        Played::AllSo
+    );
     Ok(())
 }

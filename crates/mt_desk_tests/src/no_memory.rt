@@ -1,7 +1,7 @@
 //! What can be given up, is, with no memory left.
 
 use crate::acts::Played;
-use crate::opened::{Trial, tried};
+use crate::opened::{Trial, Watch, tried};
 use crate::texts::event_of;
 use mt_desk::{Desk, DeskName, Pass};
 use mt_watch::Asks;
@@ -41,9 +41,9 @@ static UNDONE: [&str; 6] = [
 ];
 
 /// Whether a client asks for an event that is taken.
-fn is_taken<D: DeskName, W: Asks + Drop>(
+fn is_taken<D: DeskName, W: Asks + Drop, R: Wait + Drop>(
     rt: &impl Wait,
-    desk: &Desk<D, W>,
+    desk: &Desk<D, W, R>,
     pass: &mut Pass<D>,
     line: &str,
 ) -> bool {
@@ -54,9 +54,9 @@ fn is_taken<D: DeskName, W: Asks + Drop>(
 }
 
 /// How many events are taken, up to the first that isn't.
-fn taken<D: DeskName, W: Asks + Drop>(
+fn taken<D: DeskName, W: Asks + Drop, R: Wait + Drop>(
     rt: &impl Wait,
-    desk: &Desk<D, W>,
+    desk: &Desk<D, W, R>,
     pass: &mut Pass<D>,
     lines: &[&str],
 ) -> usize {
@@ -69,9 +69,9 @@ fn taken<D: DeskName, W: Asks + Drop>(
 }
 
 /// Whether a switch of which so many events were taken, its copy among them, is undone.
-fn is_undone<D: DeskName, W: Asks + Drop>(
+fn is_undone<D: DeskName, W: Asks + Drop, R: Wait + Drop>(
     rt: &impl Wait,
-    desk: &Desk<D, W>,
+    desk: &Desk<D, W, R>,
     pass: &mut Pass<D>,
     events: usize,
 ) -> bool {
@@ -86,7 +86,10 @@ fn is_undone<D: DeskName, W: Asks + Drop>(
 }
 
 /// How a move goes that is given up: its switch is undone, and it is cancelled. Where it couldn't be begun there is nothing to give up.
-pub fn is_given_up<D: DeskName, W: Asks + Drop>(rt: &impl Wait, desk: &Desk<D, W>) -> Played {
+pub fn is_given_up<D: DeskName, W: Asks + Drop, R: Wait + Drop>(
+    rt: &impl Wait,
+    desk: &Desk<D, W, R>,
+) -> Played {
     let Ok(mut pass) = desk.pass(rt, 1) else {
         return Played::AllSo;
     };
@@ -107,7 +110,7 @@ pub fn is_given_up<D: DeskName, W: Asks + Drop>(rt: &impl Wait, desk: &Desk<D, W
 /// Passes as well where, from some allocation on, each fails.
 #[test]
 fn no_memory_is_asked_for(rt: HostRuntime) -> Result<(), Fail> {
-    let played = tried(&rt, rt.alloc(), &[], Trial::AllFail);
+    let played = tried(&rt, rt.alloc(), Watch::Primaries, &[], Trial::AllFail);
     assert!(rt; played == Played::AllSo || played == Played::NotMade);
     Ok(())
 }

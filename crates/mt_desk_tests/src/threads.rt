@@ -1,7 +1,7 @@
 //! Two clients that ask at once.
 
 use crate::acts::{Played, asks, gathers};
-use crate::opened::{Trial, tried};
+use crate::opened::{Trial, Watch, tried};
 use mt_desk::{Desk, DeskName, Pass};
 use mt_event::Event;
 use mt_model::Op;
@@ -27,9 +27,9 @@ fn insert_of(key: u64) -> Option<Event> {
 }
 
 /// A client inserts rows of its own, so many. Answers its pass, and how many of them were done.
-fn inserts<D: DeskName, W: Asks + Drop>(
+fn inserts<D: DeskName, W: Asks + Drop, R: Wait + Drop>(
     rt: &impl Wait,
-    desk: &Desk<D, W>,
+    desk: &Desk<D, W, R>,
     mut pass: Pass<D>,
     count: u64,
 ) -> (Pass<D>, u64) {
@@ -50,7 +50,7 @@ fn inserts<D: DeskName, W: Asks + Drop>(
 pub fn two_ask<D: DeskName + Send + Sync, W: Asks + Drop + Send, R: Threads + Wait + Sync>(
     rt: &R,
     alloc: Global,
-    desk: &Desk<D, W>,
+    desk: &Desk<D, W, &R>,
     count: u64,
 ) -> Played {
     let (Ok(one), Ok(two), Ok(mut three)) = (desk.pass(rt, 1), desk.pass(rt, 2), desk.pass(rt, 3))
@@ -93,7 +93,13 @@ pub fn two_ask<D: DeskName + Send + Sync, W: Asks + Drop + Send, R: Threads + Wa
 #[test]
 fn two_clients_ask_at_once(rt: HostRuntime) -> Result<(), Fail> {
     assert_eq!(rt;
-        tried(&rt, rt.alloc(), &TABLE, Trial::TwoThreads(1000)),
+        tried(
+            &rt,
+            rt.alloc(),
+            Watch::Primaries,
+            &TABLE,
+            Trial::TwoThreads(1000)
+        ),
         Played::AllSo
     );
     Ok(())

@@ -37,10 +37,10 @@ fn one_if_taken(answer: &Answer) -> u64
 /// at position 0, and then where the last answer says that it is. A refusal takes a turn too; `F25 Stale` says where the stream is. It
 /// gives its pass back, and the number of advances that were taken. It ends early only where the desk refuses a call, with its
 /// `DeskFault` told by nobody. (Vitess: a VReplication stream, which goes on by itself)
-pub fn stream_worker<R: Wait, G: Gate, D: DeskName, W: Asks + Drop>(
+pub fn stream_worker<R: Wait, G: Gate, D: DeskName, W: Asks + Drop, H: Wait + Drop>(
     rt: &R,
     gate: &G,
-    desk: &Desk<D, W>,
+    desk: &Desk<D, W, H>,
     mut pass: Pass<D>,
     worker: u16,
     workflow: &WorkflowName,

@@ -1,5 +1,5 @@
 -- This one is the client's, or one more isn't.
-use Rattle.std.proofs.Common.{◌≡◌, sym, ◌∙◌}
+use Rattle.std.proofs.Common.{sym, ◌∙◌}
 use Rattle.mt_desk.proofs.PassLemmas.{has_at, has_next}
 use Rattle.mt_desk.proofs.account.is_there.Goals as goal
 

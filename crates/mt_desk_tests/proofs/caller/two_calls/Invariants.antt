@@ -1,4 +1,4 @@
--- The desk has the name of its blank, and opens with this core and the scopes of these watchers.
+-- The desk has the name of its blank and of its list, and opens with this core and the scopes of these watchers.
 use Rattle.mt_desk_tests.proofs.caller.two_calls.Given as goal
 
 abbrev pub ghosts-ask_both-D-Ledger : goal.ghosts-ask_both-D-Ledger
@@ -6,3 +6,6 @@ ghosts-ask_both-D-Ledger g a = record { name = a.blank.name; parts = a.blank.par
 
 abbrev pub ghosts-ask_both-D-DeskName : goal.ghosts-ask_both-D-DeskName
 ghosts-ask_both-D-DeskName g a = record { opening = a.core; scopes = g.W.Asks.scopes a.watchers }
+
+abbrev pub ghosts-ask_both-D-Naming : goal.ghosts-ask_both-D-Naming
+ghosts-ask_both-D-Naming g a = record { book = a.opened.seen.book }

@@ -5,8 +5,10 @@ use Rattle.std.specs.Vec.{vec_capacity, vec_len}
 use Rattle.mt_event.specs.Events.{answer_from, event_of}
 use Rattle.mt_site.specs.Owed.{owed_to}
 use Rattle.mt_site_state.specs.Ways.{SiteSteps}
-use Rattle.mt_desk.specs.Histories.{Leads}
+use Rattle.mt_desk.specs.Fronts.{AreFronts}
+use Rattle.mt_desk.specs.Histories.{Leads, line}
 use Rattle.mt_desk.specs.Room.{HasRoom, gives_up}
+use Rattle.mt_desk.proofs.FrontLemmas.{fronts_kept}
 use Rattle.mt_desk.proofs.LeadsLemmas.{kept_more}
 use Rattle.mt_desk.proofs.RoomLemmas.{Owing, finds_place, found_to, room_taken, with_more_places}
 use Rattle.mt_desk.proofs.book.Book.take.Goals as goal
@@ -21,6 +23,7 @@ invariant_of-self g c =
       legal = subst (λ lines. ∥ Leads scopes opening lines now ∥₁) (sym c.make_room.ensures.items) c.args.self.now.legal;
       room = subst (λ n. ∥ HasRoom scopes opening n now more ∥₁) (sym c.make_room.ensures.len)
           (with_more_places scopes opening now (vec_len c.args.self.now.history) (vec_capacity c.args.self.now.history) more c.make_room.ensures.kept c.args.self.now.room);
+      fronts = subst (λ lines. ∥ AreFronts scopes opening lines c.args.self.now.told ∥₁) (sym c.make_room.ensures.items) c.args.self.now.fronts;
     }
 
 pub returns-then-not-make_room-clause-given_up : goal.returns-then-not-make_room-clause-given_up
@@ -61,4 +64,7 @@ invariant_of-self-2 g c =
           (kept_more scopes opening now later c.make_room.new.history.items c.args.client c.args.event c.apply-answer.result before step);
       room = subst (λ m. ∥ HasRoom scopes opening m later (vec_capacity c.push_reserved.new.self) ∥₁) (sym (c.push_reserved.ensures.len ∙ ap (λ m. m + 1) c.make_room.ensures.len))
           (subst (λ m. ∥ HasRoom scopes opening (n + 1) later m ∥₁) (sym c.push_reserved.ensures.capacity) room);
+      fronts = subst (λ lines. ∥ AreFronts scopes opening lines c.args.self.now.told ∥₁) (sym c.push_reserved.ensures.items)
+          (fronts_kept scopes opening c.make_room.new.history.items (line c.args.client c.args.event c.apply-answer.result) c.args.self.now.told
+          (subst (λ lines. ∥ AreFronts scopes opening lines c.args.self.now.told ∥₁) (sym c.make_room.ensures.items) c.args.self.now.fronts));
     }

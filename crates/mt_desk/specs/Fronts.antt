@@ -1,0 +1,58 @@
+-- Publications of routes, in the words of the definitions (this profile's own).
+use Rattle.std.specs.Prelude.{◌≡◌, ◌≤◌, true, false, List, length, map, None, Some}
+use Rattle.std.specs.List.{last_or}
+use Rattle.mt_model.specs.declared.entries.Entry.{Entry}
+use Rattle.mt_model.specs.declared.entries.Scope.{Scope}
+use Rattle.mt_model.specs.declared.entries.Scope.TheVariants.{Routes}
+use Rattle.mt_model.specs.Topology.{routes_of}
+use Rattle.mt_plain.specs.Answers.{ArePublications}
+use Rattle.mt_plain.specs.Answers as plain
+use Rattle.mt_plain.specs.Plain.{Plain}
+use Rattle.mt_routes.specs.declared.publication.Publication.{Publication}
+use Rattle.mt_routes.specs.Publications.{last_front, publication}
+use Rattle.mt_site_state.specs.Ways.{SiteStands, SiteState}
+use Rattle.mt_watch.specs.Asking.{Answering, IsRefusedAt, IsScopeAt}
+use Rattle.mt_watch.specs.Scopes.{has_scope}
+use Rattle.mt_desk.specs.declared.fault.DeskFault.{DeskFault}
+use Rattle.mt_desk.specs.declared.fault.DeskFault.TheVariants.{Memory, NoWatcher, WatcherRefused}
+use Rattle.mt_desk.specs.declared.history.Line.{Line}
+use Rattle.mt_desk.specs.Histories.{Leads, history_from}
+
+abbrev pub publication_from : Publication → plain.Publication
+publication_from q = record { front = q.front; view = q.entries }
+
+-- a list has the publications of a history: each has a number of its lines as its front, and tells the view after them; the first is of no
+-- line, and fronts never fall
+pub record AreFronts (scopes : List Scope) (opening : SiteState) (lines : List Line) (list : List Publication) : Type 0 where
+  pub within : last_front list ≤ length lines
+  pub publications : (p : Plain) → SiteStands p scopes opening → ArePublications p (history_from lines) (map publication_from list)
+
+-- there is a history, legal from each state that the controller stood for at the opening, that has these publications
+abbrev pub Published : List Scope → (opening : SiteState) → List Publication → Type 0
+Published scopes opening list =
+    ∥ ((lines : List Line) × (now : SiteState) × Leads scopes opening lines now × AreFronts scopes opening lines list) ∥₁
+
+-- the last publication is of all lines, and has the routes of the topology that these lead to
+abbrev pub EndsWithAll : List Line → (now : SiteState) → List Publication → Type 0
+EndsWithAll lines now list = last_or None list ≡ Some (publication (length lines) (routes_of now.core.topology))
+
+-- the same of a history as it stood when the last of them was made
+abbrev pub Tells : List Scope → (opening : SiteState) → List Publication → Type 0
+Tells scopes opening list =
+    ∥ ((lines : List Line) × (now : SiteState) × Leads scopes opening lines now × AreFronts scopes opening lines list × EndsWithAll lines now list) ∥₁
+
+-- ---- why nothing is told
+
+-- no watcher has the scope of routes, which is reported first; else no memory was left, or a watcher that was asked with the routes refused
+abbrev pub AsksNone : List Scope → Answering → (routes : List Entry) → DeskFault → Type 0
+AsksNone scopes may_answer routes NoWatcher = has_scope scopes Routes ≡ false
+AsksNone scopes may_answer routes Memory = has_scope scopes Routes ≡ true
+AsksNone scopes may_answer routes (WatcherRefused i) = IsRefusedAt scopes may_answer Routes routes i
+AsksNone scopes may_answer routes other = ⊥
+
+-- the same by the scopes alone
+abbrev pub TellsNone : List Scope → DeskFault → Type 0
+TellsNone scopes NoWatcher = has_scope scopes Routes ≡ false
+TellsNone scopes Memory = has_scope scopes Routes ≡ true
+TellsNone scopes (WatcherRefused i) = IsScopeAt scopes Routes i
+TellsNone scopes other = ⊥

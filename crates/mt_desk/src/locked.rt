@@ -1,0 +1,74 @@
+//! What lies under the lock.
+ghost use Rattle.std.specs.Prelude.{◌≡◌, ◌⊎◌, true, IfErr, IfOk, OnOk, map};
+ghost use Rattle.mt_model.specs.declared.entries.Scope.TheVariants.{Routes};
+ghost use Rattle.mt_watch.specs.Scopes.{has_scope};
+ghost use Rattle.mt_desk.specs.Fronts.{Published, Tells, TellsNone};
+ghost use Rattle.mt_desk.specs.Passes.{HaveOneHistory, IsCaused};
+
+use crate::{Answer, Book, DeskFault, DeskName, Pass};
+use mt_event::Event;
+use mt_routes::{Ends, Router, Told};
+use mt_watch::Asks;
+use std::alloc::Global;
+use std::sync::Wait;
+
+/// What lies under the lock: the book, the watchers that its controller asks, and the writer of routes.
+#[derive(Drop)]
+pub(crate) struct Locked<D: DeskName, W: Asks + Drop, R: Wait + Drop> {
+    pub(crate) book: Book<D>,
+    pub(crate) watchers: W,
+    pub(crate) routes: Ends<D, R>,
+    ghost scoped: { W.scopes watchers ≡ D.scopes },
+}
+
+impl<D: DeskName, W: Asks + Drop, R: Wait + Drop> Locked<D, W, R> {
+    /// See `Book::take`.
+    pub(crate) fn take(&mut self, client: u16, event: Event) -> Result<Answer, DeskFault>
+        ensures memory { IfErr result (λ fault. fault ≡ DeskFault.Memory) }
+    {
+        let Locked { book, watchers, .. } = self;
+        book.take(watchers, client, event)
+    }
+
+    /// See `Book::admit`.
+    pub(crate) fn admit(&mut self, client: u16) -> Result<(), DeskFault>
+        ensures { IfErr result (λ fault. (fault ≡ DeskFault.ClientTaken) ⊎ (fault ≡ DeskFault.Memory)) }
+    {
+        let Locked { book, .. } = self;
+        book.admit(client)
+    }
+
+    /// See `Book::compare`.
+    pub(crate) fn compare(&self, passes: &[Pass<D>]) -> Result<(), DeskFault>
+        ensures one { OnOk result (HaveOneHistory D.scopes D.opening (map (λ pass. (pass.client, pass.calls.items)) passes.now)) }
+        ensures caused { IfErr result (λ fault. IsCaused D.scopes D.opening (map (λ pass. (pass.client, pass.calls.items)) passes.now) fault) }
+    {
+        self.book.compare(passes)
+    }
+
+    /// See `Book::tell`.
+    pub(crate) fn tell(&mut self, alloc: Global) -> Result<Told<D>, DeskFault>
+        ensures tells { IfOk result (λ told. Tells D.scopes D.opening told) }
+        ensures asks { OnOk result (has_scope D.scopes Routes ≡ true) }
+        ensures caused { IfErr result (λ fault. TellsNone D.scopes fault) }
+    {
+        let Locked {
+            book,
+            watchers,
+            routes,
+        } = self;
+        book.tell(alloc, watchers, routes)
+    }
+
+    /// A router, which knows what the book knows of the list: `K3 RoutersFull`.
+    pub(crate) fn router(&self) -> Result<Router<D>, DeskFault>
+        ensures knows { IfOk result (λ router. router ≡ self.now.book.told) }
+        ensures published { IfOk result (λ router. Published D.scopes D.opening router) }
+        ensures full { IfErr result (λ fault. fault ≡ DeskFault.RoutersFull) }
+    {
+        match self.routes.router(self.book.told()) {
+            Ok(router) => Ok(router),
+            Err(_) => Err(DeskFault::RoutersFull),
+        }
+    }
+}
