@@ -12,8 +12,6 @@ pub use routing::route_told;
 #[cfg(test)]
 mod acts;
 #[cfg(test)]
-mod book;
-#[cfg(test)]
 mod calls;
 #[cfg(test)]
 mod life;

@@ -86,7 +86,7 @@ fn is_answered<D: DeskName, W: Asks + Drop, R: Wait + Drop>(
 }
 
 /// A client's pass, at once or at a second try.
-fn pass_of<D: DeskName, W: Asks + Drop, R: Wait + Drop>(
+pub fn pass_of<D: DeskName, W: Asks + Drop, R: Wait + Drop>(
     rt: &impl Wait,
     desk: &Desk<D, W, R>,
     client: u16,

@@ -30,7 +30,10 @@ fn answer_of(site: &mut Site<Watchers>, line: &str) -> Option<Answer> {
 /// How the site stands now.
 fn standing_of(site: &mut Site<Watchers>) -> Standing {
     Standing {
-        dump: site.dump().or_else(|_| site.dump()).ok(),
+        dump: match site.dump() {
+            Ok(dump) => Some(dump),
+            Err(_) => site.dump().ok(),
+        },
         owed: site.owed(),
         shown: answer_of(site, "show mv"),
         source: answer_of(site, "at commerce.corder get 1"),

@@ -1,6 +1,7 @@
 //! Where an allocation fails, what is to be told is refused, a refusal shows nothing, and the next try tells it.
 
 use crate::acts::Played;
+use crate::memory::pass_of;
 use crate::opened::{Trial, Watch, tried};
 use crate::route_acts::leads;
 use crate::texts::event_of;
@@ -87,10 +88,7 @@ pub fn is_told_all<D: DeskName, W: Asks + Drop, R: Wait + Drop>(
     rt: &impl Wait,
     desk: &Desk<D, W, R>,
 ) -> Played {
-    let (Ok(mut pass), Ok(mut router)) = (
-        desk.pass(rt, 1).or_else(|_| desk.pass(rt, 1)),
-        desk.router(rt).or_else(|_| desk.router(rt)),
-    ) else {
+    let (Some(mut pass), Ok(mut router)) = (pass_of(rt, desk, 1), desk.router(rt)) else {
         return Played::NotMade;
     };
     for (index, rule) in RULES.iter().enumerate() {
