@@ -1,4 +1,6 @@
-//! Callers of a desk, proved: two clients ask for an event each, and one looks a name up by what it told.
+//! Callers of a desk, proved: two clients ask for an event each, and one looks a name up by what it told. Beside them stand tests by
+//! direct call: passes and what is gathered, routers and what they are told, clients and routers in threads, and those that pass
+//! whichever allocation fails.
 #![tactic(auto)]
 
 mod caller;
@@ -6,3 +8,30 @@ mod routing;
 
 pub use caller::two_calls;
 pub use routing::route_told;
+
+#[cfg(test)]
+mod acts;
+#[cfg(test)]
+mod calls;
+#[cfg(test)]
+mod life;
+#[cfg(test)]
+mod memory;
+#[cfg(test)]
+mod no_memory;
+#[cfg(test)]
+mod opened;
+#[cfg(test)]
+mod reading;
+#[cfg(test)]
+mod route_acts;
+#[cfg(test)]
+mod routes;
+#[cfg(test)]
+mod runs;
+#[cfg(test)]
+mod texts;
+#[cfg(test)]
+mod threads;
+#[cfg(test)]
+mod told_memory;

@@ -1,0 +1,173 @@
+//! Lists of acts at a desk.
+
+use crate::route_acts::{RouteAct, Routing, is_routed};
+use crate::texts::{event_of, is_written};
+use mt_desk::{Account, Desk, DeskFault, DeskName, Pass};
+use mt_watch::Asks;
+use std::alloc::Global;
+use std::sync::Wait;
+
+/// What clients do at a desk.
+#[derive(Clone, Copy)]
+pub enum Act {
+    /// A client gets a pass.
+    Gets(u16),
+    /// A client gets no pass, with this refusal.
+    GetsNone(u16, DeskFault),
+    /// A client makes room in its pass.
+    Reserves(u16, usize),
+    /// A client asks for what a line says, and the answer is written so.
+    Asks(u16, &'static str, &'static str),
+    /// All passes are handed in, and each client is answered with the number of its calls.
+    Gathers(&'static [(u16, u64)]),
+    /// So many passes are handed in, the newest ones, and given back with this refusal.
+    GathersNone(usize, DeskFault),
+    /// Something is asked of the routes.
+    Routes(RouteAct),
+}
+
+/// How a list of acts went.
+#[derive(Clone, Copy, Debug, Eq, PartialEq)]
+pub enum Played {
+    /// Each act was so.
+    AllSo,
+    /// The act of this index was the first that wasn't.
+    Wrong(usize),
+    /// The desk wasn't made.
+    NotMade,
+}
+
+/// The place of a client's pass.
+fn place_of<D: DeskName>(passes: &[Pass<D>], client: u16) -> Option<usize> {
+    passes.iter().position(|pass| pass.client() == client)
+}
+
+/// Whether a client gets a pass, or this refusal.
+fn gets<D: DeskName, W: Asks + Drop, R: Wait + Drop>(
+    rt: &impl Wait,
+    desk: &Desk<D, W, R>,
+    passes: &mut Vec<Pass<D>>,
+    client: u16,
+    refusal: Option<DeskFault>,
+) -> bool {
+    match desk.pass(rt, client) {
+        Ok(pass) => refusal.is_none() && pass.calls().is_empty() && passes.push(pass).is_ok(),
+        Err(fault) => refusal == Some(fault),
+    }
+}
+
+/// Whether a client is answered so, and its pass lists one call more.
+pub fn asks<D: DeskName, W: Asks + Drop, R: Wait + Drop>(
+    rt: &impl Wait,
+    desk: &Desk<D, W, R>,
+    pass: &mut Pass<D>,
+    line: &str,
+    want: &str,
+) -> bool {
+    let Some(event) = event_of(line) else {
+        return false;
+    };
+    let before = pass.calls().len();
+    match desk.ask(rt, pass, event) {
+        Ok(answer) => is_written(&answer, want) && pass.calls().len() > before,
+        Err(_) => false,
+    }
+}
+
+/// The newest passes, so many, taken from the others; none if there are fewer, or no memory.
+fn newest<D: DeskName>(
+    alloc: Global,
+    passes: &mut Vec<Pass<D>>,
+    count: usize,
+) -> Option<Vec<Pass<D>>> {
+    let mut taken = Vec::with_capacity(alloc, count).ok()?;
+    for _ in 0..count {
+        taken.push(passes.pop()?).ok()?;
+    }
+    Some(taken)
+}
+
+/// Whether so many passes are handed in and given back, with this refusal.
+fn gathers_none<D: DeskName, W: Asks + Drop, R: Wait + Drop>(
+    rt: &impl Wait,
+    alloc: Global,
+    desk: &Desk<D, W, R>,
+    passes: &mut Vec<Pass<D>>,
+    count: usize,
+    refusal: DeskFault,
+) -> bool {
+    let Some(taken) = newest(alloc, passes, count) else {
+        return false;
+    };
+    match desk.gather(rt, taken) {
+        Ok(_) => false,
+        Err((fault, mut back)) => {
+            back.reverse();
+            fault == refusal && back.len() == count && passes.append(&mut back).is_ok()
+        }
+    }
+}
+
+/// Whether all passes are handed in, and each client is answered with the number of its calls.
+pub fn gathers<D: DeskName, W: Asks + Drop, R: Wait + Drop>(
+    rt: &impl Wait,
+    desk: &Desk<D, W, R>,
+    passes: Vec<Pass<D>>,
+    want: &[(u16, u64)],
+) -> bool {
+    match desk.gather(rt, passes) {
+        Ok(Account { calls }) => calls.as_slice() == want,
+        Err(_) => false,
+    }
+}
+
+/// The pass of a client.
+fn pass_of<D: DeskName>(passes: &mut Vec<Pass<D>>, client: u16) -> Option<&mut Pass<D>> {
+    let place = place_of(passes, client)?;
+    passes.get_mut(place)
+}
+
+/// Whether an act is so.
+fn is_so<D: DeskName, W: Asks + Drop, R: Wait + Drop>(
+    rt: &impl Wait,
+    alloc: Global,
+    desk: &Desk<D, W, R>,
+    passes: &mut Vec<Pass<D>>,
+    routing: &mut Routing<D>,
+    act: Act,
+) -> bool {
+    match act {
+        Act::Gets(client) => gets(rt, desk, passes, client, None),
+        Act::GetsNone(client, refusal) => gets(rt, desk, passes, client, Some(refusal)),
+        Act::Reserves(client, more) => match pass_of(passes, client) {
+            Some(pass) => pass.reserve(more).is_ok(),
+            None => false,
+        },
+        Act::Asks(client, line, want) => match pass_of(passes, client) {
+            Some(pass) => asks(rt, desk, pass, line, want),
+            None => false,
+        },
+        Act::Gathers(want) => {
+            let handed_in = std::mem::replace(passes, Vec::new(alloc));
+            gathers(rt, desk, handed_in, want)
+        }
+        Act::GathersNone(count, refusal) => gathers_none(rt, alloc, desk, passes, count, refusal),
+        Act::Routes(act) => is_routed(rt, desk, routing, act),
+    }
+}
+
+/// How acts go at a desk, in their order up to the first that isn't so.
+pub fn play<D: DeskName, W: Asks + Drop, R: Wait + Drop>(
+    rt: &impl Wait,
+    alloc: Global,
+    desk: &Desk<D, W, R>,
+    acts: &[Act],
+) -> Played {
+    let (mut passes, mut routing) = (Vec::new(alloc), Routing::new(alloc));
+    for (index, act) in acts.iter().enumerate() {
+        if !is_so(rt, alloc, desk, &mut passes, &mut routing, *act) {
+            return Played::Wrong(index);
+        }
+    }
+    Played::AllSo
+}

@@ -1,0 +1,194 @@
+//! A desk for a test: its watchers, what was applied before it was opened, and what is tried at it.
+ghost use Rattle.std.specs.Prelude.{◌≡◌, IfOk};
+ghost use Rattle.mt_watch.specs.Notices.{notice_of};
+
+use crate::acts::{Act, Played, play};
+use crate::memory::is_moved;
+use crate::no_memory::is_given_up;
+use crate::reading::all_go_on;
+use crate::texts::event_of;
+use crate::threads::two_ask;
+use crate::told_memory::is_told_all;
+use mt_desk::{Desk, DeskFault, DeskName};
+use mt_event::Refusal;
+use mt_names::KeyspaceName;
+use mt_routes::Opened;
+use mt_site::Core;
+use mt_watch::{Asks, Callback, Change, Notice, Scope, WatchFault, Watcher, Watchers};
+use std::alloc::Global;
+use std::marker::Brand;
+use std::sync::Wait;
+use std::sync::ledger::Blank;
+use std::thread::Threads;
+
+/// Who watches.
+#[derive(Clone, Copy)]
+pub enum Watch {
+    /// The primaries of the two keyspaces that tables move between.
+    Primaries,
+    /// Routers too, behind them.
+    Routes,
+    /// Routers too, but what these are asked is refused.
+    RoutesRefused,
+}
+
+/// What is tried at a desk.
+#[derive(Clone, Copy)]
+pub enum Trial<'a> {
+    /// A list of acts.
+    Acts(&'a [Act]),
+    /// Two clients ask on two threads, each so often.
+    TwoThreads(u64),
+    /// Routers read in four threads while a client edits a rule and each edit is told.
+    Readers,
+    /// A move from its beginning to its end, where one allocation may fail.
+    OneFails,
+    /// A move that is given up, where all allocations may fail from one on.
+    AllFail,
+    /// Routes that are told, where one allocation may fail.
+    OneFailsTelling,
+}
+
+/// A watcher of a scope, which may refuse whatever it is asked.
+fn watcher_of(alloc: Global, scope: Scope, refuses: bool) -> Option<Watcher> {
+    let own = scope.copied();
+    let call: Callback = match Box::new(
+        alloc,
+        move |change: &Change| -> Result<Notice, WatchFault>
+            ensures { IfOk result (λ notice. notice ≡ notice_of own change.now) }
+        {
+            if refuses {
+                return Err(WatchFault(1));
+            }
+            Notice::of(alloc, &own, change).map_err(|_| WatchFault(0))
+        },
+    ) {
+        Ok(call) => call,
+        Err(_) => return None,
+    };
+    Some(Watcher::new(scope, call))
+}
+
+/// Watchers of the primaries of two keyspaces.
+pub fn two_watchers(alloc: Global) -> Option<Watchers> {
+    let mut watchers = Watchers::new(alloc);
+    for name in ["commerce", "customer"] {
+        let scope = Scope::Primary(KeyspaceName::parse(name).ok()?);
+        watchers.add(watcher_of(alloc, scope, false)?).ok()?;
+    }
+    Some(watchers)
+}
+
+/// Whoever watches.
+fn watchers_of(alloc: Global, watch: Watch) -> Option<Watchers> {
+    let mut watchers = two_watchers(alloc)?;
+    let refuses = match watch {
+        Watch::Primaries => return Some(watchers),
+        Watch::Routes => false,
+        Watch::RoutesRefused => true,
+    };
+    watchers
+        .add(watcher_of(alloc, Scope::Routes, refuses)?)
+        .ok()?;
+    Some(watchers)
+}
+
+/// Whether an event is done, at once or at a second try where memory was short.
+fn applies<W: Asks>(core: &mut Core, watchers: &W, line: &str) -> bool {
+    let Some(event) = event_of(line) else {
+        return false;
+    };
+    match core.apply(watchers, &event) {
+        Ok(_) => true,
+        Err(Refusal::Memory) => core.apply(watchers, &event).is_ok(),
+        Err(_) => false,
+    }
+}
+
+/// A core to which events were applied.
+pub fn core_of<W: Asks>(alloc: Global, watchers: &W, lines: &[&str]) -> Option<Core> {
+    let mut core = Core::new(alloc);
+    for line in lines {
+        if !applies(&mut core, watchers, line) {
+            return None;
+        }
+    }
+    Some(core)
+}
+
+/// How a trial goes at a desk that is opened for it.
+fn at_a_desk<D: DeskName + Send + Sync, W: Asks + Drop + Send, R: Threads + Wait + Sync>(
+    rt: &R,
+    alloc: Global,
+    blank: Blank,
+    opened: Opened,
+    core: Core,
+    watchers: W,
+    trial: Trial<'_>,
+) -> Played
+    requires name { (blank.name ≡ D.name) × (blank.parts ≡ D.parts) }
+    requires list { opened.seen.book ≡ D.book }
+    requires opening { core ≡ D.opening }
+    requires scopes { W.scopes watchers ≡ D.scopes }
+{
+    let made: Result<Desk<D, W, &R>, DeskFault> = Desk::open(
+        alloc, rt, blank, opened, core, watchers,
+    );
+    let Ok(desk) = made else {
+        return Played::NotMade;
+    };
+    let played = match trial {
+        Trial::Acts(acts) => play(rt, alloc, &desk, acts),
+        Trial::TwoThreads(asks) => two_ask(rt, alloc, &desk, asks),
+        Trial::Readers => all_go_on(rt, alloc, &desk),
+        Trial::OneFails => is_moved(rt, alloc, &desk),
+        Trial::AllFail => is_given_up(rt, &desk),
+        Trial::OneFailsTelling => is_told_all(rt, &desk),
+    };
+    desk.close(rt);
+    played
+}
+
+/// How a trial goes at a desk with these watchers, whose controller was asked for these events before.
+fn watched<W: Asks + Drop + Send, R: Threads + Wait + Sync>(
+    rt: &R,
+    alloc: Global,
+    watchers: W,
+    before: &[&str],
+    trial: Trial<'_>,
+) -> Played {
+    let Some(core) = core_of(alloc, &watchers, before) else {
+        return Played::NotMade;
+    };
+    let (blank, opened) = (Blank::new(1), Opened::new());
+    at_a_desk::<Brand, W, R>(rt, alloc, blank, opened, core, watchers, trial)
+}
+
+/// The same, where whoever watches is made first.
+fn tried_once<R: Threads + Wait + Sync>(
+    rt: &R,
+    alloc: Global,
+    watch: Watch,
+    before: &[&str],
+    trial: Trial<'_>,
+) -> Played {
+    match watchers_of(alloc, watch) {
+        Some(watchers) => watched::<Watchers, R>(rt, alloc, watchers, before, trial),
+        None => Played::NotMade,
+    }
+}
+
+/// How a trial goes at a desk that is so watched, whose controller was asked for these events before. A desk that isn't made is made
+/// a second time.
+pub fn tried<R: Threads + Wait + Sync>(
+    rt: &R,
+    alloc: Global,
+    watch: Watch,
+    before: &[&str],
+    trial: Trial<'_>,
+) -> Played {
+    match tried_once(rt, alloc, watch, before, trial) {
+        Played::NotMade => tried_once(rt, alloc, watch, before, trial),
+        played => played,
+    }
+}

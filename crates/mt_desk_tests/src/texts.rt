@@ -1,0 +1,61 @@
+//! Events and answers as the lines of a script.
+
+use mt_desk::Answer;
+use mt_event::Event;
+use mt_script::{Line, Request, answer_line, read_line};
+
+/// The event that a line asks for; none if it asks for none, for several, or where a name leads.
+pub fn event_of(line: &str) -> Option<Event> {
+    let Line::Request(request) = read_line(line.as_bytes()) else {
+        return None;
+    };
+    match request {
+        Request::AddKeyspace(keyspace) => Some(Event::AddKeyspace { keyspace }),
+        Request::AddTable(keyspace, table) => Some(Event::AddTable { keyspace, table }),
+        Request::EditRule(key, target) => Some(Event::EditRule { key, target }),
+        Request::WriteAt(keyspace, table, op) => Some(Event::Write {
+            keyspace,
+            table,
+            op,
+        }),
+        Request::ReadAt(keyspace, table, key, type_of) => Some(Event::Read {
+            keyspace,
+            table,
+            key,
+            type_of,
+        }),
+        other => event_of_workflow(other),
+    }
+}
+
+/// The same, if it is one on a workflow.
+fn event_of_workflow(request: Request) -> Option<Event> {
+    match request {
+        Request::Create(workflow, source, target, tables) => Some(Event::Create {
+            workflow,
+            source,
+            target,
+            tables,
+        }),
+        Request::Advance(workflow, stream, at, max) => Some(Event::Advance {
+            workflow,
+            stream,
+            at,
+            max,
+        }),
+        Request::BeginSwitch(workflow, types) => Some(Event::BeginSwitch { workflow, types }),
+        Request::BeginReverse(workflow, types) => Some(Event::BeginReverse { workflow, types }),
+        Request::Step(workflow, at) => Some(Event::Step { workflow, at }),
+        Request::Undo(workflow, at) => Some(Event::Undo { workflow, at }),
+        Request::Cancel(workflow) => Some(Event::Cancel { workflow }),
+        Request::Complete(workflow) => Some(Event::Complete { workflow }),
+        Request::Show(workflow) => Some(Event::Show { workflow }),
+        _ => None,
+    }
+}
+
+/// Whether an answer is written so.
+pub fn is_written(answer: &Answer, want: &str) -> bool {
+    let line = answer_line(answer);
+    line.starts_with(want.as_bytes()) && line.len() == want.len() + 1
+}
