@@ -1,0 +1,11 @@
+-- The desk has the name of its blank and of its list, and opens with this core and the scopes of these watchers.
+use Rattle.mt_workers_tests.proofs.opened.watched.Given as goal
+
+abbrev pub ghosts-at_a_desk-D-Ledger : goal.ghosts-at_a_desk-D-Ledger
+ghosts-at_a_desk-D-Ledger g a = record { name = a.blank.name; parts = a.blank.parts }
+
+abbrev pub ghosts-at_a_desk-D-DeskName : goal.ghosts-at_a_desk-D-DeskName
+ghosts-at_a_desk-D-DeskName g a = record { opening = a.core; scopes = g.W.Asks.scopes a.watchers }
+
+abbrev pub ghosts-at_a_desk-D-Naming : goal.ghosts-at_a_desk-D-Naming
+ghosts-at_a_desk-D-Naming g a = record { book = a.opened.seen.book }

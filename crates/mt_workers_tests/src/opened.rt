@@ -1,0 +1,150 @@
+//! A desk for a test: a workflow is created and copied.
+ghost use Rattle.std.specs.Prelude.{◌≡◌, IfOk};
+ghost use Rattle.mt_watch.specs.Notices.{notice_of};
+
+use crate::together::two_controllers;
+use crate::turns::{Turns, in_turn};
+use arrayvec::ArrayVec;
+use mt_desk::{Desk, DeskFault, DeskName};
+use mt_event::Event;
+use mt_names::{KeyspaceName, NameFault, TableName, WorkflowName};
+use mt_routes::Opened;
+use mt_site::Core;
+use mt_watch::{Asks, Callback, Change, Notice, Scope, WatchFault, Watcher, Watchers};
+use mt_workflow::Slot;
+use std::alloc::Global;
+use std::marker::Brand;
+use std::sync::Wait;
+use std::sync::ledger::Blank;
+use std::thread::Threads;
+
+/// What is tried at a desk.
+#[derive(Clone, Copy)]
+pub enum Trial {
+    /// Workers one after the other.
+    InTurn(Turns),
+    /// Two controllers and two clients at once.
+    TwoControllers,
+}
+
+/// The events before a desk is opened.
+fn events() -> Result<[Event; 5], NameFault> {
+    let mut tables = ArrayVec::new_in(());
+    tables.push(TableName::parse("corder")?);
+    Ok([
+        Event::AddKeyspace {
+            keyspace: KeyspaceName::parse("commerce")?,
+        },
+        Event::AddKeyspace {
+            keyspace: KeyspaceName::parse("customer")?,
+        },
+        Event::AddTable {
+            keyspace: KeyspaceName::parse("commerce")?,
+            table: TableName::parse("corder")?,
+        },
+        Event::Create {
+            workflow: WorkflowName::parse("mv")?,
+            source: KeyspaceName::parse("commerce")?,
+            target: KeyspaceName::parse("customer")?,
+            tables,
+        },
+        Event::Advance {
+            workflow: WorkflowName::parse("mv")?,
+            stream: Slot::Forward,
+            at: 0,
+            max: 100,
+        },
+    ])
+}
+
+/// The core behind these events.
+fn core_of<W: Asks>(alloc: Global, watchers: &W) -> Option<Core> {
+    let mut core = Core::new(alloc);
+    for event in &events().ok()? {
+        if core.apply(watchers, event).is_err() {
+            return None;
+        }
+    }
+    Some(core)
+}
+
+/// The scopes of the watchers.
+fn scopes() -> Result<[Scope; 3], NameFault> {
+    Ok([
+        Scope::Routes,
+        Scope::Primary(KeyspaceName::parse("commerce")?),
+        Scope::Primary(KeyspaceName::parse("customer")?),
+    ])
+}
+
+/// A watcher of each scope.
+fn watchers_of(alloc: Global) -> Option<Watchers> {
+    let mut watchers = Watchers::new(alloc);
+    for scope in &scopes().ok()? {
+        let own = scope.copied();
+        let call: Callback = match Box::new(
+            alloc,
+            move |change: &Change| -> Result<Notice, WatchFault>
+                ensures { IfOk result (λ notice. notice ≡ notice_of own change.now) }
+            { Notice::of(alloc, &own, change).map_err(|_| WatchFault(0)) },
+        ) {
+            Ok(call) => call,
+            Err(_) => return None,
+        };
+        if watchers.add(Watcher::new(scope.copied(), call)).is_err() {
+            return None;
+        }
+    }
+    Some(watchers)
+}
+
+/// Whether a trial goes as it should at a desk that is opened for it.
+fn at_a_desk<D: DeskName + Send + Sync, W: Asks + Drop + Send, R: Threads + Wait + Sync>(
+    rt: &R,
+    alloc: Global,
+    blank: Blank,
+    opened: Opened,
+    core: Core,
+    watchers: W,
+    trial: Trial,
+) -> Option<bool>
+    requires name { (blank.name ≡ D.name) × (blank.parts ≡ D.parts) }
+    requires list { opened.seen.book ≡ D.book }
+    requires opening { core ≡ D.opening }
+    requires scopes { W.scopes watchers ≡ D.scopes }
+{
+    let opened: Result<Desk<D, W, &R>, DeskFault> = Desk::open(
+        alloc, rt, blank, opened, core, watchers,
+    );
+    let Ok(desk) = opened else {
+        return None;
+    };
+    match trial {
+        Trial::InTurn(turns) => in_turn(rt, &desk, turns),
+        Trial::TwoControllers => two_controllers(rt, alloc, &desk),
+    }
+}
+
+/// Whether a trial goes as it should at a desk with these watchers.
+fn watched<W: Asks + Drop + Send, R: Threads + Wait + Sync>(
+    rt: &R,
+    alloc: Global,
+    watchers: W,
+    trial: Trial,
+) -> Option<bool> {
+    let core = core_of(alloc, &watchers)?;
+    at_a_desk::<Brand, W, R>(
+        rt,
+        alloc,
+        Blank::new(1),
+        Opened::new(),
+        core,
+        watchers,
+        trial,
+    )
+}
+
+/// Whether a trial goes as it should.
+pub fn tried<R: Threads + Wait + Sync>(rt: &R, alloc: Global, trial: Trial) -> Option<bool> {
+    watched::<Watchers, R>(rt, alloc, watchers_of(alloc)?, trial)
+}

@@ -1,0 +1,103 @@
+//! Two controllers and two clients at once.
+
+use crate::opened::{Trial, tried};
+use crate::turns::{is_at_rest, workflow};
+use crossbeam_channel::{Sender, unbounded};
+use mt_desk::{Desk, DeskName, Pass};
+use mt_event::{Driven, Refusal};
+use mt_messages::{Message, NoGate};
+use mt_model::Op;
+use mt_names::{RuleKey, TypeSet, Value};
+use mt_watch::Asks;
+use mt_workers::{ControlFault, Line, controller, query_worker};
+use std::alloc::Global;
+use std::sync::Wait;
+use std::test::Fail;
+use std::thread::{Threads, join};
+
+/// How many rows a client inserts.
+const ROWS: u64 = 20;
+
+/// Inserts of rows behind a key by the table's name.
+fn inserts(alloc: Global, first: u64) -> Option<Vec<Line>> {
+    let mut lines = Vec::new(alloc);
+    for number in 0..ROWS {
+        let key = RuleKey::parse("corder").ok()?;
+        let op = Op::Insert(first.saturating_add(number), Value::new());
+        lines.push(Line::Put(key, op)).ok()?;
+    }
+    Some(lines)
+}
+
+/// A client inserts its rows. Answers its pass, if all of its lines were sent.
+fn writes<R: Wait, D: DeskName, W: Asks + Drop, H: Wait + Drop>(
+    rt: &R,
+    alloc: Global,
+    desk: &Desk<D, W, H>,
+    sender: &Sender<Message>,
+    pass: Pass<D>,
+) -> Option<Pass<D>> {
+    let lines = inserts(alloc, u64::from(pass.client()).saturating_mul(1000))?;
+    let router = desk.router(rt).ok()?;
+    match query_worker(rt, &NoGate, desk, router, pass, 0, lines.as_slice(), sender) {
+        (pass, ROWS) => Some(pass),
+        _ => None,
+    }
+}
+
+/// A controller switches all types. Answers its pass, and whether it did, if it ended as one of two may.
+fn switches<R: Wait, D: DeskName, W: Asks + Drop, H: Wait + Drop>(
+    rt: &R,
+    desk: &Desk<D, W, H>,
+    pass: Pass<D>,
+) -> Option<(Pass<D>, bool)> {
+    let name = workflow()?;
+    let (pass, end) = controller(rt, &NoGate, desk, pass, 0, &name, TypeSet::ALL, false, 256);
+    match end {
+        Ok(Driven::Done) => Some((pass, true)),
+        Err(
+            ControlFault::Refused(
+                Refusal::UnderWay | Refusal::NothingUnderWay | Refusal::NothingToSwitch,
+            ),
+        ) => Some((pass, false)),
+        _ => None,
+    }
+}
+
+/// Whether two controllers switch all between them while two clients write, and all passes are gathered.
+pub fn two_controllers<
+    R: Threads + Wait + Sync,
+    D: DeskName + Send + Sync,
+    W: Asks + Drop + Send,
+    H: Wait + Drop + Send,
+>(rt: &R, alloc: Global, desk: &Desk<D, W, H>) -> Option<bool> {
+    let (sender, _receiver) = unbounded(alloc).ok()?;
+    let (one, two) = (desk.pass(rt, 1).ok()?, desk.pass(rt, 2).ok()?);
+    let (three, four) = (desk.pass(rt, 3).ok()?, desk.pass(rt, 4).ok()?);
+    let told = &sender;
+    let ((one, two), (three, four)) = join(
+        rt,
+        move || join(
+            rt,
+            move || switches(rt, desk, one),
+            move || switches(rt, desk, two),
+        ),
+        move || {
+            join(
+                rt,
+                move || writes(rt, alloc, desk, told, three),
+                move || writes(rt, alloc, desk, told, four),
+            )
+        },
+    );
+    let ((mut one, first), (two, second)) = (one?, two?);
+    let is_switched = is_at_rest(rt, desk, &mut one, TypeSet::ALL)?;
+    let passes = Vec::from_array(alloc, [one, two, three?, four?]).ok()?;
+    Some(is_switched && (first || second) && desk.gather(rt, passes).is_ok())
+}
+
+#[test]
+fn two_controllers_switch_once(rt: HostRuntime) -> Result<(), Fail> {
+    assert_eq!(rt; tried(&rt, rt.alloc(), Trial::TwoControllers), Some(true));
+    Ok(())
+}
