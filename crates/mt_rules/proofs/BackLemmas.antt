@@ -9,7 +9,7 @@ use Rattle.std.specs.Option.{option_map_or}
 use Rattle.serde_json.specs.Data.{Data, depth, items_depth}
 use Rattle.serde_json.specs.Read.{max_depth, read}
 use Rattle.serde_json.specs.View.{items_of}
-use Rattle.serde_json.specs.Written.{compact_text, has_float, items_have_float}
+use Rattle.serde_json.specs.Written.{items_have_float}
 use Rattle.mt_names.specs.declared.keys.RuleKey.{RuleKey}
 use Rattle.mt_names.specs.declared.keys.RuleTarget.{RuleTarget}
 use Rattle.mt_names.specs.Keys.{target_text, read_target}
@@ -21,14 +21,13 @@ use Rattle.mt_model.specs.Topology.{Rules}
 use Rattle.mt_rules.specs.declared.fault.RulesFault.TheVariants.{NotJson}
 use Rattle.mt_rules.specs.Read.{rule_of, or_bad_name, rules_of_value, with_one_more, with_rules}
 use Rattle.mt_rules.specs.Values.{IsNamed, IsWellSorted, Says, document_value, rule_value, ruled, rules_value}
-use Rattle.mt_model.specs.Documents.{rules_text, sorted_rules}
+use Rattle.mt_model.specs.Documents.{sorted_rules}
 use Rattle.mt_rules.specs.Member.{rules_in, rules_of, unless_fault, with_new_rule}
 use Rattle.mt_rules.proofs.KeysLemmas.{none_yet, still_none}
 use Rattle.mt_rules.proofs.ReadLemmas.{value_of_text-some}
 use Rattle.mt_rules.proofs.RulesLemmas.{with_one_more-new}
-use Rattle.mt_rules.proofs.TextLemmas.{compact_text-document}
 
--- ---- the value has no float and is not deep, so its text is known and is read back
+-- ---- the value has no float and is not deep
 
 pub no_float_rules : (rs : List (RuleKey × RuleTarget)) → items_have_float (items_of (map rule_value rs)) ≡ false
 no_float_rules [] = refl
@@ -38,16 +37,10 @@ pub not_deep : (rs : List (RuleKey × RuleTarget)) → items_depth (items_of (ma
 not_deep [] = omega arith
 not_deep (r ∷ rs) = max-le {a = depth (rule_value r)} (omega arith) (not_deep rs)
 
-no_float_document : (rules : Rules) → has_float (document_value rules) ≡ false
-no_float_document rules = rw (no_float_rules (sorted_rules rules)) refl
-
 not_deep_document : (rules : Rules) → depth (document_value rules) ≤ max_depth
 not_deep_document rules =
     let few = not_deep (sorted_rules rules) in
     let inside : max (depth (rules_value rules)) 0 ≤ 3 = max-le {a = depth (rules_value rules)} {b = 0} {k = 3} (omega (arith, few)) (omega arith) in omega (arith, inside)
-
-pub document_text : (rules : Rules) (d : Data) (text : List ℕ) → d ≡ document_value rules → IsWellSorted rules → (has_float d ≡ false → text ≡ compact_text d) → text ≡ rules_text rules
-document_text rules d text is sorted h = h (ap has_float is ∙ no_float_document rules) ∙ ap compact_text is ∙ compact_text-document rules sorted.named
 
 -- ---- each rule is read back
 

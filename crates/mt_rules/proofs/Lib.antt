@@ -1,3 +1,4 @@
+pub mod AscendLemmas
 pub mod BackLemmas
 pub mod KeysLemmas
 pub mod PutLemmas
@@ -6,3 +7,4 @@ pub mod RouteLemmas
 pub mod RulesLemmas
 pub mod SortLemmas
 pub mod TextLemmas
+pub mod WrittenLemmas

@@ -5,6 +5,7 @@ mod fault;
 mod member;
 mod read;
 mod rules;
+mod text;
 mod write;
 
 pub use fault::RulesFault;

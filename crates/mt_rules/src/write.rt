@@ -1,8 +1,8 @@
 //! Writing the document of the rules.
-ghost use Rattle.std.specs.Prelude.{◌≡◌, ◌≤◌, codes, length, IfOk, OnOk, string_bytes};
+ghost use Rattle.std.specs.Prelude.{◌≡◌, ◌≤◌, length, IfOk, OnOk, string_bytes};
 ghost use Rattle.std.specs.List.{IsDistinct};
 ghost use Rattle.std.specs.Map.{keys_of};
-ghost use Rattle.serde_json.specs.Data.{Members, array, member, no_members, object, put};
+ghost use Rattle.serde_json.specs.Data.{Members, array, put};
 ghost use Rattle.serde_json.specs.View.{view, members_view};
 ghost use Rattle.mt_names.specs.Keys.{key_text};
 ghost use Rattle.mt_names.specs.Same.{same_key};
@@ -10,6 +10,7 @@ ghost use Rattle.mt_model.specs.Limits.{most_rules};
 ghost use Rattle.mt_rules.specs.Values.{AreInOrder, IsNamed, IsWellSorted, Says, rule_value, rules_value, texts_value, values_in};
 ghost use Rattle.mt_model.specs.Documents.{rules_text};
 
+use crate::text;
 use indexmap::IndexMap;
 use mt_names::{RuleKey, RuleTarget};
 use serde_json::{Map, Value, json};
@@ -80,13 +81,6 @@ pub fn value_of_rules(
     list_of_values(alloc, values)
 }
 
-/// The document with this list of rules.
-fn document_of(alloc: Global, rules: Value) -> Result<Value, AllocError>
-    ensures { IfOk result (λ document. view document ≡ object (member (codes "rules") (view rules) no_members)) }
-{
-    json!(in alloc; {"rules": rules})
-}
-
 /// The document of the rules.
 pub fn text_of_rules(
     alloc: Global,
@@ -97,7 +91,6 @@ pub fn text_of_rules(
     ensures text { IfOk result (λ text. string_bytes text ≡ rules_text places.now.entries) }
     ensures says { IfOk result (λ text. Says (string_bytes text) places.now.entries) }
 {
-    let rules = value_of_rules(alloc, places)?;
-    let document = document_of(alloc, rules)?;
-    document.to_string(alloc)
+    let rules = text::rules_in_order(alloc, places)?;
+    text::document_of(alloc, &rules)
 }

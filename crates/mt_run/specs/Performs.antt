@@ -56,7 +56,8 @@ Tells due told told' (Err f) = (f ≡ fault.Write) × IsCutShort told told' due.
 abbrev pub IsUntouched : (left left' held held' : Known) → Type 0
 IsUntouched left left' held held' = Consumes left left' [] × Appends held held' []
 
--- what each choice does to the bytes read, to those on standard output and on standard error. A race is refused so far
+-- what each choice does to the bytes read, to those on standard output and on standard error. A race isn't run by this call, which
+-- refuses it with the usage
 abbrev pub Performs : Result Choice Wrong → (left left' held held' told told' : Known) → Result Status ScriptFault → Type 0
 Performs (Ok (choice.Run keyspaces)) left left' held held' told told' result =
     (end : Result Unit ScriptFault) × Runs (watchers_of keyspaces.items) left left' held held' end × Tells (ending_of_run end) told told' result

@@ -64,7 +64,8 @@ fn tell_refusal<E: Write>(errors: &mut E, wrong: Wrong) -> Result<Status, Script
 
 /// Does what a command line asks for: runs the script that the reader gives, writes the canonical form of its document, or
 /// prints help, all to `output`; a fault, or a refused command line, is told in a line on `errors`, and nothing else is.
-/// `mt race` is refused with the usage so far. `ScriptFault::Write` is answered if that line could not be written.
+/// A race isn't run here: it takes threads, and the program runs it before it comes here. By this call `mt race` is refused with
+/// the usage. `ScriptFault::Write` is answered if that line could not be written.
 pub fn perform<R: Read, O: Write, E: Write>(
     alloc: Global,
     asked: Result<Choice, Wrong>,

@@ -1,14 +1,19 @@
 -- Entries recorded, written and written back.
-use Rattle.std.proofs.Common.{◌≡◌, ℕ, zero, suc, ◌+◌, ◌<◌, ◌≤◌, Bool, true, false, if◌then◌else◌, List, [], ◌∷◌, ◌++◌, length, map, filter, fold, take, drop, set, slice_get, Some, All, slice_index_or, append_assoc, append-nil, refl, sym, ap, subst, ◌∙◌, arith}
+use Rattle.std.proofs.Common.{◌≡◌, ◌≢◌, ◌==◌, ℕ, zero, suc, ◌+◌, ◌<◌, ◌≤◌, Bool, true, false, if◌then◌else◌, List, [], ◌∷◌, ◌++◌, length, map, filter, flat_map, fold, get_or, take, drop, set, Option, None, Some, All, slice_index_or, append_assoc, append-nil, refl, sym, ap, subst, ◌∙◌, arith}
 use Rattle.std.proofs.lemmas.Grind.{drop_more_same}
-use Rattle.std.proofs.lemmas.List.{drop_all, drop-set-lt, drop_more, take_all, take_more_set}
+use Rattle.std.proofs.lemmas.List.{drop_all, drop-set-lt, drop_more, flat_map_more, map-append, take_all, take_more, take_more_set}
+use Rattle.std.proofs.lemmas.Bool.Decides.{nat_tests}
+use Rattle.mt_names.specs.declared.types.TabletType.{TabletType}
+use Rattle.mt_names.specs.declared.types.TabletType.TheVariants.{Primary, Replica, Rdonly}
 use Rattle.mt_names.specs.declared.types.TypeSet.{TypeSet}
 use Rattle.mt_model.specs.declared.entries.Entry.{Entry}
 use Rattle.mt_model.specs.declared.entries.EntryKey.{EntryKey}
 use Rattle.mt_model.specs.declared.entries.EntryKey.TheVariants as about
 use Rattle.mt_model.specs.Part.{with_entries}
 use Rattle.mt_model.specs.Topology.{TopologyState, has_place, key_of, value_of, with_entry}
-use Rattle.mt_workflow.specs.Workflows.{WorkflowState, wanted}
+use Rattle.mt_plain.specs.Plain.{allow_target, deny_source}
+use Rattle.mt_plain.specs.Serve.{owned_before, rule_step}
+use Rattle.mt_workflow.specs.Workflows.{WorkflowState, live_of, wanted}
 use Rattle.mt_steps.specs.Entries.{is_of_step, recorded, recorded_entry, recorded_of, with_recorded, with_wanted}
 
 -- ---- a loop that changes each item of a list
@@ -36,11 +41,19 @@ all_changed f all entries i as_many over c =
     let none : drop i all ≡ [] = drop_all i all over in
     sym (append-nil entries) ∙ ap (λ l. l ++ []) (sym (take_all i entries (omega (arith, as_many, over)))) ∙ ap (λ l. take i entries ++ map f l) (sym none) ∙ c.front
 
--- one item more of a list
-pub map_next : {X Y : Type 0} (f : X → Y) (xs : List X) (i : ℕ) (x : X) → Some x ≡ slice_get xs i → map f (take i xs) ++ f x ∷ [] ≡ map f (take (suc i) xs)
-map_next f [] i x is = absurd cc
-map_next f (y ∷ ys) zero x is = let same : y ≡ x = cc in rw same refl
-map_next f (y ∷ ys) (suc i) x is = ap (λ l. f y ∷ l) (map_next f ys i x is)
+-- one key more of a table
+pub entry_next : (f : EntryKey → Entry) (before : List Entry) (keys : List EntryKey) (i : ℕ) (key : EntryKey) → i < length keys → key ≡ get_or keys i key
+    → (before ++ map f (take i keys)) ++ f key ∷ [] ≡ before ++ map f (take (i + 1) keys)
+entry_next f before keys i key inside is =
+    append_assoc before (map f (take i keys)) (f key ∷ [])
+    ∙ ap (λ l. before ++ l) (sym (map-append f (take i keys) (key ∷ [])) ∙ ap (λ x. map f (take i keys ++ x ∷ [])) is ∙ ap (map f) (sym (take_more keys i key inside)))
+
+-- one table more of the part
+pub table_next : (f : EntryKey → Entry) (keys : List ℕ → List EntryKey) (tables : List (List ℕ)) (i : ℕ) (table : List ℕ) → i < length tables → table ≡ get_or tables i table
+    → map f (flat_map keys (take i tables)) ++ map f (keys table) ≡ map f (flat_map keys (take (i + 1) tables))
+table_next f keys tables i table inside is =
+    sym (map-append f (flat_map keys (take i tables)) (keys table)) ∙ ap (map f) (flat_map_more keys [] (take i tables) table)
+    ∙ ap (λ x. map f (flat_map keys (take i tables ++ x ∷ []))) is ∙ ap (λ ts. map f (flat_map keys ts)) (sym (take_more tables i table inside))
 
 -- ---- keys
 
@@ -104,3 +117,37 @@ backs_are_entries w n t (e ∷ entries) = by (λ u. backs_are_entries w n u entr
     by : ((u : TopologyState) → Is u entries) → (b : Bool) → is_of_step w n (key_of e) ≡ b → Is t (e ∷ entries)
     by again true b = rw b (again (with_entry t e))
     by again false b = rw b (again t)
+
+-- ---- a step with which no entry changes
+
+other_number : (a n : ℕ) → n ≢ a → (a == n) ≡ false
+other_number a n apart = grind (arith, nat_tests)
+
+-- 0, 1, 7 and 9 are the steps with which entries change
+pub none_of_step : (w : WorkflowState) (n : ℕ) (key : EntryKey) → n ≢ 0 → n ≢ 1 → n ≢ 7 → n ≢ 9 → is_of_step w n key ≡ false
+none_of_step w n (about.Rule key) reads denial release rules = by key.tablet_type
+  where
+    by : (t : Option TabletType) → (rule_step t == n) ≡ false
+    by None = other_number 9 n rules
+    by (Some Primary) = other_number 9 n rules
+    by (Some Replica) = other_number 0 n reads
+    by (Some Rdonly) = other_number 0 n reads
+none_of_step w n (about.Denied keyspace table) reads denial release rules = by (owned_before (live_of w) keyspace)
+  where
+    by : (b : Bool) → ((if b then deny_source else allow_target) == n) ≡ false
+    by true = other_number 1 n denial
+    by false = other_number 7 n release
+none_of_step w n (about.Present keyspace table) reads denial release rules = other_number 0 n reads
+
+module _ (w : WorkflowState) (n : ℕ) (none : (key : EntryKey) → is_of_step w n key ≡ false) where
+  pub none_recorded : (t : TopologyState) (entries : List Entry) → entries ≡ recorded w n t entries
+  none_recorded t [] = refl
+  none_recorded t (e ∷ entries) = rw (none (key_of e)) (ap (λ l. e ∷ l) (none_recorded t entries))
+
+  pub none_written : (types : TypeSet) (t : TopologyState) (entries : List Entry) → t ≡ fold (λ u e. with_wanted w types n u (key_of e)) t entries
+  none_written types t [] = refl
+  none_written types t (e ∷ entries) = rw (none (key_of e)) (none_written types t entries)
+
+  pub none_written_back : (t : TopologyState) (entries : List Entry) → t ≡ fold (with_recorded w n) t entries
+  none_written_back t [] = refl
+  none_written_back t (e ∷ entries) = rw (none (key_of e)) (none_written_back t entries)

@@ -1,18 +1,53 @@
 //! The entries that a step writes, and what stood before them.
-ghost use Rattle.std.specs.Prelude.{◌≡◌, true, All, fold};
+ghost use Rattle.std.specs.Prelude.{◌≡◌, true, false, All, fold};
 ghost use Rattle.mt_model.specs.declared.entries.EntryKey.{EntryKey};
 ghost use Rattle.mt_model.specs.Topology.{has_place, key_of};
-ghost use Rattle.mt_steps.specs.Entries.{recorded, recorded_entry, with_recorded, with_wanted};
+ghost use Rattle.mt_plain.specs.Serve.{step_of_entry};
+ghost use Rattle.mt_workflow.specs.Workflows.{WorkflowState, live_of};
+ghost use Rattle.mt_steps.specs.Entries.{is_of_step, recorded, recorded_entry, with_recorded, with_wanted};
 
-use mt_model::{Entry, EntryKey};
-use mt_names::TypeSet;
+use mt_model::Entry;
+use mt_names::{TabletType, TypeSet};
 use mt_topology::Topology;
 use mt_workflow::Workflow;
+
+/// The number of the step of a way with which an entry of the part changes, as `Workflow::step_of` says it of the entry's key. It
+/// copies no key. (Vitess: how traffic is switched)
+fn step_of_entry(workflow: &Workflow, entry: &Entry) -> u8
+    ensures { result ≡ step_of_entry (live_of workflow.now) (key_of entry.now) }
+{
+    match entry {
+        Entry::Rule(key, _) => match key.tablet_type {
+            None => 9,
+            Some(TabletType::Primary) => 9,
+            Some(_) => 0,
+        },
+        Entry::Denied(keyspace, _, _) => {
+            if workflow.owned_before(keyspace) {
+                1
+            } else {
+                7
+            }
+        }
+        Entry::Present(_, _, _) => 0,
+    }
+}
+
+/// Whether any entry may change with a step: 0 the reads, 1 the denial of the tables at the old owner, 7 their release at the new
+/// owner, 9 the plain rules. With the others none does, of whatever workflow. (Vitess: how traffic is switched)
+fn writes_entries(step: u8) -> bool
+    ensures { result ≡ false → (w : WorkflowState) (key : EntryKey) → is_of_step w step key ≡ false }
+{
+    matches!(step, 0 | 1 | 7 | 9)
+}
 
 /// Records of each entry that changes with a step what the topology says there.
 pub(crate) fn record_step(topology: &Topology, workflow: &Workflow, step: u8, entries: &mut [Entry])
     ensures { entries.new ≡ recorded workflow.now step topology.now entries.old }
 {
+    if !writes_entries(step) {
+        return;
+    }
     for entry in entries.iter_mut() {
         record_entry(topology, workflow, step, entry);
     }
@@ -22,11 +57,10 @@ pub(crate) fn record_step(topology: &Topology, workflow: &Workflow, step: u8, en
 fn record_entry(topology: &Topology, workflow: &Workflow, step: u8, entry: &mut Entry)
     ensures { entry.new ≡ recorded_entry workflow.now step topology.now entry.old }
 {
-    let key = entry.key();
-    if workflow.step_of(&key) != step {
+    if step_of_entry(workflow, entry) != step {
         return;
     }
-    *entry = topology.value(&key);
+    *entry = topology.value(&entry.key());
 }
 
 /// Writes each of these entries that changes with a step as it is to be once these types are switched.
@@ -40,27 +74,30 @@ pub(crate) fn write_step(
     requires { All (λ e. has_place topology.old (key_of e) ≡ true) entries.now }
     ensures { topology.new ≡ fold (λ t e. with_wanted workflow.now types step t (key_of e)) topology.old entries.now }
 {
+    if !writes_entries(step) {
+        return;
+    }
     for entry in entries {
-        write_wanted(topology, workflow, types, step, &entry.key());
+        write_wanted(topology, workflow, types, step, entry);
     }
 }
 
-/// The same of one key.
+/// The same of one entry.
 fn write_wanted(
     topology: &mut Topology,
     workflow: &Workflow,
     types: TypeSet,
     step: u8,
-    key: &EntryKey,
+    entry: &Entry,
 )
-    requires { has_place topology.old key.now ≡ true }
-    ensures written { topology.new ≡ with_wanted workflow.now types step topology.old key.now }
+    requires { has_place topology.old (key_of entry.now) ≡ true }
+    ensures written { topology.new ≡ with_wanted workflow.now types step topology.old (key_of entry.now) }
     ensures places { (k : EntryKey) → has_place topology.new k ≡ has_place topology.old k }
 {
-    if workflow.step_of(key) != step {
+    if step_of_entry(workflow, entry) != step {
         return;
     }
-    topology.write(workflow.wanted(key, types));
+    topology.write(workflow.wanted(&entry.key(), types));
 }
 
 /// Writes back each of these entries that changes with a step.
@@ -68,19 +105,22 @@ pub(crate) fn write_back(topology: &mut Topology, workflow: &Workflow, step: u8,
     requires { All (λ e. has_place topology.old (key_of e) ≡ true) entries.now }
     ensures { topology.new ≡ fold (with_recorded workflow.now step) topology.old entries.now }
 {
+    if !writes_entries(step) {
+        return;
+    }
     for entry in entries {
         write_recorded(topology, workflow, step, entry);
     }
 }
 
 /// The same of one entry.
-fn write_recorded(topology: &mut Topology, workflow: &Workflow, step: u8, entry: &Entry)
-    requires { has_place topology.old (key_of entry.now) ≡ true }
-    ensures written { topology.new ≡ with_recorded workflow.now step topology.old entry.now }
+fn write_recorded(topology: &mut Topology, workflow: &Workflow, step: u8, before: &Entry)
+    requires { has_place topology.old (key_of before.now) ≡ true }
+    ensures written { topology.new ≡ with_recorded workflow.now step topology.old before.now }
     ensures places { (k : EntryKey) → has_place topology.new k ≡ has_place topology.old k }
 {
-    if workflow.step_of(&entry.key()) != step {
+    if step_of_entry(workflow, before) != step {
         return;
     }
-    topology.write(entry.copied());
+    topology.write(before.copied());
 }

@@ -1,5 +1,7 @@
 //! What is kept of a way for its undo.
-ghost use Rattle.std.specs.Prelude.{◌≡◌, IfOk, IfErr};
+ghost use Rattle.std.specs.Prelude.{◌≡◌, ◌++◌, map, IfOk, IfErr, OnOk};
+ghost use Rattle.mt_model.specs.Part.{table_part_keys};
+ghost use Rattle.mt_workflow.specs.Workflows.{wanted};
 ghost use Rattle.mt_steps.specs.Entries.{recorded};
 ghost use Rattle.mt_steps.specs.Steps.{given_listed, given_slot, left_listed, left_slot};
 ghost use Rattle.mt_steps.specs.Undo.{new_log};
@@ -7,7 +9,8 @@ ghost use Rattle.mt_steps.specs.Undo.{new_log};
 use crate::entries::record_step;
 use crate::fault::StepFault;
 use crate::step::Step;
-use mt_model::Entry;
+use mt_model::{Entry, table_part_keys};
+use mt_names::TableName;
 use mt_primary::Before;
 use mt_stream::Stream;
 use mt_topology::Topology;
@@ -50,15 +53,11 @@ impl UndoLog {
         ensures value { IfOk result (λ log. log ≡ new_log workflow.now) }
         ensures memory { IfErr result (λ fault. fault ≡ StepFault.Memory) }
     {
-        let mut entries = Vec::new(alloc);
-        for index in 0..workflow.part_len() {
-            let key = workflow.part_key(index);
-            if entries
-                .push(workflow.wanted(&key, workflow.switched()))
-                .is_err()
-            {
-                return Err(StepFault::Memory);
-            }
+        let Ok(mut entries) = Vec::with_capacity(alloc, workflow.part_len()) else {
+            return Err(StepFault::Memory);
+        };
+        for table in workflow.tables() {
+            push_table(&mut entries, workflow, table)?;
         }
         Ok(UndoLog {
             entries,
@@ -102,4 +101,23 @@ impl UndoLog {
         }
         mem::replace(&mut self.slot, None)
     }
+}
+
+/// Puts an entry for each key that a table adds to a workflow's part behind the others, as the part is served at rest. `F0 Memory`.
+fn push_table(
+    entries: &mut Vec<Entry>,
+    workflow: &Workflow,
+    table: &TableName,
+) -> Result<(), StepFault>
+    ensures value { OnOk result (entries.new.items ≡ entries.old.items ++ map (wanted workflow.now workflow.now.switched) (table_part_keys workflow.now.source workflow.now.target table.now)) }
+    ensures memory { IfErr result (λ fault. fault ≡ StepFault.Memory) }
+{
+    let keys = table_part_keys(workflow.source(), workflow.target(), table);
+    let types = workflow.switched();
+    for key in &keys {
+        if entries.push(workflow.wanted(key, types)).is_err() {
+            return Err(StepFault::Memory);
+        }
+    }
+    Ok(())
 }

@@ -13,7 +13,7 @@ const WORKERS: u16 = 4;
 /// What a worker waits for.
 #[derive(Clone, Copy)]
 enum Due {
-    /// The first ask of each has come.
+    /// The first ask of each has arrived.
     AllCame,
     /// The first ask of each is answered.
     AllAnswered,
@@ -22,9 +22,9 @@ enum Due {
 /// What the gate has seen.
 #[derive(Drop)]
 struct Seen {
-    /// How many asks of each worker have come.
+    /// How many asks of each worker have arrived.
     asks: [u64; 4],
-    /// How many first asks have come.
+    /// How many first asks have arrived.
     came: u16,
     /// How many of them are answered.
     answered: u16,
@@ -62,7 +62,7 @@ impl Seen {
     }
 }
 
-/// Holds the first ask of each of four workers until all have come, and its second until all first ones are answered.
+/// Holds the first ask of each of four workers until all have arrived, and its second until all first ones are answered.
 #[derive(Drop)]
 pub struct Meeting {
     seen: Mutex<Seen>,

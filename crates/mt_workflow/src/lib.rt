@@ -5,6 +5,7 @@ mod building;
 mod creating;
 mod fault;
 mod laws;
+mod part;
 mod way;
 mod workflow;
 

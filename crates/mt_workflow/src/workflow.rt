@@ -9,10 +9,11 @@ ghost use Rattle.mt_workflow.specs.Workflows.{IsWorkflow, feeding, keys_of_part,
 
 use crate::building::{each_once, kept_rules, table_list};
 use crate::fault::WorkflowFault;
+use crate::part::table_part_key;
 use crate::way::{Slot, Way};
 use arrayvec::ArrayVec;
 use indexmap::{IndexMap, IndexSet};
-use mt_model::{Entry, EntryKey, table_part_keys};
+use mt_model::{Entry, EntryKey};
 use mt_names::{
     KeyspaceName, MAX_TABLES, Position, RuleKey, RuleTarget, TableName, TabletType, TypeSet,
     WorkflowName,
@@ -156,13 +157,13 @@ impl Workflow {
     }
 
     /// A key of its part by its index: table by table, and of each its twelve rule keys, its denial at the source and at the
-    /// target, and its presence at the target. It takes no memory, and looks at the keys of one table alone.
+    /// target, and its presence at the target. It takes no memory, and makes that key alone.
     pub fn part_key(&self, index: usize) -> EntryKey
         requires { index < length (keys_of_part self.now) }
         ensures { Some result ≡ slice_get (keys_of_part self.now) index }
     {
         let table = &self.tables.as_slice()[index / KEYS_OF_TABLE];
-        table_part_keys(&self.source, &self.target, table)[index % KEYS_OF_TABLE].copied()
+        table_part_key(&self.source, &self.target, table, index % KEYS_OF_TABLE)
     }
 
     /// What an entry of its part is to say once these types are switched. Of an entry of another part the answer means

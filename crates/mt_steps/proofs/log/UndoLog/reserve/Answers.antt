@@ -1,15 +1,15 @@
--- One key more.
-use Rattle.std.proofs.Common.{◌≡◌, [], ◌∷◌, ◌++◌, map, take, rules, sym, ap, add-one, ◌∙◌}
-use Rattle.mt_workflow.specs.Workflows.{keys_of_part, wanted}
-use Rattle.mt_steps.proofs.EntryLemmas.{map_next}
+-- One table more.
+use Rattle.std.proofs.Common.{◌≡◌, ◌++◌, ◌<◌, List, ℕ, get_or, length, map, subst, ap, ◌∙◌}
+use Rattle.mt_model.specs.Part.{table_part_keys}
+use Rattle.mt_workflow.specs.Workflows.{wanted}
+use Rattle.mt_steps.proofs.EntryLemmas.{table_next}
 use Rattle.mt_steps.proofs.log.UndoLog.reserve.Goals as goal
 
-pub loop-index-preserved : goal.loop-index-preserved
-loop-index-preserved c =
+pub loop-table-preserved : goal.loop-table-preserved
+loop-table-preserved c =
     let w = c.args.workflow.now in
-    let i = c.loop-index.index in
-    let pushed : c.push.new.self.items ≡ c.loop-index.entries.items ++ c.wanted.result ∷ [] = search rules in
-    let is : c.wanted.result ≡ wanted w w.switched c.part_key-key.result = c.wanted.ensures ∙ ap (λ types. wanted w types c.part_key-key.result) c.switched.ensures in
-    pushed ∙ ap (λ l. l ++ c.wanted.result ∷ []) c.loop-index.invariant ∙ ap (λ e. map (wanted w w.switched) (take i (keys_of_part w)) ++ e ∷ []) is
-    ∙ map_next (wanted w w.switched) (keys_of_part w) i c.part_key-key.result c.part_key-key.ensures
-    ∙ ap (λ n. map (wanted w w.switched) (take n (keys_of_part w))) (sym (add-one i))
+    let i = c.loop-table.table-index in
+    let x : List ℕ = c.table-item.result in
+    let all : c.tables-table-items.result.now ≡ w.tables = c.tables-table-items.ensures in
+    c.in_ok-push_table.ensures.value ∙ ap (λ es. es ++ map (wanted w w.switched) (table_part_keys w.source w.target x)) c.loop-table.invariant
+    ∙ table_next (wanted w w.switched) (table_part_keys w.source w.target) w.tables i x (subst (λ l. i < length l) all c.loop-table-test.true) (subst (λ l. x ≡ get_or l i x) all c.table-item.is)

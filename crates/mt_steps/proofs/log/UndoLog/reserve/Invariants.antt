@@ -1,7 +1,8 @@
--- The keys before this one have their entries.
+-- The tables before this one have their entries.
 use Rattle.std.proofs.Common.{◌≡◌, map, take}
-use Rattle.mt_workflow.specs.Workflows.{keys_of_part, wanted}
+use Rattle.mt_model.specs.Part.{part_keys}
+use Rattle.mt_workflow.specs.Workflows.{wanted}
 use Rattle.mt_steps.proofs.log.UndoLog.reserve.Given as goal
 
-abbrev pub invariant-loop-index : goal.invariant-loop-index
-invariant-loop-index l = l.entries.items ≡ map (wanted l.workflow l.workflow.switched) (take l.index (keys_of_part l.workflow))
+abbrev pub invariant-loop-table : goal.invariant-loop-table
+invariant-loop-table l = l.entries.items ≡ map (wanted l.workflow l.workflow.switched) (part_keys l.workflow.source l.workflow.target (take l.table-index l.workflow.tables))

@@ -23,14 +23,11 @@ bounds-as_slice-index c =
 pub returns : goal.returns
 returns c =
     let w = c.self.inside in
-    let keys : c.table_part_keys.result ≡ table_part_keys w.source w.target c.index-as_slice-index.result = c.table_part_keys.ensures in
     let within : c.args.index < length w.tables.keys * 15 =
     subst (λ n. c.args.index < n) (ap (λ v. length (keys_of_part v)) (sym c.self.view_is) ∙ length_part w.source w.target w.tables.keys) c.requires in
     let table : slice_get w.tables.keys (c.args.index / 15) ≡ Some c.index-as_slice-index.result =
     ap (λ l. slice_get l (c.args.index / 15)) (sym c.as_slice.ensures.keys)
     ∙ slice_get_read c.as_slice.result.now (length w.tables.keys) (c.args.index / 15) c.index-as_slice-index.result (ap length (sym c.as_slice.ensures.keys)) (omega (arith, within)) c.index-as_slice-index.is in
-    let key : slice_get c.table_part_keys.result (c.args.index % 15) ≡ Some c.index-table_part_keys-index.result =
-    slice_get_read c.table_part_keys.result 15 (c.args.index % 15) c.index-table_part_keys-index.result (ap length (sym keys)) (omega arith) c.index-table_part_keys-index.is in
-    ap Some (c.copied.ensures ∙ sym c.index-table_part_keys-index.is) ∙ sym key ∙ ap (λ l. slice_get l (c.args.index % 15)) keys
+    c.table_part_key.ensures
     ∙ sym (key_of_part w.source w.target w.tables.keys c.args.index (c.args.index / 15) (c.args.index % 15) c.index-as_slice-index.result (omega arith) (omega arith) table)
     ∙ ap (λ v. slice_get (keys_of_part v) c.args.index) c.self.view_is

@@ -1,0 +1,34 @@
+-- The document of the rules as it is written: the texts of the rules, in the order of their keys' texts.
+use Rattle.std.specs.Prelude.{ℕ, List, [], ◌∷◌, ◌++◌, codes, flat_map, map, string_bytes}
+use Rattle.mt_names.specs.declared.keys.RuleKey.{RuleKey}
+use Rattle.mt_names.specs.declared.keys.RuleTarget.{RuleTarget}
+use Rattle.mt_names.specs.Keys.{key_text}
+use Rattle.mt_names.specs.Types.{comma}
+use Rattle.mt_model.specs.Documents.{array, entries_of, member, object, quoted, rule_text}
+use Rattle.mt_model.specs.Topology.{Rules}
+use Rattle.mt_rules.specs.declared.text.WrittenRule.{WrittenRule}
+
+-- the text of a rule of these two texts
+abbrev pub text_of_texts : (from to : List ℕ) → List ℕ
+text_of_texts from to = object (member (codes "from_table") (quoted from) ∷ member (codes "to_tables") (array (quoted to ∷ [])) ∷ [])
+
+-- the text of a rule, with that of its key
+abbrev pub named_text : RuleKey × RuleTarget → List ℕ × List ℕ
+named_text r = (key_text r.0, rule_text r)
+
+-- those of the rules, in the order of their places
+abbrev pub texts_of : Rules → List (List ℕ × List ℕ)
+texts_of rules = map named_text (flat_map entries_of rules)
+
+-- those that the code keeps of a rule
+abbrev pub written_text : WrittenRule → List ℕ × List ℕ
+written_text rule = (string_bytes rule.key, string_bytes rule.text)
+
+-- the document of rules with these texts, in their order
+abbrev pub written_document : List (List ℕ × List ℕ) → List ℕ
+written_document texts = object (member (codes "rules") (array (map (λ x. x.1) texts)) ∷ [])
+
+-- the texts that are left to be written, the first behind `before` and each later one behind a comma
+abbrev pub rest_text : List ℕ → List (List ℕ) → List ℕ
+rest_text before [] = []
+rest_text before (text ∷ texts) = before ++ (text ++ rest_text (comma ∷ []) texts)

@@ -1,0 +1,100 @@
+//! Writing the document of the rules as a text, without a value of `serde_json`.
+ghost use Rattle.std.specs.Prelude.{◌≡◌, ◌++◌, [], codes, map, flat_map, fold, IfOk, OnOk, string_bytes};
+ghost use Rattle.std.specs.List.{AllByRecursion, IsDistinct};
+ghost use Rattle.std.specs.Map.{keys_of};
+ghost use Rattle.mt_names.specs.Same.{same_key};
+ghost use Rattle.mt_model.specs.Documents.{entries_of, put_by_text};
+ghost use Rattle.mt_rules.specs.Values.{IsNamed, IsWellSorted};
+ghost use Rattle.mt_rules.specs.Written.{named_text, text_of_texts, texts_of, written_document, written_text};
+
+use indexmap::IndexMap;
+use mt_names::{RuleKey, RuleTarget};
+use std::alloc::{AllocError, Global};
+
+/// How many bytes the text of a rule is taken to have before it is known.
+const LIKELY_LENGTH: usize = 80;
+
+/// A rule as it is written, with the text of its key, by which rules are sorted.
+#[derive(Drop)]
+pub struct WrittenRule {
+    key: String,
+    text: String,
+}
+
+/// The text of a rule of these two texts.
+fn text_of_texts(alloc: Global, from: &str, to: &str) -> Result<String, AllocError>
+    ensures { IfOk result (λ text. string_bytes text ≡ text_of_texts from.now to.now) }
+{
+    let mut text = String::with_capacity(alloc, LIKELY_LENGTH)?;
+    text.push_str("{\"from_table\":\"")?;
+    text.push_str(from)?;
+    text.push_str("\",\"to_tables\":[\"")?;
+    text.push_str(to)?;
+    text.push_str("\"]}")?;
+    Ok(text)
+}
+
+/// A rule as it is written.
+fn written_rule(
+    alloc: Global,
+    key: &RuleKey,
+    target: &RuleTarget,
+) -> Result<WrittenRule, AllocError>
+    ensures text { IfOk result (λ rule. written_text rule ≡ named_text (key.now, target.now)) }
+    ensures named { IsNamed (key.now, target.now) }
+{
+    let from = key.text();
+    let to = target.text();
+    let text = text_of_texts(alloc, from.as_str(), to.as_str())?;
+    let key = String::from_str(alloc, from.as_str())?;
+    Ok(WrittenRule { key, text })
+}
+
+/// The rules as they are written, in the order of their places.
+fn written_rules(
+    alloc: Global,
+    places: &IndexMap<RuleKey, Option<RuleTarget>>,
+) -> Result<Vec<WrittenRule>, AllocError>
+    ensures texts { IfOk result (λ rules. map written_text rules.items ≡ texts_of places.now.entries) }
+    ensures named { OnOk result (AllByRecursion IsNamed (flat_map entries_of places.now.entries)) }
+{
+    let mut rules = Vec::with_capacity(alloc, places.len())?;
+    'places: for (key, target) in places.iter() {
+        if let Some(target) = target {
+            let rule = written_rule(alloc, key, target)?;
+            rules.push(rule)?;
+        }
+    }
+    Ok(rules)
+}
+
+/// The rules as they are written, in the order of their keys' texts.
+pub fn rules_in_order(
+    alloc: Global,
+    places: &IndexMap<RuleKey, Option<RuleTarget>>,
+) -> Result<Vec<WrittenRule>, AllocError>
+    requires { IsDistinct same_key (keys_of places.now.entries) }
+    ensures texts { IfOk result (λ rules. map written_text rules.items ≡ fold put_by_text [] (texts_of places.now.entries)) }
+    ensures sorted { OnOk result (IsWellSorted places.now.entries) }
+{
+    let mut rules = written_rules(alloc, places)?;
+    rules.sort_unstable_by(|rule, other| rule.key.as_str().cmp(other.key.as_str()));
+    Ok(rules)
+}
+
+/// The document of these rules, in their order.
+pub fn document_of(alloc: Global, rules: &[WrittenRule]) -> Result<String, AllocError>
+    ensures { IfOk result (λ text. string_bytes text ≡ written_document (map written_text rules.now)) }
+{
+    let room = rules.len().saturating_mul(LIKELY_LENGTH);
+    let mut text = String::with_capacity(alloc, room)?;
+    text.push_str("{\"rules\":[")?;
+    let mut before = "";
+    'rules: for rule in rules {
+        text.push_str(before)?;
+        text.push_str(rule.text.as_str())?;
+        before = ",";
+    }
+    text.push_str("]}")?;
+    Ok(text)
+}
