@@ -1,5 +1,6 @@
 use mt_choice::{Choice, USAGE, Wrong, choose, keyspaces};
-use mt_names::NameFault;
+use mt_names::{KeyspaceName, NameFault};
+use std::alloc::{AllocError, Global};
 use std::test::Fail;
 
 /// Whether a command line with these words behind the program's name doesn't parse.
@@ -40,7 +41,7 @@ fn helps(rt: &HostRuntime, words: &[&str], text: &str) -> bool {
 }
 
 /// Command lines that don't parse.
-const MISUSED: [&[&str]; 22] = [
+static MISUSED: [&[&str]; 22] = [
     &["mt"],
     &["mt", ""],
     &["mt", "frobnicate"],
@@ -73,7 +74,7 @@ fn words_that_do_not_parse(rt: HostRuntime) {
 }
 
 /// Runs, each with how many keyspaces it has.
-const RUNS: [(&[&str], usize); 7] = [
+static RUNS: [(&[&str], usize); 7] = [
     (&["mt", "run"], 0),
     (&["/usr/bin/mt", "run", "commerce", "customer"], 2),
     (&["mt", "run", "commerce", "commerce"], 2),
@@ -90,23 +91,33 @@ fn keyspaces_of_a_run(rt: HostRuntime) {
     }
 }
 
+/// Whether names are these.
+fn are_named(names: &[KeyspaceName], want: &[&str]) -> bool {
+    names.len() == want.len()
+        && names
+            .iter()
+            .zip(want.iter())
+            .all(|(name, text)| name.as_str() == *text)
+}
+
+/// Whether a run has these keyspaces, in this order.
+fn runs(rt: &HostRuntime, words: &[&str], want: &[&str]) -> bool {
+    match &choose(rt.alloc(), words) {
+        Ok(Choice::Run(names)) => are_named(names, want),
+        _ => false,
+    }
+}
+
 #[test]
-fn keyspaces_in_their_order(rt: HostRuntime) -> Result<(), Fail> {
-    let choice = choose(rt.alloc(), &["mt", "run", "b", "a", "b"]).expect(&rt, "a choice");
-    let Choice::Run(names) = &choice else {
-        return Err(Fail::from("no run"));
-    };
-    let mut texts = names.iter().map(|name| name.as_str());
-    assert!(rt; texts.next() == Some("b") && texts.next() == Some("a"));
-    assert!(rt; texts.next() == Some("b") && texts.next().is_none());
-    Ok(())
+fn keyspaces_in_their_order(rt: HostRuntime) {
+    assert!(rt; runs(&rt, &["mt", "run", "b", "a", "b"], &["b", "a", "b"]));
 }
 
 /// 65 letters.
 const LONG: &str = "aaaaaaaaaaaaaaaaaaaaaaaaaaaaaaaaaaaaaaaaaaaaaaaaaaaaaaaaaaaaaaaaa";
 
 /// Runs with a word that is no keyspace's name, each with the refusal.
-const BAD_NAMES: [(&[&str], NameFault); 10] = [
+static BAD_NAMES: [(&[&str], NameFault); 10] = [
     (&["mt", "run", ""], NameFault::Empty),
     (&["mt", "run", "commerce", ""], NameFault::Empty),
     (&["mt", "run", "-"], NameFault::BadByte(0)),
@@ -126,13 +137,20 @@ fn words_that_are_no_keyspaces(rt: HostRuntime) {
     }
 }
 
-/// A word list of `mt run` with 31 keyspaces, and the last words given.
-fn many<'a>(rt: &HostRuntime, last: &[&'a str]) -> Result<Vec<&'a str>, Fail> {
+/// A word list of `mt run` with 31 keyspaces.
+static MANY: [&str; 33] = [
+    "mt", "run", "commerce", "commerce", "commerce", "commerce", "commerce", "commerce",
+    "commerce", "commerce", "commerce", "commerce", "commerce", "commerce", "commerce", "commerce",
+    "commerce", "commerce", "commerce", "commerce", "commerce", "commerce", "commerce", "commerce",
+    "commerce", "commerce", "commerce", "commerce", "commerce", "commerce", "commerce", "commerce",
+    "commerce",
+];
+
+/// The same, with these words behind it.
+fn many<'a>(rt: &HostRuntime, last: &[&'a str]) -> Result<Vec<&'a str>, AllocError> {
     let mut words = Vec::new(rt.alloc());
-    words.push("mt")?;
-    words.push("run")?;
-    for _ in 0..31 {
-        words.push("commerce")?;
+    for word in MANY.iter() {
+        words.push(*word)?;
     }
     for word in last {
         words.push(*word)?;
@@ -140,16 +158,31 @@ fn many<'a>(rt: &HostRuntime, last: &[&'a str]) -> Result<Vec<&'a str>, Fail> {
     Ok(words)
 }
 
+/// The refusal of such a list for its keyspaces.
+fn bad_many(rt: &HostRuntime, last: &[&str]) -> Result<Option<NameFault>, AllocError> {
+    Ok(bad_words(rt, many(rt, last)?.as_slice()))
+}
+
+/// Words behind such a list, each with the refusal.
+static TOO_MANY: [(&[&str], NameFault); 4] = [
+    (&["customer"], NameFault::TooMany),
+    (&[""], NameFault::Empty),
+    (&["a!"], NameFault::BadByte(1)),
+    (&["customer", ""], NameFault::TooMany),
+];
+
+/// Whether such a list with these words behind it doesn't parse.
+fn is_usage_of_many(rt: &HostRuntime, last: &[&str]) -> Result<bool, AllocError> {
+    Ok(is_usage(rt, many(rt, last)?.as_slice()))
+}
+
 #[test]
 fn too_many_keyspaces(rt: HostRuntime) -> Result<(), Fail> {
-    assert!(rt; watched(&rt, many(&rt, &[])?.as_slice()) == Some(31));
-    assert!(rt; bad_words(&rt, many(&rt, &["customer"])?.as_slice()) == Some(NameFault::TooMany));
-    assert!(rt; bad_words(&rt, many(&rt, &[""])?.as_slice()) == Some(NameFault::Empty));
-    assert!(rt; bad_words(&rt, many(&rt, &["a!"])?.as_slice()) == Some(NameFault::BadByte(1)));
-    assert!(rt;
-        bad_words(&rt, many(&rt, &["customer", ""])?.as_slice()) == Some(NameFault::TooMany)
-    );
-    assert!(rt; is_usage(&rt, many(&rt, &["customer", "-a"])?.as_slice()));
+    assert!(rt; watched(&rt, &MANY) == Some(31));
+    for (at, (last, fault)) in TOO_MANY.iter().enumerate() {
+        assert!(rt; bad_many(&rt, last)? == Some(*fault), "at {at}");
+    }
+    assert!(rt; is_usage_of_many(&rt, &["customer", "-a"])?);
     Ok(())
 }
 
@@ -165,7 +198,7 @@ fn documents(rt: HostRuntime) {
 }
 
 /// Races, each with its clients and writes.
-const RACES: [(&[&str], (u16, u16)); 4] = [
+static RACES: [(&[&str], (u16, u16)); 4] = [
     (&["mt", "race"], (2, 10)),
     (&["mt", "race", "--clients", "1", "--writes", "1"], (1, 1)),
     (&["mt", "race", "--writes=1000", "--clients=4"], (4, 1000)),
@@ -173,7 +206,7 @@ const RACES: [(&[&str], (u16, u16)); 4] = [
 ];
 
 /// Races that don't parse.
-const MISUSED_RACES: [&[&str]; 12] = [
+static MISUSED_RACES: [&[&str]; 12] = [
     &["mt", "race", "--clients", "0"],
     &["mt", "race", "--clients", "5"],
     &["mt", "race", "--writes", "0"],
@@ -199,7 +232,7 @@ fn numbers_of_a_race(rt: HostRuntime) {
 }
 
 /// Command lines that ask for help, each with a text that is in it.
-const HELPS: [(&[&str], &str); 8] = [
+static HELPS: [(&[&str], &str); 8] = [
     (&["mt", "--help"], "Usage: mt <COMMAND>"),
     (&["mt", "-h"], "topology"),
     (&["mt", "help"], "Usage: mt <COMMAND>"),
@@ -217,25 +250,46 @@ fn help(rt: HostRuntime) {
     }
 }
 
+/// Command lines that ask for help, each with what it tells.
+static TOLD: [(&[&str], &str); 8] = [
+    (&["mt", "help", "run"], "Runs the script of standard input"),
+    (
+        &["mt", "help", "run"],
+        "Keyspaces whose primaries have watchers, at most 31",
+    ),
+    (
+        &["mt", "help", "rules"],
+        "Writes the canonical form of a rule document",
+    ),
+    (
+        &["mt", "help", "topology"],
+        "Writes the canonical form of a topology dump",
+    ),
+    (
+        &["mt", "help", "race"],
+        "Runs clients while a controller switches and reverses",
+    ),
+    (&["mt", "help", "race"], "How many clients write, 1 to 4"),
+    (
+        &["mt", "help", "race"],
+        "How many writes each client makes, 1 to 1000",
+    ),
+    (
+        &["mt", "help"],
+        "Moves tables from one keyspace to another while they are read and written",
+    ),
+];
+
 #[test]
 fn what_help_tells(rt: HostRuntime) {
-    let texts = [
-        ("run", "Runs the script of standard input"),
-        ("run", "Keyspaces whose primaries have watchers, at most 31"),
-        ("rules", "Writes the canonical form of a rule document"),
-        ("topology", "Writes the canonical form of a topology dump"),
-        (
-            "race",
-            "Runs clients while a controller switches and reverses",
-        ),
-        ("race", "How many clients write, 1 to 4"),
-        ("race", "How many writes each client makes, 1 to 1000"),
-    ];
-    for (command, text) in texts {
-        assert!(rt; helps(&rt, &["mt", "help", command], text), "{text}");
+    for (at, (words, text)) in TOLD.iter().enumerate() {
+        assert!(rt; helps(&rt, words, text), "at {at}");
     }
-    let about = "Moves tables from one keyspace to another while they are read and written";
-    assert!(rt; helps(&rt, &["mt", "help"], about));
+}
+
+/// Whether a refusal is printed so.
+fn is_printed(alloc: Global, wrong: &Wrong, text: &str) -> Result<bool, Fail> {
+    Ok(format!(in alloc; "{wrong}")?.as_str() == text)
 }
 
 #[test]
@@ -244,11 +298,15 @@ fn printed_text(rt: HostRuntime) -> Result<(), Fail> {
         USAGE
             == "usage: mt run [KEYSPACE].. | mt rules | mt topology | mt race [--clients N] [--writes N]"
     );
-    assert!(rt; format!(in rt.alloc(); "{}", Wrong::Usage)?.as_str() == USAGE);
+    assert!(rt; is_printed(rt.alloc(), &Wrong::Usage, USAGE)?);
     assert!(rt;
-        format!(in rt.alloc(); "{}", Wrong::Words(NameFault::BadByte(3)))?.as_str() == "N3 BadByte"
+        is_printed(
+            rt.alloc(),
+            &Wrong::Words(NameFault::BadByte(3)),
+            "N3 BadByte"
+        )?
     );
-    assert!(rt; format!(in rt.alloc(); "{}", Wrong::Memory)?.as_str() == "fault Memory");
+    assert!(rt; is_printed(rt.alloc(), &Wrong::Memory, "fault Memory")?);
     Ok(())
 }
 

@@ -51,7 +51,7 @@ fn answers(
 }
 
 /// A place is kept while its table is denied.
-const ONE_TABLE: [(Call, &str); 11] = [
+static ONE_TABLE: [(Call, &str); 11] = [
     (Call::Deny(true), "no place"),
     (Call::Reserve, "ok"),
     (Call::Deny(true), "allowed"),
@@ -83,20 +83,19 @@ fn listed(alloc: Global, denied: &DeniedTables) -> Result<String, Fail> {
     Ok(text)
 }
 
-/// Places are made for these tables, of which some are denied.
-fn with_places(alloc: Global, places: &[(&str, bool)]) -> Result<DeniedTables, Fail> {
-    let mut denied = DeniedTables::new(alloc);
+/// Whether places are made for these tables, of which some are denied.
+fn has_places(denied: &mut DeniedTables, places: &[(&str, bool)]) -> Result<bool, NameFault> {
     for (name, is_denied) in places {
         let calls = [(Call::Reserve, "ok"), (Call::Deny(*is_denied), "allowed")];
-        if !answers(&mut denied, name, &calls)? {
-            return Err(Fail::from("another answer"));
+        if !answers(denied, name, &calls)? {
+            return Ok(false);
         }
     }
-    Ok(denied)
+    Ok(true)
 }
 
 /// Tables in no order, of which one is allowed.
-const PLACES: [(&str, bool); 5] = [
+static PLACES: [(&str, bool); 5] = [
     ("b", true),
     ("a", true),
     ("ab", true),
@@ -104,31 +103,44 @@ const PLACES: [(&str, bool); 5] = [
     ("c", false),
 ];
 
+/// Whether the denied tables are listed so.
+fn is_listed(alloc: Global, denied: &DeniedTables, want: &str) -> Result<bool, Fail> {
+    Ok(listed(alloc, denied)?.as_str() == want)
+}
+
 #[test]
 fn members_are_listed_in_the_order_of_their_bytes(rt: HostRuntime) -> Result<(), Fail> {
-    let denied = with_places(rt.alloc(), &PLACES)?;
-    assert_eq!(rt; listed(rt.alloc(), &denied)?.as_str(), " B a ab b");
+    let mut denied = DeniedTables::new(rt.alloc());
+    assert!(rt; has_places(&mut denied, &PLACES) == Ok(true));
+    assert!(rt; is_listed(rt.alloc(), &denied, " B a ab b")?);
     Ok(())
 }
 
-/// So many places.
-fn filled(alloc: Global, count: u32) -> Result<DeniedTables, Fail> {
-    let mut denied = DeniedTables::new(alloc);
+/// Whether so many tables get a place.
+fn is_filled(alloc: Global, denied: &mut DeniedTables, count: u32) -> Result<bool, Fail> {
     for number in 0..count {
         let name = format!(in alloc; "t{number}")?;
-        if !answers(&mut denied, name.as_str(), &[(Call::Reserve, "ok")])? {
-            return Err(Fail::from("another answer"));
+        if !answers(denied, name.as_str(), &[(Call::Reserve, "ok")])? {
+            return Ok(false);
         }
     }
-    Ok(denied)
+    Ok(true)
+}
+
+/// Whether a list of 256 takes no place more, and has each that it had.
+fn is_full(denied: &mut DeniedTables) -> Result<bool, NameFault> {
+    Ok(
+        answers(denied, "t256", &[(Call::Reserve, "L1 Full")])?
+            && answers(denied, "t7", &[(Call::Reserve, "ok")])?
+            && denied.len() == 256,
+    )
 }
 
 #[test]
 fn places_are_limited(rt: HostRuntime) -> Result<(), Fail> {
-    let mut denied = filled(rt.alloc(), 256)?;
-    assert!(rt; answers(&mut denied, "t256", &[(Call::Reserve, "L1 Full")])?);
-    assert!(rt; answers(&mut denied, "t7", &[(Call::Reserve, "ok")])?);
-    assert_eq!(rt; denied.len(), 256);
+    let mut denied = DeniedTables::new(rt.alloc());
+    assert!(rt; is_filled(rt.alloc(), &mut denied, 256)?);
+    assert!(rt; is_full(&mut denied) == Ok(true));
     Ok(())
 }
 

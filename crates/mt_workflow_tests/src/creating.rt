@@ -16,7 +16,7 @@ type Case = (
 );
 
 /// Each refusal, and which of two comes first.
-const CASES: [Case; 16] = [
+static CASES: [Case; 16] = [
     ("a", "a", "-", "W2 NoTables", ""),
     ("a", "b", "-", "W2 NoTables", ""),
     ("a", "a", "n", "W1 SameKeyspace", ""),
@@ -60,12 +60,20 @@ fn is_answered(topology: &Topology, case: Case) -> Result<bool, NameFault> {
     )
 }
 
+/// The first case that is answered otherwise.
+fn first_other(topology: &Topology) -> Result<Option<usize>, NameFault> {
+    for (at, case) in CASES.iter().enumerate() {
+        if !is_answered(topology, *case)? {
+            return Ok(Some(at));
+        }
+    }
+    Ok(None)
+}
+
 #[test]
 fn the_first_refusal_is_answered(rt: HostRuntime) -> Result<(), Fail> {
     let topology = Topology::load(rt.alloc(), DUMP.as_bytes())?;
-    for (at, case) in CASES.iter().enumerate() {
-        assert!(rt; is_answered(&topology, *case)?, "at {at}");
-    }
+    assert_eq!(rt; first_other(&topology)?, None);
     Ok(())
 }
 

@@ -2,7 +2,13 @@
 
 use mt_names::{RuleKey, TableName};
 use mt_workflow::WorkflowFault;
+use std::alloc::Global;
 use std::test::Fail;
+
+/// Whether a refusal is printed so.
+fn is_printed(alloc: Global, fault: &WorkflowFault, want: &str) -> Result<bool, Fail> {
+    Ok(fault.as_str() == want && format!(in alloc; "{fault}")?.as_str() == want)
+}
 
 #[test]
 fn a_refusal_is_printed_by_number_and_name(rt: HostRuntime) -> Result<(), Fail> {
@@ -24,9 +30,8 @@ fn a_refusal_is_printed_by_number_and_name(rt: HostRuntime) -> Result<(), Fail> 
         ),
         (WorkflowFault::NoTable(TableName::parse("t")?), "W6 NoTable"),
     ];
-    for (fault, want) in &faults {
-        assert!(rt; fault.as_str() == *want);
-        assert!(rt; format!(in rt.alloc(); "{fault}")?.as_str() == *want);
+    for (at, (fault, want)) in faults.iter().enumerate() {
+        assert!(rt; is_printed(rt.alloc(), fault, want)?, "at {at}");
     }
     Ok(())
 }

@@ -18,7 +18,7 @@ enum Key {
 }
 
 /// The keys of a part that moves `y` and `t` from `a` to `b`, in their order.
-const PART: [Key; 30] = [
+static PART: [Key; 30] = [
     Key::Rule("y"),
     Key::Rule("y@primary"),
     Key::Rule("y@replica"),
@@ -69,19 +69,27 @@ fn is_key(workflow: &Workflow, index: usize, want: Key) -> Result<bool, NameFaul
     Ok(index < workflow.part_len() && workflow.part_key(index) == key_of(want)?)
 }
 
+/// The first index of the part that isn't that of its key.
+fn first_other_key(workflow: &Workflow) -> Result<Option<usize>, NameFault> {
+    for (index, want) in PART.iter().enumerate() {
+        if !is_key(workflow, index, *want)? {
+            return Ok(Some(index));
+        }
+    }
+    Ok(None)
+}
+
 #[test]
 fn a_part_has_its_keys_in_their_order(rt: HostRuntime) -> Result<(), Fail> {
     let workflow = workflow_of(rt.alloc(), "y,t")?;
     assert!(rt; workflow.part_len() == 30);
-    for (index, want) in PART.iter().enumerate() {
-        assert!(rt; is_key(&workflow, index, *want)?, "at {index}");
-    }
+    assert_eq!(rt; first_other_key(&workflow)?, None);
     Ok(())
 }
 
 /// A key, and what it is to say before any type is switched, once reads are, and once all types are: a target, `-` for no rule,
 /// `yes` or `no`.
-const WANTED: [(Key, [&str; 3]); 19] = [
+static WANTED: [(Key, [&str; 3]); 19] = [
     (Key::Rule("y"), ["a.y", "a.y", "b.y"]),
     (Key::Rule("y@primary"), ["-", "-", "-"]),
     (Key::Rule("y@replica"), ["a.y", "b.y", "b.y"]),
@@ -124,30 +132,41 @@ fn is_wanted(workflow: &Workflow, key: Key, types: TypeSet, says: &str) -> Resul
     Ok(workflow.wanted(&key, types) == entry_of(key, says)?)
 }
 
+/// The types that read.
+const READS: TypeSet = TypeSet {
+    primary: false,
+    replica: true,
+    rdonly: true,
+};
+
+/// Whether a key is to say these before any type is switched, once reads are, and once all types are.
+fn are_wanted(workflow: &Workflow, key: Key, says: &[&str; 3]) -> Result<bool, NameFault> {
+    Ok(
+        is_wanted(workflow, key, TypeSet::NONE, says[0])?
+            && is_wanted(workflow, key, READS, says[1])?
+            && is_wanted(workflow, key, TypeSet::ALL, says[2])?,
+    )
+}
+
+/// The first row whose key is to say something else.
+fn first_unwanted(workflow: &Workflow) -> Result<Option<usize>, NameFault> {
+    for (at, (key, says)) in WANTED.iter().enumerate() {
+        if !are_wanted(workflow, *key, says)? {
+            return Ok(Some(at));
+        }
+    }
+    Ok(None)
+}
+
 #[test]
 fn a_part_says_what_the_switched_types_tell(rt: HostRuntime) -> Result<(), Fail> {
     let workflow = workflow_of(rt.alloc(), "y,t")?;
-    let reads = TypeSet {
-        primary: false,
-        replica: true,
-        rdonly: true,
-    };
-    for (at, (key, says)) in WANTED.iter().enumerate() {
-        assert!(rt;
-            is_wanted(&workflow, *key, TypeSet::NONE, says[0])?,
-            "at {at}"
-        );
-        assert!(rt; is_wanted(&workflow, *key, reads, says[1])?, "at {at}");
-        assert!(rt;
-            is_wanted(&workflow, *key, TypeSet::ALL, says[2])?,
-            "at {at}"
-        );
-    }
+    assert_eq!(rt; first_unwanted(&workflow)?, None);
     Ok(())
 }
 
 /// A rule key, and the rule that is kept of it.
-const KEPT: [(&str, &str); 6] = [
+static KEPT: [(&str, &str); 6] = [
     ("y", "a.y"),
     ("a.y", "a.y"),
     ("b.y", "-"),
@@ -164,17 +183,25 @@ fn is_kept(workflow: &Workflow, key: &str, want: &str) -> Result<bool, NameFault
     })
 }
 
+/// The first row whose rule isn't kept.
+fn first_not_kept(workflow: &Workflow) -> Result<Option<usize>, NameFault> {
+    for (at, (key, want)) in KEPT.iter().enumerate() {
+        if !is_kept(workflow, key, want)? {
+            return Ok(Some(at));
+        }
+    }
+    Ok(None)
+}
+
 #[test]
 fn the_rules_before_are_kept(rt: HostRuntime) -> Result<(), Fail> {
     let workflow = workflow_of(rt.alloc(), "y,t")?;
-    for (key, want) in KEPT {
-        assert!(rt; is_kept(&workflow, key, want)?);
-    }
+    assert_eq!(rt; first_not_kept(&workflow)?, None);
     Ok(())
 }
 
 /// A key, and the step with which it changes while the source owns the tables, and while the target does.
-const STEPS: [(Key, [u8; 2]); 6] = [
+static STEPS: [(Key, [u8; 2]); 6] = [
     (Key::Rule("y"), [9, 9]),
     (Key::Rule("b.y@primary"), [9, 9]),
     (Key::Rule("a.y@rdonly"), [0, 0]),
@@ -183,14 +210,28 @@ const STEPS: [(Key, [u8; 2]); 6] = [
     (Key::Present("b", "y"), [0, 0]),
 ];
 
+/// Whether a key changes with these steps.
+fn has_steps(workflow: &mut Workflow, key: Key, steps: &[u8; 2]) -> Result<bool, NameFault> {
+    let key = key_of(key)?;
+    workflow.set_switched(TypeSet::NONE);
+    let at_source = workflow.step_of(&key);
+    workflow.set_switched(TypeSet::ALL);
+    Ok(at_source == steps[0] && workflow.step_of(&key) == steps[1])
+}
+
+/// The first row whose key changes with other steps.
+fn first_other_steps(workflow: &mut Workflow) -> Result<Option<usize>, NameFault> {
+    for (at, (key, steps)) in STEPS.iter().enumerate() {
+        if !has_steps(workflow, *key, steps)? {
+            return Ok(Some(at));
+        }
+    }
+    Ok(None)
+}
+
 #[test]
 fn each_entry_has_its_step(rt: HostRuntime) -> Result<(), Fail> {
     let mut workflow = workflow_of(rt.alloc(), "y,t")?;
-    for (key, steps) in STEPS {
-        workflow.set_switched(TypeSet::NONE);
-        assert!(rt; workflow.step_of(&key_of(key)?) == steps[0]);
-        workflow.set_switched(TypeSet::ALL);
-        assert!(rt; workflow.step_of(&key_of(key)?) == steps[1]);
-    }
+    assert_eq!(rt; first_other_steps(&mut workflow)?, None);
     Ok(())
 }

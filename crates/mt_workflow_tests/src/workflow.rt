@@ -72,8 +72,8 @@ fn types_and_way_answer_what_stood_there(rt: HostRuntime) -> Result<(), Fail> {
 
 #[test]
 fn each_side_has_its_stream_and_an_owner(rt: HostRuntime) -> Result<(), Fail> {
-    let mut workflow = workflow_of(rt.alloc(), "y,t")?;
     let (a, b) = (KeyspaceName::parse("a")?, KeyspaceName::parse("b")?);
+    let mut workflow = workflow_of(rt.alloc(), "y,t")?;
     assert!(rt; workflow.feeding(&a) == Slot::Back);
     assert!(rt; workflow.feeding(&b) == Slot::Forward);
     assert!(rt; workflow.owned_before(&a) && !workflow.owned_before(&b));
