@@ -73,13 +73,7 @@ impl<D: DeskName> Book<D> {
         ensures memory { IfErr result (λ fault. fault ≡ DeskFault.Memory) }
     {
         let (head, mut told) = opened.named::<D>();
-        let Ok(history) = new_history(alloc, &core) else {
-            return Err(DeskFault::Memory);
-        };
-        let Ok(entries) = routes(alloc, core.topology()) else {
-            return Err(DeskFault::Memory);
-        };
-        let Some(first) = listed(&head, &mut told, Front(0), entries) else {
+        let Some((history, first)) = Book::first_lists(alloc, &core, &head, &mut told) else {
             return Err(DeskFault::Memory);
         };
         let (ledger, _) = blank.open::<D>();
@@ -88,6 +82,26 @@ impl<D: DeskName> Book<D> {
             Book::begun(core, history, clients, ledger, head, told),
             first,
         ))
+    }
+
+    /// What a new book takes memory for: a history without lines, which has a place for each event that is owed, and the routes of
+    /// the topology, which are the first publication of the list. There is none only when out of memory.
+    fn first_lists(
+        alloc: Global,
+        core: &Core,
+        head: &Head<D>,
+        told: &mut Told<D>,
+    ) -> Option<(Vec<Line>, Showing)>
+        requires { told.old ≡ [] }
+        ensures none { IfSome result (λ r. r.0.items ≡ []) }
+        ensures room { IfSome result (λ r. vec_len r.0 + owed_to core.now.core.workflows ≤ vec_capacity r.0) }
+        ensures first { IfSome result (λ r. told.new ≡ publication 0 (routes_of core.now.core.topology) ∷ []) }
+        ensures shows { IfSome result (λ r. (r.1.known.seen.log ≡ told.new) × (r.1.known.seen.book ≡ D.book)) }
+    {
+        let history = new_history(alloc, core).ok()?;
+        let entries = routes(alloc, core.topology()).ok()?;
+        let first = listed(head, told, Front(0), entries)?;
+        Some((history, first))
     }
 
     /// A book with a history without lines, which has a place for each event that is owed, and a list of one publication.
