@@ -4,7 +4,7 @@ ghost use Rattle.std.specs.Prelude.{◌≡◌};
 use crate::scene::{Said, Scene, next_of};
 use mt_model::TopologyFault;
 use mt_names::{RuleKey, RuleTarget, TabletType};
-use mt_routes::{Front, MAX_ROUTERS, Naming, Opened, RouteFault, Router, Told};
+use mt_routes::{Front, MAX_ROUTERS, Naming, Opened, RouteFault, Router};
 use std::alloc::Global;
 use std::marker::Brand;
 use std::sync::Wait;
@@ -44,9 +44,58 @@ pub fn leads<J: Naming>(
     tablet_type: TabletType,
     target: &str,
     front: u64,
-) -> Result<bool, Fail> {
-    let (key, target) = (RuleKey::parse(name)?, RuleTarget::parse(target)?);
-    Ok(router.route(&key, tablet_type) == Ok((target, Front(front))))
+) -> bool {
+    match (RuleKey::parse(name), RuleTarget::parse(target)) {
+        (Ok(key), Ok(target)) => router.route(&key, tablet_type) == Ok((target, Front(front))),
+        _ => false,
+    }
+}
+
+/// Whether a name leads nowhere, for this fault.
+fn fails<J: Naming>(
+    router: &mut Router<J>,
+    name: &str,
+    tablet_type: TabletType,
+    fault: TopologyFault,
+    front: u64,
+) -> bool {
+    match RuleKey::parse(name) {
+        Ok(key) => {
+            router.route(&key, tablet_type) == Err(RouteFault::Refused(fault, Front(front)))
+        }
+        Err(_) => false,
+    }
+}
+
+/// Whether a publication of these routes is added and shown, or isn't, as it should be.
+fn is_added<J: Naming, R: Wait + Drop + Copy>(
+    alloc: Global,
+    scene: &mut Scene<J, R>,
+    front: u64,
+    said: &[Said<'_>],
+    want: bool,
+) -> bool {
+    match next_of(alloc, front, said) {
+        Some(next) => scene.publishes(next) == want,
+        None => false,
+    }
+}
+
+/// Whether one is added and shown, and a router that learns of it before it is shown is closed until then.
+fn is_added_late<J: Naming, R: Wait + Drop + Copy>(
+    alloc: Global,
+    scene: &mut Scene<J, R>,
+    router: &mut Router<J>,
+    front: u64,
+    said: &[Said<'_>],
+) -> bool {
+    let Ok(key) = RuleKey::parse("x") else {
+        return false;
+    };
+    match next_of(alloc, front, said) {
+        Some(next) => scene.publishes_late(next, router, &key),
+        None => false,
+    }
 }
 
 /// Whether an act is answered so.
@@ -55,57 +104,70 @@ fn is_so<J: Naming, R: Wait + Drop + Copy>(
     scene: &mut Scene<J, R>,
     router: &mut Router<J>,
     act: Act<'_>,
-) -> Result<bool, Fail> {
-    Ok(match act {
-        Act::Publishes(front, said) => scene.publishes(next_of(alloc, front, said).ok_or(
-            "no routes",
-        )?),
-        Act::PublishesLate(front, said) => {
-            scene.publishes_late(
-                next_of(alloc, front, said).ok_or("no routes")?,
-                router,
-                &RuleKey::parse("x")?,
-            )
-        }
-        Act::Refuses(front) => !scene.publishes(next_of(alloc, front, &[]).ok_or("no routes")?),
+) -> bool {
+    match act {
+        Act::Publishes(front, said) => is_added(alloc, scene, front, said, true),
+        Act::PublishesLate(front, said) => is_added_late(alloc, scene, router, front, said),
+        Act::Refuses(front) => is_added(alloc, scene, front, &[], false),
         Act::Learns => {
             router.learn(scene.told());
             true
         }
         Act::Leads(name, tablet_type, target, front) => {
-            leads(router, name, tablet_type, target, front)?
+            leads(router, name, tablet_type, target, front)
         }
         Act::Fails(name, tablet_type, fault, front) => {
-            let key = RuleKey::parse(name)?;
-            router.route(&key, tablet_type) == Err(RouteFault::Refused(fault, Front(front)))
+            fails(router, name, tablet_type, fault, front)
         }
-    })
+    }
 }
 
-/// The index of the first act that isn't answered so, or how many there are.
+/// The index of the first act that isn't answered so at a scene, or how many there are.
+fn played<J: Naming, R: Wait + Drop + Copy>(
+    alloc: Global,
+    scene: &mut Scene<J, R>,
+    router: &mut Router<J>,
+    acts: &[Act<'_>],
+) -> usize {
+    for (index, act) in acts.iter().enumerate() {
+        if !is_so(alloc, scene, router, *act) {
+            return index;
+        }
+    }
+    acts.len()
+}
+
+/// The same by a new router, if there is a place for it.
+fn plays_at<J: Naming, R: Wait + Drop + Copy>(
+    alloc: Global,
+    scene: &mut Scene<J, R>,
+    acts: &[Act<'_>],
+) -> Option<usize> {
+    match scene.router() {
+        Ok(mut router) => Some(played(alloc, scene, &mut router, acts)),
+        Err(_) => None,
+    }
+}
+
+/// The same at a new list, if there is memory for it.
 fn plays<J: Naming, R: Wait + Drop + Copy>(
     alloc: Global,
     rt: R,
     opened: Opened,
     acts: &[Act<'_>],
-) -> Result<usize, Fail>
+) -> Option<usize>
     requires { opened.seen.book ≡ J.book }
 {
-    let first = next_of(alloc, 0, &[Said::Rule("x", "a.t"), Said::Table("a", "u")]).ok_or(
-        "no routes",
-    )?;
-    let mut scene: Scene<J, R> = Scene::open(alloc, rt, opened, first).ok_or("no list")?;
-    let mut router = scene.router()?;
-    for (index, act) in acts.iter().enumerate() {
-        if !is_so(alloc, &mut scene, &mut router, *act)? {
-            return Ok(index);
-        }
+    let said = [Said::Rule("x", "a.t"), Said::Table("a", "u")];
+    let made: Option<Scene<J, R>> = Scene::of(alloc, rt, opened, 0, &said);
+    match made {
+        Some(mut scene) => plays_at(alloc, &mut scene, acts),
+        None => None,
     }
-    Ok(acts.len())
 }
 
 /// The routes of one publication, with what each name leads to.
-const LOOK_UPS: [Act<'_>; 20] = [
+static LOOK_UPS: [Act<'static>; 20] = [
     Act::Leads("x", PRIMARY, "a.t", 0),
     Act::Leads("u", PRIMARY, "a.u", 0),
     Act::Fails("y", PRIMARY, NO_TABLE, 0),
@@ -145,7 +207,7 @@ const LOOK_UPS: [Act<'_>; 20] = [
 ];
 
 /// What was published is shown to a router that wasn't told of it; one that was told sooner waits for it.
-const TOLD: [Act<'_>; 14] = [
+static TOLD: [Act<'static>; 14] = [
     Act::Learns,
     Act::Leads("x", PRIMARY, "a.t", 0),
     Act::Publishes(1, &[Said::Rule("x", "b.t")]),
@@ -164,39 +226,69 @@ const TOLD: [Act<'_>; 14] = [
 
 #[test]
 fn routers_answer_by_what_is_published(rt: HostRuntime) -> Result<(), Fail> {
-    for acts in [LOOK_UPS.as_slice(), TOLD.as_slice()] {
-        let played = plays::<Brand, _>(rt.alloc(), &rt, Opened::new(), acts)?;
-        assert_eq!(rt; played, acts.len());
+    let tables = [LOOK_UPS.as_slice(), TOLD.as_slice()];
+    for acts in tables.iter() {
+        let played = plays::<Brand, _>(rt.alloc(), &rt, Opened::new(), *acts);
+        assert_eq!(rt; played, Some(acts.len()));
     }
     Ok(())
 }
 
-/// Whether there are eight places for routers, one is free again behind a router that is dropped, and routers are closed behind the
-/// writer.
-fn has_eight_places<J: Naming, R: Wait + Drop + Copy>(
-    alloc: Global,
-    rt: R,
-    opened: Opened,
-) -> Result<bool, Fail>
-    requires { opened.seen.book ≡ J.book }
-{
-    let first = next_of(alloc, 5, &[Said::Rule("x", "a.t")]).ok_or("no routes")?;
-    let scene: Scene<J, R> = Scene::open(alloc, rt, opened, first).ok_or("no list")?;
-    let mut routers = Vec::new(alloc);
+/// Whether there is a place for one more router, which is added to the others.
+fn has_a_place<J: Naming, R: Wait + Drop + Copy>(
+    scene: &Scene<J, R>,
+    routers: &mut Vec<Router<J>>,
+) -> bool {
+    match scene.router() {
+        Ok(router) => routers.push(router).is_ok(),
+        Err(_) => false,
+    }
+}
+
+/// Whether there are eight places for routers, and one is free again behind a router that is dropped.
+fn are_eight<J: Naming, R: Wait + Drop + Copy>(
+    scene: &Scene<J, R>,
+    routers: &mut Vec<Router<J>>,
+) -> bool {
     for _ in 0..MAX_ROUTERS {
-        routers.push(scene.router()?)?;
+        if !has_a_place(scene, routers) {
+            return false;
+        }
     }
     let is_full = scene.router().is_err();
     routers.pop();
-    let mut last = scene.router()?;
-    let was_open = leads(&mut last, "x", PRIMARY, "a.t", 5)?;
+    is_full && has_a_place(scene, routers)
+}
+
+/// Whether the newest router answers by what is published, or that it is closed.
+fn is_newest_so<J: Naming>(routers: &mut Vec<Router<J>>, is_open: bool) -> bool {
+    let (Ok(key), Some(last)) = (RuleKey::parse("x"), routers.last_mut()) else {
+        return false;
+    };
+    if is_open {
+        leads(last, "x", PRIMARY, "a.t", 5)
+    } else {
+        last.route(&key, PRIMARY) == Err(RouteFault::Closed)
+    }
+}
+
+/// Whether there are eight places for routers, one is free again behind a router that is dropped, and routers are closed behind the
+/// writer.
+fn has_eight_places<J: Naming, R: Wait + Drop + Copy>(alloc: Global, rt: R, opened: Opened) -> bool
+    requires { opened.seen.book ≡ J.book }
+{
+    let made: Option<Scene<J, R>> = Scene::of(alloc, rt, opened, 5, &[Said::Rule("x", "a.t")]);
+    let Some(scene) = made else {
+        return false;
+    };
+    let mut routers = Vec::new(alloc);
+    let was_open = are_eight(&scene, &mut routers) && is_newest_so(&mut routers, true);
     drop(scene);
-    let key = RuleKey::parse("x")?;
-    Ok(is_full && was_open && last.route(&key, PRIMARY) == Err(RouteFault::Closed))
+    was_open && is_newest_so(&mut routers, false)
 }
 
 #[test]
 fn there_are_eight_places(rt: HostRuntime) -> Result<(), Fail> {
-    assert!(rt; has_eight_places::<Brand, _>(rt.alloc(), &rt, Opened::new())?);
+    assert!(rt; has_eight_places::<Brand, _>(rt.alloc(), &rt, Opened::new()));
     Ok(())
 }

@@ -29,29 +29,33 @@ pub enum Said<'a> {
     Denied(&'a str, &'a str),
 }
 
+/// The rule of a key that leads to a target, by their texts.
+fn rule_of(key: &str, target: &str) -> Result<Entry, NameFault> {
+    let key = RuleKey::parse(key)?;
+    Ok(Entry::Rule(key, Some(RuleTarget::parse(target)?)))
+}
+
+/// That a keyspace has a table, or doesn't have it, by their texts.
+fn presence_of(keyspace: &str, table: &str, is_there: bool) -> Result<Entry, NameFault> {
+    let keyspace = KeyspaceName::parse(keyspace)?;
+    Ok(Entry::Present(keyspace, TableName::parse(table)?, is_there))
+}
+
+/// That a keyspace denies a table, by their texts.
+fn denial_of(keyspace: &str, table: &str) -> Result<Entry, NameFault> {
+    let keyspace = KeyspaceName::parse(keyspace)?;
+    Ok(Entry::Denied(keyspace, TableName::parse(table)?, true))
+}
+
 /// The route of these texts.
 fn entry_of(said: Said<'_>) -> Result<Entry, NameFault> {
-    Ok(match said {
-        Said::Rule(key, target) => {
-            Entry::Rule(RuleKey::parse(key)?, Some(RuleTarget::parse(target)?))
-        }
-        Said::NoRule(key) => Entry::Rule(RuleKey::parse(key)?, None),
-        Said::Table(keyspace, table) => Entry::Present(
-            KeyspaceName::parse(keyspace)?,
-            TableName::parse(table)?,
-            true,
-        ),
-        Said::NoTable(keyspace, table) => Entry::Present(
-            KeyspaceName::parse(keyspace)?,
-            TableName::parse(table)?,
-            false,
-        ),
-        Said::Denied(keyspace, table) => Entry::Denied(
-            KeyspaceName::parse(keyspace)?,
-            TableName::parse(table)?,
-            true,
-        ),
-    })
+    match said {
+        Said::Rule(key, target) => rule_of(key, target),
+        Said::NoRule(key) => Ok(Entry::Rule(RuleKey::parse(key)?, None)),
+        Said::Table(keyspace, table) => presence_of(keyspace, table, true),
+        Said::NoTable(keyspace, table) => presence_of(keyspace, table, false),
+        Said::Denied(keyspace, table) => denial_of(keyspace, table),
+    }
 }
 
 /// Room for so many routes, at once or at a second try.
@@ -83,6 +87,20 @@ fn may_follow<J: Naming>(told: &Told<J>, next: &Next) -> bool
     told.len() < LIMIT && told.front().0 <= next.front.0 && next.is_few()
 }
 
+/// The ends of a list with one publication, made at once or at a second try.
+fn ends_of<J: Naming, R: Wait + Drop + Copy>(
+    alloc: Global,
+    rt: R,
+    first: &Showing,
+) -> Option<Ends<J, R>>
+    requires { first.now.known.seen.book ≡ J.book }
+{
+    match Ends::open(alloc, rt, first) {
+        Ok(ends) => Some(ends),
+        Err(_) => Ends::open(alloc, rt, first).ok(),
+    }
+}
+
 /// A list of publications, what is known of it, and the writer that shows them.
 #[derive(Drop)]
 pub struct Scene<J: Naming, R: Wait + Drop> {
@@ -101,13 +119,22 @@ impl<J: Naming, R: Wait + Drop + Copy> Scene<J, R> {
             return None;
         }
         let showing = told.show(&head, first)?;
-        match Ends::open(alloc, rt, &showing) {
-            Ok(ends) => Some(Scene { head, told, ends }),
-            Err(_) => {
-                let ends = Ends::open(alloc, rt, &showing).ok()?;
-                Some(Scene { head, told, ends })
-            }
-        }
+        let ends = ends_of(alloc, rt, &showing)?;
+        Some(Scene { head, told, ends })
+    }
+
+    /// A list with one publication of these routes, which is shown.
+    pub fn of(
+        alloc: Global,
+        rt: R,
+        opened: Opened,
+        front: u64,
+        said: &[Said<'_>],
+    ) -> Option<Scene<J, R>>
+        requires { opened.seen.book ≡ J.book }
+    {
+        let first = next_of(alloc, front, said)?;
+        Scene::open(alloc, rt, opened, first)
     }
 
     /// What is known of the list.

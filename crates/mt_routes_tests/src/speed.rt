@@ -37,6 +37,49 @@ fn found_by<R: Wait>(rt: &R, places: &Mutex<Places>, keys: &[RuleKey], many: u64
     led
 }
 
+/// So many routers of a list.
+fn routers_of<J: Naming, R: Wait + Drop + Copy>(
+    alloc: Global,
+    scene: &Scene<J, R>,
+    count: u64,
+) -> Option<Vec<Router<J>>> {
+    let mut routers = Vec::new(alloc);
+    for _ in 0..count {
+        routers.push(scene.router().ok()?).ok()?;
+    }
+    Some(routers)
+}
+
+/// Whether all look-ups by these routers lead somewhere, so many by each in a thread of its own.
+fn are_led<J: Naming + Send + Sync, R: Threads + Wait + Sync>(
+    rt: &R,
+    routers: Vec<Router<J>>,
+    names: &[RuleKey],
+    many: u64,
+) -> bool {
+    match thread::map_vec(rt, routers, &|router| routed_by(router, names, many)) {
+        Ok(led) => led.iter().all(|count| *count == many),
+        Err(_) => false,
+    }
+}
+
+/// Whether all look-ups by so many routers of a list lead somewhere.
+fn are_routed_at<J: Naming + Send + Sync, R: Threads + Wait + Sync>(
+    rt: &R,
+    alloc: Global,
+    scene: &Scene<J, &R>,
+    readers: u64,
+    many: u64,
+) -> bool {
+    let Some(keys) = many_keys(alloc) else {
+        return false;
+    };
+    match routers_of(alloc, scene, readers) {
+        Some(routers) => are_led(rt, routers, keys.as_slice(), many),
+        None => false,
+    }
+}
+
 /// Whether all look-ups by routers lead somewhere, so many in each of so many threads.
 fn are_routed<J: Naming + Send + Sync, R: Threads + Wait + Sync>(
     rt: &R,
@@ -44,37 +87,58 @@ fn are_routed<J: Naming + Send + Sync, R: Threads + Wait + Sync>(
     opened: Opened,
     readers: u64,
     many: u64,
-) -> Result<bool, Fail>
+) -> bool
     requires { opened.seen.book ≡ J.book }
 {
-    let (first, keys) = (many_routes(alloc, MAX_RULES, MAX_RULES)?, many_keys(alloc)?);
-    let scene: Scene<J, &R> = Scene::open(alloc, rt, opened, first).ok_or("no list")?;
-    let mut routers = Vec::new(alloc);
-    for _ in 0..readers {
-        routers.push(scene.router()?)?;
+    let Some(first) = many_routes(alloc, MAX_RULES, MAX_RULES) else {
+        return false;
+    };
+    let made: Option<Scene<J, &R>> = Scene::open(alloc, rt, opened, first);
+    match made {
+        Some(scene) => are_routed_at(rt, alloc, &scene, readers, many),
+        None => false,
     }
-    let names = keys.as_slice();
-    let led = thread::map_vec(rt, routers, &|router| routed_by(router, names, many))?;
-    Ok(led.iter().all(|count| *count == many))
 }
 
-/// Whether all look-ups behind a lock do.
-fn are_found<R: Threads + Wait + Sync>(
-    rt: &R,
-    alloc: Global,
-    readers: u64,
-    many: u64,
-) -> Result<bool, Fail> {
-    let (first, keys) = (many_routes(alloc, MAX_RULES, MAX_RULES)?, many_keys(alloc)?);
-    let mut places = Places::new(alloc)?;
+/// The places of as many rules as there may be.
+fn many_places(alloc: Global) -> Option<Places> {
+    let first = many_routes(alloc, MAX_RULES, MAX_RULES)?;
+    let mut places = Places::new(alloc).ok()?;
     if !first.is_few() {
-        return Ok(false);
+        return None;
     }
     places.fill(&first.entries);
-    let (shared, names) = (&Mutex::new(places), keys.as_slice());
+    Some(places)
+}
+
+/// Whether all look-ups behind a lock lead somewhere, so many in each of so many threads.
+fn are_found_in<R: Threads + Wait + Sync>(
+    rt: &R,
+    alloc: Global,
+    places: &Mutex<Places>,
+    names: &[RuleKey],
+    readers: u64,
+    many: u64,
+) -> bool {
     let count = readers as usize;
-    let led = thread::map_indices(rt, alloc, count, &|_| found_by(rt, shared, names, many))?;
-    Ok(led.iter().all(|count| *count == many))
+    match thread::map_indices(rt, alloc, count, &|_| found_by(rt, places, names, many)) {
+        Ok(led) => led.iter().all(|count| *count == many),
+        Err(_) => false,
+    }
+}
+
+/// The same of as many rules as there may be.
+fn are_found<R: Threads + Wait + Sync>(rt: &R, alloc: Global, readers: u64, many: u64) -> bool {
+    let Some(keys) = many_keys(alloc) else {
+        return false;
+    };
+    match many_places(alloc) {
+        Some(places) => {
+            let shared = Mutex::new(places);
+            are_found_in(rt, alloc, &shared, keys.as_slice(), readers, many)
+        }
+        None => false,
+    }
 }
 
 /// The number in a variable, or another one if it isn't set.
@@ -92,7 +156,7 @@ fn look_ups_by_routers(rt: HostRuntime) -> Result<(), Fail> {
         number(&rt, "MT_READERS", 2)?,
         number(&rt, "MT_LOOK_UPS", 5000)?,
     );
-    assert!(rt; are_routed::<Brand, _>(&rt, rt.alloc(), Opened::new(), readers, many)?);
+    assert!(rt; are_routed::<Brand, _>(&rt, rt.alloc(), Opened::new(), readers, many));
     Ok(())
 }
 
@@ -102,6 +166,6 @@ fn look_ups_behind_a_lock(rt: HostRuntime) -> Result<(), Fail> {
         number(&rt, "MT_READERS", 2)?,
         number(&rt, "MT_LOOK_UPS", 5000)?,
     );
-    assert!(rt; are_found(&rt, rt.alloc(), readers, many)?);
+    assert!(rt; are_found(&rt, rt.alloc(), readers, many));
     Ok(())
 }

@@ -4,7 +4,7 @@ ghost use Rattle.std.specs.Prelude.{◌≡◌};
 use crate::acts::leads;
 use crate::scene::{Said, Scene, next_of};
 use mt_names::{RuleKey, TabletType};
-use mt_routes::{Front, Naming, Opened, Router};
+use mt_routes::{Front, Naming, Opened, Router, Told};
 use std::alloc::Global;
 use std::marker::Brand;
 use std::sync::Wait;
@@ -18,7 +18,7 @@ const MANY: u64 = 1000;
 const MOST: u64 = 2_000_000_000;
 
 /// Where the name leads by the publication with this front.
-const TARGETS: [&str; 8] = [
+static TARGETS: [&str; 8] = [
     "a.t0", "b.t1", "c.t2", "d.t3", "e.t4", "f.t5", "g.t6", "h.t7",
 ];
 
@@ -62,38 +62,101 @@ fn publishes_on<J: Naming, R: Wait + Drop + Copy>(alloc: Global, scene: &mut Sce
     true
 }
 
-/// Whether four threads read on while this one publishes, and a router then answers by the last publication.
+/// Two routers of a list.
+fn two_routers<J: Naming, R: Wait + Drop + Copy>(
+    scene: &Scene<J, R>,
+) -> Option<(Router<J>, Router<J>)> {
+    let Ok(one) = scene.router() else {
+        return None;
+    };
+    match scene.router() {
+        Ok(two) => Some((one, two)),
+        Err(_) => None,
+    }
+}
+
+/// Whether two routers read on, each in a thread of its own.
+fn both_read_on<J: Naming + Send + Sync, R: Threads + Wait + Sync>(
+    rt: &R,
+    routers: (Router<J>, Router<J>),
+) -> bool {
+    let (one, two) = routers;
+    join(rt, move || reads_on(one), move || reads_on(two)) == (true, true)
+}
+
+/// Whether four threads read on by these routers while this one publishes.
+fn go_on<J: Naming + Send + Sync, R: Threads + Wait + Sync>(
+    rt: &R,
+    alloc: Global,
+    scene: &mut Scene<J, &R>,
+    two: (Router<J>, Router<J>),
+    two_more: (Router<J>, Router<J>),
+) -> bool {
+    let (two_read, (two_more_read, is_published)) = join(
+        rt,
+        move || both_read_on(rt, two),
+        move || {
+            join(
+                rt,
+                move || both_read_on(rt, two_more),
+                move || publishes_on(alloc, scene),
+            )
+        },
+    );
+    two_read && two_more_read && is_published
+}
+
+/// Whether a router answers by the last publication when it learns it.
+fn learns_the_last<J: Naming>(mut router: Router<J>, told: Told<J>) -> bool {
+    router.learn(told);
+    leads(&mut router, "x", TabletType::Replica, target_at(MANY), MANY)
+}
+
+/// Whether four threads read on while this one publishes.
+fn four_go_on<J: Naming + Send + Sync, R: Threads + Wait + Sync>(
+    rt: &R,
+    alloc: Global,
+    scene: &mut Scene<J, &R>,
+) -> bool {
+    let Some(two) = two_routers(scene) else {
+        return false;
+    };
+    match two_routers(scene) {
+        Some(two_more) => go_on(rt, alloc, scene, two, two_more),
+        None => false,
+    }
+}
+
+/// Whether they do, and a router then answers by the last publication.
+fn all_go_on_at<J: Naming + Send + Sync, R: Threads + Wait + Sync>(
+    rt: &R,
+    alloc: Global,
+    scene: &mut Scene<J, &R>,
+) -> bool {
+    match scene.router() {
+        Ok(after) => four_go_on(rt, alloc, scene) && learns_the_last(after, scene.told()),
+        Err(_) => false,
+    }
+}
+
+/// The same at a new list.
 fn all_go_on<J: Naming + Send + Sync, R: Threads + Wait + Sync>(
     rt: &R,
     alloc: Global,
     opened: Opened,
-) -> Result<bool, Fail>
+) -> bool
     requires { opened.seen.book ≡ J.book }
 {
-    let first = next_of(alloc, 0, &[Said::Rule("x", target_at(0))]).ok_or("no routes")?;
-    let mut scene: Scene<J, &R> = Scene::open(alloc, rt, opened, first).ok_or("no list")?;
-    let (one, two) = (scene.router()?, scene.router()?);
-    let (three, four) = (scene.router()?, scene.router()?);
-    let mut after = scene.router()?;
-    let writer = &mut scene;
-    let (two_read, (two_more_read, is_published)) = join(
-        rt,
-        move || join(rt, move || reads_on(one), move || reads_on(two)),
-        move || {
-            join(
-                rt,
-                move || join(rt, move || reads_on(three), move || reads_on(four)),
-                move || publishes_on(alloc, writer),
-            )
-        },
-    );
-    after.learn(scene.told());
-    let is_last = leads(&mut after, "x", TabletType::Replica, target_at(MANY), MANY)?;
-    Ok(two_read == (true, true) && two_more_read == (true, true) && is_published && is_last)
+    let said = [Said::Rule("x", target_at(0))];
+    let made: Option<Scene<J, &R>> = Scene::of(alloc, rt, opened, 0, &said);
+    match made {
+        Some(mut scene) => all_go_on_at(rt, alloc, &mut scene),
+        None => false,
+    }
 }
 
 #[test]
 fn four_read_while_a_fifth_publishes(rt: HostRuntime) -> Result<(), Fail> {
-    assert!(rt; all_go_on::<Brand, _>(&rt, rt.alloc(), Opened::new())?);
+    assert!(rt; all_go_on::<Brand, _>(&rt, rt.alloc(), Opened::new()));
     Ok(())
 }

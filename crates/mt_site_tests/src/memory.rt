@@ -11,7 +11,6 @@ use mt_site::Site;
 use mt_watch::Watchers;
 use mt_workflow::Slot;
 use std::alloc::Global;
-use std::test::Fail;
 
 /// The tables of a workflow that moves as many as it may.
 const SIXTEEN: [&str; 16] = [
@@ -182,11 +181,20 @@ fn there_and_back(site: &mut Site<Watchers>) -> Option<Written> {
     }
 }
 
+/// Whether the workflow is created and taken back so that the documents with it are these.
+fn is_again(site: &mut Site<Watchers>, once: &Written) -> bool {
+    match there_and_back(site) {
+        Some(again) => again == *once,
+        None => false,
+    }
+}
+
 /// Whether the documents are the same at a second time.
-fn is_same_again(site: &mut Site<Watchers>) -> Result<bool, &'static str> {
-    let once = there_and_back(site).ok_or("not created")?;
-    let again = there_and_back(site).ok_or("not created again")?;
-    Ok(once == again)
+fn is_same_again(site: &mut Site<Watchers>) -> bool {
+    match there_and_back(site) {
+        Some(once) => is_again(site, &once),
+        None => false,
+    }
 }
 
 /// A site that begins with nothing, at once or at a second try.
@@ -198,14 +206,34 @@ pub fn site_of(alloc: Global) -> Option<Site<Watchers>> {
     Some(Site::open(alloc, watchers))
 }
 
+/// The first part that goes otherwise, at a site that stands as it does.
+fn first_other(site: &mut Site<Watchers>) -> Option<&'static str> {
+    if !are_answered(site, &BEGUN) {
+        return Some("the keyspaces");
+    }
+    if !has_tables(site) {
+        return Some("the tables");
+    }
+    if !are_answered(site, &FILLED) {
+        return Some("the rules and the row");
+    }
+    if !is_same_again(site) {
+        return Some("the workflow");
+    }
+    None
+}
+
+/// The same at a site that begins with nothing.
+fn first_wrong(alloc: Global) -> Option<&'static str> {
+    match site_of(alloc) {
+        Some(mut site) => first_other(&mut site),
+        None => Some("the watchers"),
+    }
+}
+
 #[test]
-fn want_of_memory_is_no_other_answer(rt: HostRuntime) -> Result<(), Fail> {
-    let mut site = site_of(rt.alloc()).ok_or("no watchers")?;
-    assert!(rt; are_answered(&mut site, &BEGUN));
-    assert!(rt; has_tables(&mut site));
-    assert!(rt; are_answered(&mut site, &FILLED));
-    assert!(rt; is_same_again(&mut site)?);
-    Ok(())
+fn want_of_memory_is_no_other_answer(rt: HostRuntime) {
+    assert_eq!(rt; first_wrong(rt.alloc()), None);
 }
 
 /// What takes no memory, with a workflow that is created.
@@ -251,16 +279,27 @@ fn is_begun(site: &mut Site<Watchers>) -> bool {
         && is_answered(site, CREATE_ASKED, Answer::Done)
 }
 
+/// How it goes without memory, where the workflow is created. Where it isn't all is so.
+fn play_without(site: &mut Site<Watchers>) -> Played {
+    if !is_begun(site) {
+        return Played::AllSo;
+    }
+    match play_on(site, &WITHOUT_MEMORY) {
+        Played::AllSo => play_on(site, &NOT_CREATED),
+        other => other,
+    }
+}
+
+/// The same at a site that begins with nothing, if there is memory for one.
+fn played_without(alloc: Global) -> Played {
+    match site_of(alloc) {
+        Some(mut site) => play_without(&mut site),
+        None => Played::AllSo,
+    }
+}
+
 /// Passes as well where, from some allocation on, each fails.
 #[test]
-fn no_memory_is_asked_for(rt: HostRuntime) -> Result<(), Fail> {
-    let Some(mut site) = site_of(rt.alloc()) else {
-        return Ok(());
-    };
-    if !is_begun(&mut site) {
-        return Ok(());
-    }
-    assert_eq!(rt; play_on(&mut site, &WITHOUT_MEMORY), Played::AllSo);
-    assert_eq!(rt; play_on(&mut site, &NOT_CREATED), Played::AllSo);
-    Ok(())
+fn no_memory_is_asked_for(rt: HostRuntime) {
+    assert_eq!(rt; played_without(rt.alloc()), Played::AllSo);
 }

@@ -111,19 +111,26 @@ pub fn play_on(site: &mut Site<Watchers>, acts: &[Act]) -> Played {
     Played::AllSo
 }
 
-/// How lists of acts go, one behind the other, at a site that begins with nothing and is watched so.
-fn play(alloc: Global, watches: &[Watch], lists: &[&[Act]]) -> Played {
-    let Some(watchers) = watchers_of(alloc, watches) else {
-        return Played::NotMade;
-    };
-    let mut site = Site::open(alloc, watchers);
+/// How lists of acts go, one behind the other, at a site that stands as it does.
+fn play_lists(site: &mut Site<Watchers>, lists: &[&[Act]]) -> Played {
     for acts in lists {
-        match play_on(&mut site, acts) {
+        match play_on(site, acts) {
             Played::AllSo => {}
             other => return other,
         }
     }
     Played::AllSo
+}
+
+/// The same at a site that begins with nothing and is watched so.
+fn play(alloc: Global, watches: &[Watch], lists: &[&[Act]]) -> Played {
+    match watchers_of(alloc, watches) {
+        Some(watchers) => {
+            let mut site = Site::open(alloc, watchers);
+            play_lists(&mut site, lists)
+        }
+        None => Played::NotMade,
+    }
 }
 
 /// Asserts of plays, each some lists of acts one behind the other, that all goes so at sites that begin with nothing and are

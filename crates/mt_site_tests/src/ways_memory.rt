@@ -12,7 +12,7 @@ use mt_site::Site;
 use mt_stream::StreamState;
 use mt_watch::Watchers;
 use mt_workflow::Slot;
-use std::test::Fail;
+use std::alloc::Global;
 
 /// A workflow over one row, whose copy has ended.
 const COPIED: [(Ask, Answer); 6] = [
@@ -180,11 +180,25 @@ fn goes(site: &mut Site<Watchers>, phase: Phase) -> bool {
     }
 }
 
-#[test]
-fn want_of_memory_is_no_other_answer(rt: HostRuntime) -> Result<(), Fail> {
-    let mut site = site_of(rt.alloc()).ok_or("no watchers")?;
+/// How the phases go at a site that stands as it does, in their order up to the first that doesn't go so.
+fn play_phases(site: &mut Site<Watchers>) -> Played {
     for (at, phase) in PHASES.iter().enumerate() {
-        assert!(rt; goes(&mut site, *phase), "at {at}");
+        if !goes(site, *phase) {
+            return Played::Wrong(at);
+        }
     }
-    Ok(())
+    Played::AllSo
+}
+
+/// The same at a site that begins with nothing.
+fn played(alloc: Global) -> Played {
+    match site_of(alloc) {
+        Some(mut site) => play_phases(&mut site),
+        None => Played::NotMade,
+    }
+}
+
+#[test]
+fn want_of_memory_is_no_other_answer(rt: HostRuntime) {
+    assert_eq!(rt; played(rt.alloc()), Played::AllSo);
 }

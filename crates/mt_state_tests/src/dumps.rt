@@ -1,10 +1,9 @@
 //! Dumps, written and read.
 
-use crate::topology::{Call, TWO_KEYSPACES, made_by};
-use mt_names::{KeyspaceName, RuleKey, TableName};
+use crate::topology::{Call, TWO_KEYSPACES, all_answered};
+use mt_names::{KeyspaceName, NameFault, RuleKey, TableName};
 use mt_topology::{EntryKey, Topology, TopologyFault};
-use std::alloc::Global;
-use std::test::Fail;
+use std::alloc::{AllocError, Global};
 
 /// The dump of two keyspaces, of which `b` has the table `t`.
 const TWO: &str =
@@ -13,6 +12,9 @@ const TWO: &str =
 /// The same with a rule and a denial.
 const DENIED: &str =
     "{\"denied\":[\"b.t\"],\"keyspaces\":[{\"name\":\"a\",\"tables\":[]},{\"name\":\"b\",\"tables\":[\"t\"]}],\"rules\":[{\"from_table\":\"x\",\"to_tables\":[\"b.t\"]}],\"version\":1}";
+
+/// The two keyspaces, to go over.
+static TWO_MADE: [(Call<'static>, &str); 3] = TWO_KEYSPACES;
 
 /// The keyspaces `a` and `b`, the table in `b`, and a rule. The part of the table's move to `a` is reserved, and it is denied.
 static WITH_DENIAL: [(Call<'static>, &str); 6] = [
@@ -33,34 +35,53 @@ fn loaded(alloc: Global, text: &str) -> &'static str {
 }
 
 /// Whether a topology's dump is this.
-fn dumps(alloc: Global, topology: &Topology, want: &str) -> Result<bool, Fail> {
-    Ok(topology.dump(alloc)?.as_str() == want)
+fn dumps(alloc: Global, topology: &Topology, want: &str) -> bool {
+    topology.dump(alloc).is_ok_and(|text| text.as_str() == want)
+}
+
+/// Whether the topology that calls make of none has this dump.
+fn is_dumped(alloc: Global, calls: &[(Call<'_>, &str)], want: &str) -> bool {
+    let mut topology = Topology::new(alloc);
+    all_answered(&mut topology, calls) && dumps(alloc, &topology, want)
 }
 
 /// Whether a dump is read as a topology that has the same dump.
-fn is_read_back(alloc: Global, text: &str) -> Result<bool, Fail> {
-    dumps(alloc, &Topology::load(alloc, text.as_bytes())?, text)
+fn is_read_back(alloc: Global, text: &str) -> bool {
+    match Topology::load(alloc, text.as_bytes()) {
+        Ok(topology) => dumps(alloc, &topology, text),
+        Err(_) => false,
+    }
 }
 
-/// A list of so many items, each a text with its number between two others.
-fn list_of(alloc: Global, front: &str, back: &str, count: u32) -> Result<String, Fail> {
+/// Pushes an item of a list, a text with its number between two others.
+fn push_item(
+    text: &mut String,
+    alloc: Global,
+    front: &str,
+    back: &str,
+    number: u32,
+) -> Result<(), AllocError> {
+    if number > 0 {
+        text.push_str(",")?;
+    }
+    text.push_str(format!(in alloc; "{front}{number}{back}")?.as_str())
+}
+
+/// A list of so many items.
+fn list_of(alloc: Global, front: &str, back: &str, count: u32) -> Result<String, AllocError> {
     let mut text = String::new(alloc);
     for number in 0..count {
-        if number > 0 {
-            text.push_str(",")?;
-        }
-        text.push_str(format!(in alloc; "{front}{number}{back}")?.as_str())?;
+        push_item(&mut text, alloc, front, back, number)?;
     }
     Ok(text)
 }
 
 #[test]
-fn a_dump_is_sorted_and_read_back(rt: HostRuntime) -> Result<(), Fail> {
-    assert!(rt; dumps(rt.alloc(), &made_by(rt.alloc(), &TWO_KEYSPACES)?, TWO)?);
-    assert!(rt; is_read_back(rt.alloc(), TWO)?);
-    assert!(rt; dumps(rt.alloc(), &made_by(rt.alloc(), &WITH_DENIAL)?, DENIED)?);
-    assert!(rt; is_read_back(rt.alloc(), DENIED)?);
-    Ok(())
+fn a_dump_is_sorted_and_read_back(rt: HostRuntime) {
+    assert!(rt; is_dumped(rt.alloc(), &TWO_MADE, TWO));
+    assert!(rt; is_read_back(rt.alloc(), TWO));
+    assert!(rt; is_dumped(rt.alloc(), &WITH_DENIAL, DENIED));
+    assert!(rt; is_read_back(rt.alloc(), DENIED));
 }
 
 /// Texts that are read as a topology.
@@ -72,11 +93,10 @@ static TAKEN: [&str; 4] = [
 ];
 
 #[test]
-fn what_is_taken(rt: HostRuntime) -> Result<(), Fail> {
+fn what_is_taken(rt: HostRuntime) {
     for text in &TAKEN {
         assert_eq!(rt; loaded(rt.alloc(), text), "ok", "at {text}");
     }
-    Ok(())
 }
 
 /// Texts that are no dumps.
@@ -107,82 +127,135 @@ static REFUSED: [&str; 23] = [
 ];
 
 #[test]
-fn what_is_refused(rt: HostRuntime) -> Result<(), Fail> {
+fn what_is_refused(rt: HostRuntime) {
     for text in &REFUSED {
         assert_eq!(rt; loaded(rt.alloc(), text), "T6 BadDump", "at {text}");
     }
-    Ok(())
 }
 
-#[test]
-fn too_many_keyspaces_in_a_dump(rt: HostRuntime) -> Result<(), Fail> {
-    let alloc = rt.alloc();
-    for (count, bad, want) in [
-        (32, "", "ok"),
-        (33, "", "T5 Full"),
-        (33, ",{\"name\":\"k0\"}", "T6 BadDump"),
-    ] {
-        let list = list_of(alloc, "{\"name\":\"k", "\"}", count)?;
-        let text = format!(in alloc; "{{\"version\":1,\"keyspaces\":[{list}{bad}]}}")?;
-        assert_eq!(rt; loaded(alloc, text.as_str()), want);
+/// A dump of many, with the number of them.
+#[derive(Clone, Copy)]
+enum Many {
+    /// Keyspaces, with this text behind them.
+    Keyspaces(u32, &'static str),
+    /// Tables of a keyspace, with this denial.
+    Tables(u32, &'static str),
+    /// Rules, with this text behind them.
+    Rules(u32, &'static str),
+}
+
+/// How a dump of keyspaces is answered.
+fn with_keyspaces(alloc: Global, count: u32, bad: &str) -> Result<&'static str, AllocError> {
+    let list = list_of(alloc, "{\"name\":\"k", "\"}", count)?;
+    let text = format!(in alloc; "{{\"version\":1,\"keyspaces\":[{list}{bad}]}}")?;
+    Ok(loaded(alloc, text.as_str()))
+}
+
+/// How a dump of tables is answered.
+fn with_tables(alloc: Global, count: u32, denied: &str) -> Result<&'static str, AllocError> {
+    let list = list_of(alloc, "\"t", "\"", count)?;
+    let text = format!(in alloc;
+        "{{\"version\":1,\"keyspaces\":[{{\"name\":\"k\",\"tables\":[{list}]}}],\"denied\":[\"{denied}\"]}}"
+    )?;
+    Ok(loaded(alloc, text.as_str()))
+}
+
+/// How a dump of rules is answered.
+fn with_rules(alloc: Global, count: u32, bad: &str) -> Result<&'static str, AllocError> {
+    let front = "{\"to_tables\":[\"k.t\"],\"from_table\":\"t";
+    let list = list_of(alloc, front, "\"}", count)?;
+    let text = format!(in alloc; "{{\"version\":1,\"rules\":[{list}{bad}]}}")?;
+    Ok(loaded(alloc, text.as_str()))
+}
+
+/// Whether a dump of many is answered so.
+fn is_loaded(alloc: Global, many: Many, want: &str) -> bool {
+    let answer = match many {
+        Many::Keyspaces(count, bad) => with_keyspaces(alloc, count, bad),
+        Many::Tables(count, denied) => with_tables(alloc, count, denied),
+        Many::Rules(count, bad) => with_rules(alloc, count, bad),
+    };
+    answer.is_ok_and(|text| text == want)
+}
+
+/// The index of the first dump that isn't answered so.
+fn first_other(alloc: Global, dumps: &[(Many, &str)]) -> Option<usize> {
+    for (index, (many, want)) in dumps.iter().enumerate() {
+        if !is_loaded(alloc, *many, want) {
+            return Some(index);
+        }
     }
-    Ok(())
+    None
 }
 
+/// As many keyspaces as there may be, and one more.
+static MANY_KEYSPACES: [(Many, &str); 3] = [
+    (Many::Keyspaces(32, ""), "ok"),
+    (Many::Keyspaces(33, ""), "T5 Full"),
+    (Many::Keyspaces(33, ",{\"name\":\"k0\"}"), "T6 BadDump"),
+];
+
 #[test]
-fn too_many_tables_in_a_dump(rt: HostRuntime) -> Result<(), Fail> {
-    let alloc = rt.alloc();
-    for (count, denied, want) in [
-        (256, "k.t255", "ok"),
-        (257, "k.t256", "T5 Full"),
-        (257, "k.t257", "T6 BadDump"),
-    ] {
-        let list = list_of(alloc, "\"t", "\"", count)?;
-        let text = format!(in alloc;
-            "{{\"version\":1,\"keyspaces\":[{{\"name\":\"k\",\"tables\":[{list}]}}],\"denied\":[\"{denied}\"]}}"
-        )?;
-        assert_eq!(rt; loaded(alloc, text.as_str()), want);
+fn too_many_keyspaces_in_a_dump(rt: HostRuntime) {
+    assert_eq!(rt; first_other(rt.alloc(), &MANY_KEYSPACES), None);
+}
+
+/// As many tables as a keyspace may have, and one more.
+static MANY_TABLES: [(Many, &str); 3] = [
+    (Many::Tables(256, "k.t255"), "ok"),
+    (Many::Tables(257, "k.t256"), "T5 Full"),
+    (Many::Tables(257, "k.t257"), "T6 BadDump"),
+];
+
+#[test]
+fn too_many_tables_in_a_dump(rt: HostRuntime) {
+    assert_eq!(rt; first_other(rt.alloc(), &MANY_TABLES), None);
+}
+
+/// As many rules as there may be, and one more.
+static MANY_RULES: [(Many, &str); 3] = [
+    (Many::Rules(4096, ""), "ok"),
+    (Many::Rules(4097, ""), "T5 Full"),
+    (Many::Rules(4097, ",{\"from_table\":\"t.\"}"), "T6 BadDump"),
+];
+
+#[test]
+fn too_many_rules_in_a_dump(rt: HostRuntime) {
+    assert_eq!(rt; first_other(rt.alloc(), &MANY_RULES), None);
+}
+
+/// Whether a text is no dump.
+fn is_no_dump(alloc: Global, text: &[u8]) -> bool {
+    Topology::load(alloc, text).err() == Some(TopologyFault::BadDump)
+}
+
+/// Whether a text is no dump with another byte at an index.
+fn is_none_changed(alloc: Global, text: &[u8], index: usize) -> bool {
+    let mut changed = Vec::new(alloc);
+    if changed.extend_from_slice(text).is_err() || index >= changed.len() {
+        return false;
     }
-    Ok(())
+    changed[index] = 0xff;
+    is_no_dump(alloc, &changed)
 }
 
-#[test]
-fn too_many_rules_in_a_dump(rt: HostRuntime) -> Result<(), Fail> {
-    let alloc = rt.alloc();
-    for (count, bad, want) in [
-        (4096, "", "ok"),
-        (4097, "", "T5 Full"),
-        (4097, ",{\"from_table\":\"t.\"}", "T6 BadDump"),
-    ] {
-        let list = list_of(
-            alloc,
-            "{\"to_tables\":[\"k.t\"],\"from_table\":\"t",
-            "\"}",
-            count,
-        )?;
-        let text = format!(in alloc; "{{\"version\":1,\"rules\":[{list}{bad}]}}")?;
-        assert_eq!(rt; loaded(alloc, text.as_str()), want);
-    }
-    Ok(())
-}
-
-#[test]
-fn every_prefix_and_every_byte_that_is_none(rt: HostRuntime) -> Result<(), Fail> {
-    let text = TWO.as_bytes();
+/// The first index at which a text may be cut off or changed, and is a dump.
+fn first_taken(alloc: Global, text: &[u8]) -> Option<usize> {
     for end in 0..text.len() {
-        let cut = Topology::load(rt.alloc(), &text[..end]).err();
-        assert_eq!(rt; cut, Some(TopologyFault::BadDump));
-        let mut changed = Vec::new(rt.alloc());
-        changed.extend_from_slice(text)?;
-        changed[end] = 0xff;
-        let other = Topology::load(rt.alloc(), &changed).err();
-        assert_eq!(rt; other, Some(TopologyFault::BadDump));
+        if !is_no_dump(alloc, &text[..end]) || !is_none_changed(alloc, text, end) {
+            return Some(end);
+        }
     }
-    Ok(())
+    None
+}
+
+#[test]
+fn every_prefix_and_every_byte_that_is_none(rt: HostRuntime) {
+    assert_eq!(rt; first_taken(rt.alloc(), TWO.as_bytes()), None);
 }
 
 /// The keys of a rule, of the table and of its denial.
-fn keys() -> Result<[EntryKey; 3], Fail> {
+fn keys() -> Result<[EntryKey; 3], NameFault> {
     let (b, t) = (KeyspaceName::parse("b")?, TableName::parse("t")?);
     let rule = EntryKey::Rule(RuleKey::parse("x")?);
     Ok([
@@ -199,22 +272,47 @@ fn same(one: &Topology, other: &Topology, keys: &[EntryKey]) -> usize {
         .count()
 }
 
-/// How many of the entries a topology has in common with the one that a dump is read as.
-fn shared(alloc: Global, topology: &Topology, dump: &str) -> Result<usize, Fail> {
-    let keys = keys()?;
-    Ok(same(topology, &Topology::load(alloc, dump.as_bytes())?, &keys))
+/// How many of the three entries say the same in two topologies.
+fn same_of_three(one: &Topology, other: &Topology) -> Option<usize> {
+    match keys() {
+        Ok(keys) => Some(same(one, other, &keys)),
+        Err(_) => None,
+    }
+}
+
+/// How many of them a topology has in common with the one that a dump is read as.
+fn shared_with(alloc: Global, topology: &Topology, dump: &str) -> Option<usize> {
+    match Topology::load(alloc, dump.as_bytes()) {
+        Ok(other) => same_of_three(topology, &other),
+        Err(_) => None,
+    }
+}
+
+/// How many of them a topology has in common with it once calls are answered so.
+fn shared_behind(
+    alloc: Global,
+    topology: &mut Topology,
+    calls: &[(Call<'_>, &str)],
+    dump: &str,
+) -> Option<usize> {
+    if all_answered(topology, calls) {
+        return shared_with(alloc, topology, dump);
+    }
+    None
+}
+
+/// The same of the topology that the calls make of none.
+fn shared(alloc: Global, calls: &[(Call<'_>, &str)], dump: &str) -> Option<usize> {
+    let mut topology = Topology::new(alloc);
+    shared_behind(alloc, &mut topology, calls, dump)
 }
 
 #[test]
-fn a_loaded_topology_is_the_dumped_one(rt: HostRuntime) -> Result<(), Fail> {
-    let topology = made_by(rt.alloc(), &WITH_DENIAL)?;
-    assert_eq!(rt; shared(rt.alloc(), &topology, DENIED)?, 3);
-    Ok(())
+fn a_loaded_topology_is_the_dumped_one(rt: HostRuntime) {
+    assert_eq!(rt; shared(rt.alloc(), &WITH_DENIAL, DENIED), Some(3));
 }
 
 #[test]
-fn another_dump_is_another_topology(rt: HostRuntime) -> Result<(), Fail> {
-    let topology = made_by(rt.alloc(), &TWO_KEYSPACES)?;
-    assert_eq!(rt; shared(rt.alloc(), &topology, DENIED)?, 1);
-    Ok(())
+fn another_dump_is_another_topology(rt: HostRuntime) {
+    assert_eq!(rt; shared(rt.alloc(), &TWO_MADE, DENIED), Some(1));
 }

@@ -4,6 +4,8 @@
 #[cfg(test)]
 mod dumps;
 #[cfg(test)]
+mod phases;
+#[cfg(test)]
 mod primary;
 #[cfg(test)]
 mod refreshes;

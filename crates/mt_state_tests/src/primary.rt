@@ -1,9 +1,8 @@
 //! A primary by direct calls.
 
+use crate::phases::{Phase, first_wrong};
 use mt_names::{NameFault, TableName, TabletType, Value};
 use mt_primary::{Op, Primary, PrimaryFault};
-use std::alloc::Global;
-use std::test::Fail;
 
 /// A client's call of a primary.
 #[derive(Clone, Copy)]
@@ -86,20 +85,27 @@ pub fn all_answered(primary: &mut Primary, calls: &[(Call<'_>, Answer<'_>)]) -> 
     true
 }
 
-/// A primary that has these tables.
-pub fn primary_with(alloc: Global, tables: &[&str]) -> Result<Primary, Fail> {
-    let mut primary = Primary::new(alloc);
+/// Whether a table that isn't there is made, and is there then.
+fn is_made(primary: &mut Primary, name: &str) -> Result<bool, NameFault> {
+    let table = TableName::parse(name)?;
+    if primary.has_table(&table) {
+        return Ok(false);
+    }
+    Ok(primary.create_table(&table).is_ok() && primary.has_table(&table))
+}
+
+/// Whether tables that aren't there are made, one after the other.
+pub fn all_made(primary: &mut Primary, tables: &[&str]) -> bool {
     for name in tables {
-        let table = TableName::parse(name)?;
-        if !primary.has_table(&table) {
-            primary.create_table(&table)?;
+        if !is_made(primary, name).unwrap_or(false) {
+            return false;
         }
     }
-    Ok(primary)
+    true
 }
 
 /// Writes and reads of a table, of which each type reads the acknowledged writes.
-static WRITES_AND_READS: [(Call<'static>, Answer<'static>); 11] = [
+const WRITES_AND_READS: [(Call<'static>, Answer<'static>); 11] = [
     (
         Call::Read("customer", 1, TabletType::Primary),
         Answer::NoRow,
@@ -137,21 +143,21 @@ static WRITES_AND_READS: [(Call<'static>, Answer<'static>); 11] = [
     ),
 ];
 
+/// A table is made at a primary of none, and a row of it is written and read.
+static A_ROW: [Phase; 4] = [
+    Phase::At(0),
+    Phase::Made(&["customer"]),
+    Phase::Answered(&WRITES_AND_READS),
+    Phase::At(3),
+];
+
 #[test]
-fn a_row_is_written_and_read(rt: HostRuntime) -> Result<(), Fail> {
-    let mut primary = primary_with(rt.alloc(), &[])?;
-    let customer = TableName::parse("customer")?;
-    assert_eq!(rt; primary.position(), 0);
-    assert!(rt; !primary.has_table(&customer));
-    primary.create_table(&customer)?;
-    assert!(rt; primary.has_table(&customer));
-    assert!(rt; all_answered(&mut primary, &WRITES_AND_READS));
-    assert_eq!(rt; primary.position(), 3);
-    Ok(())
+fn a_row_is_written_and_read(rt: HostRuntime) {
+    assert_eq!(rt; first_wrong(rt.alloc(), &A_ROW), None);
 }
 
 /// Refusals, of which each leaves what the primary holds.
-static REFUSALS: [(Call<'static>, Answer<'static>); 18] = [
+const REFUSALS: [(Call<'static>, Answer<'static>); 18] = [
     (Call::Insert("customer", 7, &LONGEST), Answer::At(1)),
     (
         Call::Insert("customer", 7, b"b"),
@@ -223,16 +229,20 @@ static REFUSALS: [(Call<'static>, Answer<'static>); 18] = [
     ),
 ];
 
+/// A table, and what is refused.
+static REFUSED: [Phase; 3] = [
+    Phase::Made(&["customer"]),
+    Phase::Answered(&REFUSALS),
+    Phase::At(1),
+];
+
 #[test]
-fn each_refusal_leaves_the_primary(rt: HostRuntime) -> Result<(), Fail> {
-    let mut primary = primary_with(rt.alloc(), &["customer"])?;
-    assert!(rt; all_answered(&mut primary, &REFUSALS));
-    assert_eq!(rt; primary.position(), 1);
-    Ok(())
+fn each_refusal_leaves_the_primary(rt: HostRuntime) {
+    assert_eq!(rt; first_wrong(rt.alloc(), &REFUSED), None);
 }
 
 /// Two tables with rows of the same key.
-static TWO_TABLES: [(Call<'static>, Answer<'static>); 9] = [
+const TWO_TABLES: [(Call<'static>, Answer<'static>); 9] = [
     (Call::Insert("customer", 1, b"a"), Answer::At(1)),
     (Call::Read("orders", 1, TabletType::Primary), Answer::NoRow),
     (Call::Insert("orders", 1, b"b"), Answer::At(2)),
@@ -253,9 +263,13 @@ static TWO_TABLES: [(Call<'static>, Answer<'static>); 9] = [
     ),
 ];
 
+/// The two tables, one beside the other.
+static BESIDE: [Phase; 2] = [
+    Phase::Made(&["customer", "orders"]),
+    Phase::Answered(&TWO_TABLES),
+];
+
 #[test]
-fn tables_have_rows_of_their_own(rt: HostRuntime) -> Result<(), Fail> {
-    let mut primary = primary_with(rt.alloc(), &["customer", "orders"])?;
-    assert!(rt; all_answered(&mut primary, &TWO_TABLES));
-    Ok(())
+fn tables_have_rows_of_their_own(rt: HostRuntime) {
+    assert_eq!(rt; first_wrong(rt.alloc(), &BESIDE), None);
 }

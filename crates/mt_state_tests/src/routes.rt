@@ -3,7 +3,6 @@
 use mt_names::{KeyspaceName, NameFault, RuleKey, RuleTarget, TableName};
 use mt_topology::{Entry, Topology};
 use std::alloc::Global;
-use std::test::Fail;
 
 /// Two keyspaces with three tables, of which one is denied, and two rules.
 const DUMP: &str =
@@ -92,19 +91,39 @@ fn befores() -> Result<[Entry; 4], NameFault> {
     ])
 }
 
-#[test]
-fn entries_are_written_and_taken_back(rt: HostRuntime) -> Result<(), Fail> {
-    let Ok(mut topology) = Topology::load(rt.alloc(), DUMP.as_bytes()) else {
-        return Err(Fail::from("no topology"));
-    };
-    let (mut entries, before) = (changes()?, befores()?);
-    assert!(rt; write_all(&mut topology, &mut entries));
-    assert!(rt; entries == before);
-    assert!(rt; dumps(rt.alloc(), &topology, WRITTEN));
+/// Whether entries are written, so that they become what stood before, this dump stands then, and the first one stands again
+/// behind the way back.
+fn go_and_return(
+    alloc: Global,
+    topology: &mut Topology,
+    entries: &mut [Entry],
+    before: &[Entry],
+) -> bool {
+    if !write_all(topology, entries) || *entries != *before || !dumps(alloc, topology, WRITTEN) {
+        return false;
+    }
     entries.reverse();
-    assert!(rt; write_all(&mut topology, &mut entries));
-    assert!(rt; dumps(rt.alloc(), &topology, DUMP));
-    Ok(())
+    write_all(topology, entries) && dumps(alloc, topology, DUMP)
+}
+
+/// Whether the changes are written and taken back.
+fn are_taken_back(alloc: Global, topology: &mut Topology) -> Result<bool, NameFault> {
+    let before = befores()?;
+    let mut entries = changes()?;
+    Ok(go_and_return(alloc, topology, &mut entries, &before))
+}
+
+/// Whether that goes so at the topology that the dump is read as.
+fn loaded_takes_back(alloc: Global) -> bool {
+    match Topology::load(alloc, DUMP.as_bytes()) {
+        Ok(mut topology) => are_taken_back(alloc, &mut topology).unwrap_or(false),
+        Err(_) => false,
+    }
+}
+
+#[test]
+fn entries_are_written_and_taken_back(rt: HostRuntime) {
+    assert!(rt; loaded_takes_back(rt.alloc()));
 }
 
 /// The routes of the dump, as it is read.
@@ -127,15 +146,36 @@ fn fewer_routes() -> Result<[Entry; 3], NameFault> {
     ])
 }
 
+/// Whether the routes are those of the dump.
+fn has_routes(topology: &Topology) -> Result<bool, NameFault> {
+    Ok(are_routes(topology, &routes()?))
+}
+
+/// Whether they are those that are left.
+fn has_fewer_routes(topology: &Topology) -> Result<bool, NameFault> {
+    Ok(are_routes(topology, &fewer_routes()?))
+}
+
+/// Takes away the rule of `x` and the table of `b`, where each has a place.
+fn take_away(topology: &mut Topology) -> Result<bool, NameFault> {
+    let rule = no_rule("x")?;
+    Ok(write_all(topology, &mut [rule, table("b", "t", false)?]))
+}
+
+/// Whether the routes are what stands, before and behind that.
+fn are_what_stands(topology: &mut Topology) -> Result<bool, NameFault> {
+    Ok(has_routes(topology)? && take_away(topology)? && has_fewer_routes(topology)?)
+}
+
+/// Whether they are at the topology that the dump is read as.
+fn loaded_are_what_stands(alloc: Global) -> bool {
+    match Topology::load(alloc, DUMP.as_bytes()) {
+        Ok(mut topology) => are_what_stands(&mut topology).unwrap_or(false),
+        Err(_) => false,
+    }
+}
+
 #[test]
-fn routes_are_what_stands(rt: HostRuntime) -> Result<(), Fail> {
-    let Ok(mut topology) = Topology::load(rt.alloc(), DUMP.as_bytes()) else {
-        return Err(Fail::from("no topology"));
-    };
-    let (all, fewer) = (routes()?, fewer_routes()?);
-    assert!(rt; are_routes(&topology, &all));
-    let mut entries = [no_rule("x")?, table("b", "t", false)?];
-    assert!(rt; write_all(&mut topology, &mut entries));
-    assert!(rt; are_routes(&topology, &fewer));
-    Ok(())
+fn routes_are_what_stands(rt: HostRuntime) {
+    assert!(rt; loaded_are_what_stands(rt.alloc()));
 }

@@ -3,7 +3,6 @@
 use mt_names::{KeyspaceName, NameFault, RuleKey, RuleTarget, TableName, TabletType};
 use mt_topology::{Entry, EntryKey, Topology, TopologyFault};
 use std::alloc::Global;
-use std::test::Fail;
 
 /// A call of a topology. Its answer is a text: `ok`, a target, what an entry says, or a refusal.
 #[derive(Clone, Copy)]
@@ -103,51 +102,106 @@ fn write(topology: &mut Topology, entry: Entry) -> &'static str {
     "no place"
 }
 
+/// Whether `t` is denied at `b`.
+fn is_denied(topology: &Topology) -> Result<&'static str, NameFault> {
+    let keyspace = KeyspaceName::parse("b")?;
+    let key = EntryKey::Denied(keyspace, TableName::parse("t")?);
+    Ok(said(&topology.value(&key)))
+}
+
+/// Denies `t` at `b` or allows it, where that has a place: what was so before.
+fn deny(topology: &mut Topology, is_denied: bool) -> Result<&'static str, NameFault> {
+    let keyspace = KeyspaceName::parse("b")?;
+    Ok(write(
+        topology,
+        Entry::Denied(keyspace, TableName::parse("t")?, is_denied),
+    ))
+}
+
+/// Makes `t` be there in `b` or not, where that has a place: what was so before.
+fn hold(topology: &mut Topology, is_there: bool) -> Result<&'static str, NameFault> {
+    let keyspace = KeyspaceName::parse("b")?;
+    Ok(write(
+        topology,
+        Entry::Present(keyspace, TableName::parse("t")?, is_there),
+    ))
+}
+
 /// Whether a call is answered so.
-fn is_answered(topology: &mut Topology, call: Call<'_>, want: &str) -> Result<bool, NameFault> {
-    let (b, t) = (KeyspaceName::parse("b")?, TableName::parse("t")?);
-    Ok(match call {
-        Call::Keyspace(name) => add_keyspace(topology, name)? == want,
-        Call::Table(keyspace, table) => add_table(topology, keyspace, table)? == want,
-        Call::Set(key, target) => set_rule(topology, key, target)? == want,
-        Call::Take(key) => take_rule(topology, key)? == want,
-        Call::Find(key, tablet_type) => leads(topology, key, tablet_type, want)?,
-        Call::Reserve(source, target) => reserve(topology, source, target)? == want,
-        Call::Release => release(topology)? == want,
-        Call::IsDenied => said(&topology.value(&EntryKey::Denied(b, t))) == want,
-        Call::Deny(is_denied) => write(topology, Entry::Denied(b, t, is_denied)) == want,
-        Call::Hold(is_there) => write(topology, Entry::Present(b, t, is_there)) == want,
-    })
+fn is_answered(topology: &mut Topology, call: Call<'_>, want: &str) -> bool {
+    let answer = match call {
+        Call::Keyspace(name) => add_keyspace(topology, name),
+        Call::Table(keyspace, table) => add_table(topology, keyspace, table),
+        Call::Set(key, target) => set_rule(topology, key, target),
+        Call::Take(key) => take_rule(topology, key),
+        Call::Find(key, type_of) => return leads(topology, key, type_of, want).unwrap_or(false),
+        Call::Reserve(source, target) => reserve(topology, source, target),
+        Call::Release => release(topology),
+        Call::IsDenied => is_denied(topology),
+        Call::Deny(is_denied) => deny(topology, is_denied),
+        Call::Hold(is_there) => hold(topology, is_there),
+    };
+    answer == Ok(want)
 }
 
 /// Whether calls are answered so.
-fn all_answered(topology: &mut Topology, calls: &[(Call<'_>, &str)]) -> bool {
+pub fn all_answered(topology: &mut Topology, calls: &[(Call<'_>, &str)]) -> bool {
     for (call, want) in calls {
-        if !is_answered(topology, *call, want).unwrap_or(false) {
+        if !is_answered(topology, *call, want) {
             return false;
         }
     }
     true
 }
 
-/// The topology that these calls make of none.
-pub fn made_by(alloc: Global, calls: &[(Call<'_>, &str)]) -> Result<Topology, Fail> {
-    let mut topology = Topology::new(alloc);
-    if all_answered(&mut topology, calls) {
-        return Ok(topology);
+/// What happens next at a topology.
+#[derive(Clone, Copy)]
+enum Phase {
+    /// Calls are answered so.
+    Answered(&'static [(Call<'static>, &'static str)]),
+    /// Thirty more keyspaces are added.
+    Keyspaces,
+    /// As many tables are added as a keyspace may have.
+    Tables,
+    /// So many rules are set.
+    Rules(u32),
+}
+
+/// Whether a phase goes so.
+fn goes(topology: &mut Topology, alloc: Global, phase: Phase) -> bool {
+    match phase {
+        Phase::Answered(calls) => all_answered(topology, calls),
+        Phase::Keyspaces => add_keyspaces(topology, alloc),
+        Phase::Tables => add_tables(topology, alloc),
+        Phase::Rules(count) => set_rules(topology, alloc, count),
     }
-    Err(Fail::from("another answer"))
+}
+
+/// The index of the first of some phases that doesn't go so, at a topology that stands as it does.
+fn first_wrong_at(topology: &mut Topology, alloc: Global, phases: &[Phase]) -> Option<usize> {
+    for (index, phase) in phases.iter().enumerate() {
+        if !goes(topology, alloc, *phase) {
+            return Some(index);
+        }
+    }
+    None
+}
+
+/// The same at a topology that begins with nothing.
+fn first_wrong(alloc: Global, phases: &[Phase]) -> Option<usize> {
+    let mut topology = Topology::new(alloc);
+    first_wrong_at(&mut topology, alloc, phases)
 }
 
 /// The keyspaces `a` and `b`, of which `b` has the table `t`.
-pub static TWO_KEYSPACES: [(Call<'static>, &str); 3] = [
+pub const TWO_KEYSPACES: [(Call<'static>, &str); 3] = [
     (Call::Keyspace("b"), "ok"),
     (Call::Keyspace("a"), "ok"),
     (Call::Table("b", "t"), "ok"),
 ];
 
 /// A name leads by the rule for its type, else by that for all types, else it is looked up among the keyspaces.
-static LOOK_UPS: [(Call<'static>, &str); 19] = [
+const LOOK_UPS: [(Call<'static>, &str); 19] = [
     (Call::Set("x", "b.t"), "ok"),
     (Call::Set("x@replica", "a.x"), "ok"),
     (Call::Find("x", TabletType::Primary), "b.t"),
@@ -169,15 +223,16 @@ static LOOK_UPS: [(Call<'static>, &str); 19] = [
     (Call::Find("t", TabletType::Primary), "T3 Ambiguous"),
 ];
 
+/// The two keyspaces, then what is looked up.
+static LOOKED_UP: [Phase; 2] = [Phase::Answered(&TWO_KEYSPACES), Phase::Answered(&LOOK_UPS)];
+
 #[test]
-fn rows_of_look_ups(rt: HostRuntime) -> Result<(), Fail> {
-    let mut topology = made_by(rt.alloc(), &TWO_KEYSPACES)?;
-    assert!(rt; all_answered(&mut topology, &LOOK_UPS));
-    Ok(())
+fn rows_of_look_ups(rt: HostRuntime) {
+    assert_eq!(rt; first_wrong(rt.alloc(), &LOOKED_UP), None);
 }
 
 /// A part is reserved, of which one rule is there before. Places that hold something stay when it is released.
-static PARTS: [(Call<'static>, &str); 16] = [
+const PARTS: [(Call<'static>, &str); 16] = [
     (Call::Deny(true), "no place"),
     (Call::Reserve("b", "c"), "T1 NoKeyspace"),
     (Call::Set("t@replica", "b.t"), "ok"),
@@ -196,48 +251,70 @@ static PARTS: [(Call<'static>, &str); 16] = [
     (Call::Set("x", "b.t"), "ok"),
 ];
 
+/// The two keyspaces, then the part.
+static PARTED: [Phase; 2] = [Phase::Answered(&TWO_KEYSPACES), Phase::Answered(&PARTS)];
+
 #[test]
-fn parts(rt: HostRuntime) -> Result<(), Fail> {
-    let mut topology = made_by(rt.alloc(), &TWO_KEYSPACES)?;
-    assert!(rt; all_answered(&mut topology, &PARTS));
-    Ok(())
+fn parts(rt: HostRuntime) {
+    assert_eq!(rt; first_wrong(rt.alloc(), &PARTED), None);
+}
+
+/// Adds a keyspace with a number in its name.
+fn adds_keyspace(topology: &mut Topology, alloc: Global, number: u32) -> bool {
+    match format!(in alloc; "k{number}") {
+        Ok(name) => is_answered(topology, Call::Keyspace(name.as_str()), "ok"),
+        Err(_) => false,
+    }
+}
+
+/// Adds a table with a number in its name to `a`.
+fn adds_table(topology: &mut Topology, alloc: Global, number: u32) -> bool {
+    match format!(in alloc; "t{number}") {
+        Ok(name) => is_answered(topology, Call::Table("a", name.as_str()), "ok"),
+        Err(_) => false,
+    }
+}
+
+/// Sets a rule with a number in its key.
+fn sets_rule(topology: &mut Topology, alloc: Global, number: u32) -> bool {
+    match format!(in alloc; "t{number}") {
+        Ok(name) => is_answered(topology, Call::Set(name.as_str(), "k.t"), "ok"),
+        Err(_) => false,
+    }
 }
 
 /// Thirty more keyspaces.
-fn add_keyspaces(topology: &mut Topology, alloc: Global) -> Result<bool, Fail> {
+fn add_keyspaces(topology: &mut Topology, alloc: Global) -> bool {
     for number in 0..30u32 {
-        let name = format!(in alloc; "k{number}")?;
-        if !all_answered(topology, &[(Call::Keyspace(name.as_str()), "ok")]) {
-            return Ok(false);
+        if !adds_keyspace(topology, alloc, number) {
+            return false;
         }
     }
-    Ok(true)
+    true
 }
 
 /// As many tables as a keyspace may have.
-fn add_tables(topology: &mut Topology, alloc: Global) -> Result<bool, Fail> {
+fn add_tables(topology: &mut Topology, alloc: Global) -> bool {
     for number in 0..256u32 {
-        let name = format!(in alloc; "t{number}")?;
-        if !all_answered(topology, &[(Call::Table("a", name.as_str()), "ok")]) {
-            return Ok(false);
+        if !adds_table(topology, alloc, number) {
+            return false;
         }
     }
-    Ok(true)
+    true
 }
 
 /// So many rules.
-fn set_rules(topology: &mut Topology, alloc: Global, count: u32) -> Result<bool, Fail> {
+fn set_rules(topology: &mut Topology, alloc: Global, count: u32) -> bool {
     for number in 0..count {
-        let name = format!(in alloc; "t{number}")?;
-        if !all_answered(topology, &[(Call::Set(name.as_str(), "k.t"), "ok")]) {
-            return Ok(false);
+        if !sets_rule(topology, alloc, number) {
+            return false;
         }
     }
-    Ok(true)
+    true
 }
 
 /// What is refused at the limits of keyspaces and tables, and what is taken.
-static AT_THE_LIMITS: [(Call<'static>, &str); 5] = [
+const AT_THE_LIMITS: [(Call<'static>, &str); 5] = [
     (Call::Keyspace("k7"), "T4 Exists"),
     (Call::Keyspace("k"), "T5 Full"),
     (Call::Table("a", "t7"), "T4 Exists"),
@@ -246,7 +323,7 @@ static AT_THE_LIMITS: [(Call<'static>, &str); 5] = [
 ];
 
 /// The same of rules: one that is there may be changed or taken away.
-static AT_THE_LAST_RULE: [(Call<'static>, &str); 5] = [
+const AT_THE_LAST_RULE: [(Call<'static>, &str); 5] = [
     (Call::Set("t", "k.t"), "T5 Full"),
     (Call::Take("t"), "ok"),
     (Call::Set("t9", "k.u"), "ok"),
@@ -254,19 +331,23 @@ static AT_THE_LAST_RULE: [(Call<'static>, &str); 5] = [
     (Call::Set("t", "k.t"), "ok"),
 ];
 
+/// The two keyspaces, each limit, and what is answered at it.
+static LIMITS: [Phase; 6] = [
+    Phase::Answered(&TWO_KEYSPACES),
+    Phase::Keyspaces,
+    Phase::Tables,
+    Phase::Answered(&AT_THE_LIMITS),
+    Phase::Rules(4096),
+    Phase::Answered(&AT_THE_LAST_RULE),
+];
+
 #[test]
-fn limits(rt: HostRuntime) -> Result<(), Fail> {
-    let mut topology = made_by(rt.alloc(), &TWO_KEYSPACES)?;
-    assert!(rt; add_keyspaces(&mut topology, rt.alloc())?);
-    assert!(rt; add_tables(&mut topology, rt.alloc())?);
-    assert!(rt; all_answered(&mut topology, &AT_THE_LIMITS));
-    assert!(rt; set_rules(&mut topology, rt.alloc(), 4096)?);
-    assert!(rt; all_answered(&mut topology, &AT_THE_LAST_RULE));
-    Ok(())
+fn limits(rt: HostRuntime) {
+    assert_eq!(rt; first_wrong(rt.alloc(), &LIMITS), None);
 }
 
 /// A part that finds no room behind 4,085 rules, and leaves all as it was; with one rule less it finds room.
-static WITHOUT_ROOM: [(Call<'static>, &str); 5] = [
+const WITHOUT_ROOM: [(Call<'static>, &str); 5] = [
     (Call::Reserve("b", "a"), "T5 Full"),
     (Call::Deny(true), "no place"),
     (Call::Take("t0"), "ok"),
@@ -274,10 +355,14 @@ static WITHOUT_ROOM: [(Call<'static>, &str); 5] = [
     (Call::Deny(true), "no"),
 ];
 
+/// The two keyspaces, the rules, and the part behind them.
+static FILLED: [Phase; 3] = [
+    Phase::Answered(&TWO_KEYSPACES),
+    Phase::Rules(4085),
+    Phase::Answered(&WITHOUT_ROOM),
+];
+
 #[test]
-fn room_for_parts(rt: HostRuntime) -> Result<(), Fail> {
-    let mut topology = made_by(rt.alloc(), &TWO_KEYSPACES)?;
-    assert!(rt; set_rules(&mut topology, rt.alloc(), 4085)?);
-    assert!(rt; all_answered(&mut topology, &WITHOUT_ROOM));
-    Ok(())
+fn room_for_parts(rt: HostRuntime) {
+    assert_eq!(rt; first_wrong(rt.alloc(), &FILLED), None);
 }

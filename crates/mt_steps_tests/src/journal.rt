@@ -24,32 +24,40 @@ fn are_appended(journal: &mut Journal, name: &WorkflowName, count: u64) -> bool 
     true
 }
 
+/// Whether three entries are appended, the second isn't again, and the third is found.
+fn appends_once(journal: &mut Journal, name: &WorkflowName) -> bool {
+    are_appended(journal, name, 3)
+        && journal.append(entry(1, name)) == Err(JournalFault::Repeated)
+        && journal.len() == 3
+        && journal.find(2) == Some(&entry(2, name))
+        && journal.find(3).is_none()
+}
+
 #[test]
 fn a_number_is_appended_once(rt: HostRuntime) -> Result<(), Fail> {
     let name = WorkflowName::parse("move")?;
     let mut journal = Journal::new(rt.alloc());
-    assert!(rt; are_appended(&mut journal, &name, 3));
-    assert_eq!(rt;
-        journal.append(entry(1, &name)),
-        Err(JournalFault::Repeated)
-    );
-    assert_eq!(rt; journal.len(), 3);
-    assert!(rt; journal.find(2) == Some(&entry(2, &name)));
-    assert!(rt; journal.find(3).is_none());
+    let is_so = appends_once(&mut journal, &name);
+    drop(journal);
+    assert!(rt; is_so);
     Ok(())
+}
+
+/// Whether 4096 entries are appended, and neither one more nor one of them again.
+fn appends_most(journal: &mut Journal, name: &WorkflowName) -> bool {
+    are_appended(journal, name, 4096)
+        && journal.append(entry(4096, name)) == Err(JournalFault::Full)
+        && journal.append(entry(7, name)) == Err(JournalFault::Repeated)
+        && journal.len() == 4096
 }
 
 #[test]
 fn one_entry_too_many(rt: HostRuntime) -> Result<(), Fail> {
     let name = WorkflowName::parse("move")?;
     let mut journal = Journal::new(rt.alloc());
-    assert!(rt; are_appended(&mut journal, &name, 4096));
-    assert_eq!(rt; journal.append(entry(4096, &name)), Err(JournalFault::Full));
-    assert_eq!(rt;
-        journal.append(entry(7, &name)),
-        Err(JournalFault::Repeated)
-    );
-    assert_eq!(rt; journal.len(), 4096);
+    let is_so = appends_most(&mut journal, &name);
+    drop(journal);
+    assert!(rt; is_so);
     Ok(())
 }
 

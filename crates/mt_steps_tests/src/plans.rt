@@ -28,21 +28,35 @@ fn a_plan_of_writes_or_of_reads_alone(rt: HostRuntime) -> Result<(), Fail> {
         replica: true,
         rdonly: true,
     };
-    assert_eq!(rt; Plan::forward(writes).len(), 11);
-    assert_eq!(rt; Plan::back(writes).first(), Some(&Step::DenySource));
-    assert_eq!(rt; Plan::back(writes).last(), Some(&Step::FreezeOld));
-    assert_eq!(rt; Plan::forward(reads).len(), 1);
-    assert_eq!(rt; Plan::back(reads).first(), Some(&Step::SwitchReads));
+    assert!(rt; Plan::forward(writes).len() == 11 && Plan::forward(reads).len() == 1);
+    assert!(rt; Plan::back(writes).first() == Some(&Step::DenySource));
+    assert!(rt; Plan::back(writes).last() == Some(&Step::FreezeOld));
+    assert!(rt; Plan::back(reads).first() == Some(&Step::SwitchReads));
     Ok(())
+}
+
+/// Refusals, and how they are printed.
+static PRINTED: [(StepFault, &str); 5] = [
+    (StepFault::Memory, "F0 Memory"),
+    (StepFault::NotLevel, "F18 NotLevel"),
+    (StepFault::WatcherRefused(3), "F23 WatcherRefused"),
+    (StepFault::NoWatcher, "F24 NoWatcher"),
+    (StepFault::Full, "F27 Full"),
+];
+
+/// The first refusal that is printed otherwise.
+fn first_other() -> Option<usize> {
+    for (at, (fault, want)) in PRINTED.iter().enumerate() {
+        if fault.as_str() != *want {
+            return Some(at);
+        }
+    }
+    None
 }
 
 #[test]
 fn refusals_of_steps_are_printed(rt: HostRuntime) -> Result<(), Fail> {
-    assert_eq!(rt; StepFault::Memory.as_str(), "F0 Memory");
-    assert_eq!(rt; StepFault::NotLevel.as_str(), "F18 NotLevel");
-    assert_eq!(rt; StepFault::WatcherRefused(3).as_str(), "F23 WatcherRefused");
-    assert_eq!(rt; StepFault::NoWatcher.as_str(), "F24 NoWatcher");
-    assert_eq!(rt; StepFault::Full.as_str(), "F27 Full");
+    assert_eq!(rt; first_other(), None);
     assert_eq!(rt; Step::Journal.number(), 6);
     Ok(())
 }

@@ -26,44 +26,78 @@ pub enum Played {
     NotMade,
 }
 
-/// The sides, and two workflows between them.
+/// The two workflows.
 #[derive(Drop)]
-struct Stage {
-    scene: Scene,
+struct Both {
     t: Moved,
     u: Moved,
 }
 
-/// A scene with both workflows created.
-fn stage_of(alloc: Global) -> Option<Stage> {
-    let mut scene = Scene::new(alloc)?;
-    let t = Moved::new(alloc, &scene, "m", "t")?;
-    scene.create(&t);
-    let u = Moved::new(alloc, &scene, "n", "u")?;
-    scene.create(&u);
-    Some(Stage { scene, t, u })
+/// A workflow of some tables, created in a scene.
+fn created(alloc: Global, scene: &mut Scene, name: &str, listed: &str) -> Option<Moved> {
+    let moved = Moved::new(alloc, scene, name, listed)?;
+    scene.create(&moved);
+    Some(moved)
+}
+
+/// Both workflows, created in a scene.
+fn both_of(alloc: Global, scene: &mut Scene) -> Option<Both> {
+    let t = created(alloc, scene, "m", "t")?;
+    let Some(u) = created(alloc, scene, "n", "u") else {
+        drop(t);
+        return None;
+    };
+    Some(Both { t, u })
 }
 
 /// Whether something is done so with one of the two.
-fn is_so<W: Asks>(alloc: Global, stage: &mut Stage, watchers: &W, of: Of, act: Act) -> bool {
-    let Stage { scene, t, u } = stage;
+fn is_so<W: Asks>(
+    alloc: Global,
+    scene: &mut Scene,
+    both: &mut Both,
+    watchers: &W,
+    (of, act): (Of, Act),
+) -> bool {
     match of {
-        Of::T => is_done(alloc, scene, t, watchers, act),
-        Of::U => is_done(alloc, scene, u, watchers, act),
+        Of::T => is_done(alloc, scene, &mut both.t, watchers, act),
+        Of::U => is_done(alloc, scene, &mut both.u, watchers, act),
     }
 }
 
 /// How acts go, which are done in their order up to the first that isn't done so.
-fn play<W: Asks>(alloc: Global, watchers: &W, acts: &[(Of, Act)]) -> Played {
-    let Some(mut stage) = stage_of(alloc) else {
-        return Played::NotMade;
-    };
-    for (index, (of, act)) in acts.iter().enumerate() {
-        if !is_so(alloc, &mut stage, watchers, *of, *act) {
+fn play_all<W: Asks>(
+    alloc: Global,
+    scene: &mut Scene,
+    both: &mut Both,
+    watchers: &W,
+    acts: &[(Of, Act)],
+) -> Played {
+    for (index, act) in acts.iter().enumerate() {
+        if !is_so(alloc, scene, both, watchers, *act) {
             return Played::Wrong(index);
         }
     }
     Played::AllSo
+}
+
+/// The same, with both workflows created in this scene before.
+fn play_in(alloc: Global, scene: &mut Scene, watchers: &Watchers, acts: &[(Of, Act)]) -> Played {
+    let Some(mut both) = both_of(alloc, scene) else {
+        return Played::NotMade;
+    };
+    let played = play_all(alloc, scene, &mut both, watchers, acts);
+    drop(both);
+    played
+}
+
+/// The same, in a scene of its own.
+fn play(alloc: Global, watchers: &Watchers, acts: &[(Of, Act)]) -> Played {
+    let Some(mut scene) = Scene::new(alloc) else {
+        return Played::NotMade;
+    };
+    let played = play_in(alloc, &mut scene, watchers, acts);
+    drop(scene);
+    played
 }
 
 /// The same, with a watcher for the primary of each keyspace that is named.

@@ -1,5 +1,6 @@
 //! Workflows between two primaries, and their steps.
-ghost use Rattle.std.specs.Prelude.{◌≡◌, ◌<◌, true};
+ghost use Rattle.std.specs.Prelude.{◌≡◌, ◌<◌, ◌≤◌, length, true};
+ghost use Rattle.mt_names.specs.Tables.{most_tables};
 ghost use Rattle.mt_plain.specs.Plain.{next_step, write_journal};
 ghost use Rattle.mt_workflow.specs.Workflows.{way_from};
 ghost use Rattle.mt_steps.specs.Entries.{HasPlaces};
@@ -90,27 +91,30 @@ fn is_before_journal(way: Way) -> bool
     way.done <= 6 - first
 }
 
+/// A workflow of some tables from `a` to `b`, over the topology of a scene; its forward stream begins where the source stands.
+fn workflow_of(alloc: Global, scene: &Scene, name: &str, listed: &str) -> Option<Workflow> {
+    let source = KeyspaceName::parse("a").ok()?;
+    let target = KeyspaceName::parse("b").ok()?;
+    if source == target {
+        return None;
+    }
+    let name = WorkflowName::parse(name).ok()?;
+    let tables = table_list(listed).ok()?;
+    let at = scene.source.position();
+    Workflow::new(alloc, &name, &source, &target, &tables, &scene.topology, at).ok()
+}
+
 impl Moved {
     /// A workflow of some tables from `a` to `b`; its forward stream is level.
     pub fn new(alloc: Global, scene: &Scene, name: &str, listed: &str) -> Option<Self> {
-        let (source, target) = (
-            KeyspaceName::parse("a").ok()?,
-            KeyspaceName::parse("b").ok()?,
-        );
-        if source == target {
-            return None;
-        }
-        let name = WorkflowName::parse(name).ok()?;
-        let tables = table_list(listed).ok()?;
-        let at = scene.source.position();
-        let topology = &scene.topology;
-        let mut workflow = Workflow::new(
-            alloc, &name, &source, &target, &tables, topology, at,
-        ).ok()?;
+        let mut workflow = workflow_of(alloc, scene, name, listed)?;
         workflow.facts();
-        let stream = Stream::new_running(workflow.table_list(), at);
+        let stream = Stream::new_running(workflow.table_list(), scene.source.position());
         workflow.put_slot(Slot::Forward, Some(stream));
-        let log = UndoLog::reserve(alloc, &workflow).ok()?;
+        let Ok(log) = UndoLog::reserve(alloc, &workflow) else {
+            drop(workflow);
+            return None;
+        };
         a_record_stays_that_of_its_workflow();
         Some(Moved {
             workflow,
@@ -189,25 +193,44 @@ impl Moved {
 impl Scene {
     /// The tables `t` and `u` stand at `a`; they are made at `b`, which refuses them, and there are places for the parts of their moves.
     pub fn new(alloc: Global) -> Option<Self> {
-        let mut topology = Topology::load(alloc, DUMP.as_bytes()).ok()?;
-        let (a, b) = (
-            KeyspaceName::parse("a").ok()?,
-            KeyspaceName::parse("b").ok()?,
-        );
+        let a = KeyspaceName::parse("a").ok()?;
+        let b = KeyspaceName::parse("b").ok()?;
         let tables = table_list("t,u").ok()?;
-        topology.reserve_part(&a, &b, &tables).ok()?;
-        let mut source = Primary::new(alloc);
-        let mut target = Primary::new(alloc);
-        make_tables(&mut source, &tables).ok()?;
-        make_tables(&mut target, &tables).ok()?;
-        let notice = denials(alloc, &b, &tables).ok()?;
-        target.take_denied(&b, &notice, &tables);
-        Some(Scene {
+        Scene::between(alloc, &a, &b, &tables)
+    }
+
+    /// The same for any keyspaces and tables.
+    fn between(
+        alloc: Global,
+        source: &KeyspaceName,
+        target: &KeyspaceName,
+        tables: &[TableName],
+    ) -> Option<Self>
+        requires { length tables.now ≤ most_tables }
+    {
+        let topology = topology_with(alloc, source, target, tables)?;
+        let mut scene = Scene {
             topology,
-            source,
-            target,
+            source: Primary::new(alloc),
+            target: Primary::new(alloc),
             journal: Journal::new(alloc),
-        })
+        };
+        if scene.fill(alloc, target, tables).is_none() {
+            drop(scene);
+            return None;
+        }
+        Some(scene)
+    }
+
+    /// Makes tables at both sides; the target refuses them.
+    fn fill(&mut self, alloc: Global, target: &KeyspaceName, tables: &[TableName]) -> Option<()>
+        requires { length tables.now ≤ most_tables }
+    {
+        make_tables(&mut self.source, tables).ok()?;
+        make_tables(&mut self.target, tables).ok()?;
+        let notice = denials(alloc, target, tables).ok()?;
+        self.target.take_denied(target, &notice, tables);
+        Some(())
     }
 
     /// Writes the part of a workflow as Create does.
@@ -235,6 +258,21 @@ fn make_tables(primary: &mut Primary, tables: &[TableName]) -> Result<(), Primar
         }
     }
     Ok(())
+}
+
+/// The topology of the dump, with places for the parts of moves of these tables.
+fn topology_with(
+    alloc: Global,
+    source: &KeyspaceName,
+    target: &KeyspaceName,
+    tables: &[TableName],
+) -> Option<Topology> {
+    let mut topology = Topology::load(alloc, DUMP.as_bytes()).ok()?;
+    if topology.reserve_part(source, target, tables).is_err() {
+        drop(topology);
+        return None;
+    }
+    Some(topology)
 }
 
 /// That tables are denied at a keyspace.

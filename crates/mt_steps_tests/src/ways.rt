@@ -15,7 +15,7 @@ const PRIMARY: TypeSet = TypeSet {
 };
 
 /// A refresh of the source is taken back: its own list is that from before, and nothing else changed.
-const REFRESH_BACK: [(Of, Act); 13] = [
+static REFRESH_BACK: [(Of, Act); 13] = [
     (Of::T, Act::Begins(1, false, TypeSet::NONE, PRIMARY)),
     (Of::T, Act::Does(Step::DenySource)),
     (Of::T, Act::Refuses(false, true)),
@@ -32,7 +32,7 @@ const REFRESH_BACK: [(Of, Act); 13] = [
 ];
 
 /// Steps 1 to 6: the journal has one entry, and no step behind it is done.
-const TO_THE_JOURNAL: [(Of, Act); 12] = [
+static TO_THE_JOURNAL: [(Of, Act); 12] = [
     (Of::T, Act::Begins(1, false, TypeSet::NONE, PRIMARY)),
     (Of::T, Act::Does(Step::DenySource)),
     (Of::T, Act::Does(Step::RefreshSource)),
@@ -51,7 +51,7 @@ const TO_THE_JOURNAL: [(Of, Act); 12] = [
 ];
 
 /// A whole switch of all types, and its reversal.
-const THERE_AND_BACK: [(Of, Act); 40] = [
+static THERE_AND_BACK: [(Of, Act); 40] = [
     (Of::T, Act::Begins(1, false, TypeSet::NONE, TypeSet::ALL)),
     (Of::T, Act::Does(Step::SwitchReads)),
     (Of::T, Act::Does(Step::DenySource)),
@@ -98,7 +98,7 @@ const THERE_AND_BACK: [(Of, Act); 40] = [
 ];
 
 /// A switch of all types that is given up before its journal, step by step.
-const GIVEN_UP: [(Of, Act); 21] = [
+static GIVEN_UP: [(Of, Act); 21] = [
     (Of::T, Act::Begins(1, false, TypeSet::NONE, TypeSet::ALL)),
     (Of::T, Act::Does(Step::SwitchReads)),
     (Of::T, Act::Leads(TabletType::Replica, "b")),
@@ -123,7 +123,7 @@ const GIVEN_UP: [(Of, Act); 21] = [
 ];
 
 /// A reversal that is given up: the forward stream that its own one took the place of is there again, frozen.
-const BACK_GIVEN_UP: [(Of, Act); 28] = [
+static BACK_GIVEN_UP: [(Of, Act); 28] = [
     (Of::T, Act::Begins(1, false, TypeSet::NONE, PRIMARY)),
     (Of::T, Act::Does(Step::DenySource)),
     (Of::T, Act::Does(Step::RefreshSource)),
@@ -161,7 +161,7 @@ const BACK_GIVEN_UP: [(Of, Act); 28] = [
 ];
 
 /// A row that was written isn't fed yet: the switch can be given up.
-const NOT_LEVEL: [(Of, Act); 14] = [
+static NOT_LEVEL: [(Of, Act); 14] = [
     (Of::T, Act::Begins(1, false, TypeSet::NONE, PRIMARY)),
     (Of::T, Act::Writes(7)),
     (Of::T, Act::Does(Step::DenySource)),
@@ -179,7 +179,7 @@ const NOT_LEVEL: [(Of, Act); 14] = [
 ];
 
 /// Two workflows between the same primaries: one is given up while the other is switched.
-const SIDE_BY_SIDE: [(Of, Act); 29] = [
+static SIDE_BY_SIDE: [(Of, Act); 29] = [
     (Of::T, Act::Begins(1, false, TypeSet::NONE, PRIMARY)),
     (Of::U, Act::Begins(2, false, TypeSet::NONE, PRIMARY)),
     (Of::T, Act::Does(Step::DenySource)),
@@ -212,7 +212,7 @@ const SIDE_BY_SIDE: [(Of, Act); 29] = [
 ];
 
 /// The source's primary has no watcher.
-const NO_WATCHER: [(Of, Act); 5] = [
+static NO_WATCHER: [(Of, Act); 5] = [
     (Of::T, Act::Begins(1, false, TypeSet::NONE, PRIMARY)),
     (Of::T, Act::Does(Step::DenySource)),
     (

@@ -26,11 +26,23 @@ pub fn new_of(
     Ok(Some(Workflow::new(alloc, &name, &source, &target, tables, topology, 7)))
 }
 
-/// Such a workflow of the tables that a text lists, over the topology of the dump.
-pub fn workflow_of(alloc: Global, listed: &str) -> Result<Workflow, Fail> {
-    let topology = Topology::load(alloc, DUMP.as_bytes())?;
-    match new_of(alloc, &topology, &table_list(listed)?)? {
+/// Such a workflow of these tables.
+fn workflow_with(
+    alloc: Global,
+    topology: &Topology,
+    tables: &[TableName],
+) -> Result<Workflow, Fail> {
+    match new_of(alloc, topology, tables)? {
         Some(answer) => Ok(answer?),
         None => Err(Fail::from("too many tables")),
     }
+}
+
+/// Such a workflow of the tables that a text lists, over the topology of the dump.
+pub fn workflow_of(alloc: Global, listed: &str) -> Result<Workflow, Fail> {
+    let tables = table_list(listed)?;
+    let topology = Topology::load(alloc, DUMP.as_bytes())?;
+    let made = workflow_with(alloc, &topology, &tables);
+    drop(topology);
+    made
 }

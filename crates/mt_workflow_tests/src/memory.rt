@@ -1,9 +1,9 @@
 //! Where an allocation fails, `new` answers `Memory`, and the next try makes the same workflow.
 
 use crate::made::{DUMP, new_of};
-use mt_names::table_list;
+use mt_names::{NameFault, TableName, table_list};
 use mt_topology::{Topology, TopologyFault};
-use mt_workflow::{Workflow, WorkflowFault};
+use mt_workflow::WorkflowFault;
 use std::alloc::Global;
 use std::test::Fail;
 
@@ -18,26 +18,37 @@ fn topology_of(alloc: Global) -> Result<Topology, TopologyFault> {
     }
 }
 
-/// A workflow of these tables, at once or at a second try.
-fn workflow_of(alloc: Global, topology: &Topology) -> Result<Option<Workflow>, Fail> {
-    let tables = table_list(LISTED)?;
-    let answer = match new_of(alloc, topology, &tables)? {
-        Some(Err(WorkflowFault::Memory)) => new_of(alloc, topology, &tables)?,
-        answer => answer,
+/// What a try makes: whether a workflow of these tables has them, and how long its part is; or whether it is refused for want of
+/// memory.
+fn made_once(
+    alloc: Global,
+    topology: &Topology,
+    tables: &[TableName],
+) -> Result<Result<(bool, usize), bool>, NameFault> {
+    let answer = new_of(alloc, topology, tables)?;
+    let made = match &answer {
+        Some(Ok(workflow)) => Ok((workflow.tables() == tables, workflow.part_len())),
+        Some(Err(fault)) => Err(*fault == WorkflowFault::Memory),
+        None => Err(false),
     };
-    Ok(match answer {
-        Some(Ok(workflow)) => Some(workflow),
-        _ => None,
-    })
+    drop(answer);
+    Ok(made)
+}
+
+/// The same for the sixteen tables, at once or at a second try.
+fn made(alloc: Global, topology: &Topology) -> Result<Result<(bool, usize), bool>, NameFault> {
+    let tables = table_list(LISTED)?;
+    match made_once(alloc, topology, &tables) {
+        Ok(Err(true)) => made_once(alloc, topology, &tables),
+        answer => answer,
+    }
 }
 
 #[test]
 fn want_of_memory_is_no_other_answer(rt: HostRuntime) -> Result<(), Fail> {
     let topology = topology_of(rt.alloc())?;
-    let Some(workflow) = workflow_of(rt.alloc(), &topology)? else {
-        return Err(Fail::from("no workflow"));
-    };
-    assert!(rt; workflow.tables() == table_list(LISTED)?.as_slice());
-    assert!(rt; workflow.part_len() == 240);
+    let answer = made(rt.alloc(), &topology);
+    drop(topology);
+    assert!(rt; matches!(answer, Ok(Ok((true, 240)))));
     Ok(())
 }

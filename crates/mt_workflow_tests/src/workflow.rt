@@ -1,7 +1,7 @@
 //! A workflow by direct calls.
 
 use crate::made::workflow_of;
-use mt_names::{KeyspaceName, TypeSet, table_list};
+use mt_names::{KeyspaceName, TableName, TypeSet, table_list};
 use mt_stream::{Stream, StreamState};
 use mt_workflow::{Slot, Way, Workflow};
 use std::test::Fail;
@@ -20,66 +20,151 @@ fn position(workflow: &Workflow, slot: Slot) -> Option<u64> {
     Some(workflow.slot(slot)?.position())
 }
 
+/// Whether a workflow has this name, and moves from this keyspace to that one.
+fn is_named(workflow: &Workflow, name: &str, source: &str, target: &str) -> bool {
+    workflow.name().as_str() == name
+        && workflow.source().as_str() == source
+        && workflow.target().as_str() == target
+}
+
+/// Whether a workflow moves these tables, and lists them.
+fn has_tables(workflow: &Workflow, tables: &[TableName]) -> bool {
+    workflow.tables() == tables && workflow.table_list().as_slice() == workflow.tables()
+}
+
+/// Whether no type is switched, no way is open, and there is no back stream.
+fn is_unswitched(workflow: &Workflow) -> bool {
+    workflow.switched() == TypeSet::NONE
+        && workflow.way().is_none()
+        && position(workflow, Slot::Back).is_none()
+}
+
+/// Whether a forward stream runs from this position, and copies yet.
+fn is_fed_from(workflow: &Workflow, position: u64) -> bool {
+    workflow.slot(Slot::Forward).is_some_and(|stream| {
+        stream.position() == position && !stream.copied() && stream.state() == StreamState::Running
+    })
+}
+
+/// Whether a workflow `m` that moves these tables from `a` to `b` is as it was asked for: its names, its tables, what is switched,
+/// its stream.
+fn as_asked(workflow: &Workflow, tables: &[TableName]) -> [bool; 4] {
+    workflow.facts();
+    [
+        is_named(workflow, "m", "a", "b"),
+        has_tables(workflow, tables),
+        is_unswitched(workflow),
+        is_fed_from(workflow, 7),
+    ]
+}
+
 #[test]
 fn a_new_workflow_is_as_it_was_asked_for(rt: HostRuntime) -> Result<(), Fail> {
+    let tables = table_list("y,t")?;
     let workflow = workflow_of(rt.alloc(), "y,t")?;
-    workflow.facts();
-    assert!(rt; workflow.name().as_str() == "m");
-    assert!(rt; workflow.source().as_str() == "a");
-    assert!(rt; workflow.target().as_str() == "b");
-    assert!(rt; workflow.tables() == table_list("y,t")?.as_slice());
-    assert!(rt; workflow.table_list().as_slice() == workflow.tables());
-    assert!(rt; workflow.switched() == TypeSet::NONE);
-    assert!(rt; workflow.way().is_none());
-    assert!(rt; position(&workflow, Slot::Back).is_none());
-    let Some(stream) = workflow.slot(Slot::Forward) else {
-        return Err(Fail::from("no stream"));
-    };
-    assert!(rt; stream.position() == 7 && !stream.copied());
-    assert!(rt; stream.state() == StreamState::Running);
+    let answer = as_asked(&workflow, &tables);
+    drop(workflow);
+    assert!(rt; answer == [true, true, true, true]);
     Ok(())
+}
+
+/// Whether a stream stands at a position.
+fn stands_at(stream: Option<Stream>, position: u64) -> bool {
+    stream.is_some_and(|stream| stream.position() == position)
+}
+
+/// Whether a back stream is put where none stood, beside the forward one.
+fn puts_back(workflow: &mut Workflow) -> bool {
+    let stream = Stream::new_running(workflow.table_list(), 3);
+    workflow.put_slot(Slot::Back, Some(stream)).is_none()
+        && position(workflow, Slot::Back) == Some(3)
+        && position(workflow, Slot::Forward) == Some(7)
+}
+
+/// Whether the forward stream is taken, and then the back one.
+fn takes_both(workflow: &mut Workflow) -> bool {
+    stands_at(workflow.put_slot(Slot::Forward, None), 7)
+        && position(workflow, Slot::Forward).is_none()
+        && position(workflow, Slot::Back) == Some(3)
+        && stands_at(workflow.put_slot(Slot::Back, None), 3)
+}
+
+/// Whether the streams are put, and taken.
+fn slots(workflow: &mut Workflow) -> [bool; 2] {
+    workflow.facts();
+    [puts_back(workflow), takes_both(workflow)]
 }
 
 #[test]
 fn a_slot_answers_what_stood_there(rt: HostRuntime) -> Result<(), Fail> {
     let mut workflow = workflow_of(rt.alloc(), "y,t")?;
-    workflow.facts();
-    let stream = Stream::new_running(workflow.table_list(), 3);
-    assert!(rt; workflow.put_slot(Slot::Back, Some(stream)).is_none());
-    assert!(rt; position(&workflow, Slot::Back) == Some(3));
-    assert!(rt; position(&workflow, Slot::Forward) == Some(7));
-    let before = workflow.put_slot(Slot::Forward, None);
-    assert!(rt; before.is_some_and(|stream| stream.position() == 7));
-    assert!(rt; position(&workflow, Slot::Forward).is_none());
-    assert!(rt; position(&workflow, Slot::Back) == Some(3));
-    let before = workflow.put_slot(Slot::Back, None);
-    assert!(rt; before.is_some_and(|stream| stream.position() == 3));
+    let answer = slots(&mut workflow);
+    drop(workflow);
+    assert!(rt; answer == [true, true]);
     Ok(())
+}
+
+/// Whether all types are switched where none was.
+fn sets_types(workflow: &mut Workflow) -> bool {
+    workflow.set_switched(TypeSet::ALL) == TypeSet::NONE && workflow.switched() == TypeSet::ALL
+}
+
+/// Whether a way is set where none was, which leaves the types, and taken.
+fn sets_way(workflow: &mut Workflow) -> bool {
+    workflow.set_way(Some(WAY)).is_none()
+        && workflow.way() == Some(WAY)
+        && workflow.switched() == TypeSet::ALL
+        && workflow.set_way(None) == Some(WAY)
+        && workflow.way().is_none()
+}
+
+/// Whether the types are set, and the way.
+fn types_and_way(workflow: &mut Workflow) -> [bool; 2] {
+    [sets_types(workflow), sets_way(workflow)]
 }
 
 #[test]
 fn types_and_way_answer_what_stood_there(rt: HostRuntime) -> Result<(), Fail> {
     let mut workflow = workflow_of(rt.alloc(), "y,t")?;
-    assert!(rt; workflow.set_switched(TypeSet::ALL) == TypeSet::NONE);
-    assert!(rt; workflow.switched() == TypeSet::ALL);
-    assert!(rt; workflow.set_way(Some(WAY)).is_none());
-    assert!(rt; workflow.way() == Some(WAY));
-    assert!(rt; workflow.switched() == TypeSet::ALL);
-    assert!(rt; workflow.set_way(None) == Some(WAY));
-    assert!(rt; workflow.way().is_none());
+    let answer = types_and_way(&mut workflow);
+    drop(workflow);
+    assert!(rt; answer == [true, true]);
     Ok(())
+}
+
+/// Whether the back stream feeds one keyspace, and the forward stream another.
+fn has_sides(workflow: &Workflow, source: &KeyspaceName, target: &KeyspaceName) -> bool {
+    workflow.feeding(source) == Slot::Back && workflow.feeding(target) == Slot::Forward
+}
+
+/// Whether the tables were owned by one keyspace, and not by another.
+fn is_owner(workflow: &Workflow, owner: &KeyspaceName, other: &KeyspaceName) -> bool {
+    workflow.owned_before(owner) && !workflow.owned_before(other)
+}
+
+/// Whether each side has its stream, and whether the owner is the source, the target once all types are switched, and the source
+/// once the way of that is open.
+fn owners(workflow: &mut Workflow, source: &KeyspaceName, target: &KeyspaceName) -> [bool; 4] {
+    let has_sides = has_sides(workflow, source, target);
+    let at_first = is_owner(workflow, source, target);
+    workflow.set_switched(TypeSet::ALL);
+    let switched = is_owner(workflow, target, source);
+    workflow.set_way(Some(WAY));
+    [
+        has_sides,
+        at_first,
+        switched,
+        is_owner(workflow, source, target),
+    ]
 }
 
 #[test]
 fn each_side_has_its_stream_and_an_owner(rt: HostRuntime) -> Result<(), Fail> {
-    let (a, b) = (KeyspaceName::parse("a")?, KeyspaceName::parse("b")?);
+    let a = KeyspaceName::parse("a")?;
+    let b = KeyspaceName::parse("b")?;
     let mut workflow = workflow_of(rt.alloc(), "y,t")?;
-    assert!(rt; workflow.feeding(&a) == Slot::Back);
-    assert!(rt; workflow.feeding(&b) == Slot::Forward);
-    assert!(rt; workflow.owned_before(&a) && !workflow.owned_before(&b));
-    workflow.set_switched(TypeSet::ALL);
-    assert!(rt; workflow.owned_before(&b) && !workflow.owned_before(&a));
-    workflow.set_way(Some(WAY));
-    assert!(rt; workflow.owned_before(&a) && !workflow.owned_before(&b));
+    let answer = owners(&mut workflow, &a, &b);
+    drop(workflow);
+    assert!(rt; answer == [true, true, true, true]);
     Ok(())
 }
