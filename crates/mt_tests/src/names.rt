@@ -1,6 +1,8 @@
 //! What each reader takes and refuses, and how the answers are printed.
-use mt_names::{KeyspaceName, NameFault, RuleKey, RuleTarget, TableName, WorkflowName, table_list};
-use std::test::Fail;
+use mt_names::{
+    KeyspaceName, NameFault, RuleKey, RuleTarget, TableName, TypeSet, WorkflowName, table_list,
+};
+use std::alloc::Global;
 
 /// 64 letters, the longest name.
 const LONGEST: &str = "aaaaaaaaaaaaaaaaaaaaaaaaaaaaaaaaaaaaaaaaaaaaaaaaaaaaaaaaaaaaaaaa";
@@ -22,145 +24,255 @@ const SEVENTEEN_TABLES: &str = "t1,t2,t3,t4,t5,t6,t7,t8,t9,t10,t11,t12,t13,t14,t
 const SIXTEEN_TABLES_AND_THE_FIRST: &str =
     "t1,t2,t3,t4,t5,t6,t7,t8,t9,t10,t11,t12,t13,t14,t15,t16,t1";
 
-#[test]
-fn reads_names(rt: HostRuntime) -> Result<(), Fail> {
-    for text in [LONGEST, "a", "reverse", "a_b-c", "0"] {
-        assert_eq!(rt; KeyspaceName::parse(text)?.as_str(), text);
-        assert_eq!(rt; TableName::parse(text)?.as_str(), text);
-        assert_eq!(rt; WorkflowName::parse(text)?.as_str(), text);
-    }
-    assert_eq!(rt; TableName::parse("a$b")?.as_str(), "a$b");
-    Ok(())
+/// What a text is read as.
+#[derive(Clone, Copy)]
+enum Kind {
+    Keyspace,
+    Table,
+    Workflow,
+    Key,
+    Target,
+    Types,
 }
 
-#[test]
-fn refuses_names(rt: HostRuntime) {
-    for (text, fault) in [
-        ("", NameFault::Empty),
-        (TOO_LONG, NameFault::TooLong),
-        (TOO_LONG_BEHIND_DASH, NameFault::TooLong),
-        ("-a", NameFault::BadByte(0)),
-        ("a b", NameFault::BadByte(1)),
-    ] {
-        assert_eq!(rt; KeyspaceName::parse(text), Err(fault), "keyspace {text}");
-        assert_eq!(rt; TableName::parse(text), Err(fault), "table {text}");
-        assert_eq!(rt; WorkflowName::parse(text), Err(fault), "workflow {text}");
-    }
-    assert_eq!(rt; KeyspaceName::parse("a$b"), Err(NameFault::BadByte(1)));
-    for text in ["x_reverse", "_reverse"] {
-        assert_eq!(rt;
-            WorkflowName::parse(text),
-            Err(NameFault::ReservedSuffix),
-            "{text}"
-        );
+/// How what is read is written again, or why the text is refused.
+type Read = Result<&'static str, NameFault>;
+
+fn reads_keyspace(text: &str, want: Read) -> bool {
+    match KeyspaceName::parse(text) {
+        Ok(name) => want == Ok(name.as_str()),
+        Err(fault) => want == Err(fault),
     }
 }
 
-#[test]
-fn reads_keys(rt: HostRuntime) -> Result<(), Fail> {
-    for text in [
-        "commerce.corder@replica",
-        "corder",
-        "corder@rdonly",
-        "commerce.corder",
-    ] {
-        let key = RuleKey::parse(text)?;
-        assert_eq!(rt; key.text().as_str(), text);
-        let printed = format!(in rt.alloc(); "{key}")?;
-        assert_eq!(rt; printed.as_str(), text);
-    }
-    Ok(())
-}
-
-#[test]
-fn refuses_keys(rt: HostRuntime) {
-    for (text, fault) in [
-        ("", NameFault::Empty),
-        ("@replica", NameFault::Empty),
-        (".t", NameFault::Empty),
-        ("a.", NameFault::Empty),
-        ("a.b.c", NameFault::BadByte(3)),
-        ("a!@x", NameFault::BadByte(1)),
-        ("a@master", NameFault::BadType),
-        ("a@", NameFault::BadType),
-        ("a@replica@replica", NameFault::BadType),
-    ] {
-        assert_eq!(rt; RuleKey::parse(text), Err(fault), "{text}");
+fn reads_table(text: &str, want: Read) -> bool {
+    match TableName::parse(text) {
+        Ok(name) => want == Ok(name.as_str()),
+        Err(fault) => want == Err(fault),
     }
 }
 
-#[test]
-fn reads_a_target(rt: HostRuntime) -> Result<(), Fail> {
-    let target = RuleTarget::parse("a.b")?;
-    assert_eq!(rt; target.text().as_str(), "a.b");
-    let printed = format!(in rt.alloc(); "{target}")?;
-    assert_eq!(rt; printed.as_str(), "a.b");
-    Ok(())
-}
-
-#[test]
-fn refuses_targets(rt: HostRuntime) {
-    for (text, fault) in [
-        ("", NameFault::Empty),
-        (".t", NameFault::Empty),
-        ("a.", NameFault::Empty),
-        ("corder", NameFault::NoKeyspace),
-        ("a.b@replica", NameFault::BadByte(3)),
-    ] {
-        assert_eq!(rt; RuleTarget::parse(text), Err(fault), "{text}");
+fn reads_workflow(text: &str, want: Read) -> bool {
+    match WorkflowName::parse(text) {
+        Ok(name) => want == Ok(name.as_str()),
+        Err(fault) => want == Err(fault),
     }
 }
 
-#[test]
-fn reads_lists_of_tables(rt: HostRuntime) -> Result<(), Fail> {
-    assert!(rt; table_list("-")?.is_empty());
-    assert_eq!(rt; table_list(SIXTEEN_TABLES)?.len(), 16);
-    let tables = table_list("corder,customer")?;
-    assert_eq!(rt; tables.len(), 2);
-    assert_eq!(rt; tables[0].as_str(), "corder");
-    assert_eq!(rt; tables[1].as_str(), "customer");
-    Ok(())
-}
-
-#[test]
-fn refuses_lists_of_tables(rt: HostRuntime) {
-    for (text, fault) in [
-        ("", NameFault::Empty),
-        ("a,,b", NameFault::Empty),
-        ("a,-x", NameFault::BadByte(2)),
-        ("t,t,-x", NameFault::Repeated),
-        (SEVENTEEN_TABLES, NameFault::TooMany),
-        (SIXTEEN_TABLES_AND_THE_FIRST, NameFault::TooMany),
-    ] {
-        assert_eq!(rt; table_list(text).err(), Some(fault), "{text}");
+fn reads_key(text: &str, want: Read) -> bool {
+    match RuleKey::parse(text) {
+        Ok(key) => want == Ok(key.text().as_str()),
+        Err(fault) => want == Err(fault),
     }
 }
 
+fn reads_target(text: &str, want: Read) -> bool {
+    match RuleTarget::parse(text) {
+        Ok(target) => want == Ok(target.text().as_str()),
+        Err(fault) => want == Err(fault),
+    }
+}
+
+fn reads_types(text: &str, want: Read) -> bool {
+    match TypeSet::parse(text) {
+        Ok(set) => want == Ok(set.text().as_str()),
+        Err(fault) => want == Err(fault),
+    }
+}
+
+/// Whether a text is read so.
+fn reads(kind: Kind, text: &str, want: Read) -> bool {
+    match kind {
+        Kind::Keyspace => reads_keyspace(text, want),
+        Kind::Table => reads_table(text, want),
+        Kind::Workflow => reads_workflow(text, want),
+        Kind::Key => reads_key(text, want),
+        Kind::Target => reads_target(text, want),
+        Kind::Types => reads_types(text, want),
+    }
+}
+
+/// The first text that isn't read so.
+fn first_wrong(kind: Kind, cases: &[(&'static str, Read)]) -> Option<&'static str> {
+    for (text, want) in cases {
+        if !reads(kind, text, *want) {
+            return Some(text);
+        }
+    }
+    None
+}
+
+/// Names of whatever kind.
+static NAMES: [(&str, Read); 10] = [
+    (LONGEST, Ok(LONGEST)),
+    ("a", Ok("a")),
+    ("reverse", Ok("reverse")),
+    ("a_b-c", Ok("a_b-c")),
+    ("0", Ok("0")),
+    ("", Err(NameFault::Empty)),
+    (TOO_LONG, Err(NameFault::TooLong)),
+    (TOO_LONG_BEHIND_DASH, Err(NameFault::TooLong)),
+    ("-a", Err(NameFault::BadByte(0))),
+    ("a b", Err(NameFault::BadByte(1))),
+];
+
 #[test]
-fn prints_names(rt: HostRuntime) -> Result<(), Fail> {
-    let keyspace = KeyspaceName::parse("commerce")?;
-    let table = TableName::parse("corder$1")?;
-    let workflow = WorkflowName::parse("move_orders")?;
-    let printed = format!(in rt.alloc(); "{keyspace} {table} {workflow}")?;
-    assert_eq!(rt; printed.as_str(), "commerce corder$1 move_orders");
-    Ok(())
+fn names(rt: HostRuntime) {
+    assert_eq!(rt; first_wrong(Kind::Keyspace, &NAMES), None);
+    assert_eq!(rt; first_wrong(Kind::Table, &NAMES), None);
+    assert_eq!(rt; first_wrong(Kind::Workflow, &NAMES), None);
+}
+
+/// Names of workflows alone that are refused.
+static RESERVED: [(&str, Read); 2] = [
+    ("x_reverse", Err(NameFault::ReservedSuffix)),
+    ("_reverse", Err(NameFault::ReservedSuffix)),
+];
+
+#[test]
+fn names_of_one_kind(rt: HostRuntime) {
+    assert!(rt; reads(Kind::Table, "a$b", Ok("a$b")));
+    assert!(rt; reads(Kind::Keyspace, "a$b", Err(NameFault::BadByte(1))));
+    assert_eq!(rt; first_wrong(Kind::Workflow, &RESERVED), None);
+}
+
+static KEYS: [(&str, Read); 13] = [
+    ("commerce.corder@replica", Ok("commerce.corder@replica")),
+    ("corder", Ok("corder")),
+    ("corder@rdonly", Ok("corder@rdonly")),
+    ("commerce.corder", Ok("commerce.corder")),
+    ("", Err(NameFault::Empty)),
+    ("@replica", Err(NameFault::Empty)),
+    (".t", Err(NameFault::Empty)),
+    ("a.", Err(NameFault::Empty)),
+    ("a.b.c", Err(NameFault::BadByte(3))),
+    ("a!@x", Err(NameFault::BadByte(1))),
+    ("a@master", Err(NameFault::BadType)),
+    ("a@", Err(NameFault::BadType)),
+    ("a@replica@replica", Err(NameFault::BadType)),
+];
+
+static TARGETS: [(&str, Read); 6] = [
+    ("a.b", Ok("a.b")),
+    ("", Err(NameFault::Empty)),
+    (".t", Err(NameFault::Empty)),
+    ("a.", Err(NameFault::Empty)),
+    ("corder", Err(NameFault::NoKeyspace)),
+    ("a.b@replica", Err(NameFault::BadByte(3))),
+];
+
+#[test]
+fn keys_and_targets(rt: HostRuntime) {
+    assert_eq!(rt; first_wrong(Kind::Key, &KEYS), None);
+    assert_eq!(rt; first_wrong(Kind::Target, &TARGETS), None);
+}
+
+static SETS: [(&str, Read); 14] = [
+    ("primary", Ok("primary")),
+    ("rdonly,primary", Ok("primary,rdonly")),
+    ("rdonly,replica,primary", Ok("primary,replica,rdonly")),
+    ("all", Ok("primary,replica,rdonly")),
+    ("-", Ok("-")),
+    ("", Err(NameFault::Empty)),
+    ("primary,primary", Err(NameFault::Repeated)),
+    ("primary,primary,x", Err(NameFault::Repeated)),
+    ("primary,x,primary", Err(NameFault::BadType)),
+    ("primary,,rdonly", Err(NameFault::BadType)),
+    ("primary,", Err(NameFault::BadType)),
+    ("all,primary", Err(NameFault::BadType)),
+    ("master", Err(NameFault::BadType)),
+    ("Primary", Err(NameFault::BadType)),
+];
+
+#[test]
+fn sets_of_types(rt: HostRuntime) {
+    assert_eq!(rt; first_wrong(Kind::Types, &SETS), None);
+}
+
+/// Whether a list of tables is read as so many, the first and the last of which are these.
+fn lists(text: &str, count: usize, first: &str, last: &str) -> bool {
+    match table_list(text) {
+        Ok(tables) => {
+            let is_first = tables.first().is_some_and(|name| name.as_str() == first);
+            let is_last = tables.last().is_some_and(|name| name.as_str() == last);
+            tables.len() == count && is_first && is_last
+        }
+        Err(_) => false,
+    }
+}
+
+/// Lists of tables that are refused.
+static REFUSED_LISTS: [(&str, NameFault); 6] = [
+    ("", NameFault::Empty),
+    ("a,,b", NameFault::Empty),
+    ("a,-x", NameFault::BadByte(2)),
+    ("t,t,-x", NameFault::Repeated),
+    (SEVENTEEN_TABLES, NameFault::TooMany),
+    (SIXTEEN_TABLES_AND_THE_FIRST, NameFault::TooMany),
+];
+
+/// The first list that isn't refused so.
+fn first_taken() -> Option<&'static str> {
+    for (text, fault) in &REFUSED_LISTS {
+        if table_list(text).err() != Some(*fault) {
+            return Some(text);
+        }
+    }
+    None
 }
 
 #[test]
-fn prints_faults(rt: HostRuntime) -> Result<(), Fail> {
-    for (fault, text) in [
-        (NameFault::Empty, "N1 Empty"),
-        (NameFault::TooLong, "N2 TooLong"),
-        (NameFault::BadByte(3), "N3 BadByte"),
-        (NameFault::Repeated, "N4 Repeated"),
-        (NameFault::ReservedSuffix, "N5 ReservedSuffix"),
-        (NameFault::BadType, "N6 BadType"),
-        (NameFault::TooMany, "N7 TooMany"),
-        (NameFault::NoKeyspace, "N8 NoKeyspace"),
-    ] {
-        assert_eq!(rt; fault.as_str(), text);
-        let printed = format!(in rt.alloc(); "{fault}")?;
-        assert_eq!(rt; printed.as_str(), text);
+fn lists_of_tables(rt: HostRuntime) {
+    assert!(rt; table_list("-").is_ok_and(|tables| tables.is_empty()));
+    assert!(rt; lists(SIXTEEN_TABLES, 16, "t1", "t16"));
+    assert!(rt; lists("corder,customer", 2, "corder", "customer"));
+    assert_eq!(rt; first_taken(), None);
+}
+
+/// Whether names of each kind are printed as they are read.
+fn are_printed(alloc: Global) -> Option<bool> {
+    let keyspace = KeyspaceName::parse("commerce").ok()?;
+    let table = TableName::parse("corder$1").ok()?;
+    let workflow = WorkflowName::parse("move_orders").ok()?;
+    let key = RuleKey::parse("commerce.corder@replica").ok()?;
+    let target = RuleTarget::parse("a.b").ok()?;
+    let printed = format!(in alloc; "{keyspace} {table} {workflow} {key} {target}").ok()?;
+    Some(printed.as_str() == "commerce corder$1 move_orders commerce.corder@replica a.b")
+}
+
+#[test]
+fn names_are_printed(rt: HostRuntime) {
+    assert_eq!(rt; are_printed(rt.alloc()), Some(true));
+}
+
+static FAULTS: [(NameFault, &str); 8] = [
+    (NameFault::Empty, "N1 Empty"),
+    (NameFault::TooLong, "N2 TooLong"),
+    (NameFault::BadByte(3), "N3 BadByte"),
+    (NameFault::Repeated, "N4 Repeated"),
+    (NameFault::ReservedSuffix, "N5 ReservedSuffix"),
+    (NameFault::BadType, "N6 BadType"),
+    (NameFault::TooMany, "N7 TooMany"),
+    (NameFault::NoKeyspace, "N8 NoKeyspace"),
+];
+
+/// Whether a refusal is printed so.
+fn is_printed(alloc: Global, fault: NameFault, text: &str) -> bool {
+    fault.as_str() == text
+        && format!(in alloc; "{fault}").is_ok_and(|printed| printed.as_str() == text)
+}
+
+/// The first refusal that isn't printed so.
+fn first_other(alloc: Global) -> Option<&'static str> {
+    for (fault, text) in &FAULTS {
+        if !is_printed(alloc, *fault, text) {
+            return Some(text);
+        }
     }
-    Ok(())
+    None
+}
+
+#[test]
+fn refusals_are_printed(rt: HostRuntime) {
+    assert_eq!(rt; first_other(rt.alloc()), None);
 }

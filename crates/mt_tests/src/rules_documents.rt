@@ -2,221 +2,265 @@
 use crate::rules::{Call, answers};
 use mt_names::RuleKey;
 use mt_rules::{RoutingRules, RulesFault};
-use std::alloc::Global;
-use std::test::Fail;
+use std::alloc::{AllocError, Global};
 
 /// The rules of a fresh workflow.
 const FRESH: &str =
     "{\"rules\":[{\"from_table\":\"commerce.corder@rdonly\",\"to_tables\":[\"commerce.corder\"]},{\"from_table\":\"commerce.corder@replica\",\"to_tables\":[\"commerce.corder\"]},{\"from_table\":\"corder\",\"to_tables\":[\"commerce.corder\"]},{\"from_table\":\"corder@rdonly\",\"to_tables\":[\"commerce.corder\"]},{\"from_table\":\"corder@replica\",\"to_tables\":[\"commerce.corder\"]},{\"from_table\":\"customer.corder\",\"to_tables\":[\"commerce.corder\"]},{\"from_table\":\"customer.corder@rdonly\",\"to_tables\":[\"commerce.corder\"]},{\"from_table\":\"customer.corder@replica\",\"to_tables\":[\"commerce.corder\"]}]}";
 
-/// What a document is read and written as, or the fault that it is refused with.
-fn canon(alloc: Global, text: &[u8]) -> Result<String, RulesFault> {
-    RoutingRules::from_json(alloc, text)?.to_json(alloc)
-}
+/// How a document is written that is read, or why it is refused.
+type Read = Result<&'static str, RulesFault>;
 
-/// The fault that a document is refused with.
-fn fault_of(alloc: Global, text: &str) -> Option<RulesFault> {
-    RoutingRules::from_json(alloc, text.as_bytes()).err()
-}
-
-#[test]
-fn rules_with_second_spellings(rt: HostRuntime) -> Result<(), Fail> {
-    let read = canon(
-        rt.alloc(),
-        b"{\"rules\":[{\"fromTable\":\"b\",\"toTables\":[\"k.b\"],\"x\":1},{\"from_table\":\"a@replica\",\"to_tables\":[\"k.a\"]}]}",
-    );
-    assert_eq!(rt;
-        read?.as_str(),
-        "{\"rules\":[{\"from_table\":\"a@replica\",\"to_tables\":[\"k.a\"]},{\"from_table\":\"b\",\"to_tables\":[\"k.b\"]}]}"
-    );
-    Ok(())
-}
-
-#[test]
-fn rules_cut_short(rt: HostRuntime) -> Result<(), Fail> {
-    assert_eq!(rt;
-        fault_of(rt.alloc(), "{\"rules\":["),
-        Some(RulesFault::NotJson)
-    );
-    Ok(())
-}
-
-#[test]
-fn rules_of_a_fresh_workflow_read_back(rt: HostRuntime) -> Result<(), Fail> {
-    assert_eq!(rt; canon(rt.alloc(), FRESH.as_bytes())?.as_str(), FRESH);
-    Ok(())
-}
-
-#[test]
-fn rules_of_a_fresh_workflow_are_found(rt: HostRuntime) -> Result<(), Fail> {
-    let rules = RoutingRules::from_json(rt.alloc(), FRESH.as_bytes())?;
-    let target = rules.get(&RuleKey::parse("customer.corder@replica")?);
-    assert!(rt; rules.len() == 8);
-    assert!(rt; target.is_some_and(|target| target.text().as_str() == "commerce.corder"));
-    Ok(())
-}
-
-#[test]
-fn each_refusal(rt: HostRuntime) -> Result<(), Fail> {
-    let cases = [
-        ("", RulesFault::NotJson),
-        ("{\"rules\":[]} x", RulesFault::NotJson),
-        ("null", RulesFault::Shape),
-        ("[]", RulesFault::Shape),
-        ("{\"rules\":{}}", RulesFault::Shape),
-        ("{\"rules\":[1]}", RulesFault::Shape),
-        ("{\"rules\":[{\"to_tables\":[\"k.a\"]}]}", RulesFault::Shape),
-        (
-            "{\"rules\":[{\"from_table\":null,\"fromTable\":\"a\",\"to_tables\":[\"k.a\"]}]}",
-            RulesFault::Shape,
-        ),
-        (
-            "{\"rules\":[{\"from_table\":\"a\",\"to_tables\":\"k.a\"}]}",
-            RulesFault::Shape,
-        ),
-        (
-            "{\"rules\":[{\"from_table\":\"a\",\"to_tables\":[\"k.a\",1]}]}",
-            RulesFault::Shape,
-        ),
-        (
-            "{\"rules\":[{\"from_table\":\"a!\",\"to_tables\":[\"k.a\"]}]}",
-            RulesFault::BadName,
-        ),
-        (
-            "{\"rules\":[{\"from_table\":\"a\",\"to_tables\":[\"a\"]}]}",
-            RulesFault::BadName,
-        ),
-        (
-            "{\"rules\":[{\"from_table\":\"a\"}]}",
-            RulesFault::NotOneTarget,
-        ),
-        (
-            "{\"rules\":[{\"from_table\":\"a\",\"to_tables\":null,\"toTables\":[\"k.a\"]}]}",
-            RulesFault::NotOneTarget,
-        ),
-        (
-            "{\"rules\":[{\"from_table\":\"a\",\"to_tables\":[]}]}",
-            RulesFault::NotOneTarget,
-        ),
-        (
-            "{\"rules\":[{\"from_table\":\"a!\",\"to_tables\":[\"k.a\",\"k.b\"]}]}",
-            RulesFault::NotOneTarget,
-        ),
-        (
-            "{\"rules\":[{\"from_table\":\"a\",\"to_tables\":[\"k.a\"]},{\"from_table\":\"a\",\"to_tables\":[\"k.a\"]}]}",
-            RulesFault::RepeatedKey,
-        ),
-        (
-            "{\"rules\":[{\"from_table\":\"a!\",\"to_tables\":[\"k.a\"]},{\"from_table\":1}]}",
-            RulesFault::BadName,
-        ),
-    ];
-    for (text, fault) in cases.iter() {
-        assert_eq!(rt; fault_of(rt.alloc(), text), Some(*fault));
+/// Whether rules are written so.
+fn is_written(alloc: Global, rules: &RoutingRules, want: &str) -> bool {
+    match rules.to_json(alloc) {
+        Ok(text) => text.as_str() == want,
+        Err(_) => false,
     }
-    Ok(())
 }
 
-#[test]
-fn what_is_read(rt: HostRuntime) -> Result<(), Fail> {
-    let cases = [
-        ("{}", "{\"rules\":[]}"),
-        (" {\"rules\":null}", "{\"rules\":[]}"),
-        ("{\"rules\":1,\"rules\":[]}", "{\"rules\":[]}"),
-        (
-            "{\"x\":[{}],\"rules\":[{\"to_tables\":[\"k.a\"],\"from_table\":\"b\",\"from_table\":\"a\",\"fromTable\":1}]}",
-            "{\"rules\":[{\"from_table\":\"a\",\"to_tables\":[\"k.a\"]}]}",
+/// Whether a document is read so.
+fn reads(alloc: Global, text: &[u8], want: Result<&str, RulesFault>) -> bool {
+    match (RoutingRules::from_json(alloc, text), want) {
+        (Ok(rules), Ok(written)) => is_written(alloc, &rules, written),
+        (Err(fault), Err(refusal)) => fault == refusal,
+        _ => false,
+    }
+}
+
+/// Documents that are taken and refused.
+static DOCUMENTS: [(&str, Read); 25] = [
+    (FRESH, Ok(FRESH)),
+    (
+        "{\"rules\":[{\"fromTable\":\"b\",\"toTables\":[\"k.b\"],\"x\":1},{\"from_table\":\"a@replica\",\"to_tables\":[\"k.a\"]}]}",
+        Ok(
+            "{\"rules\":[{\"from_table\":\"a@replica\",\"to_tables\":[\"k.a\"]},{\"from_table\":\"b\",\"to_tables\":[\"k.b\"]}]}",
         ),
-    ];
-    for (text, written) in cases.iter() {
-        assert_eq!(rt; canon(rt.alloc(), text.as_bytes())?.as_str(), *written);
-    }
-    Ok(())
-}
+    ),
+    ("{}", Ok("{\"rules\":[]}")),
+    (" {\"rules\":null}", Ok("{\"rules\":[]}")),
+    ("{\"rules\":1,\"rules\":[]}", Ok("{\"rules\":[]}")),
+    (
+        "{\"x\":[{}],\"rules\":[{\"to_tables\":[\"k.a\"],\"from_table\":\"b\",\"from_table\":\"a\",\"fromTable\":1}]}",
+        Ok("{\"rules\":[{\"from_table\":\"a\",\"to_tables\":[\"k.a\"]}]}"),
+    ),
+    ("{\"rules\":[", Err(RulesFault::NotJson)),
+    ("", Err(RulesFault::NotJson)),
+    ("{\"rules\":[]} x", Err(RulesFault::NotJson)),
+    ("null", Err(RulesFault::Shape)),
+    ("[]", Err(RulesFault::Shape)),
+    ("{\"rules\":{}}", Err(RulesFault::Shape)),
+    ("{\"rules\":[1]}", Err(RulesFault::Shape)),
+    (
+        "{\"rules\":[{\"to_tables\":[\"k.a\"]}]}",
+        Err(RulesFault::Shape),
+    ),
+    (
+        "{\"rules\":[{\"from_table\":null,\"fromTable\":\"a\",\"to_tables\":[\"k.a\"]}]}",
+        Err(RulesFault::Shape),
+    ),
+    (
+        "{\"rules\":[{\"from_table\":\"a\",\"to_tables\":\"k.a\"}]}",
+        Err(RulesFault::Shape),
+    ),
+    (
+        "{\"rules\":[{\"from_table\":\"a\",\"to_tables\":[\"k.a\",1]}]}",
+        Err(RulesFault::Shape),
+    ),
+    (
+        "{\"rules\":[{\"from_table\":\"a!\",\"to_tables\":[\"k.a\"]}]}",
+        Err(RulesFault::BadName),
+    ),
+    (
+        "{\"rules\":[{\"from_table\":\"a\",\"to_tables\":[\"a\"]}]}",
+        Err(RulesFault::BadName),
+    ),
+    (
+        "{\"rules\":[{\"from_table\":\"a\"}]}",
+        Err(RulesFault::NotOneTarget),
+    ),
+    (
+        "{\"rules\":[{\"from_table\":\"a\",\"to_tables\":null,\"toTables\":[\"k.a\"]}]}",
+        Err(RulesFault::NotOneTarget),
+    ),
+    (
+        "{\"rules\":[{\"from_table\":\"a\",\"to_tables\":[]}]}",
+        Err(RulesFault::NotOneTarget),
+    ),
+    (
+        "{\"rules\":[{\"from_table\":\"a!\",\"to_tables\":[\"k.a\",\"k.b\"]}]}",
+        Err(RulesFault::NotOneTarget),
+    ),
+    (
+        "{\"rules\":[{\"from_table\":\"a\",\"to_tables\":[\"k.a\"]},{\"from_table\":\"a\",\"to_tables\":[\"k.a\"]}]}",
+        Err(RulesFault::RepeatedKey),
+    ),
+    (
+        "{\"rules\":[{\"from_table\":\"a!\",\"to_tables\":[\"k.a\"]},{\"from_table\":1}]}",
+        Err(RulesFault::BadName),
+    ),
+];
 
-#[test]
-fn places_without_a_rule_are_left_out(rt: HostRuntime) -> Result<(), Fail> {
-    let mut rules = RoutingRules::new(rt.alloc());
-    assert!(rt; answers(&mut rules, "b", &[(Call::Reserve, "ok")])?);
-    assert!(rt;
-        answers(
-            &mut rules,
-            "a",
-            &[(Call::Reserve, "ok"), (Call::Set, "no rule")]
-        )?
-    );
-    assert_eq!(rt;
-        rules.to_json(rt.alloc())?.as_str(),
-        "{\"rules\":[{\"from_table\":\"a\",\"to_tables\":[\"k.a\"]}]}"
-    );
-    Ok(())
-}
-
-#[test]
-fn every_prefix_and_every_byte_that_is_none(rt: HostRuntime) -> Result<(), Fail> {
-    let text = FRESH.as_bytes();
-    for end in 0..text.len() {
-        assert_eq!(rt;
-            canon(rt.alloc(), &text[..end]).err(),
-            Some(RulesFault::NotJson)
-        );
-        let mut changed = Vec::new(rt.alloc());
-        changed.extend_from_slice(text)?;
-        changed[end] = 0xff;
-        assert_eq!(rt;
-            canon(rt.alloc(), &changed).err(),
-            Some(RulesFault::NotJson)
-        );
-    }
-    Ok(())
-}
-
-#[test]
-fn nested_deep(rt: HostRuntime) -> Result<(), Fail> {
-    let mut text = String::new(rt.alloc());
-    text.push_str("{\"rules\":")?;
-    for _ in 0..200u32 {
-        text.push('[')?;
-    }
-    for _ in 0..200u32 {
-        text.push(']')?;
-    }
-    text.push('}')?;
-    assert_eq!(rt;
-        fault_of(rt.alloc(), text.as_str()),
-        Some(RulesFault::NotJson)
-    );
-    Ok(())
-}
-
-/// The document of so many rules.
-fn of_rules(alloc: Global, count: u32) -> Result<String, Fail> {
-    let mut text = String::new(alloc);
-    text.push_str("{\"rules\":[")?;
-    for number in 0..count {
-        if number > 0 {
-            text.push(',')?;
+/// The first document that isn't read so.
+fn first_wrong(alloc: Global) -> Option<&'static str> {
+    for (text, want) in &DOCUMENTS {
+        if !reads(alloc, text.as_bytes(), *want) {
+            return Some(text);
         }
-        let rule = format!(in alloc;
-            "{{\"from_table\":\"t{number}\",\"to_tables\":[\"k.t{number}\"]}}"
-        )?;
-        text.push_str(rule.as_str())?;
     }
-    text.push_str("]}")?;
+    None
+}
+
+#[test]
+fn documents(rt: HostRuntime) {
+    assert_eq!(rt; first_wrong(rt.alloc()), None);
+}
+
+/// Where a key leads by the rules of a fresh workflow, of which there are so many.
+fn leads(alloc: Global, count: usize, key: &str, want: &str) -> bool {
+    let Ok(key) = RuleKey::parse(key) else {
+        return false;
+    };
+    match RoutingRules::from_json(alloc, FRESH.as_bytes()) {
+        Ok(rules) => {
+            rules.len() == count
+                && rules
+                    .get(&key)
+                    .is_some_and(|target| target.text().as_str() == want)
+        }
+        Err(_) => false,
+    }
+}
+
+#[test]
+fn rules_of_a_fresh_workflow_are_found(rt: HostRuntime) {
+    assert!(rt; leads(rt.alloc(), 8, "customer.corder@replica", "commerce.corder"));
+}
+
+/// One key with a place, and one with a place and a rule.
+fn has_places(rules: &mut RoutingRules) -> bool {
+    answers(rules, "b", &[(Call::Reserve, "ok")]) == Ok(true)
+        && answers(rules, "a", &[(Call::Reserve, "ok"), (Call::Set, "no rule")]) == Ok(true)
+}
+
+/// Whether a place without a rule is left out of the document.
+fn is_left_out(alloc: Global) -> bool {
+    let mut rules = RoutingRules::new(alloc);
+    has_places(&mut rules)
+        && is_written(
+            alloc,
+            &rules,
+            "{\"rules\":[{\"from_table\":\"a\",\"to_tables\":[\"k.a\"]}]}",
+        )
+}
+
+#[test]
+fn places_without_a_rule_are_left_out(rt: HostRuntime) {
+    assert!(rt; is_left_out(rt.alloc()));
+}
+
+/// The same bytes, of which that of this place is none of a text.
+fn spoilt(alloc: Global, text: &[u8], at: usize) -> Result<Vec<u8>, AllocError> {
+    let mut bytes = Vec::new(alloc);
+    bytes.extend_from_slice(text)?;
+    if let Some(byte) = bytes.get_mut(at) {
+        *byte = 0xff;
+    }
+    Ok(bytes)
+}
+
+/// Whether a document is refused that ends before a byte, and one in which the byte is none of a text.
+fn refuses_at(alloc: Global, text: &[u8], at: usize) -> bool {
+    match (text.get(..at), spoilt(alloc, text, at)) {
+        (Some(cut), Ok(bytes)) => {
+            reads(alloc, cut, Err(RulesFault::NotJson))
+                && reads(alloc, bytes.as_slice(), Err(RulesFault::NotJson))
+        }
+        _ => false,
+    }
+}
+
+/// The first place at which it is taken.
+fn first_taken(alloc: Global) -> Option<usize> {
+    let text = FRESH.as_bytes();
+    for at in 0..text.len() {
+        if !refuses_at(alloc, text, at) {
+            return Some(at);
+        }
+    }
+    None
+}
+
+#[test]
+fn every_prefix_and_every_byte_that_is_none(rt: HostRuntime) {
+    assert_eq!(rt; first_taken(rt.alloc()), None);
+}
+
+/// Writes a bracket so often.
+fn push_times(text: &mut String, bracket: char, times: u32) -> Result<(), AllocError> {
+    for _ in 0..times {
+        text.push(bracket)?;
+    }
+    Ok(())
+}
+
+/// A document with so many lists, each in the one before it.
+fn nested(alloc: Global, depth: u32) -> Result<String, AllocError> {
+    let mut text = String::new(alloc);
+    text.push_str("{\"rules\":")?;
+    push_times(&mut text, '[', depth)?;
+    push_times(&mut text, ']', depth)?;
+    text.push('}')?;
     Ok(text)
 }
 
 #[test]
-fn as_many_rules_as_there_may_be(rt: HostRuntime) -> Result<(), Fail> {
-    let most = of_rules(rt.alloc(), 4096)?;
-    let written = canon(rt.alloc(), most.as_bytes())?;
-    assert_eq!(rt; written.len(), most.len());
-    Ok(())
+fn nested_deep(rt: HostRuntime) {
+    assert!(rt;
+        nested(rt.alloc(), 200).is_ok_and(|text| reads(
+            rt.alloc(),
+            text.as_bytes(),
+            Err(RulesFault::NotJson)
+        ))
+    );
+}
+
+/// The document of so many rules.
+fn of_rules(alloc: Global, count: u32) -> Option<String> {
+    let mut text = String::new(alloc);
+    text.push_str("{\"rules\":[").ok()?;
+    for number in 0..count {
+        let comma = if number > 0 { "," } else { "" };
+        let rule = format!(in alloc;
+            "{comma}{{\"from_table\":\"t{number}\",\"to_tables\":[\"k.t{number}\"]}}"
+        );
+        text.push_str(rule.ok()?.as_str()).ok()?;
+    }
+    text.push_str("]}").ok()?;
+    Some(text)
+}
+
+/// How many bytes a document is written with, or why it is refused.
+fn length(alloc: Global, text: &str) -> Result<usize, RulesFault> {
+    match RoutingRules::from_json(alloc, text.as_bytes()) {
+        Ok(rules) => rules.to_json(alloc).map(|written| written.len()),
+        Err(fault) => Err(fault),
+    }
+}
+
+/// Whether the document of so many rules is written with as many bytes, or refused so.
+fn reads_many(alloc: Global, count: u32, refusal: Option<RulesFault>) -> bool {
+    let Some(text) = of_rules(alloc, count) else {
+        return false;
+    };
+    match length(alloc, text.as_str()) {
+        Ok(bytes) => refusal.is_none() && bytes == text.len(),
+        Err(fault) => refusal == Some(fault),
+    }
 }
 
 #[test]
-fn a_rule_too_many(rt: HostRuntime) -> Result<(), Fail> {
-    let more = of_rules(rt.alloc(), 4097)?;
-    assert_eq!(rt; fault_of(rt.alloc(), more.as_str()), Some(RulesFault::Full));
-    Ok(())
+fn as_many_rules_as_there_may_be(rt: HostRuntime) {
+    assert!(rt; reads_many(rt.alloc(), 4096, None));
+    assert!(rt; reads_many(rt.alloc(), 4097, Some(RulesFault::Full)));
 }

@@ -1,61 +1,33 @@
-//! Tablet types and sets of them.
+//! Sets of tablet types, combined and printed.
 
-use mt_names::{NameFault, TabletType, TypeSet};
-use std::test::Fail;
+use mt_names::{TabletType, TypeSet};
+use std::alloc::Global;
 
-#[test]
-fn reads_and_writes_sets(rt: HostRuntime) {
-    for (text, want) in [
-        ("primary", "primary"),
-        ("rdonly,primary", "primary,rdonly"),
-        ("rdonly,replica,primary", "primary,replica,rdonly"),
-        ("all", "primary,replica,rdonly"),
-        ("-", "-"),
-        ("", "N1 Empty"),
-        ("primary,primary", "N4 Repeated"),
-        ("primary,primary,x", "N4 Repeated"),
-        ("primary,x,primary", "N6 BadType"),
-        ("primary,,rdonly", "N6 BadType"),
-        ("primary,", "N6 BadType"),
-        ("all,primary", "N6 BadType"),
-        ("master", "N6 BadType"),
-        ("Primary", "N6 BadType"),
-    ] {
-        match TypeSet::parse(text) {
-            Ok(set) => assert_eq!(rt; set.text().as_str(), want, "at {text}"),
-            Err(fault) => assert_eq!(rt; fault.as_str(), want, "at {text}"),
-        }
-    }
+/// Whether a set of the primary alone has this type just if it is the primary, and the type is read as it is written.
+fn is_alone(tablet_type: TabletType) -> bool {
+    let is_primary = tablet_type == TabletType::Primary;
+    TypeSet::of(TabletType::Primary).contains(tablet_type) == is_primary
+        && TabletType::parse(tablet_type.as_str()) == Ok(tablet_type)
 }
 
 #[test]
 fn sets_are_combined(rt: HostRuntime) {
     let writes = TypeSet::of(TabletType::Primary);
     let reads = TypeSet::ALL.without(writes);
-    assert_eq!(rt; reads.text().as_str(), "replica,rdonly");
-    assert_eq!(rt; reads.union(writes), TypeSet::ALL);
-    assert_eq!(rt; reads.both(writes), TypeSet::NONE);
-    assert!(rt; reads.both(writes).is_empty() && !reads.is_empty());
-    for tablet_type in TabletType::ALL {
-        let is_primary = tablet_type == TabletType::Primary;
-        assert_eq!(rt;
-            writes.contains(tablet_type),
-            is_primary,
-            "at {tablet_type}"
-        );
-        assert_eq!(rt; TabletType::parse(tablet_type.as_str()), Ok(tablet_type));
-    }
+    assert!(rt; reads.text().as_str() == "replica,rdonly" && !reads.is_empty());
+    assert!(rt; reads.union(writes) == TypeSet::ALL && reads.both(writes) == TypeSet::NONE);
+    assert!(rt; reads.both(writes).is_empty());
+    assert!(rt; TabletType::ALL.into_iter().all(is_alone));
+}
+
+/// Whether types and sets are printed as they are read.
+fn are_printed(alloc: Global) -> bool {
+    let (one, two) = (TabletType::Rdonly, TabletType::Primary);
+    let line = format!(in alloc; "{one} [{two:>7}] {}", TypeSet::ALL);
+    line.is_ok_and(|line| line.as_str() == "rdonly [primary] primary,replica,rdonly")
 }
 
 #[test]
-fn types_and_sets_are_printed(rt: HostRuntime) -> Result<(), Fail> {
-    let alloc = rt.alloc();
-    let line = format!(in alloc;
-        "{} [{:>7}] {}",
-        TabletType::Rdonly,
-        TabletType::Primary,
-        TypeSet::ALL
-    )?;
-    assert_eq!(rt; line.as_str(), "rdonly [primary] primary,replica,rdonly");
-    Ok(())
+fn types_and_sets_are_printed(rt: HostRuntime) {
+    assert!(rt; are_printed(rt.alloc()));
 }
