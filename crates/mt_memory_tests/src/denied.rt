@@ -2,7 +2,6 @@
 
 use mt_denied::{DeniedFault, DeniedTables};
 use mt_names::TableName;
-use std::test::Fail;
 
 /// Whether a place is made at once, or at a second try after a refusal that changed nothing.
 fn reserves(denied: &mut DeniedTables, table: &TableName) -> bool {
@@ -27,16 +26,29 @@ fn lists(rt: &HostRuntime, denied: &DeniedTables, count: usize) -> bool {
             .is_ok_and(|names| names.len() == count)
 }
 
-#[test]
-fn want_of_memory_is_no_other_answer(rt: HostRuntime) -> Result<(), Fail> {
-    let mut denied = DeniedTables::new(rt.alloc());
+/// Whether a table gets a place, and is then denied.
+fn denies(denied: &mut DeniedTables, name: &str) -> bool {
+    let Ok(table) = TableName::parse(name) else {
+        return false;
+    };
+    if !reserves(denied, &table) || !denied.has_place(&table) {
+        return false;
+    }
+    !denied.set(&table, true)
+}
+
+/// Whether each of five tables is.
+fn are_denied(denied: &mut DeniedTables) -> bool {
     for name in ["b", "a", "d", "c", "e"] {
-        let table = TableName::parse(name)?;
-        assert!(rt; reserves(&mut denied, &table));
-        if denied.has_place(&table) {
-            denied.set(&table, true);
+        if !denies(denied, name) {
+            return false;
         }
     }
-    assert!(rt; lists(&rt, &denied, 5));
-    Ok(())
+    true
+}
+
+#[test]
+fn want_of_memory_is_no_other_answer(rt: HostRuntime) {
+    let mut denied = DeniedTables::new(rt.alloc());
+    assert!(rt; are_denied(&mut denied) && lists(&rt, &denied, 5));
 }

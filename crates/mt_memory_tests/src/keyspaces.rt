@@ -5,7 +5,6 @@ use mt_keyspace::Keyspaces;
 use mt_model::TopologyFault;
 use mt_names::{KeyspaceName, TableName};
 use std::alloc::Global;
-use std::test::Fail;
 
 /// Whether a keyspace is added, at once or at a second try.
 fn is_added(keyspaces: &mut Keyspaces, alloc: Global, keyspace: &KeyspaceName) -> bool {
@@ -47,14 +46,20 @@ fn denial_is_reserved(
     }
 }
 
+/// Whether a keyspace is added, and a table of it gets a place, and a place for its denial.
+fn places_are_made(keyspaces: &mut Keyspaces, alloc: Global) -> bool {
+    let (Ok(keyspace), Ok(table)) = (KeyspaceName::parse("k"), TableName::parse("t")) else {
+        return false;
+    };
+    is_added(keyspaces, alloc, &keyspace)
+        && is_reserved(keyspaces, &keyspace, &table)
+        && denial_is_reserved(keyspaces, &keyspace, &table)
+        && keyspaces.has_place(&keyspace, &table)
+        && keyspaces.has_denied_place(&keyspace, &table)
+}
+
 #[test]
-fn want_of_memory_is_no_other_answer(rt: HostRuntime) -> Result<(), Fail> {
-    let (keyspace, table) = (KeyspaceName::parse("k")?, TableName::parse("t")?);
+fn want_of_memory_is_no_other_answer(rt: HostRuntime) {
     let mut keyspaces = Keyspaces::new(rt.alloc());
-    assert!(rt; is_added(&mut keyspaces, rt.alloc(), &keyspace));
-    assert!(rt; is_reserved(&mut keyspaces, &keyspace, &table));
-    assert!(rt; denial_is_reserved(&mut keyspaces, &keyspace, &table));
-    assert!(rt; keyspaces.has_place(&keyspace, &table));
-    assert!(rt; keyspaces.has_denied_place(&keyspace, &table));
-    Ok(())
+    assert!(rt; places_are_made(&mut keyspaces, rt.alloc()));
 }

@@ -2,7 +2,6 @@
 
 use mt_names::{TableName, TabletType, Value};
 use mt_primary::{Op, Primary, PrimaryFault, RowChange};
-use std::test::Fail;
 
 /// Whether a table is made at once, or at a second try after a refusal that changed nothing.
 fn creates(primary: &mut Primary, table: &TableName) -> bool {
@@ -48,28 +47,57 @@ fn applies(primary: &mut Primary, change: &RowChange) -> bool {
     primary.entry(position).is_some()
 }
 
-#[test]
-fn want_of_memory_is_no_other_answer(rt: HostRuntime) -> Result<(), Fail> {
-    let mut primary = Primary::new(rt.alloc());
-    for name in ["a", "b", "c", "d", "e"] {
-        let table = TableName::parse(name)?;
-        assert!(rt; creates(&mut primary, &table));
-        for key in 0..12u64 {
-            assert!(rt; writes(&mut primary, &table, &Op::Insert(key, Value::new())));
-        }
-        assert!(rt; writes(&mut primary, &table, &Op::Update(3, Value::new())));
-        assert!(rt; writes(&mut primary, &table, &Op::Append(4, Value::new())));
-        assert!(rt; writes(&mut primary, &table, &Op::Delete(5)));
-        for key in 12..24u64 {
-            let change = RowChange {
-                table: table.copied(),
-                key,
-                before: None,
-                after: Some(Value::new()),
-            };
-            assert!(rt; applies(&mut primary, &change));
+/// Whether rows of these keys are inserted.
+fn are_inserted(primary: &mut Primary, table: &TableName, keys: u64) -> bool {
+    for key in 0..keys {
+        if !writes(primary, table, &Op::Insert(key, Value::new())) {
+            return false;
         }
     }
-    assert_eq!(rt; primary.position(), 135);
-    Ok(())
+    true
+}
+
+/// Whether rows behind a key, so many, are applied as a stream's.
+fn are_applied(primary: &mut Primary, table: &TableName, first: u64, rows: u64) -> bool {
+    for number in 0..rows {
+        let change = RowChange {
+            table: table.copied(),
+            key: first.saturating_add(number),
+            before: None,
+            after: Some(Value::new()),
+        };
+        if !applies(primary, &change) {
+            return false;
+        }
+    }
+    true
+}
+
+/// Whether a table is made, and all that may be done to its rows is done.
+fn is_filled(primary: &mut Primary, name: &str) -> bool {
+    let Ok(table) = TableName::parse(name) else {
+        return false;
+    };
+    creates(primary, &table)
+        && are_inserted(primary, &table, 12)
+        && writes(primary, &table, &Op::Update(3, Value::new()))
+        && writes(primary, &table, &Op::Append(4, Value::new()))
+        && writes(primary, &table, &Op::Delete(5))
+        && are_applied(primary, &table, 12, 12)
+}
+
+/// Whether five tables are.
+fn are_filled(primary: &mut Primary) -> bool {
+    for name in ["a", "b", "c", "d", "e"] {
+        if !is_filled(primary, name) {
+            return false;
+        }
+    }
+    true
+}
+
+#[test]
+fn want_of_memory_is_no_other_answer(rt: HostRuntime) {
+    let mut primary = Primary::new(rt.alloc());
+    assert!(rt; are_filled(&mut primary) && primary.position() == 135);
 }

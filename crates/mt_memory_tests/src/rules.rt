@@ -3,7 +3,6 @@
 use mt_names::{RuleKey, RuleTarget};
 use mt_rules::{RoutingRules, RulesFault};
 use std::alloc::Global;
-use std::test::Fail;
 
 /// A document with both spellings, whose rules aren't in order.
 const MIXED: &str =
@@ -45,27 +44,45 @@ fn reads(alloc: Global, text: &str, want: Result<&str, RulesFault>) -> bool {
     }
 }
 
-#[test]
-fn want_of_memory_is_no_other_answer(rt: HostRuntime) -> Result<(), Fail> {
-    let mut rules = RoutingRules::new(rt.alloc());
-    for name in ["b", "c", "a", "e", "d"] {
-        assert!(rt; reserves(&mut rules, &RuleKey::parse(name)?));
-    }
-    for (name, target) in [("b", "k.b"), ("a", "k.a")] {
-        let key = RuleKey::parse(name)?;
-        if rules.has_place(&key) {
-            rules.set(&key, Some(RuleTarget::parse(target)?));
+/// Whether keys get places.
+fn are_reserved(rules: &mut RoutingRules, names: &[&str]) -> bool {
+    for name in names {
+        match RuleKey::parse(name) {
+            Ok(key) if reserves(rules, &key) => {}
+            _ => return false,
         }
     }
-    assert!(rt; writes(rt.alloc(), &rules, WRITTEN));
-    assert!(rt; reads(rt.alloc(), MIXED, Ok(WRITTEN)));
-    assert!(rt; reads(rt.alloc(), "{\"rules\":[", Err(RulesFault::NotJson)));
-    assert!(rt;
-        reads(
-            rt.alloc(),
-            "{\"rules\":[{\"x\":[1]}]}",
-            Err(RulesFault::Shape)
-        )
-    );
-    Ok(())
+    true
+}
+
+/// Whether a rule is set where there was none.
+fn sets(rules: &mut RoutingRules, name: &str, target: &str) -> bool {
+    let (Ok(key), Ok(target)) = (RuleKey::parse(name), RuleTarget::parse(target)) else {
+        return false;
+    };
+    if !rules.has_place(&key) {
+        return false;
+    }
+    rules.set(&key, Some(target)).is_none()
+}
+
+/// Whether rules are made that are written so.
+fn are_made(alloc: Global, rules: &mut RoutingRules) -> bool {
+    are_reserved(rules, &["b", "c", "a", "e", "d"])
+        && sets(rules, "b", "k.b")
+        && sets(rules, "a", "k.a")
+        && writes(alloc, rules, WRITTEN)
+}
+
+/// Whether documents are read so.
+fn are_read(alloc: Global) -> bool {
+    reads(alloc, MIXED, Ok(WRITTEN))
+        && reads(alloc, "{\"rules\":[", Err(RulesFault::NotJson))
+        && reads(alloc, "{\"rules\":[{\"x\":[1]}]}", Err(RulesFault::Shape))
+}
+
+#[test]
+fn want_of_memory_is_no_other_answer(rt: HostRuntime) {
+    let mut rules = RoutingRules::new(rt.alloc());
+    assert!(rt; are_made(rt.alloc(), &mut rules) && are_read(rt.alloc()));
 }

@@ -4,7 +4,6 @@ use mt_model::table_part_keys;
 use mt_names::{KeyspaceName, NameFault, RuleKey, RuleTarget, TableName};
 use mt_topology::{Topology, TopologyFault};
 use std::alloc::Global;
-use std::test::Fail;
 
 /// The dump of the keyspaces `a` and `b` with a table and a rule.
 const DUMP: &str =
@@ -104,17 +103,22 @@ fn is_loaded(alloc: Global, text: &str) -> bool {
     loaded.is_ok_and(|topology| dumps(alloc, &topology, text))
 }
 
-#[test]
-fn want_of_memory_is_no_other_answer(rt: HostRuntime) -> Result<(), Fail> {
-    let part = moved_table()?;
-    let mut topology = Topology::new(rt.alloc());
-    assert!(rt; is_made(&mut topology) == Ok(true));
-    assert!(rt; dumps(rt.alloc(), &topology, DUMP));
-    assert!(rt; is_reserved(&mut topology, &part));
-    assert!(rt; places(&topology, &part) == 15);
-    assert!(rt; dumps(rt.alloc(), &topology, DUMP));
+/// Whether a topology is made, and a part reserved in it and given back.
+fn is_kept(alloc: Global, topology: &mut Topology) -> bool {
+    let Ok(part) = moved_table() else {
+        return false;
+    };
+    let is_held = is_made(topology) == Ok(true)
+        && dumps(alloc, topology, DUMP)
+        && is_reserved(topology, &part)
+        && places(topology, &part) == 15
+        && dumps(alloc, topology, DUMP);
     topology.release_part(&part.source, &part.target, &part.tables);
-    assert!(rt; dumps(rt.alloc(), &topology, DUMP));
-    assert!(rt; is_loaded(rt.alloc(), DUMP));
-    Ok(())
+    is_held && dumps(alloc, topology, DUMP)
+}
+
+#[test]
+fn want_of_memory_is_no_other_answer(rt: HostRuntime) {
+    let mut topology = Topology::new(rt.alloc());
+    assert!(rt; is_kept(rt.alloc(), &mut topology) && is_loaded(rt.alloc(), DUMP));
 }

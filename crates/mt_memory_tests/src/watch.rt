@@ -7,7 +7,6 @@ use mt_model::{Entry, Scope};
 use mt_names::RuleKey;
 use mt_watch::{Asks, Callback, Change, Notice, WatchFault, Watcher, Watchers, WatchersFault};
 use std::alloc::Global;
-use std::test::Fail;
 
 /// Whether an entry is added at once, or at a second try after a refusal that changed nothing.
 fn pushes(change: &mut Change, entry: &Entry) -> bool {
@@ -37,28 +36,58 @@ fn answers(watchers: &Watchers, change: &Change) -> bool {
     }
 }
 
-#[test]
-fn want_of_memory_is_no_other_answer(rt: HostRuntime) -> Result<(), Fail> {
-    let alloc = rt.alloc();
-    let mut change = Change::new(alloc);
+/// Whether a change has entries for five tables.
+fn are_pushed(change: &mut Change) -> bool {
     for table in ["a", "b", "c", "d", "e"] {
-        assert!(rt; pushes(&mut change, &Entry::Rule(RuleKey::parse(table)?, None)));
-    }
-    assert!(rt; notes(alloc, &change));
-    let mut watchers = Watchers::new(alloc);
-    for _ in 0..5u8 {
-        let Ok(call) = Box::new(
-            alloc,
-            move |change: &Change| -> Result<Notice, WatchFault>
-                ensures { IfOk result (λ notice. notice ≡ notice_of Routes change.now) }
-            { Notice::of(alloc, &Scope::Routes, change).map_err(|_| WatchFault(0)) },
-        ) else {
-            continue;
+        let Ok(key) = RuleKey::parse(table) else {
+            return false;
         };
-        let call: Callback = call;
-        let added = watchers.add(Watcher::new(Scope::Routes, call));
-        assert!(rt; added.is_ok() || added == Err(WatchersFault::Memory));
-        assert!(rt; answers(&watchers, &change));
+        if !pushes(change, &Entry::Rule(key, None)) {
+            return false;
+        }
     }
-    Ok(())
+    true
+}
+
+/// A watcher of routers, if there is memory for it.
+fn watcher(alloc: Global) -> Option<Watcher> {
+    let call: Callback = match Box::new(
+        alloc,
+        move |change: &Change| -> Result<Notice, WatchFault>
+            ensures { IfOk result (λ notice. notice ≡ notice_of Routes change.now) }
+        { Notice::of(alloc, &Scope::Routes, change).map_err(|_| WatchFault(0)) },
+    ) {
+        Ok(call) => call,
+        Err(_) => return None,
+    };
+    Some(Watcher::new(Scope::Routes, call))
+}
+
+/// Whether a watcher is added, or there is no memory for it.
+fn adds(alloc: Global, watchers: &mut Watchers) -> bool {
+    match watcher(alloc) {
+        Some(watcher) => match watchers.add(watcher) {
+            Ok(()) => true,
+            Err(fault) => fault == WatchersFault::Memory,
+        },
+        None => true,
+    }
+}
+
+/// Whether five watchers are added, and a change is answered behind each.
+fn are_asked(alloc: Global, watchers: &mut Watchers, change: &Change) -> bool {
+    for _ in 0..5u8 {
+        if !adds(alloc, watchers) || !answers(watchers, change) {
+            return false;
+        }
+    }
+    true
+}
+
+#[test]
+fn want_of_memory_is_no_other_answer(rt: HostRuntime) {
+    let mut change = Change::new(rt.alloc());
+    assert!(rt; are_pushed(&mut change) && notes(rt.alloc(), &change));
+    let mut watchers = Watchers::new(rt.alloc());
+    assert!(rt; are_asked(rt.alloc(), &mut watchers, &change));
 }

@@ -1,8 +1,9 @@
 //! The texts of answers.
-ghost use Rattle.std.specs.Prelude.{◌≡◌, ◌+◌, ◌<◌, ◌++◌, Ok, length};
+ghost use Rattle.std.specs.Prelude.{◌≡◌, ◌+◌, ◌<◌, ◌++◌, Ok, codes, length};
+ghost use Rattle.mt_plain.specs.Numbers.{number_text};
 ghost use Rattle.mt_plain.specs.Drive.{stopped};
 ghost use Rattle.mt_plain.specs.Events.{advanced, done, refused};
-ghost use Rattle.mt_plain.specs.Output.{answer_text, driven_text, ended_text, line_feed, refused_text};
+ghost use Rattle.mt_plain.specs.Output.{answer_text, driven_text, ended_text, line_feed, refused_text, spaced};
 ghost use Rattle.mt_event.specs.Drives.{ended_from};
 ghost use Rattle.mt_event.specs.declared.reply.Reply.TheVariants as reply;
 ghost use Rattle.mt_event.specs.Events.{answer_from, refusal_from};
@@ -39,13 +40,25 @@ fn line_of<const N: usize>(first: &[u8], second: &[u8]) -> ArrayVec<u8, N>
     line
 }
 
+/// How many rows an advance copied.
+fn rows_text(rows: u16) -> ArrayVec<u8, 25>
+    ensures { result.items ≡ spaced (codes "rows") (number_text rows) }
+{
+    spaced(b"rows", &number(u64::from(rows)))
+}
+
+/// How many events an advance applied, and what stands behind.
+fn events_text(events: u16, rows: &ArrayVec<u8, 25>) -> ArrayVec<u8, 46>
+    ensures { result.items ≡ spaced (number_text events) rows.now.items }
+{
+    spaced(&number(u64::from(events)), rows)
+}
+
 /// The line that tells what an advance did.
 fn advanced_line(did: Advanced) -> LineText
     ensures { result.items ≡ answer_text (advanced did.events did.rows) ++ line_feed }
 {
-    let rows = spaced::<25>(b"rows", &number(u64::from(did.rows)));
-    let events = spaced::<46>(&number(u64::from(did.events)), &rows);
-    line_of(b"events ", &events)
+    line_of(b"events ", &events_text(did.events, &rows_text(did.rows)))
 }
 
 /// The line that tells the answer to an event.
