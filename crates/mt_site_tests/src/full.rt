@@ -112,7 +112,9 @@ fn first_wrong(alloc: Global) -> Option<&'static str> {
     match watchers_of(alloc, &BOTH) {
         Some(watchers) => {
             let mut site = Site::open(alloc, watchers);
-            first_other(&mut site)
+            let other = first_other(&mut site);
+            drop(site);
+            other
         }
         None => Some("the watchers"),
     }

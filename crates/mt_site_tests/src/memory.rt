@@ -199,11 +199,13 @@ fn is_same_again(site: &mut Site<Watchers>) -> bool {
 
 /// A site that begins with nothing, at once or at a second try.
 pub fn site_of(alloc: Global) -> Option<Site<Watchers>> {
-    let watchers = match watchers_of(alloc, &BOTH) {
-        Some(watchers) => watchers,
-        None => watchers_of(alloc, &BOTH)?,
-    };
-    Some(Site::open(alloc, watchers))
+    match watchers_of(alloc, &BOTH) {
+        Some(watchers) => Some(Site::open(alloc, watchers)),
+        None => match watchers_of(alloc, &BOTH) {
+            Some(watchers) => Some(Site::open(alloc, watchers)),
+            None => None,
+        },
+    }
 }
 
 /// The first part that goes otherwise, at a site that stands as it does.
@@ -226,7 +228,11 @@ fn first_other(site: &mut Site<Watchers>) -> Option<&'static str> {
 /// The same at a site that begins with nothing.
 fn first_wrong(alloc: Global) -> Option<&'static str> {
     match site_of(alloc) {
-        Some(mut site) => first_other(&mut site),
+        Some(mut site) => {
+            let other = first_other(&mut site);
+            drop(site);
+            other
+        }
         None => Some("the watchers"),
     }
 }
@@ -293,7 +299,11 @@ fn play_without(site: &mut Site<Watchers>) -> Played {
 /// The same at a site that begins with nothing, if there is memory for one.
 fn played_without(alloc: Global) -> Played {
     match site_of(alloc) {
-        Some(mut site) => play_without(&mut site),
+        Some(mut site) => {
+            let played = play_without(&mut site);
+            drop(site);
+            played
+        }
         None => Played::AllSo,
     }
 }

@@ -89,16 +89,32 @@ fn watcher_of(alloc: Global, watch: Watch) -> Option<Watcher> {
     Some(Watcher::new(scope, call))
 }
 
+/// Whether a watcher is added.
+fn is_added(alloc: Global, watchers: &mut Watchers, watch: Watch) -> bool {
+    match watcher_of(alloc, watch) {
+        Some(watcher) => watchers.add(watcher).is_ok(),
+        None => false,
+    }
+}
+
+/// Whether watchers are added, in their order.
+fn are_added(alloc: Global, watchers: &mut Watchers, watches: &[Watch]) -> bool {
+    for watch in watches {
+        if !is_added(alloc, watchers, *watch) {
+            return false;
+        }
+    }
+    true
+}
+
 /// Some watchers, in their order.
 pub fn watchers_of(alloc: Global, watches: &[Watch]) -> Option<Watchers> {
     let mut watchers = Watchers::new(alloc);
-    for watch in watches {
-        let watcher = watcher_of(alloc, *watch)?;
-        if watchers.add(watcher).is_err() {
-            return None;
-        }
+    if are_added(alloc, &mut watchers, watches) {
+        return Some(watchers);
     }
-    Some(watchers)
+    drop(watchers);
+    None
 }
 
 /// How acts go at a site that stands as it does, in their order up to the first that isn't so.
@@ -127,7 +143,9 @@ fn play(alloc: Global, watches: &[Watch], lists: &[&[Act]]) -> Played {
     match watchers_of(alloc, watches) {
         Some(watchers) => {
             let mut site = Site::open(alloc, watchers);
-            play_lists(&mut site, lists)
+            let played = play_lists(&mut site, lists);
+            drop(site);
+            played
         }
         None => Played::NotMade,
     }

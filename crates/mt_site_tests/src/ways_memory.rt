@@ -193,7 +193,11 @@ fn play_phases(site: &mut Site<Watchers>) -> Played {
 /// The same at a site that begins with nothing.
 fn played(alloc: Global) -> Played {
     match site_of(alloc) {
-        Some(mut site) => play_phases(&mut site),
+        Some(mut site) => {
+            let played = play_phases(&mut site);
+            drop(site);
+            played
+        }
         None => Played::NotMade,
     }
 }
