@@ -37,6 +37,16 @@ pub enum Played {
     NotMade,
 }
 
+impl Played {
+    /// Up to the first act that wasn't so, if there is one.
+    pub fn up_to(wrong: Option<usize>) -> Self {
+        match wrong {
+            Some(index) => Played::Wrong(index),
+            None => Played::AllSo,
+        }
+    }
+}
+
 /// The place of a client's pass.
 fn place_of<D: DeskName>(passes: &[Pass<D>], client: u16) -> Option<usize> {
     passes.iter().position(|pass| pass.client() == client)
@@ -74,17 +84,39 @@ pub fn asks<D: DeskName, W: Asks + Drop, R: Wait + Drop>(
     }
 }
 
-/// The newest passes, so many, taken from the others; none if there are fewer, or no memory.
-fn newest<D: DeskName>(
-    alloc: Global,
+/// Whether so many passes are there, the newest of which are moved to others.
+fn are_taken<D: DeskName>(
     passes: &mut Vec<Pass<D>>,
+    taken: &mut Vec<Pass<D>>,
     count: usize,
-) -> Option<Vec<Pass<D>>> {
-    let mut taken = Vec::with_capacity(alloc, count).ok()?;
+) -> bool {
     for _ in 0..count {
-        taken.push(passes.pop()?).ok()?;
+        let Some(pass) = passes.pop() else {
+            return false;
+        };
+        if taken.push(pass).is_err() {
+            return false;
+        }
     }
-    Some(taken)
+    true
+}
+
+/// Whether passes that are handed in are given back with this refusal, to those from which they were taken.
+fn are_refused<D: DeskName, W: Asks + Drop, R: Wait + Drop>(
+    rt: &impl Wait,
+    desk: &Desk<D, W, R>,
+    passes: &mut Vec<Pass<D>>,
+    taken: Vec<Pass<D>>,
+    refusal: DeskFault,
+) -> bool {
+    let count = taken.len();
+    match desk.gather(rt, taken) {
+        Ok(_) => false,
+        Err((fault, mut back)) => {
+            back.reverse();
+            fault == refusal && back.len() == count && passes.append(&mut back).is_ok()
+        }
+    }
 }
 
 /// Whether so many passes are handed in and given back, with this refusal.
@@ -96,16 +128,12 @@ fn gathers_none<D: DeskName, W: Asks + Drop, R: Wait + Drop>(
     count: usize,
     refusal: DeskFault,
 ) -> bool {
-    let Some(taken) = newest(alloc, passes, count) else {
-        return false;
-    };
-    match desk.gather(rt, taken) {
-        Ok(_) => false,
-        Err((fault, mut back)) => {
-            back.reverse();
-            fault == refusal && back.len() == count && passes.append(&mut back).is_ok()
-        }
+    let mut taken = Vec::new(alloc);
+    if are_taken(passes, &mut taken, count) {
+        return are_refused(rt, desk, passes, taken, refusal);
     }
+    drop(taken);
+    false
 }
 
 /// Whether all passes are handed in, and each client is answered with the number of its calls.
@@ -156,6 +184,23 @@ fn is_so<D: DeskName, W: Asks + Drop, R: Wait + Drop>(
     }
 }
 
+/// The index of the first act that isn't so.
+fn first_wrong<D: DeskName, W: Asks + Drop, R: Wait + Drop>(
+    rt: &impl Wait,
+    alloc: Global,
+    desk: &Desk<D, W, R>,
+    passes: &mut Vec<Pass<D>>,
+    routing: &mut Routing<D>,
+    acts: &[Act],
+) -> Option<usize> {
+    for (index, act) in acts.iter().enumerate() {
+        if !is_so(rt, alloc, desk, passes, routing, *act) {
+            return Some(index);
+        }
+    }
+    None
+}
+
 /// How acts go at a desk, in their order up to the first that isn't so.
 pub fn play<D: DeskName, W: Asks + Drop, R: Wait + Drop>(
     rt: &impl Wait,
@@ -164,10 +209,8 @@ pub fn play<D: DeskName, W: Asks + Drop, R: Wait + Drop>(
     acts: &[Act],
 ) -> Played {
     let (mut passes, mut routing) = (Vec::new(alloc), Routing::new(alloc));
-    for (index, act) in acts.iter().enumerate() {
-        if !is_so(rt, alloc, desk, &mut passes, &mut routing, *act) {
-            return Played::Wrong(index);
-        }
-    }
-    Played::AllSo
+    let wrong = first_wrong(rt, alloc, desk, &mut passes, &mut routing, acts);
+    drop(passes);
+    drop(routing);
+    Played::up_to(wrong)
 }

@@ -47,9 +47,27 @@ fn gather_two<D: DeskName, W: Asks + Drop, R: Wait + Drop>(
     }
 }
 
-/// Opens a desk under the name of a blank, at which clients 1 and 2 ask for an event each. Answers both answers, if there was
-/// memory for all.
-fn ask_both<D: DeskName, W: Asks + Drop, R: Wait + Drop + Copy>(
+/// Clients 1 and 2 ask for an event each, and hand in their passes. Answers both answers, if there was memory for all.
+fn ask_both<D: DeskName, W: Asks + Drop, R: Wait + Drop>(
+    rt: &R,
+    alloc: Global,
+    desk: &Desk<D, W, R>,
+    first: Event,
+    second: Event,
+) -> Option<(Answer, Answer)>
+    ensures { IfSome result (λ answers. HaveOneHistory D.scopes D.opening ((1, call first answers.0 ∷ []) ∷ (2, call second answers.1 ∷ []) ∷ [])) }
+{
+    let (one, mine) = ask_once(rt, desk, 1, first)?;
+    let (two, theirs) = ask_once(rt, desk, 2, second)?;
+    if gather_two(rt, alloc, desk, one, two) {
+        Some((mine, theirs))
+    } else {
+        None
+    }
+}
+
+/// The same at a desk that is opened under the name of a blank.
+fn ask_both_anew<D: DeskName, W: Asks + Drop, R: Wait + Drop + Copy>(
     rt: R,
     alloc: Global,
     blank: Blank,
@@ -71,13 +89,9 @@ fn ask_both<D: DeskName, W: Asks + Drop, R: Wait + Drop + Copy>(
     let Ok(desk) = made else {
         return None;
     };
-    let (one, mine) = ask_once(&rt, &desk, 1, first)?;
-    let (two, theirs) = ask_once(&rt, &desk, 2, second)?;
-    if gather_two(&rt, alloc, &desk, one, two) {
-        Some((mine, theirs))
-    } else {
-        None
-    }
+    let answers = ask_both(&rt, alloc, &desk, first, second);
+    desk.close(&rt);
+    answers
 }
 
 /// Clients 1 and 2 ask a controller for an event each. Answers both answers, if there was memory for all: then there is one legal
@@ -93,5 +107,5 @@ pub fn two_calls<W: Asks + Drop, R: Wait + Drop + Copy>(
     ensures { IfSome result (λ answers. HaveOneHistory (W.scopes watchers) core ((1, call first answers.0 ∷ []) ∷ (2, call second answers.1 ∷ []) ∷ [])) }
 {
     let (blank, opened) = (Blank::new(1), Opened::new());
-    ask_both::<Brand, W, R>(rt, alloc, blank, opened, core, watchers, first, second)
+    ask_both_anew::<Brand, W, R>(rt, alloc, blank, opened, core, watchers, first, second)
 }

@@ -116,6 +116,20 @@ fn is_gathered<D: DeskName, W: Asks + Drop, R: Wait + Drop>(
     }
 }
 
+/// The index of the first event of the move that is answered otherwise.
+fn first_wrong<D: DeskName, W: Asks + Drop, R: Wait + Drop>(
+    rt: &impl Wait,
+    desk: &Desk<D, W, R>,
+    pass: &mut Pass<D>,
+) -> Option<usize> {
+    for (index, asked) in LIFE.iter().enumerate() {
+        if !is_answered(rt, desk, pass, *asked) {
+            return Some(index);
+        }
+    }
+    None
+}
+
 /// How the move goes at a desk, up to the first event that is answered otherwise.
 pub fn is_moved<D: DeskName, W: Asks + Drop, R: Wait + Drop>(
     rt: &impl Wait,
@@ -125,13 +139,9 @@ pub fn is_moved<D: DeskName, W: Asks + Drop, R: Wait + Drop>(
     let Some(mut pass) = pass_of(rt, desk, 1) else {
         return Played::NotMade;
     };
-    for (index, asked) in LIFE.iter().enumerate() {
-        if !is_answered(rt, desk, &mut pass, *asked) {
-            return Played::Wrong(index);
-        }
-    }
+    let wrong = first_wrong(rt, desk, &mut pass);
     if is_gathered(rt, alloc, desk, pass) {
-        Played::AllSo
+        Played::up_to(wrong)
     } else {
         Played::Wrong(LIFE.len())
     }

@@ -85,6 +85,23 @@ fn is_undone<D: DeskName, W: Asks + Drop, R: Wait + Drop>(
     }
 }
 
+/// How a move goes that is given up by a client with this pass.
+fn given_up<D: DeskName, W: Asks + Drop, R: Wait + Drop>(
+    rt: &impl Wait,
+    desk: &Desk<D, W, R>,
+    pass: &mut Pass<D>,
+) -> Played {
+    if pass.reserve(24).is_err() || taken(rt, desk, pass, &CREATED) < CREATED.len() {
+        return Played::AllSo;
+    }
+    let events = taken(rt, desk, pass, &SWITCHED);
+    if is_undone(rt, desk, pass, events) && is_taken(rt, desk, pass, "cancel mv") {
+        Played::AllSo
+    } else {
+        Played::Wrong(events)
+    }
+}
+
 /// How a move goes that is given up: its switch is undone, and it is cancelled. Where it couldn't be begun there is nothing to give up.
 pub fn is_given_up<D: DeskName, W: Asks + Drop, R: Wait + Drop>(
     rt: &impl Wait,
@@ -93,18 +110,9 @@ pub fn is_given_up<D: DeskName, W: Asks + Drop, R: Wait + Drop>(
     let Ok(mut pass) = desk.pass(rt, 1) else {
         return Played::AllSo;
     };
-    if pass.reserve(24).is_err() || taken(rt, desk, &mut pass, &CREATED) < CREATED.len() {
-        return Played::AllSo;
-    }
-    let events = taken(rt, desk, &mut pass, &SWITCHED);
-    if !is_undone(rt, desk, &mut pass, events) {
-        return Played::Wrong(events);
-    }
-    if is_taken(rt, desk, &mut pass, "cancel mv") {
-        Played::AllSo
-    } else {
-        Played::Wrong(SWITCHED.len())
-    }
+    let played = given_up(rt, desk, &mut pass);
+    drop(pass);
+    played
 }
 
 /// Passes as well where, from some allocation on, each fails.

@@ -69,28 +69,50 @@ fn watcher_of(alloc: Global, scope: Scope, refuses: bool) -> Option<Watcher> {
     Some(Watcher::new(scope, call))
 }
 
+/// Whether a watcher of a scope is added.
+fn is_added(alloc: Global, watchers: &mut Watchers, scope: Scope, refuses: bool) -> bool {
+    match watcher_of(alloc, scope, refuses) {
+        Some(watcher) => watchers.add(watcher).is_ok(),
+        None => false,
+    }
+}
+
+/// Whether watchers of the primaries of two keyspaces are added.
+fn are_added(alloc: Global, watchers: &mut Watchers) -> bool {
+    let (Ok(commerce), Ok(customer)) = (
+        KeyspaceName::parse("commerce"),
+        KeyspaceName::parse("customer"),
+    ) else {
+        return false;
+    };
+    is_added(alloc, watchers, Scope::Primary(commerce), false)
+        && is_added(alloc, watchers, Scope::Primary(customer), false)
+}
+
 /// Watchers of the primaries of two keyspaces.
 pub fn two_watchers(alloc: Global) -> Option<Watchers> {
     let mut watchers = Watchers::new(alloc);
-    for name in ["commerce", "customer"] {
-        let scope = Scope::Primary(KeyspaceName::parse(name).ok()?);
-        watchers.add(watcher_of(alloc, scope, false)?).ok()?;
+    if are_added(alloc, &mut watchers) {
+        return Some(watchers);
     }
-    Some(watchers)
+    drop(watchers);
+    None
 }
 
 /// Whoever watches.
 fn watchers_of(alloc: Global, watch: Watch) -> Option<Watchers> {
-    let mut watchers = two_watchers(alloc)?;
-    let refuses = match watch {
-        Watch::Primaries => return Some(watchers),
-        Watch::Routes => false,
-        Watch::RoutesRefused => true,
-    };
-    watchers
-        .add(watcher_of(alloc, Scope::Routes, refuses)?)
-        .ok()?;
-    Some(watchers)
+    let mut watchers = Watchers::new(alloc);
+    let is_made = are_added(alloc, &mut watchers)
+        && match watch {
+            Watch::Primaries => true,
+            Watch::Routes => is_added(alloc, &mut watchers, Scope::Routes, false),
+            Watch::RoutesRefused => is_added(alloc, &mut watchers, Scope::Routes, true),
+        };
+    if is_made {
+        return Some(watchers);
+    }
+    drop(watchers);
+    None
 }
 
 /// Whether an event is done, at once or at a second try where memory was short.
@@ -105,18 +127,44 @@ fn applies<W: Asks>(core: &mut Core, watchers: &W, line: &str) -> bool {
     }
 }
 
+/// Whether events are done, one after the other.
+fn apply_all<W: Asks>(core: &mut Core, watchers: &W, lines: &[&str]) -> bool {
+    for line in lines {
+        if !applies(core, watchers, line) {
+            return false;
+        }
+    }
+    true
+}
+
 /// A core to which events were applied.
 pub fn core_of<W: Asks>(alloc: Global, watchers: &W, lines: &[&str]) -> Option<Core> {
     let mut core = Core::new(alloc);
-    for line in lines {
-        if !applies(&mut core, watchers, line) {
-            return None;
-        }
+    if apply_all(&mut core, watchers, lines) {
+        return Some(core);
     }
-    Some(core)
+    drop(core);
+    None
 }
 
-/// How a trial goes at a desk that is opened for it.
+/// How a trial goes at a desk.
+fn goes<D: DeskName + Send + Sync, W: Asks + Drop + Send, R: Threads + Wait + Sync>(
+    rt: &R,
+    alloc: Global,
+    desk: &Desk<D, W, &R>,
+    trial: Trial<'_>,
+) -> Played {
+    match trial {
+        Trial::Acts(acts) => play(rt, alloc, desk, acts),
+        Trial::TwoThreads(asks) => two_ask(rt, alloc, desk, asks),
+        Trial::Readers => all_go_on(rt, alloc, desk),
+        Trial::OneFails => is_moved(rt, alloc, desk),
+        Trial::AllFail => is_given_up(rt, desk),
+        Trial::OneFailsTelling => is_told_all(rt, desk),
+    }
+}
+
+/// The same at a desk that is opened for it.
 fn at_a_desk<D: DeskName + Send + Sync, W: Asks + Drop + Send, R: Threads + Wait + Sync>(
     rt: &R,
     alloc: Global,
@@ -137,14 +185,7 @@ fn at_a_desk<D: DeskName + Send + Sync, W: Asks + Drop + Send, R: Threads + Wait
     let Ok(desk) = made else {
         return Played::NotMade;
     };
-    let played = match trial {
-        Trial::Acts(acts) => play(rt, alloc, &desk, acts),
-        Trial::TwoThreads(asks) => two_ask(rt, alloc, &desk, asks),
-        Trial::Readers => all_go_on(rt, alloc, &desk),
-        Trial::OneFails => is_moved(rt, alloc, &desk),
-        Trial::AllFail => is_given_up(rt, &desk),
-        Trial::OneFailsTelling => is_told_all(rt, &desk),
-    };
+    let played = goes(rt, alloc, &desk, trial);
     desk.close(rt);
     played
 }

@@ -35,7 +35,7 @@ fn edit(number: u64) -> (&'static str, &'static str) {
 }
 
 /// Whether each answer is by one publication, and none by an earlier one than that before it, up to the last publication.
-fn reads_on<D: DeskName>(mut router: Router<D>) -> bool {
+fn follows<D: DeskName>(router: &mut Router<D>) -> bool {
     let Ok(key) = RuleKey::parse("x") else {
         return false;
     };
@@ -55,6 +55,19 @@ fn reads_on<D: DeskName>(mut router: Router<D>) -> bool {
     false
 }
 
+/// The same of a new router.
+fn reads_on<D: DeskName, W: Asks + Drop, R: Wait + Drop>(
+    rt: &impl Wait,
+    desk: &Desk<D, W, R>,
+) -> bool {
+    let Ok(mut router) = desk.router(rt) else {
+        return false;
+    };
+    let is_so = follows(&mut router);
+    drop(router);
+    is_so
+}
+
 /// Whether an edit is done, and told with its number.
 fn is_told<D: DeskName, W: Asks + Drop, R: Wait + Drop>(
     rt: &impl Wait,
@@ -72,56 +85,59 @@ fn is_told<D: DeskName, W: Asks + Drop, R: Wait + Drop>(
         .is_ok_and(|told| told.front() == Front(number))
 }
 
-/// A client makes each edit, and tells it. Answers its pass, and whether all were told.
-fn edits_on<D: DeskName, W: Asks + Drop, R: Wait + Drop>(
+/// Whether a client makes each edit, and tells it.
+fn are_told<D: DeskName, W: Asks + Drop, R: Wait + Drop>(
     rt: &impl Wait,
     desk: &Desk<D, W, R>,
-    mut pass: Pass<D>,
-) -> (Pass<D>, bool) {
+    pass: &mut Pass<D>,
+) -> bool {
     for number in 1..=MANY {
-        if !is_told(rt, desk, &mut pass, number) {
-            return (pass, false);
+        if !is_told(rt, desk, pass, number) {
+            return false;
         }
     }
-    (pass, true)
+    true
 }
 
-/// Four routers read on while a client edits on; then its calls are gathered.
+/// Whether a new client does, and its calls are gathered.
+fn edits_on<D: DeskName, W: Asks + Drop, R: Wait + Drop>(
+    rt: &impl Wait,
+    alloc: Global,
+    desk: &Desk<D, W, R>,
+) -> bool {
+    let Ok(mut pass) = desk.pass(rt, 1) else {
+        return false;
+    };
+    let is_so = are_told(rt, desk, &mut pass);
+    match Vec::from_array(alloc, [pass]) {
+        Ok(passes) => gathers(rt, desk, passes, &[(1, MANY)]) && is_so,
+        Err(_) => false,
+    }
+}
+
+/// Whether two routers in two threads read on.
+fn two_read_on<D: DeskName + Send + Sync, W: Asks + Drop + Send, R: Threads + Wait + Sync>(
+    rt: &R,
+    desk: &Desk<D, W, &R>,
+) -> bool {
+    join(rt, || reads_on(rt, desk), || reads_on(rt, desk)) == (true, true)
+}
+
+/// Four routers read on while a client edits on, whose calls are gathered.
 pub fn all_go_on<D: DeskName + Send + Sync, W: Asks + Drop + Send, R: Threads + Wait + Sync>(
     rt: &R,
     alloc: Global,
     desk: &Desk<D, W, &R>,
 ) -> Played {
-    let (Ok(one), Ok(two), Ok(three), Ok(four), Ok(pass)) = (
-        desk.router(rt),
-        desk.router(rt),
-        desk.router(rt),
-        desk.router(rt),
-        desk.pass(rt, 1),
-    ) else {
-        return Played::NotMade;
-    };
-    let (two_read, (two_more_read, (pass, is_told))) = join(
+    let (four_read, is_told) = join(
         rt,
-        move || join(rt, move || reads_on(one), move || reads_on(two)),
-        move || {
-            join(
-                rt,
-                move || join(rt, move || reads_on(three), move || reads_on(four)),
-                move || edits_on(rt, desk, pass),
-            )
-        },
+        || join(rt, || two_read_on(rt, desk), || two_read_on(rt, desk)) == (true, true),
+        || edits_on(rt, alloc, desk),
     );
-    if !is_told || two_read != (true, true) || two_more_read != (true, true) {
-        return Played::Wrong(0);
-    }
-    let Ok(passes) = Vec::from_array(alloc, [pass]) else {
-        return Played::NotMade;
-    };
-    if gathers(rt, desk, passes, &[(1, MANY)]) {
+    if four_read && is_told {
         Played::AllSo
     } else {
-        Played::Wrong(1)
+        Played::Wrong(0)
     }
 }
 

@@ -9,7 +9,6 @@ use mt_event::{Event, Refusal};
 use mt_site::{Site, run_events};
 use mt_watch::Watchers;
 use std::alloc::Global;
-use std::test::Fail;
 
 /// How a site stands: its topology, the events that are owed, what is told of the move, and of a row at either side.
 #[derive(Drop, PartialEq)]
@@ -71,19 +70,34 @@ fn is_answered(alloc: Global, site: &mut Site<Watchers>, asked: Asked) -> bool {
     }
 }
 
-#[test]
-fn want_of_memory_is_no_other_answer(rt: HostRuntime) -> Result<(), Fail> {
-    let watchers = match two_watchers(rt.alloc()) {
-        Some(watchers) => watchers,
-        None => two_watchers(rt.alloc()).ok_or("no watchers")?,
-    };
-    let mut site = Site::open(rt.alloc(), watchers);
+/// The first line of the move that is answered otherwise.
+fn first_wrong(alloc: Global, site: &mut Site<Watchers>) -> Option<&'static str> {
     for asked in &LIFE {
-        assert!(rt;
-            is_answered(rt.alloc(), &mut site, *asked),
-            "at {}",
-            asked.0
-        );
+        if !is_answered(alloc, site, *asked) {
+            return Some(asked.0);
+        }
     }
-    Ok(())
+    None
+}
+
+/// The same at a site that begins with nothing.
+fn first_wrong_anew(alloc: Global) -> Option<&'static str> {
+    let made = match two_watchers(alloc) {
+        Some(watchers) => Some(watchers),
+        None => two_watchers(alloc),
+    };
+    match made {
+        Some(watchers) => {
+            let mut site = Site::open(alloc, watchers);
+            let wrong = first_wrong(alloc, &mut site);
+            drop(site);
+            wrong
+        }
+        None => Some("the watchers"),
+    }
+}
+
+#[test]
+fn want_of_memory_is_no_other_answer(rt: HostRuntime) {
+    assert_eq!(rt; first_wrong_anew(rt.alloc()), None);
 }

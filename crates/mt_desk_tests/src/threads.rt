@@ -26,24 +26,75 @@ fn insert_of(key: u64) -> Option<Event> {
     })
 }
 
-/// A client inserts rows of its own, so many. Answers its pass, and how many of them were done.
-fn inserts<D: DeskName, W: Asks + Drop, R: Wait + Drop>(
+/// Whether a client inserts so many rows of its own.
+fn are_inserted<D: DeskName, W: Asks + Drop, R: Wait + Drop>(
     rt: &impl Wait,
     desk: &Desk<D, W, R>,
-    mut pass: Pass<D>,
+    pass: &mut Pass<D>,
     count: u64,
-) -> (Pass<D>, u64) {
-    let mut done = 0u64;
+) -> bool {
     let first = u64::from(pass.client()) << 32;
     for number in 0..count {
         let Some(event) = insert_of(first.wrapping_add(number)) else {
-            return (pass, done);
+            return false;
         };
-        if let Ok(Ok(_)) = desk.ask(rt, &mut pass, event) {
-            done = done.wrapping_add(1);
+        if !matches!(desk.ask(rt, pass, event), Ok(Ok(_))) {
+            return false;
         }
     }
-    (pass, done)
+    true
+}
+
+/// A new client inserts rows of its own, so many. Answers its pass, and whether all were done, if it got one.
+fn inserts<D: DeskName, W: Asks + Drop, R: Wait + Drop>(
+    rt: &impl Wait,
+    desk: &Desk<D, W, R>,
+    client: u16,
+    count: u64,
+) -> Option<(Pass<D>, bool)> {
+    let Ok(mut pass) = desk.pass(rt, client) else {
+        return None;
+    };
+    let is_so = are_inserted(rt, desk, &mut pass, count);
+    Some((pass, is_so))
+}
+
+/// A third client reads the last row of each of two, which inserted so many. Answers its pass, and whether both are there, if it got one.
+fn reads<D: DeskName, W: Asks + Drop, R: Wait + Drop>(
+    rt: &impl Wait,
+    desk: &Desk<D, W, R>,
+) -> Option<(Pass<D>, bool)> {
+    let Ok(mut pass) = desk.pass(rt, 3) else {
+        return None;
+    };
+    let is_so = asks(
+        rt,
+        desk,
+        &mut pass,
+        "at commerce.corder get 4294968295",
+        "row a",
+    ) && asks(
+        rt,
+        desk,
+        &mut pass,
+        "at commerce.corder get 8589935591",
+        "row a",
+    );
+    Some((pass, is_so))
+}
+
+/// Whether three passes are gathered with these calls.
+fn are_gathered<D: DeskName, W: Asks + Drop, R: Wait + Drop>(
+    rt: &impl Wait,
+    alloc: Global,
+    desk: &Desk<D, W, R>,
+    passes: [Pass<D>; 3],
+    want: &[(u16, u64)],
+) -> bool {
+    match Vec::from_array(alloc, passes) {
+        Ok(passes) => gathers(rt, desk, passes, want),
+        Err(_) => false,
+    }
 }
 
 /// Two clients insert on two threads, each so many rows; then a third reads the last row of each, and all passes are gathered.
@@ -53,40 +104,21 @@ pub fn two_ask<D: DeskName + Send + Sync, W: Asks + Drop + Send, R: Threads + Wa
     desk: &Desk<D, W, &R>,
     count: u64,
 ) -> Played {
-    let (Ok(one), Ok(two), Ok(mut three)) = (desk.pass(rt, 1), desk.pass(rt, 2), desk.pass(rt, 3))
-    else {
-        return Played::NotMade;
-    };
     let (one, two) = join(
         rt,
-        || inserts(rt, desk, one, count),
-        || inserts(rt, desk, two, count),
+        || inserts(rt, desk, 1, count),
+        || inserts(rt, desk, 2, count),
     );
-    if one.1 != count || two.1 != count {
-        return Played::Wrong(0);
-    }
-    if !asks(
-        rt,
-        desk,
-        &mut three,
-        "at commerce.corder get 4294968295",
-        "row a",
-    ) || !asks(
-        rt,
-        desk,
-        &mut three,
-        "at commerce.corder get 8589935591",
-        "row a",
-    ) {
-        return Played::Wrong(1);
-    }
-    let Ok(passes) = Vec::from_array(alloc, [one.0, two.0, three]) else {
-        return Played::NotMade;
-    };
-    if gathers(rt, desk, passes, &[(1, count), (2, count), (3, 2)]) {
-        Played::AllSo
-    } else {
-        Played::Wrong(2)
+    match (one, two, reads(rt, desk)) {
+        (Some((one, true)), Some((two, true)), Some((three, true))) => {
+            let want = [(1, count), (2, count), (3, 2)];
+            if are_gathered(rt, alloc, desk, [one, two, three], &want) {
+                Played::AllSo
+            } else {
+                Played::Wrong(1)
+            }
+        }
+        _ => Played::Wrong(0),
     }
 }
 

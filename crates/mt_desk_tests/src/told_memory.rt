@@ -83,20 +83,46 @@ fn is_told<D: DeskName, W: Asks + Drop, R: Wait + Drop>(
     }
 }
 
+/// The index of the first rule that isn't told.
+fn first_untold<D: DeskName, W: Asks + Drop, R: Wait + Drop>(
+    rt: &impl Wait,
+    desk: &Desk<D, W, R>,
+    pass: &mut Pass<D>,
+    router: &mut Router<D>,
+) -> Option<usize> {
+    for (index, rule) in RULES.iter().enumerate() {
+        if !is_told(rt, desk, pass, router, *rule) {
+            return Some(index);
+        }
+    }
+    None
+}
+
+/// The same of a new router.
+fn first_untold_anew<D: DeskName, W: Asks + Drop, R: Wait + Drop>(
+    rt: &impl Wait,
+    desk: &Desk<D, W, R>,
+    pass: &mut Pass<D>,
+) -> Played {
+    let Ok(mut router) = desk.router(rt) else {
+        return Played::NotMade;
+    };
+    let wrong = first_untold(rt, desk, pass, &mut router);
+    drop(router);
+    Played::up_to(wrong)
+}
+
 /// How each rule is told, up to the first that isn't.
 pub fn is_told_all<D: DeskName, W: Asks + Drop, R: Wait + Drop>(
     rt: &impl Wait,
     desk: &Desk<D, W, R>,
 ) -> Played {
-    let (Some(mut pass), Ok(mut router)) = (pass_of(rt, desk, 1), desk.router(rt)) else {
+    let Some(mut pass) = pass_of(rt, desk, 1) else {
         return Played::NotMade;
     };
-    for (index, rule) in RULES.iter().enumerate() {
-        if !is_told(rt, desk, &mut pass, &mut router, *rule) {
-            return Played::Wrong(index);
-        }
-    }
-    Played::AllSo
+    let played = first_untold_anew(rt, desk, &mut pass);
+    drop(pass);
+    played
 }
 
 #[test]
