@@ -57,15 +57,27 @@ fn events() -> Result<[Event; 5], NameFault> {
     ])
 }
 
-/// The core behind these events.
-fn core_of<W: Asks>(alloc: Global, watchers: &W) -> Option<Core> {
-    let mut core = Core::new(alloc);
-    for event in &events().ok()? {
+/// Whether each of these events is done.
+fn applies<W: Asks>(core: &mut Core, watchers: &W, events: &[Event]) -> bool {
+    for event in events {
         if core.apply(watchers, event).is_err() {
-            return None;
+            return false;
         }
     }
-    Some(core)
+    true
+}
+
+/// The core behind these events.
+fn core_of<W: Asks>(alloc: Global, watchers: &W) -> Option<Core> {
+    let Ok(events) = events() else {
+        return None;
+    };
+    let mut core = Core::new(alloc);
+    if applies(&mut core, watchers, &events) {
+        return Some(core);
+    }
+    drop(core);
+    None
 }
 
 /// The scopes of the watchers.
@@ -77,28 +89,61 @@ fn scopes() -> Result<[Scope; 3], NameFault> {
     ])
 }
 
-/// A watcher of each scope.
-fn watchers_of(alloc: Global) -> Option<Watchers> {
-    let mut watchers = Watchers::new(alloc);
-    for scope in &scopes().ok()? {
-        let own = scope.copied();
-        let call: Callback = match Box::new(
-            alloc,
-            move |change: &Change| -> Result<Notice, WatchFault>
-                ensures { IfOk result (λ notice. notice ≡ notice_of own change.now) }
-            { Notice::of(alloc, &own, change).map_err(|_| WatchFault(0)) },
-        ) {
-            Ok(call) => call,
-            Err(_) => return None,
-        };
-        if watchers.add(Watcher::new(scope.copied(), call)).is_err() {
-            return None;
-        }
-    }
-    Some(watchers)
+/// A watcher of a scope.
+fn watcher_of(alloc: Global, scope: Scope) -> Option<Watcher> {
+    let own = scope.copied();
+    let call: Callback = match Box::new(
+        alloc,
+        move |change: &Change| -> Result<Notice, WatchFault>
+            ensures { IfOk result (λ notice. notice ≡ notice_of own change.now) }
+        { Notice::of(alloc, &own, change).map_err(|_| WatchFault(0)) },
+    ) {
+        Ok(call) => call,
+        Err(_) => return None,
+    };
+    Some(Watcher::new(scope, call))
 }
 
-/// Whether a trial goes as it should at a desk that is opened for it.
+/// Whether a watcher of each of these scopes is added.
+fn are_added(alloc: Global, watchers: &mut Watchers, scopes: &[Scope]) -> bool {
+    for scope in scopes {
+        let Some(watcher) = watcher_of(alloc, scope.copied()) else {
+            return false;
+        };
+        if watchers.add(watcher).is_err() {
+            return false;
+        }
+    }
+    true
+}
+
+/// A watcher of each scope.
+fn watchers_of(alloc: Global) -> Option<Watchers> {
+    let Ok(scopes) = scopes() else {
+        return None;
+    };
+    let mut watchers = Watchers::new(alloc);
+    if are_added(alloc, &mut watchers, &scopes) {
+        return Some(watchers);
+    }
+    drop(watchers);
+    None
+}
+
+/// Whether a trial goes as it should at a desk.
+fn goes<D: DeskName + Send + Sync, W: Asks + Drop + Send, R: Threads + Wait + Sync>(
+    rt: &R,
+    alloc: Global,
+    desk: &Desk<D, W, &R>,
+    trial: Trial,
+) -> bool {
+    match trial {
+        Trial::InTurn(turns) => in_turn(rt, desk, turns),
+        Trial::TwoControllers => two_controllers(rt, alloc, desk),
+    }
+}
+
+/// The same at a desk that is opened for it.
 fn at_a_desk<D: DeskName + Send + Sync, W: Asks + Drop + Send, R: Threads + Wait + Sync>(
     rt: &R,
     alloc: Global,
@@ -107,7 +152,7 @@ fn at_a_desk<D: DeskName + Send + Sync, W: Asks + Drop + Send, R: Threads + Wait
     core: Core,
     watchers: W,
     trial: Trial,
-) -> Option<bool>
+) -> bool
     requires name { (blank.name ≡ D.name) × (blank.parts ≡ D.parts) }
     requires list { opened.seen.book ≡ D.book }
     requires opening { core ≡ D.opening }
@@ -117,12 +162,11 @@ fn at_a_desk<D: DeskName + Send + Sync, W: Asks + Drop + Send, R: Threads + Wait
         alloc, rt, blank, opened, core, watchers,
     );
     let Ok(desk) = opened else {
-        return None;
+        return false;
     };
-    match trial {
-        Trial::InTurn(turns) => in_turn(rt, &desk, turns),
-        Trial::TwoControllers => two_controllers(rt, alloc, &desk),
-    }
+    let is_so = goes(rt, alloc, &desk, trial);
+    desk.close(rt);
+    is_so
 }
 
 /// Whether a trial goes as it should at a desk with these watchers.
@@ -131,20 +175,18 @@ fn watched<W: Asks + Drop + Send, R: Threads + Wait + Sync>(
     alloc: Global,
     watchers: W,
     trial: Trial,
-) -> Option<bool> {
-    let core = core_of(alloc, &watchers)?;
-    at_a_desk::<Brand, W, R>(
-        rt,
-        alloc,
-        Blank::new(1),
-        Opened::new(),
-        core,
-        watchers,
-        trial,
-    )
+) -> bool {
+    let (blank, opened) = (Blank::new(1), Opened::new());
+    match core_of(alloc, &watchers) {
+        Some(core) => at_a_desk::<Brand, W, R>(rt, alloc, blank, opened, core, watchers, trial),
+        None => false,
+    }
 }
 
 /// Whether a trial goes as it should.
-pub fn tried<R: Threads + Wait + Sync>(rt: &R, alloc: Global, trial: Trial) -> Option<bool> {
-    watched::<Watchers, R>(rt, alloc, watchers_of(alloc)?, trial)
+pub fn tried<R: Threads + Wait + Sync>(rt: &R, alloc: Global, trial: Trial) -> bool {
+    match watchers_of(alloc) {
+        Some(watchers) => watched::<Watchers, R>(rt, alloc, watchers, trial),
+        None => false,
+    }
 }

@@ -7,10 +7,11 @@ use mt_messages::NoGate;
 use mt_model::Op;
 use mt_names::{KeyspaceName, TableName, TypeSet, Value, WorkflowName};
 use mt_watch::Asks;
-use mt_workers::{ControlFault, controller, stream_worker};
+use mt_workers::{controller, stream_worker};
 use mt_workflow::Slot;
+use std::alloc::Global;
 use std::sync::Wait;
-use std::test::Fail;
+use std::thread::Threads;
 
 /// What workers do one after the other.
 #[derive(Clone, Copy)]
@@ -30,18 +31,6 @@ pub fn workflow() -> Option<WorkflowName> {
     WorkflowName::parse("mv").ok()
 }
 
-/// A controller of all types with so many tries.
-fn controls<R: Wait, D: DeskName, W: Asks + Drop, H: Wait + Drop>(
-    rt: &R,
-    desk: &Desk<D, W, H>,
-    pass: Pass<D>,
-    back: bool,
-    tries: u64,
-) -> Option<(Pass<D>, Result<Driven, ControlFault>)> {
-    let name = workflow()?;
-    Some(controller(rt, &NoGate, desk, pass, 0, &name, TypeSet::ALL, back, tries))
-}
-
 /// Whether an event is done.
 fn is_done<R: Wait, D: DeskName, W: Asks + Drop, H: Wait + Drop>(
     rt: &R,
@@ -58,11 +47,13 @@ pub fn is_at_rest<R: Wait, D: DeskName, W: Asks + Drop, H: Wait + Drop>(
     desk: &Desk<D, W, H>,
     pass: &mut Pass<D>,
     switched: TypeSet,
-) -> Option<bool> {
-    let workflow = workflow()?;
+) -> bool {
+    let Some(workflow) = workflow() else {
+        return false;
+    };
     match desk.ask(rt, pass, Event::Show { workflow }) {
-        Ok(Ok(Reply::Shown(shown))) => Some(shown.way.is_none() && shown.switched == switched),
-        _ => None,
+        Ok(Ok(Reply::Shown(shown))) => shown.way.is_none() && shown.switched == switched,
+        _ => false,
     }
 }
 
@@ -71,20 +62,34 @@ fn switched_by(back: bool) -> TypeSet {
     if back { TypeSet::NONE } else { TypeSet::ALL }
 }
 
-/// A pass behind a whole switch, where a reversal is to begin.
-fn before<R: Wait, D: DeskName, W: Asks + Drop, H: Wait + Drop>(
+/// Whether a controller of a new client, for all types and with so many tries, ends so, and just these types are switched then.
+fn ends<R: Wait, D: DeskName, W: Asks + Drop, H: Wait + Drop>(
     rt: &R,
     desk: &Desk<D, W, H>,
-    pass: Pass<D>,
+    client: u16,
+    (back, tries): (bool, u64),
+    want: Driven,
+    switched: TypeSet,
+) -> bool {
+    let Some(name) = workflow() else {
+        return false;
+    };
+    let Ok(pass) = desk.pass(rt, client) else {
+        return false;
+    };
+    let (mut pass, end) = controller(rt, &NoGate, desk, pass, 0, &name, TypeSet::ALL, back, tries);
+    let is_so = end == Ok(want) && is_at_rest(rt, desk, &mut pass, switched);
+    drop(pass);
+    is_so
+}
+
+/// Whether all is switched by a client, if a reversal is to begin.
+fn is_ready<R: Wait, D: DeskName, W: Asks + Drop, H: Wait + Drop>(
+    rt: &R,
+    desk: &Desk<D, W, H>,
     back: bool,
-) -> Option<Pass<D>> {
-    if !back {
-        return Some(pass);
-    }
-    match controls(rt, desk, pass, false, 64)? {
-        (pass, Ok(Driven::Done)) => Some(pass),
-        _ => None,
-    }
+) -> bool {
+    !back || ends(rt, desk, 3, (false, 64), Driven::Done, TypeSet::ALL)
 }
 
 /// The event that begins a switch, or a reversal.
@@ -98,6 +103,36 @@ fn begin_of(back: bool) -> Option<Event> {
     })
 }
 
+/// Whether an act of this number on the workflow is done: a step, or the undo of one.
+fn acts<R: Wait, D: DeskName, W: Asks + Drop, H: Wait + Drop>(
+    rt: &R,
+    desk: &Desk<D, W, H>,
+    pass: &mut Pass<D>,
+    at: u64,
+    is_undo: bool,
+) -> bool {
+    match workflow() {
+        Some(workflow) if is_undo => is_done(rt, desk, pass, Event::Undo { workflow, at }),
+        Some(workflow) => is_done(rt, desk, pass, Event::Step { workflow, at }),
+        None => false,
+    }
+}
+
+/// Whether so many steps are done.
+fn steps_on<R: Wait, D: DeskName, W: Asks + Drop, H: Wait + Drop>(
+    rt: &R,
+    desk: &Desk<D, W, H>,
+    pass: &mut Pass<D>,
+    steps: u64,
+) -> bool {
+    for at in 0..steps {
+        if !acts(rt, desk, pass, at, false) {
+            return false;
+        }
+    }
+    true
+}
+
 /// Whether a way begins, and so many of its steps are done.
 fn begins<R: Wait, D: DeskName, W: Asks + Drop, H: Wait + Drop>(
     rt: &R,
@@ -105,17 +140,11 @@ fn begins<R: Wait, D: DeskName, W: Asks + Drop, H: Wait + Drop>(
     pass: &mut Pass<D>,
     back: bool,
     steps: u64,
-) -> Option<bool> {
-    if !is_done(rt, desk, pass, begin_of(back)?) {
-        return Some(false);
+) -> bool {
+    match begin_of(back) {
+        Some(begin) => is_done(rt, desk, pass, begin) && steps_on(rt, desk, pass, steps),
+        None => false,
     }
-    for at in 0..steps {
-        let workflow = workflow()?;
-        if !is_done(rt, desk, pass, Event::Step { workflow, at }) {
-            return Some(false);
-        }
-    }
-    Some(true)
 }
 
 /// Whether all steps that are done are undone, the last one first; of none, the begin is.
@@ -124,15 +153,13 @@ fn undoes<R: Wait, D: DeskName, W: Asks + Drop, H: Wait + Drop>(
     desk: &Desk<D, W, H>,
     pass: &mut Pass<D>,
     steps: u64,
-) -> Option<bool> {
+) -> bool {
     for undone in 0..steps.max(1) {
-        let workflow = workflow()?;
-        let at = steps.saturating_sub(undone);
-        if !is_done(rt, desk, pass, Event::Undo { workflow, at }) {
-            return Some(false);
+        if !acts(rt, desk, pass, steps.saturating_sub(undone), true) {
+            return false;
         }
     }
-    Some(true)
+    true
 }
 
 /// Whether a client writes a row at the source.
@@ -140,77 +167,65 @@ fn writes<R: Wait, D: DeskName, W: Asks + Drop, H: Wait + Drop>(
     rt: &R,
     desk: &Desk<D, W, H>,
     pass: &mut Pass<D>,
-) -> Option<bool> {
-    let keyspace = KeyspaceName::parse("commerce").ok()?;
-    let table = TableName::parse("corder").ok()?;
+) -> bool {
+    let (Ok(keyspace), Ok(table)) = (KeyspaceName::parse("commerce"), TableName::parse("corder"))
+    else {
+        return false;
+    };
     let op = Op::Insert(1, Value::new());
     let write = Event::Write {
         keyspace,
         table,
         op,
     };
-    Some(is_done(rt, desk, pass, write))
+    is_done(rt, desk, pass, write)
 }
 
-/// Whether a stream worker with two turns takes two advances, and a controller then switches all.
-fn are_alone<R: Wait, D: DeskName, W: Asks + Drop, H: Wait + Drop>(
+/// Whether client 1 begins a way and does so many of its steps, and then writes a row if it is to.
+fn is_begun<R: Wait, D: DeskName, W: Asks + Drop, H: Wait + Drop>(
     rt: &R,
     desk: &Desk<D, W, H>,
-    pass: Pass<D>,
-) -> Option<bool> {
-    let name = workflow()?;
+    (back, steps): (bool, u64),
+    is_writer: bool,
+) -> bool {
+    let Ok(mut pass) = desk.pass(rt, 1) else {
+        return false;
+    };
+    let is_so = begins(rt, desk, &mut pass, back, steps)
+        && (!is_writer || writes(rt, desk, &mut pass));
+    drop(pass);
+    is_so
+}
+
+/// Whether client 2 undoes so many steps, and just these types are switched then.
+fn is_undone<R: Wait, D: DeskName, W: Asks + Drop, H: Wait + Drop>(
+    rt: &R,
+    desk: &Desk<D, W, H>,
+    steps: u64,
+    switched: TypeSet,
+) -> bool {
+    let Ok(mut pass) = desk.pass(rt, 2) else {
+        return false;
+    };
+    let is_so = undoes(rt, desk, &mut pass, steps) && is_at_rest(rt, desk, &mut pass, switched);
+    drop(pass);
+    is_so
+}
+
+/// Whether a stream worker with two turns takes two advances.
+fn are_taken<R: Wait, D: DeskName, W: Asks + Drop, H: Wait + Drop>(
+    rt: &R,
+    desk: &Desk<D, W, H>,
+) -> bool {
+    let Some(name) = workflow() else {
+        return false;
+    };
+    let Ok(pass) = desk.pass(rt, 1) else {
+        return false;
+    };
     let (pass, taken) = stream_worker(rt, &NoGate, desk, pass, 0, &name, Slot::Forward, 100, 2);
-    let (mut pass, end) = controls(rt, desk, pass, false, 64)?;
-    let is_at_rest = is_at_rest(rt, desk, &mut pass, TypeSet::ALL)?;
-    Some(taken == 2 && end == Ok(Driven::Done) && is_at_rest)
-}
-
-/// Whether a way that stops behind so many steps is finished by another controller.
-fn is_finished<R: Wait, D: DeskName, W: Asks + Drop, H: Wait + Drop>(
-    rt: &R,
-    desk: &Desk<D, W, H>,
-    pass: Pass<D>,
-    back: bool,
-    steps: u64,
-) -> Option<bool> {
-    let mut pass = before(rt, desk, pass, back)?;
-    let is_begun = begins(rt, desk, &mut pass, back, steps)?;
-    let other = desk.pass(rt, 2).ok()?;
-    let (mut other, end) = controls(rt, desk, other, back, 64)?;
-    let is_at_rest = is_at_rest(rt, desk, &mut other, switched_by(back))?;
-    Some(is_begun && end == Ok(Driven::Done) && is_at_rest)
-}
-
-/// Whether one is given up by another client.
-fn is_given_up<R: Wait, D: DeskName, W: Asks + Drop, H: Wait + Drop>(
-    rt: &R,
-    desk: &Desk<D, W, H>,
-    pass: Pass<D>,
-    back: bool,
-    steps: u64,
-) -> Option<bool> {
-    let mut pass = before(rt, desk, pass, back)?;
-    let is_begun = begins(rt, desk, &mut pass, back, steps)?;
-    let mut other = desk.pass(rt, 2).ok()?;
-    let is_undone = undoes(rt, desk, &mut other, steps)?;
-    let is_at_rest = is_at_rest(rt, desk, &mut other, switched_by(!back))?;
-    Some(is_begun && is_undone && is_at_rest)
-}
-
-/// Whether one is given up by another controller, which has no try for the write that isn't read.
-fn is_abandoned<R: Wait, D: DeskName, W: Asks + Drop, H: Wait + Drop>(
-    rt: &R,
-    desk: &Desk<D, W, H>,
-    mut pass: Pass<D>,
-    steps: u64,
-) -> Option<bool> {
-    let is_begun = begins(rt, desk, &mut pass, false, steps)?;
-    let is_written = writes(rt, desk, &mut pass)?;
-    let other = desk.pass(rt, 2).ok()?;
-    let (mut other, end) = controls(rt, desk, other, false, 1)?;
-    let is_at_rest = is_at_rest(rt, desk, &mut other, TypeSet::NONE)?;
-    let is_abandoned = end == Ok(Driven::Abandoned(Refusal::NotLevel));
-    Some(is_begun && is_written && is_abandoned && is_at_rest)
+    drop(pass);
+    taken == 2
 }
 
 /// Whether workers one after the other do what they should.
@@ -218,45 +233,66 @@ pub fn in_turn<R: Wait, D: DeskName, W: Asks + Drop, H: Wait + Drop>(
     rt: &R,
     desk: &Desk<D, W, H>,
     turns: Turns,
-) -> Option<bool> {
-    let pass = desk.pass(rt, 1).ok()?;
+) -> bool {
+    let (done, not_level) = (Driven::Done, Driven::Abandoned(Refusal::NotLevel));
     match turns {
-        Turns::Alone => are_alone(rt, desk, pass),
-        Turns::Finished(back, steps) => is_finished(rt, desk, pass, back, steps),
-        Turns::GivenUp(back, steps) => is_given_up(rt, desk, pass, back, steps),
-        Turns::Abandoned(steps) => is_abandoned(rt, desk, pass, steps),
-    }
-}
-
-#[test]
-fn each_worker_does_its_part(rt: HostRuntime) -> Result<(), Fail> {
-    let trial = Trial::InTurn(Turns::Alone);
-    assert_eq!(rt; tried(&rt, rt.alloc(), trial), Some(true));
-    Ok(())
-}
-
-#[test]
-fn another_controller_finishes(rt: HostRuntime) -> Result<(), Fail> {
-    for back in [false, true] {
-        for steps in 0..12 {
-            let trial = Trial::InTurn(Turns::Finished(back, steps));
-            assert_eq!(rt; tried(&rt, rt.alloc(), trial), Some(true), "{back} {steps}");
+        Turns::Alone => {
+            are_taken(rt, desk) && ends(rt, desk, 2, (false, 64), done, TypeSet::ALL)
+        }
+        Turns::Finished(back, steps) => {
+            is_ready(rt, desk, back)
+                && is_begun(rt, desk, (back, steps), false)
+                && ends(rt, desk, 2, (back, 64), done, switched_by(back))
+        }
+        Turns::GivenUp(back, steps) => {
+            is_ready(rt, desk, back)
+                && is_begun(rt, desk, (back, steps), false)
+                && is_undone(rt, desk, steps, switched_by(!back))
+        }
+        Turns::Abandoned(steps) => {
+            is_begun(rt, desk, (false, steps), true)
+                && ends(rt, desk, 2, (false, 1), not_level, TypeSet::NONE)
         }
     }
-    Ok(())
+}
+
+/// The first way that another controller doesn't finish, with the steps that were done.
+fn first_unfinished<R: Threads + Wait + Sync>(rt: &R, alloc: Global) -> Option<(bool, u64)> {
+    for number in 0..24u64 {
+        let (back, steps) = (number >= 12, number % 12);
+        let trial = Trial::InTurn(Turns::Finished(back, steps));
+        if !tried(rt, alloc, trial) {
+            return Some((back, steps));
+        }
+    }
+    None
+}
+
+/// The first that isn't given up so before the journal.
+fn first_kept<R: Threads + Wait + Sync>(rt: &R, alloc: Global) -> Option<(bool, u64)> {
+    for number in 0..14u64 {
+        let (back, steps) = (number >= 7, number % 7);
+        let trial = Trial::InTurn(Turns::GivenUp(back, steps));
+        if !tried(rt, alloc, trial) {
+            return Some((back, steps));
+        }
+    }
+    None
 }
 
 #[test]
-fn another_one_gives_up_before_the_journal(rt: HostRuntime) -> Result<(), Fail> {
-    for back in [false, true] {
-        for steps in 0..7 {
-            let trial = Trial::InTurn(Turns::GivenUp(back, steps));
-            assert_eq!(rt; tried(&rt, rt.alloc(), trial), Some(true), "{back} {steps}");
-        }
-    }
-    for steps in 1..3 {
-        let trial = Trial::InTurn(Turns::Abandoned(steps));
-        assert_eq!(rt; tried(&rt, rt.alloc(), trial), Some(true), "{steps}");
-    }
-    Ok(())
+fn each_worker_does_its_part(rt: HostRuntime) {
+    assert!(rt; tried(&rt, rt.alloc(), Trial::InTurn(Turns::Alone)));
+}
+
+#[test]
+fn another_controller_finishes(rt: HostRuntime) {
+    assert_eq!(rt; first_unfinished(&rt, rt.alloc()), None);
+}
+
+#[test]
+fn another_one_gives_up_before_the_journal(rt: HostRuntime) {
+    assert_eq!(rt; first_kept(&rt, rt.alloc()), None);
+    assert!(rt; tried(&rt, rt.alloc(), Trial::InTurn(Turns::Abandoned(1))));
+    assert!(rt; tried(&rt, rt.alloc(), Trial::InTurn(Turns::Abandoned(2))));
 }
