@@ -176,6 +176,16 @@ impl RoutingRules {
         if self.is_full() {
             return Err(RulesFault::Full);
         }
+        self.add_key(key)
+    }
+
+    /// Makes a place for a key that has none, without a rule, where there is room for one more. `R0 Memory`, which leaves
+    /// all as it was. It looks the key up once, and `reserve_key` twice.
+    pub fn add_key(&mut self, key: &RuleKey) -> Result<(), RulesFault>
+        requires lacks { has_rule_place self.old key.now ≡ false }
+        requires room { length self.old < most_rules }
+        ensures { Reserves self.old key.now result self.new }
+    {
         match self.places.insert(key.copied(), None) {
             Ok(_) => Ok(()),
             Err(_) => Err(RulesFault::Memory),
@@ -210,12 +220,25 @@ impl RoutingRules {
         }
     }
 
+    /// Sets the rule of a reserved key, or takes it away. It takes no memory.
+    pub fn put(&mut self, key: &RuleKey, target: Option<RuleTarget>)
+        requires { has_rule_place self.old key.now ≡ true }
+        ensures { self.new ≡ set_value (same_key key.now) self.old target }
+    {
+        if let Some(rule) = self.places.get_mut(key) {
+            *rule = target;
+        }
+    }
+
     /// Drops the place of a key that has no rule. Where the key has a rule nothing changes. It takes no memory.
     pub fn release_key(&mut self, key: &RuleKey)
         ensures { self.new ≡ without_rule_place self.old key.now }
     {
-        if self.get(key).is_none() {
-            self.places.shift_remove(key);
+        let Some((index, _, rule)) = self.places.get_full(key) else {
+            return;
+        };
+        if rule.is_none() {
+            self.places.shift_remove_index(index);
         }
     }
 }
