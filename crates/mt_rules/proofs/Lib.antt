@@ -1,6 +1,7 @@
 pub mod AscendLemmas
 pub mod BackLemmas
 pub mod KeysLemmas
+pub mod ListLemmas
 pub mod PutLemmas
 pub mod ReadLemmas
 pub mod RouteLemmas

@@ -67,7 +67,7 @@ other_texts key [] back other named = tt
 other_texts key ((k, None) ∷ rules) back other named = other_texts key rules back other.1 named
 other_texts key ((k, Some target) ∷ rules) back other named = (other_text key k back named.0.key_back other.0, other_texts key rules back other.1 named.1)
 
-distinct_texts : (rules : Rules) → IsDistinct same_key (keys_of rules) → AllByRecursion IsNamed (flat_map entries_of rules) → IsDistinct same_text (map (λ x. x.0) (texts_of rules))
+pub distinct_texts : (rules : Rules) → IsDistinct same_key (keys_of rules) → AllByRecursion IsNamed (flat_map entries_of rules) → IsDistinct same_text (map (λ x. x.0) (texts_of rules))
 unfolding IsDistinct
 distinct_texts [] distinct named = tt
 distinct_texts ((key, None) ∷ rules) distinct named = distinct_texts rules distinct.1 named
@@ -180,11 +180,3 @@ one_more start first second before text rest whole one two is = ap (λ t. t ++ r
   where
     regroup : ((start ++ before) ++ text) ++ rest ≡ start ++ (before ++ (text ++ rest))
     regroup = simp append_assoc
-
--- all texts, and the end
-pub closed : (now all : List ℕ) (texts : List (List ℕ × List ℕ)) → now ++ [] ≡ codes "{\"rules\":[" ++ rest_text [] (map (λ x. x.1) texts) → all ≡ now ++ codes "]}" → all ≡ written_document texts
-closed now all texts is end =
-    end ∙ ap (λ t. t ++ codes "]}") (sym (append-nil now) ∙ is ∙ ap (λ t. codes "{\"rules\":[" ++ t) (rest_is_joined (map (λ x. x.1) texts))) ∙ regroup (join_with_byte comma (map (λ x. x.1) texts))
-  where
-    regroup : (t : List ℕ) → (codes "{\"rules\":[" ++ t) ++ codes "]}" ≡ 123 ∷ ((34 ∷ (codes "rules" ++ 34 ∷ [])) ++ codes ":" ++ (91 ∷ (t ++ 93 ∷ []))) ++ 125 ∷ []
-    regroup t = simp append_assoc

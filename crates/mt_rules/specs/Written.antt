@@ -6,7 +6,7 @@ use Rattle.mt_names.specs.Keys.{key_text}
 use Rattle.mt_names.specs.Types.{comma}
 use Rattle.mt_model.specs.Documents.{array, entries_of, member, object, quoted, rule_text}
 use Rattle.mt_model.specs.Topology.{Rules}
-use Rattle.mt_rules.specs.declared.text.WrittenRule.{WrittenRule}
+use Rattle.mt_rules.specs.declared.text.WrittenItem.{WrittenItem}
 
 -- the text of a rule of these two texts
 abbrev pub text_of_texts : (from to : List ℕ) → List ℕ
@@ -20,9 +20,13 @@ named_text r = (key_text r.0, rule_text r)
 abbrev pub texts_of : Rules → List (List ℕ × List ℕ)
 texts_of rules = map named_text (flat_map entries_of rules)
 
--- those that the code keeps of a rule
-abbrev pub written_text : WrittenRule → List ℕ × List ℕ
-written_text rule = (string_bytes rule.key, string_bytes rule.text)
+-- the key and the text that the code keeps of an item
+abbrev pub written_text : WrittenItem → List ℕ × List ℕ
+written_text item = (string_bytes item.key, string_bytes item.text)
+
+-- a text in quotes, under itself
+abbrev pub quoted_item : List ℕ → List ℕ × List ℕ
+quoted_item text = (text, quoted text)
 
 -- the document of rules with these texts, in their order
 abbrev pub written_document : List (List ℕ × List ℕ) → List ℕ

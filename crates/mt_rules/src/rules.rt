@@ -1,5 +1,5 @@
 //! The table of routing rules.
-ghost use Rattle.std.specs.Prelude.{◌≡◌, ◌≤◌, ◌<◌, ◌↔◌, ◌==◌, [], true, false, length, IsTrue, IfOk, IfErr, OnOk, string_bytes, option_copied, option_map, slice_get};
+ghost use Rattle.std.specs.Prelude.{◌≡◌, ◌≤◌, ◌<◌, ◌↔◌, ◌==◌, ◌++◌, [], true, false, length, IsTrue, IfOk, IfErr, OnOk, string_bytes, option_copied, option_map, slice_get};
 ghost use Rattle.std.specs.List.{IsDistinct};
 ghost use Rattle.std.specs.Map.{keys_of, set_value};
 ghost use Rattle.mt_names.specs.Same.{same_key};
@@ -10,15 +10,15 @@ ghost use Rattle.mt_rules.specs.Read.{IsUnlessMemory, answer_with, rules_of_text
 ghost use Rattle.serde_json.specs.View.{view};
 ghost use Rattle.mt_rules.specs.Values.{IsWellSorted, Says, rules_value};
 ghost use Rattle.mt_rules.specs.Member.{rules_within};
-ghost use Rattle.mt_model.specs.Documents.{rules_text};
+ghost use Rattle.mt_model.specs.Documents.{rules_array, rules_text};
 ghost use Rattle.mt_rules.specs.Rules.{Reserves, has_rule_place};
 
-use crate::{RulesFault, member, read, write};
+use crate::{RulesFault, member, read, text, write};
 use indexmap::IndexMap;
 use mt_model::{Entry, MAX_RULES};
 use mt_names::{RuleKey, RuleTarget};
 use serde_json::Value;
-use std::alloc::Global;
+use std::alloc::{AllocError, Global};
 use std::marker::Model;
 use std::mem;
 
@@ -101,6 +101,15 @@ impl RoutingRules {
             Ok(value) => Ok(value),
             Err(_) => Err(RulesFault::Memory),
         }
+    }
+
+    /// Appends the list of the rules to a larger document, as `to_json` writes it. `R0 Memory`, which leaves the text with a
+    /// part of it.
+    pub fn push_list(&self, alloc: Global, text: &mut String) -> Result<(), AllocError>
+        ensures text { OnOk result (string_bytes text.new ≡ string_bytes text.old ++ rules_array self.now) }
+        ensures sorted { OnOk result (IsWellSorted self.now) }
+    {
+        text::push_rules(alloc, text, &self.places)
     }
 
     /// What is true of all rules, for a caller's proof: there are at most 4,096 places, and no key has two. It does nothing.

@@ -2,10 +2,11 @@
 ghost use Rattle.std.specs.Prelude.{◌≡◌, ◌++◌, [], codes, map, flat_map, fold, IfOk, OnOk, string_bytes};
 ghost use Rattle.std.specs.List.{AllByRecursion, IsDistinct};
 ghost use Rattle.std.specs.Map.{keys_of};
+ghost use Rattle.mt_names.specs.Names.{same_text};
 ghost use Rattle.mt_names.specs.Same.{same_key};
-ghost use Rattle.mt_model.specs.Documents.{entries_of, put_by_text};
+ghost use Rattle.mt_model.specs.Documents.{array, entries_of, put_by_text, rules_array};
 ghost use Rattle.mt_rules.specs.Values.{IsNamed, IsWellSorted};
-ghost use Rattle.mt_rules.specs.Written.{named_text, text_of_texts, texts_of, written_document, written_text};
+ghost use Rattle.mt_rules.specs.Written.{named_text, quoted_item, text_of_texts, texts_of, written_document, written_text};
 
 use indexmap::IndexMap;
 use mt_names::{RuleKey, RuleTarget};
@@ -14,11 +15,54 @@ use std::alloc::{AllocError, Global};
 /// How many bytes the text of a rule is taken to have before it is known.
 const LIKELY_LENGTH: usize = 80;
 
-/// A rule as it is written, with the text of its key, by which rules are sorted.
+/// An item of a list as it is written, with the key by which such items are sorted.
 #[derive(Drop)]
-pub struct WrittenRule {
+pub struct WrittenItem {
     key: String,
     text: String,
+}
+
+impl WrittenItem {
+    /// An item of this text.
+    pub fn new(key: String, text: String) -> Self
+        ensures { written_text result ≡ (string_bytes key, string_bytes text) }
+    {
+        WrittenItem { key, text }
+    }
+
+    /// A text as an item, which is written in quotes. A text that JSON escapes is not written as JSON wants it.
+    pub fn of_text(alloc: Global, key: String) -> Result<Self, AllocError>
+        ensures { IfOk result (λ item. written_text item ≡ quoted_item (string_bytes key)) }
+    {
+        let mut text = String::with_capacity(alloc, LIKELY_LENGTH)?;
+        text.push_str("\"")?;
+        text.push_str(key.as_str())?;
+        text.push_str("\"")?;
+        Ok(WrittenItem { key, text })
+    }
+}
+
+/// Sorts items, whose keys differ, by these.
+pub fn sort_items(items: &mut Vec<WrittenItem>)
+    requires { IsDistinct same_text (map (λ x. x.0) (map written_text items.old.items)) }
+    ensures { map written_text items.new.items ≡ fold put_by_text [] (map written_text items.old.items) }
+{
+    items.sort_unstable_by(|item, other| item.key.as_str().cmp(other.key.as_str()));
+}
+
+/// Appends the list of these items, in their order.
+pub fn push_list(text: &mut String, items: &[WrittenItem]) -> Result<(), AllocError>
+    ensures { OnOk result (string_bytes text.new ≡ string_bytes text.old ++ array (map (λ x. x.1) (map written_text items.now))) }
+{
+    text.push_str("[")?;
+    let mut before = "";
+    'items: for item in items {
+        text.push_str(before)?;
+        text.push_str(item.text.as_str())?;
+        before = ",";
+    }
+    text.push_str("]")?;
+    Ok(())
 }
 
 /// The text of a rule of these two texts.
@@ -39,7 +83,7 @@ fn written_rule(
     alloc: Global,
     key: &RuleKey,
     target: &RuleTarget,
-) -> Result<WrittenRule, AllocError>
+) -> Result<WrittenItem, AllocError>
     ensures text { IfOk result (λ rule. written_text rule ≡ named_text (key.now, target.now)) }
     ensures named { IsNamed (key.now, target.now) }
 {
@@ -47,14 +91,14 @@ fn written_rule(
     let to = target.text();
     let text = text_of_texts(alloc, from.as_str(), to.as_str())?;
     let key = String::from_str(alloc, from.as_str())?;
-    Ok(WrittenRule { key, text })
+    Ok(WrittenItem { key, text })
 }
 
 /// The rules as they are written, in the order of their places.
 fn written_rules(
     alloc: Global,
     places: &IndexMap<RuleKey, Option<RuleTarget>>,
-) -> Result<Vec<WrittenRule>, AllocError>
+) -> Result<Vec<WrittenItem>, AllocError>
     ensures texts { IfOk result (λ rules. map written_text rules.items ≡ texts_of places.now.entries) }
     ensures named { OnOk result (AllByRecursion IsNamed (flat_map entries_of places.now.entries)) }
 {
@@ -72,29 +116,38 @@ fn written_rules(
 pub fn rules_in_order(
     alloc: Global,
     places: &IndexMap<RuleKey, Option<RuleTarget>>,
-) -> Result<Vec<WrittenRule>, AllocError>
+) -> Result<Vec<WrittenItem>, AllocError>
     requires { IsDistinct same_key (keys_of places.now.entries) }
     ensures texts { IfOk result (λ rules. map written_text rules.items ≡ fold put_by_text [] (texts_of places.now.entries)) }
     ensures sorted { OnOk result (IsWellSorted places.now.entries) }
 {
     let mut rules = written_rules(alloc, places)?;
-    rules.sort_unstable_by(|rule, other| rule.key.as_str().cmp(other.key.as_str()));
+    sort_items(&mut rules);
     Ok(rules)
 }
 
 /// The document of these rules, in their order.
-pub fn document_of(alloc: Global, rules: &[WrittenRule]) -> Result<String, AllocError>
+pub fn document_of(alloc: Global, rules: &[WrittenItem]) -> Result<String, AllocError>
     ensures { IfOk result (λ text. string_bytes text ≡ written_document (map written_text rules.now)) }
 {
     let room = rules.len().saturating_mul(LIKELY_LENGTH);
     let mut text = String::with_capacity(alloc, room)?;
-    text.push_str("{\"rules\":[")?;
-    let mut before = "";
-    'rules: for rule in rules {
-        text.push_str(before)?;
-        text.push_str(rule.text.as_str())?;
-        before = ",";
-    }
-    text.push_str("]}")?;
+    text.push_str("{\"rules\":")?;
+    push_list(&mut text, rules)?;
+    text.push_str("}")?;
     Ok(text)
+}
+
+/// Appends the list of the rules, in the order of their keys' texts.
+pub fn push_rules(
+    alloc: Global,
+    text: &mut String,
+    places: &IndexMap<RuleKey, Option<RuleTarget>>,
+) -> Result<(), AllocError>
+    requires { IsDistinct same_key (keys_of places.now.entries) }
+    ensures text { OnOk result (string_bytes text.new ≡ string_bytes text.old ++ rules_array places.now.entries) }
+    ensures sorted { OnOk result (IsWellSorted places.now.entries) }
+{
+    let rules = rules_in_order(alloc, places)?;
+    push_list(text, &rules)
 }
