@@ -1,10 +1,15 @@
 -- What was appended is a list, and what was sorted stands in order.
-use Rattle.std.proofs.Common.{◌≡◌, ℕ, List, [], ◌∷◌, ◌++◌, codes, append_assoc, append-nil, sym, ap, ◌∙◌}
+use Rattle.std.proofs.Common.{◌≡◌, ℕ, List, [], ◌∷◌, ◌++◌, codes, append_assoc, append-nil, map, refl, sym, ap, ◌∙◌}
 use Rattle.std.specs.List.{join_with_byte}
 use Rattle.mt_names.specs.Types.{comma}
 use Rattle.mt_model.specs.Documents.{array}
 use Rattle.mt_rules.specs.Written.{rest_text}
 use Rattle.mt_rules.proofs.WrittenLemmas.{rest_is_joined}
+
+-- one function after another
+pub map_twice : {A B C : Type 0} (f : B → C) (g : A → B) (xs : List A) → map (λ x. f (g x)) xs ≡ map f (map g xs)
+map_twice f g [] = refl
+map_twice f g (x ∷ xs) = ap (λ l. f (g x) ∷ l) (map_twice f g xs)
 
 -- all texts between the brackets
 pub closed : (start first now all : List ℕ) (texts : List (List ℕ)) → first ≡ start ++ codes "[" → now ++ [] ≡ first ++ rest_text [] texts → all ≡ now ++ codes "]" → all ≡ start ++ array texts

@@ -11,5 +11,5 @@ mod write;
 pub use fault::RulesFault;
 pub use read::value_of_text;
 pub use rules::RoutingRules;
-pub use text::{WrittenItem, push_list, sort_items};
+pub use text::{WrittenItem, push_sorted};
 pub use write::list_of_values;

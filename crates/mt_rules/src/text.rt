@@ -42,21 +42,48 @@ impl WrittenItem {
     }
 }
 
-/// Sorts items, whose keys differ, by these.
-pub fn sort_items(items: &mut Vec<WrittenItem>)
-    requires { IsDistinct same_text (map (λ x. x.0) (map written_text items.old.items)) }
-    ensures { map written_text items.new.items ≡ fold put_by_text [] (map written_text items.old.items) }
+/// Some items by reference, in their order.
+fn lend_items(alloc: Global, items: &[WrittenItem]) -> Result<Vec<&WrittenItem>, AllocError>
+    ensures { IfOk result (λ lent. map (λ item. item.now) lent.items ≡ items.now) }
 {
-    items.sort_unstable_by(|item, other| item.key.as_str().cmp(other.key.as_str()));
+    let mut lent = Vec::with_capacity(alloc, items.len())?;
+    'items: for item in items {
+        lent.push(item)?;
+    }
+    Ok(lent)
+}
+
+/// Some items by reference, whose keys differ, in the order of these. References are sorted, since they are moved about more
+/// cheaply than what they refer to.
+fn items_in_order(alloc: Global, items: &[WrittenItem]) -> Result<Vec<&WrittenItem>, AllocError>
+    requires { IsDistinct same_text (map (λ x. x.0) (map written_text items.now)) }
+    ensures { IfOk result (λ lent. map (λ item. written_text item.now) lent.items ≡ fold put_by_text [] (map written_text items.now)) }
+{
+    let mut lent = lend_items(alloc, items)?;
+    lent.sort_unstable_by(|item, other| item.key.as_str().cmp(other.key.as_str()));
+    Ok(lent)
+}
+
+/// Appends the list of some items, whose keys differ, in the order of these.
+pub fn push_sorted(
+    alloc: Global,
+    text: &mut String,
+    items: &[WrittenItem],
+) -> Result<(), AllocError>
+    requires { IsDistinct same_text (map (λ x. x.0) (map written_text items.now)) }
+    ensures { OnOk result (string_bytes text.new ≡ string_bytes text.old ++ array (map (λ x. x.1) (fold put_by_text [] (map written_text items.now)))) }
+{
+    let lent = items_in_order(alloc, items)?;
+    push_list(text, &lent)
 }
 
 /// Appends the list of these items, in their order.
-pub fn push_list(text: &mut String, items: &[WrittenItem]) -> Result<(), AllocError>
-    ensures { OnOk result (string_bytes text.new ≡ string_bytes text.old ++ array (map (λ x. x.1) (map written_text items.now))) }
+fn push_list(text: &mut String, items: &[&WrittenItem]) -> Result<(), AllocError>
+    ensures { OnOk result (string_bytes text.new ≡ string_bytes text.old ++ array (map (λ x. x.1) (map (λ item. written_text item.now) items.now))) }
 {
     text.push_str("[")?;
     let mut before = "";
-    'items: for item in items {
+    'items: for &item in items {
         text.push_str(before)?;
         text.push_str(item.text.as_str())?;
         before = ",";
@@ -95,7 +122,7 @@ fn written_rule(
 }
 
 /// The rules as they are written, in the order of their places.
-fn written_rules(
+pub fn written_rules(
     alloc: Global,
     places: &IndexMap<RuleKey, Option<RuleTarget>>,
 ) -> Result<Vec<WrittenItem>, AllocError>
@@ -112,28 +139,15 @@ fn written_rules(
     Ok(rules)
 }
 
-/// The rules as they are written, in the order of their keys' texts.
-pub fn rules_in_order(
-    alloc: Global,
-    places: &IndexMap<RuleKey, Option<RuleTarget>>,
-) -> Result<Vec<WrittenItem>, AllocError>
-    requires { IsDistinct same_key (keys_of places.now.entries) }
-    ensures texts { IfOk result (λ rules. map written_text rules.items ≡ fold put_by_text [] (texts_of places.now.entries)) }
-    ensures sorted { OnOk result (IsWellSorted places.now.entries) }
-{
-    let mut rules = written_rules(alloc, places)?;
-    sort_items(&mut rules);
-    Ok(rules)
-}
-
-/// The document of these rules, in their order.
+/// The document of these rules, whose keys' texts differ, in the order of these.
 pub fn document_of(alloc: Global, rules: &[WrittenItem]) -> Result<String, AllocError>
-    ensures { IfOk result (λ text. string_bytes text ≡ written_document (map written_text rules.now)) }
+    requires { IsDistinct same_text (map (λ x. x.0) (map written_text rules.now)) }
+    ensures { IfOk result (λ text. string_bytes text ≡ written_document (fold put_by_text [] (map written_text rules.now))) }
 {
     let room = rules.len().saturating_mul(LIKELY_LENGTH);
     let mut text = String::with_capacity(alloc, room)?;
     text.push_str("{\"rules\":")?;
-    push_list(&mut text, rules)?;
+    push_sorted(alloc, &mut text, rules)?;
     text.push_str("}")?;
     Ok(text)
 }
@@ -148,6 +162,6 @@ pub fn push_rules(
     ensures text { OnOk result (string_bytes text.new ≡ string_bytes text.old ++ rules_array places.now.entries) }
     ensures sorted { OnOk result (IsWellSorted places.now.entries) }
 {
-    let rules = rules_in_order(alloc, places)?;
-    push_list(text, &rules)
+    let rules = written_rules(alloc, places)?;
+    push_sorted(alloc, text, &rules)
 }

@@ -91,6 +91,6 @@ pub fn text_of_rules(
     ensures text { IfOk result (λ text. string_bytes text ≡ rules_text places.now.entries) }
     ensures says { IfOk result (λ text. Says (string_bytes text) places.now.entries) }
 {
-    let rules = text::rules_in_order(alloc, places)?;
+    let rules = text::written_rules(alloc, places)?;
     text::document_of(alloc, &rules)
 }
