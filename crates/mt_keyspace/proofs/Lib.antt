@@ -1,3 +1,4 @@
+pub mod DifferLemmas
 pub mod EditLemmas
 pub mod GatherLemmas
 pub mod InvariantLemmas
@@ -5,3 +6,4 @@ pub mod KeyspaceLemmas
 pub mod LoadLemmas
 pub mod RouteLemmas
 pub mod SortLemmas
+pub mod TextLemmas

@@ -1,5 +1,5 @@
 //! One keyspace of a topology.
-ghost use Rattle.std.specs.Prelude.{◌≡◌, ◌&&◌, ◌==◌, ◌≤◌, [], true, false, length, is_some, slice_get, IfOk, OnOk};
+ghost use Rattle.std.specs.Prelude.{◌≡◌, ◌&&◌, ◌==◌, ◌≤◌, ◌++◌, [], true, false, length, is_some, map, slice_get, IfOk, OnOk, string_bytes};
 ghost use Rattle.std.specs.List.{AllByRecursion, IsDistinct};
 ghost use Rattle.std.specs.Map.{keys_of, lookup};
 ghost use Rattle.serde_json.specs.View.{view};
@@ -10,12 +10,15 @@ ghost use Rattle.mt_model.specs.Topology.{is_marked, with_table_mark, with_denie
 ghost use Rattle.mt_keyspace.specs.Edits.{Edits, answer_of, new_table_refusal, lacks_table_place};
 ghost use Rattle.mt_keyspace.specs.Room.{has_mark_room, lacking_marks, lacks_mark_place, mark_place_refusal};
 ghost use Rattle.mt_keyspace.specs.Values.{HasSameTexts, texts_value};
-ghost use Rattle.mt_model.specs.Documents.{marked, tables_in_order};
+ghost use Rattle.mt_model.specs.Documents.{array, marked, quoted, tables_in_order};
+ghost use Rattle.mt_rules.specs.Written.{written_text};
+ghost use Rattle.mt_keyspace.specs.Written.{items_behind};
 
-use crate::{routes, write};
+use crate::{routes, text, write};
 use mt_denied::{DeniedFault, DeniedTables, TableMarks};
 use mt_model::{Entry, MAX_TABLES_IN_KEYSPACE, TopologyFault};
 use mt_names::{KeyspaceName, TableName};
+use mt_rules::WrittenItem;
 use serde_json::Value;
 use std::alloc::{AllocError, Global};
 use std::marker::Model;
@@ -174,6 +177,27 @@ impl Keyspace {
         ensures named { OnOk result (AllByRecursion IsTableName (tables_in_order self.now)) }
     {
         write::value_of_tables(alloc, self.tables.places())
+    }
+
+    /// Appends the list of the tables that are there, in the order of their names.
+    pub(crate) fn push_tables(&self, alloc: Global, text: &mut String) -> Result<(), AllocError>
+        ensures text { OnOk result (string_bytes text.new ≡ string_bytes text.old ++ array (map quoted (tables_in_order self.now))) }
+        ensures named { OnOk result (AllByRecursion IsTableName (tables_in_order self.now)) }
+    {
+        text::push_tables(alloc, text, self.tables.places())
+    }
+
+    /// Adds the denied tables, each behind another text, in the order of their places.
+    pub(crate) fn add_denied(
+        &self,
+        alloc: Global,
+        items: &mut Vec<WrittenItem>,
+        before: &str,
+    ) -> Result<(), AllocError>
+        ensures texts { OnOk result (map written_text items.new.items ≡ map written_text items.old.items ++ items_behind before.now self.now.denied) }
+        ensures named { OnOk result (AllByRecursion IsTableName (marked self.now.denied)) }
+    {
+        text::add_names(alloc, items, before, self.denied.places())
     }
 
     /// The denied tables, in the order of their names.

@@ -1,12 +1,12 @@
 //! The keyspaces of a topology: what is read, written, edited and reserved at them.
-ghost use Rattle.std.specs.Prelude.{◌≡◌, ◌++◌, ◌∷◌, ◌≤◌, ◌*◌, [], true, length, false, is_some, flat_map, map, option_copied, slice_get, IfOk, OnOk};
+ghost use Rattle.std.specs.Prelude.{◌≡◌, ◌++◌, ◌∷◌, ◌≤◌, ◌*◌, [], true, length, false, is_some, flat_map, map, option_copied, slice_get, IfOk, OnOk, string_bytes};
 ghost use Rattle.std.specs.List.{AllByRecursion};
 ghost use Rattle.std.specs.Map.{lookup};
 ghost use Rattle.std.specs.Option.{option_map_or};
 ghost use Rattle.serde_json.specs.Data.{array};
 ghost use Rattle.serde_json.specs.View.{view, items_of};
 ghost use Rattle.mt_names.specs.Names.{same_text};
-ghost use Rattle.mt_model.specs.Documents.{keyspaces_in_order};
+ghost use Rattle.mt_model.specs.Documents.{array as doc_array, denied_sorted, denied_texts, keyspace_text, keyspaces_in_order, quoted};
 ghost use Rattle.mt_model.specs.Limits.{most_keyspaces, most_tables_in_keyspace};
 ghost use Rattle.mt_model.specs.Part.{table_routes};
 ghost use Rattle.mt_model.specs.Topology.{holders, is_denied, is_present, keyspace_at, sole_holder, with_denied_mark, with_denied_place, with_keyspace_state, with_new_table, with_table_mark, with_table_place, without_denied_place, without_table_place};
@@ -16,6 +16,7 @@ ghost use Rattle.mt_keyspace.specs.Values.{IsDenialText, IsNamedKeyspace, keyspa
 ghost use Rattle.mt_keyspace.specs.Written.{denied_in_order};
 
 use crate::keyspace::Keyspace;
+use crate::text::{push_denials, push_keyspaces};
 use crate::write::{denials_by_text, keyspaces_by_name};
 use indexmap::IndexMap;
 use mt_denied::DeniedFault;
@@ -293,5 +294,22 @@ impl Keyspaces {
     {
         let values = denials_by_text(alloc, &self.places)?;
         list_of_values(alloc, values)
+    }
+
+    /// Appends the list of the keyspaces with their tables, in the order of their names.
+    pub fn push_list(&self, alloc: Global, text: &mut String) -> Result<(), AllocError>
+        ensures text { OnOk result (string_bytes text.new ≡ string_bytes text.old
+            ++ doc_array (map keyspace_text (keyspaces_in_order (record { rules = []; keyspaces = self.now })))) }
+        ensures named { OnOk result (AllByRecursion IsNamedKeyspace self.now) }
+    {
+        push_keyspaces(alloc, text, &self.places)
+    }
+
+    /// Appends the list of the texts of all denials, in their order.
+    pub fn push_denials(&self, alloc: Global, text: &mut String) -> Result<(), AllocError>
+        ensures text { OnOk result (string_bytes text.new ≡ string_bytes text.old ++ doc_array (map quoted (denied_sorted (record { rules = []; keyspaces = self.now })))) }
+        ensures named { OnOk result (AllByRecursion IsDenialText (flat_map denied_texts self.now)) }
+    {
+        push_denials(alloc, text, &self.places)
     }
 }

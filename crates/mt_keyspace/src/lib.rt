@@ -6,6 +6,7 @@ mod keyspace;
 mod keyspaces;
 mod load;
 mod routes;
+mod text;
 mod write;
 
 pub use keyspace::Keyspace;

@@ -103,7 +103,7 @@ rest_is_joined (text ∷ texts) = later text texts
 
 -- ---- the document is read back
 
-numbers : (rs : List (RuleKey × RuleTarget)) → tree.ItemsHaveNumbers (items_outline (items_of (map rule_value rs)))
+pub numbers : (rs : List (RuleKey × RuleTarget)) → tree.ItemsHaveNumbers (items_outline (items_of (map rule_value rs)))
 numbers [] = tt
 numbers (r ∷ rs) = ((tt, ((tt, tt), tt)), numbers rs)
 
@@ -111,7 +111,7 @@ not_deep : (rs : List (RuleKey × RuleTarget)) → tree.items_depth (items_outli
 not_deep [] = omega arith
 not_deep (r ∷ rs) = max-le {a = tree.depth (outline (rule_value r))} (omega arith) (not_deep rs)
 
-items_back : (rs : List (RuleKey × RuleTarget)) → of_items (items_outline (items_of (map rule_value rs))) ≡ Some (items_of (map rule_value rs))
+pub items_back : (rs : List (RuleKey × RuleTarget)) → of_items (items_outline (items_of (map rule_value rs))) ≡ Some (items_of (map rule_value rs))
 items_back [] = refl
 items_back (r ∷ rs) = ap (option_map (item (rule_value r))) (items_back rs)
 
