@@ -1,9 +1,9 @@
 //! The entries that a step writes, and what stood before them.
 ghost use Rattle.std.specs.Prelude.{◌≡◌, true, false, All, fold};
 ghost use Rattle.mt_model.specs.declared.entries.EntryKey.{EntryKey};
-ghost use Rattle.mt_model.specs.Topology.{has_place, key_of};
+ghost use Rattle.mt_model.specs.Topology.{has_place, key_of, with_entry};
 ghost use Rattle.mt_plain.specs.Serve.{step_of_entry};
-ghost use Rattle.mt_workflow.specs.Workflows.{WorkflowState, live_of};
+ghost use Rattle.mt_workflow.specs.Workflows.{WorkflowState, live_of, wanted};
 ghost use Rattle.mt_steps.specs.Entries.{is_of_step, recorded, recorded_entry, with_recorded, with_wanted};
 
 use mt_model::Entry;
@@ -60,7 +60,7 @@ fn record_entry(topology: &Topology, workflow: &Workflow, step: u8, entry: &mut 
     if step_of_entry(workflow, entry) != step {
         return;
     }
-    *entry = topology.value(&entry.key());
+    topology.read_into(entry);
 }
 
 /// Writes each of these entries that changes with a step as it is to be once these types are switched.
@@ -97,7 +97,21 @@ fn write_wanted(
     if step_of_entry(workflow, entry) != step {
         return;
     }
-    topology.write(workflow.wanted(&entry.key(), types));
+    put_wanted(topology, workflow, types, entry);
+}
+
+/// Writes an entry as it is to be once these types are switched. It copies no key.
+fn put_wanted(topology: &mut Topology, workflow: &Workflow, types: TypeSet, entry: &Entry)
+    requires { has_place topology.old (key_of entry.now) ≡ true }
+    ensures { topology.new ≡ with_entry topology.old (wanted workflow.now types (key_of entry.now)) }
+{
+    match entry {
+        Entry::Rule(key, _) => topology.put_rule(key, workflow.wanted_rule(key, types)),
+        Entry::Denied(keyspace, table, _) => {
+            topology.put_denied(keyspace, table, workflow.is_denied_at(keyspace, types));
+        }
+        Entry::Present(keyspace, table, _) => topology.put_present(keyspace, table, true),
+    }
 }
 
 /// Writes back each of these entries that changes with a step.
@@ -122,5 +136,5 @@ fn write_recorded(topology: &mut Topology, workflow: &Workflow, step: u8, before
     if step_of_entry(workflow, before) != step {
         return;
     }
-    topology.write(before.copied());
+    topology.put(before);
 }

@@ -4,6 +4,7 @@ pub mod EditLemmas
 pub mod LoadLemmas
 pub mod OnceLemmas
 pub mod OrderLemmas
+pub mod ReleaseLemmas
 pub mod ReserveLemmas
 pub mod RoomLemmas
 pub mod SaysLemmas

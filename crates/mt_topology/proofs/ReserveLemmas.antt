@@ -1,6 +1,6 @@
 -- Places that are made one after the other, and taken back.
-use Rattle.std.proofs.Common.{◌≡◌, ℕ, ◌+◌, ◌<◌, Bool, true, false, cond, not, ◌||◌, nat_lt, List, [], ◌∷◌, ◌++◌, length, filter, fold, take, drop, reverse, Option, None, Some, is_some, slice_index_or, refl, sym, ap, ◌∙◌, arith}
-use Rattle.std.proofs.lemmas.Bool.{lt-ltb, true≢false}
+use Rattle.std.proofs.Common.{◌≡◌, ◌≢◌, ℕ, ◌+◌, ◌*◌, ◌<◌, ◌≤◌, ◌==◌, Bool, true, false, cond, not, ◌||◌, nat_lt, List, [], ◌∷◌, ◌++◌, length, filter, fold, take, drop, reverse, Option, None, Some, is_some, slice_index_or, refl, sym, ap, ◌∙◌, arith}
+use Rattle.std.proofs.lemmas.Bool.{eqb-false, le-ltb, lt-ltb, true≢false}
 use Rattle.std.proofs.lemmas.Grind.{flat_map-append}
 use Rattle.std.proofs.lemmas.List.{append-nil, drop_more, reverse-append, take_more}
 use Rattle.std.proofs.lemmas.List.Folds.{list_any-append}
@@ -15,10 +15,13 @@ use Rattle.mt_names.specs.Names.{same_text}
 use Rattle.mt_names.specs.Same.{same_key}
 use Rattle.mt_model.specs.declared.entries.EntryKey.{EntryKey}
 use Rattle.mt_model.specs.declared.entries.EntryKey.TheVariants as about
-use Rattle.mt_model.specs.Part.{part_keys, table_part_keys, with_place, with_places, without_places}
+use Rattle.mt_model.specs.Part.{part_keys, table_part_keys, table_rule_keys, with_place, with_places, without_places}
 use Rattle.mt_model.specs.Topology.{TopologyState, Keyspaces, KeyspaceState, Marks, Rules, has_place, keyspace_at, with_keyspace_state, with_mark_place, with_rule_place, with_table_place, with_denied_place}
 use Rattle.mt_model.proofs.PlaceLemmas.{place_back}
-use Rattle.mt_topology.specs.Part.{lacking_rules, lacks_a_place}
+use Rattle.mt_model.specs.declared.faults.TopologyFault.TheVariants.{Full}
+use Rattle.mt_model.specs.Limits.{most_rules}
+use Rattle.mt_topology.specs.Edits.{lacks_rule_place, rule_place_refusal}
+use Rattle.mt_topology.specs.Part.{has_rule_room, lacking_rules, lacks_a_place}
 
 -- ---- a place that is there
 
@@ -92,6 +95,27 @@ lacking_left rules f tables i table keys inside is all =
     ∙ ap (λ k. lacking_rules rules (k ++ flat_map f (drop (i + 1) tables))) (sym all)
     ∙ lacking_rules-append rules keys (flat_map f (drop (i + 1) tables))
 
+-- those that lack one are no more than all
+few_lacking : (rules : Rules) (keys : List RuleKey) → lacking_rules rules keys ≤ length keys
+few_lacking rules [] = omega arith
+few_lacking rules (key ∷ keys) = by (few_lacking rules keys) (not (is_some (lookup (same_key key) rules)))
+  where
+    by : lacking_rules rules keys ≤ length keys → (t : Bool) → length (cond t (key ∷ filter (λ k. not (is_some (lookup (same_key k) rules))) keys) (filter (λ k. not (is_some (lookup (same_key k) rules))) keys)) ≤ length (key ∷ keys)
+    by again true = omega (arith, again)
+    by again false = omega (arith, again)
+
+-- twelve for each table
+length_rule_keys : (source target : List ℕ) (tables : List (List ℕ)) → length (flat_map (table_rule_keys source target) tables) ≡ length tables * 12
+length_rule_keys source target [] = refl
+length_rule_keys source target (table ∷ tables) = omega (arith, length_rule_keys source target tables)
+
+-- where twelve for each table find room, those that lack a place do
+pub room_for_all : (rules : Rules) (source target : List ℕ) (tables : List (List ℕ)) → length rules + length tables * 12 ≤ 4096 → true ≡ has_rule_room rules (flat_map (table_rule_keys source target) tables)
+room_for_all rules source target tables room =
+    let few = few_lacking rules (flat_map (table_rule_keys source target) tables) in
+    let all = length_rule_keys source target tables in
+    ap not (sym (le-ltb 4096 (length rules + lacking_rules rules (flat_map (table_rule_keys source target) tables)) (omega (arith, few, all, room))))
+
 pub no_room : (most all : ℕ) → most < all → false ≡ not (nat_lt most all)
 no_room most all over = ap not (sym (lt-ltb most all over))
 
@@ -122,3 +146,13 @@ pub lacks-left : (t : TopologyState) (source target : List ℕ) (tables : List (
 lacks-left t source target tables i table keys inside is all =
     ap (lacks_a_place t) (part_keys-left source target tables i table keys inside is all)
     ∙ list_any-append (λ key. not (has_place t key)) keys (part_keys source target (drop (i + 1) tables))
+
+-- ---- room for one rule key
+
+-- a key that lacks a place and isn't refused one finds room
+pub room_left : (rules : Rules) (key : RuleKey) → lacks_rule_place rules key ≡ true → rule_place_refusal rules key ≡ None → length rules ≤ most_rules → length rules < most_rules
+room_left rules key lacks free within = by (length rules == most_rules) refl (rw lacks at free)
+  where
+    by : (t : Bool) → (length rules == most_rules) ≡ t → cond t (Some Full) None ≡ None → length rules < most_rules
+    by true t e = absurd cc
+    by false t e = let apart : length rules ≢ most_rules = eqb-false (length rules) most_rules t in omega (arith, within, apart)

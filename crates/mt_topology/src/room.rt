@@ -9,6 +9,9 @@ use mt_model::{MAX_RULES, TopologyFault, table_rule_keys};
 use mt_names::{KeyspaceName, RuleKey, TableName};
 use mt_rules::RoutingRules;
 
+/// How many rule keys each table adds to a part.
+const RULES_OF_TABLE: usize = 12;
+
 /// Why a part can't be reserved, if it can't.
 pub fn refusal(
     rules: &RoutingRules,
@@ -46,6 +49,9 @@ fn has_room_for_rules(
     ensures { result ≡ has_rule_room rules.now (flat_map (table_rule_keys source.now target.now) tables.now) }
 {
     let mut room = MAX_RULES - rules.len();
+    if tables.len() <= room / RULES_OF_TABLE {
+        return true;
+    }
     for table in tables {
         let lacking = lacking_rules(rules, &table_rule_keys(source, target, table));
         if lacking > room {

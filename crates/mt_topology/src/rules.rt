@@ -1,5 +1,5 @@
 //! What is looked up and edited at the rules.
-ghost use Rattle.std.specs.Prelude.{◌≡◌, Some, None};
+ghost use Rattle.std.specs.Prelude.{◌≡◌, true, Some, None};
 ghost use Rattle.mt_model.specs.Topology.{rule_for, with_rule, with_rule_place};
 ghost use Rattle.mt_keyspace.specs.Edits.{Edits};
 ghost use Rattle.mt_topology.specs.Edits.{edit_rule_grows, edit_rule_refusal, lacks_rule_place, rule_place_refusal};
@@ -12,6 +12,9 @@ use mt_rules::{RoutingRules, RulesFault};
 pub fn rule_for(rules: &RoutingRules, key: &RuleKey, tablet_type: TabletType) -> Option<RuleTarget>
     ensures { result ≡ rule_for rules.now key.now tablet_type }
 {
+    if rules.is_empty() {
+        return None;
+    }
     let mut looked_up = key.copied();
     looked_up.tablet_type = Some(tablet_type);
     if let Some(target) = rules.get(&looked_up) {
@@ -59,6 +62,20 @@ pub fn reserve_rule(rules: &mut RoutingRules, key: &RuleKey) -> Result<(), Topol
     match reserved {
         Ok(()) => Ok(()),
         Err(RulesFault::Full) => Err(TopologyFault::Full),
+        Err(_) => Err(TopologyFault::Memory),
+    }
+}
+
+/// Makes a place for a rule key that has none, where there is room, without a rule. `T0 Memory`.
+pub fn add_rule(rules: &mut RoutingRules, key: &RuleKey) -> Result<(), TopologyFault>
+    requires lacks { lacks_rule_place rules.old key.now ≡ true }
+    requires room { rule_place_refusal rules.old key.now ≡ None }
+    ensures { Edits rules.old (rule_place_refusal rules.old key.now) (lacks_rule_place rules.old key.now) (with_rule_place rules.old key.now) result rules.new }
+{
+    rules.facts();
+    let added = rules.add_key(key);
+    match added {
+        Ok(()) => Ok(()),
         Err(_) => Err(TopologyFault::Memory),
     }
 }

@@ -1,5 +1,5 @@
 //! The topology as one value.
-ghost use Rattle.std.specs.Prelude.{◌≡◌, ◌<◌, ◌≤◌, true, All, None, Some, IfOk, IfErr, OnOk, length, reverse, slice_get, string_bytes};
+ghost use Rattle.std.specs.Prelude.{◌≡◌, ◌<◌, ◌≤◌, true, false, All, None, Some, IfOk, IfErr, OnOk, length, reverse, slice_get, string_bytes};
 ghost use Rattle.mt_model.specs.Limits.{most_keyspaces};
 ghost use Rattle.mt_model.specs.Topology.{HasDistinctPlaces, empty_topology, has_place, key_of, resolution, routes_of, value_of, with_entry, with_keyspace, with_keyspace_state, with_rule, with_table, without_table_place};
 ghost use Rattle.mt_model.specs.Part.{befores, part_keys, with_entries, with_place, with_places, without_place, without_places};
@@ -11,7 +11,7 @@ ghost use Rattle.mt_model.specs.Documents.{dump_text};
 ghost use Rattle.mt_keyspace.specs.Edits.{Edits, add_keyspace_refusal, add_table_grows, add_table_refusal, answer_of};
 ghost use Rattle.mt_topology.specs.Edits.{edit_rule_grows, edit_rule_refusal};
 
-use crate::rules::{put_rule, reserve_rule, rule_for, take_rule};
+use crate::rules::{add_rule, put_rule, reserve_rule, rule_for, take_rule};
 use crate::{load, room, routes, write};
 use mt_denied::DeniedFault;
 use mt_keyspace::Keyspaces;
@@ -172,6 +172,65 @@ impl Topology {
         }
     }
 
+    /// Writes the rule of a key that has a place, or takes it away. It takes no memory.
+    pub fn put_rule(&mut self, key: &RuleKey, target: Option<RuleTarget>)
+        requires { has_place self.old (EntryKey.Rule key.now) ≡ true }
+        ensures { self.new ≡ with_entry self.old (Entry.Rule key.now target) }
+    {
+        self.rules.put(key, target);
+    }
+
+    /// Writes whether a keyspace's primary is to refuse a table, where that has a place. It takes no memory.
+    pub fn put_denied(&mut self, keyspace: &KeyspaceName, table: &TableName, is_denied: bool)
+        requires { has_place self.old (EntryKey.Denied keyspace.now table.now) ≡ true }
+        ensures { self.new ≡ with_entry self.old (Entry.Denied keyspace.now table.now is_denied) }
+    {
+        self.keyspaces.set_denied(keyspace, table, is_denied);
+    }
+
+    /// Writes whether a keyspace has a table, where that has a place. It takes no memory.
+    pub fn put_present(&mut self, keyspace: &KeyspaceName, table: &TableName, is_present: bool)
+        requires { has_place self.old (EntryKey.Present keyspace.now table.now) ≡ true }
+        ensures { self.new ≡ with_entry self.old (Entry.Present keyspace.now table.now is_present) }
+    {
+        self.keyspaces.set_present(keyspace, table, is_present);
+    }
+
+    /// Writes an entry that has a place, as `write` does, and leaves it to the caller. It takes no memory.
+    pub fn put(&mut self, entry: &Entry)
+        requires { has_place self.old (key_of entry.now) ≡ true }
+        ensures { self.new ≡ with_entry self.old entry.now }
+    {
+        match entry {
+            Entry::Rule(key, target) => {
+                self.put_rule(key, target.as_ref().map(RuleTarget::copied));
+            }
+            Entry::Denied(keyspace, table, is_denied) => {
+                self.put_denied(keyspace, table, *is_denied);
+            }
+            Entry::Present(keyspace, table, is_present) => {
+                self.put_present(keyspace, table, *is_present);
+            }
+        }
+    }
+
+    /// Gives an entry the value that the topology has at its key, as `value` answers it. It takes no memory.
+    pub fn read_into(&self, entry: &mut Entry)
+        ensures { entry.new ≡ value_of self.now (key_of entry.old) }
+    {
+        match entry {
+            Entry::Rule(key, target) => {
+                *target = self.rules.get(key).map(RuleTarget::copied);
+            }
+            Entry::Denied(keyspace, table, is_denied) => {
+                *is_denied = self.keyspaces.is_denied(keyspace, table);
+            }
+            Entry::Present(keyspace, table, is_present) => {
+                *is_present = self.keyspaces.is_present(keyspace, table);
+            }
+        }
+    }
+
     /// Writes several entries, each of which has a place, in their order, and leaves in place of each what stood before it:
     /// written back in reverse, these give back the topology. An entry may be among them more than once. It takes no memory.
     pub fn write_all(&mut self, entries: &mut [Entry])
@@ -302,8 +361,8 @@ impl Topology {
     )
         ensures { self.new ≡ without_places self.old (part_keys source.now target.now tables.now) }
     {
-        for table in tables {
-            self.drop_places(&table_part_keys(source, target, table));
+        for table in tables.iter().rev() {
+            self.take_back(&table_part_keys(source, target, table));
         }
     }
 
@@ -385,12 +444,24 @@ impl Topology {
         if made.push(key.copied()).is_err() {
             return Err(TopologyFault::Memory);
         }
-        match self.make_place(key) {
+        match self.make_new_place(key) {
             Ok(()) => Ok(()),
             Err(fault) => {
                 made.pop();
                 Err(fault)
             }
+        }
+    }
+
+    /// Makes the place of a key that has none, for which there is room. `T0 Memory`.
+    fn make_new_place(&mut self, key: &EntryKey) -> Result<(), TopologyFault>
+        requires lacks { has_place self.old key.now ≡ false }
+        requires room { place_refusal self.old key.now ≡ None }
+        ensures { Edits self.old (place_refusal self.old key.now) (place_grows self.old key.now) (with_place self.old key.now) result self.new }
+    {
+        match key {
+            EntryKey::Rule(key) => add_rule(&mut self.rules, key),
+            _ => self.make_place(key),
         }
     }
 
@@ -415,15 +486,6 @@ impl Topology {
         ensures { self.new ≡ without_places self.old (reverse made.now) }
     {
         for key in made.iter().rev() {
-            self.drop_place(key);
-        }
-    }
-
-    /// Drops the places of keys that hold nothing.
-    fn drop_places(&mut self, keys: &[EntryKey])
-        ensures { self.new ≡ without_places self.old keys.now }
-    {
-        for key in keys {
             self.drop_place(key);
         }
     }

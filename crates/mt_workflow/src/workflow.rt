@@ -184,8 +184,9 @@ impl Workflow {
         }
     }
 
-    /// Whether a side is to refuse its tables once these types are switched: the one that is not the owner.
-    fn is_denied_at(&self, keyspace: &KeyspaceName, types: TypeSet) -> bool
+    /// Whether a side is to refuse its tables once these types are switched: the one that is not the owner. It takes no
+    /// memory. (Vitess: how traffic is switched)
+    pub fn is_denied_at(&self, keyspace: &KeyspaceName, types: TypeSet) -> bool
         ensures { result ≡ is_denied_at (live_of self.now) types keyspace.now }
     {
         if &self.source == keyspace {
@@ -195,8 +196,9 @@ impl Workflow {
         }
     }
 
-    /// The rule of a key of its part once these types are switched.
-    fn wanted_rule(&self, key: &RuleKey, types: TypeSet) -> Option<RuleTarget>
+    /// The rule of a key of its part once these types are switched, if the key is to have one. Of a key of another part the
+    /// answer means nothing. It takes no memory. (Vitess: how traffic is switched)
+    pub fn wanted_rule(&self, key: &RuleKey, types: TypeSet) -> Option<RuleTarget>
         ensures { result ≡ serve_rule (rules_only self.now.kept) (live_of self.now) types key.now key.now.tablet_type }
     {
         match key.tablet_type {

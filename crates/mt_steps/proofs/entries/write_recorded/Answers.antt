@@ -5,4 +5,4 @@ use Rattle.mt_model.proofs.PlaceLemmas.{has_place-written}
 use Rattle.mt_steps.proofs.entries.write_recorded.Goals as goal
 
 pub returns-clause-places : goal.returns-clause-places
-returns-clause-places c = λ k. ap (λ t. has_place t k) c.write.ensures.after ∙ has_place-written c.args.topology.now c.copied.result k
+returns-clause-places c = λ k. ap (λ t. has_place t k) c.put.ensures ∙ has_place-written c.args.topology.now c.args.before.now k

@@ -9,4 +9,4 @@ returns-then-has_place-clause-all c = sym (with_place-there c.args.self.now c.ar
 pub returns-in-Ok-clause-back : goal.returns-in-Ok-clause-back
 returns-in-Ok-clause-back c =
     let noted : c.push.new.self.items ≡ c.args.made.now.items ++ c.copied.result ∷ [] = search rules in
-    made_noted c.args.self.now c.make_place.new.self c.args.key.now c.copied.result c.args.made.now.items c.push.new.self.items (sym c.has_place.ensures ∙ c.if-has_place.false) c.in-Ok.ensures.1 c.copied.ensures noted
+    made_noted c.args.self.now c.make_new_place.new.self c.args.key.now c.copied.result c.args.made.now.items c.push.new.self.items (sym c.has_place.ensures ∙ c.if-has_place.false) c.in-Ok.ensures.1 c.copied.ensures noted
