@@ -12,7 +12,7 @@ ghost use Rattle.mt_keyspace.specs.Written.{items_behind, keyspace_item};
 use crate::keyspace::Keyspace;
 use indexmap::IndexMap;
 use mt_names::{KeyspaceName, TableName};
-use mt_rules::{WrittenItem, push_list, sort_items};
+use mt_rules::{WrittenItem, push_sorted};
 use std::alloc::{AllocError, Global};
 
 /// How many bytes a name is taken to have before it is known.
@@ -64,8 +64,7 @@ pub fn push_tables(
 {
     let mut items = Vec::with_capacity(alloc, places.len())?;
     add_names(alloc, &mut items, "", places)?;
-    sort_items(&mut items);
-    push_list(text, &items)
+    push_sorted(alloc, text, &items)
 }
 
 /// A keyspace as it is written, under its name.
@@ -115,9 +114,8 @@ pub fn push_keyspaces(
         ++ array (map keyspace_text (keyspaces_in_order (record { rules = []; keyspaces = keyspaces.now.entries })))) }
     ensures named { OnOk result (AllByRecursion IsNamedKeyspace keyspaces.now.entries) }
 {
-    let mut items = written_keyspaces(alloc, keyspaces)?;
-    sort_items(&mut items);
-    push_list(text, &items)
+    let items = written_keyspaces(alloc, keyspaces)?;
+    push_sorted(alloc, text, &items)
 }
 
 /// Adds the texts of a keyspace's denials, in the order of their places.
@@ -164,7 +162,6 @@ pub fn push_denials(
         ++ array (map quoted (denied_sorted (record { rules = []; keyspaces = keyspaces.now.entries })))) }
     ensures named { OnOk result (AllByRecursion IsDenialText (flat_map denied_texts keyspaces.now.entries)) }
 {
-    let mut items = written_denials(alloc, keyspaces)?;
-    sort_items(&mut items);
-    push_list(text, &items)
+    let items = written_denials(alloc, keyspaces)?;
+    push_sorted(alloc, text, &items)
 }

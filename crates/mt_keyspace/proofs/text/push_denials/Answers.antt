@@ -12,18 +12,19 @@ use Rattle.mt_keyspace.proofs.DifferLemmas.{texts_differ}
 use Rattle.mt_keyspace.proofs.TextLemmas.{firsts, items_sorted}
 use Rattle.mt_keyspace.proofs.text.push_denials.Goals as goal
 
-pub sort_items-requires : goal.sort_items-requires
-sort_items-requires c =
+pub push_sorted-requires : goal.push_sorted-requires
+push_sorted-requires c =
+    let given : c.deref.result.now ≡ c.in_ok-items.items.items = search rules in
     let keyspaces = c.args.keyspaces.now.entries in
     let texts = flat_map denied_texts keyspaces in
     let differ : IsDistinct same_text texts =
     texts_differ keyspaces c.requires.distinct.keyspaces (recursion_from_All (λ k. IsDistinct same_text (keys_of k.1.denied)) keyspaces c.requires.distinct.denied) c.in_ok-items.ensures.keyspaces in
-    subst (λ l. IsDistinct same_text (map (λ x. x.0) l)) (sym c.in_ok-items.ensures.texts) (subst (IsDistinct same_text) (sym (firsts (λ t. t) quoted texts ∙ map-id texts)) differ)
+    subst (λ l. IsDistinct same_text (map (λ x. x.0) l)) (sym (ap (map written_text) given ∙ c.in_ok-items.ensures.texts)) (subst (IsDistinct same_text) (sym (firsts (λ t. t) quoted texts ∙ map-id texts)) differ)
 
 pub returns-clause-text : goal.returns-clause-text
 returns-clause-text c =
     let texts = flat_map denied_texts c.args.keyspaces.now.entries in
-    let given : c.deref.result.now ≡ c.sort_items.new.items.items = search rules in
-    on_ok_weaker c.push_list.result
+    let given : c.deref.result.now ≡ c.in_ok-items.items.items = search rules in
+    on_ok_weaker c.push_sorted.result
     (λ e. e ∙ ap (λ l. string_bytes c.args.text.now ++ array l)
-    (ap (λ l. map (λ x. x.1) (map written_text l)) given ∙ ap (map (λ x. x.1)) (c.sort_items.ensures ∙ ap (fold put_by_text []) c.in_ok-items.ensures.texts) ∙ items_sorted (λ t. t) quoted texts)) c.push_list.ensures
+    (ap (λ l. map (λ x. x.1) (fold put_by_text [] l)) (ap (map written_text) given ∙ c.in_ok-items.ensures.texts) ∙ items_sorted (λ t. t) quoted texts)) c.push_sorted.ensures

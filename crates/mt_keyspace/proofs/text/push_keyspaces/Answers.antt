@@ -8,14 +8,15 @@ use Rattle.mt_rules.specs.Written.{written_text}
 use Rattle.mt_keyspace.proofs.TextLemmas.{firsts, items_sorted}
 use Rattle.mt_keyspace.proofs.text.push_keyspaces.Goals as goal
 
-pub sort_items-requires : goal.sort_items-requires
-sort_items-requires c =
-    subst (λ l. IsDistinct same_text (map (λ x. x.0) l)) (sym c.in_ok-items.ensures.texts) (subst (IsDistinct same_text) (sym (firsts (λ k. k.0) keyspace_text c.args.keyspaces.now.entries)) c.requires)
+pub push_sorted-requires : goal.push_sorted-requires
+push_sorted-requires c =
+    let given : c.deref.result.now ≡ c.in_ok-items.items.items = search rules in
+    subst (λ l. IsDistinct same_text (map (λ x. x.0) l)) (sym (ap (map written_text) given ∙ c.in_ok-items.ensures.texts)) (subst (IsDistinct same_text) (sym (firsts (λ k. k.0) keyspace_text c.args.keyspaces.now.entries)) c.requires)
 
 pub returns-clause-text : goal.returns-clause-text
 returns-clause-text c =
-    let given : c.deref.result.now ≡ c.sort_items.new.items.items = search rules in
-    on_ok_weaker c.push_list.result
+    let given : c.deref.result.now ≡ c.in_ok-items.items.items = search rules in
+    on_ok_weaker c.push_sorted.result
     (λ e. e ∙ ap (λ l. string_bytes c.args.text.now ++ array l)
-    (ap (λ l. map (λ x. x.1) (map written_text l)) given ∙ ap (map (λ x. x.1)) (c.sort_items.ensures ∙ ap (fold put_by_text []) c.in_ok-items.ensures.texts) ∙ items_sorted (λ k. k.0) keyspace_text c.args.keyspaces.now.entries))
-    c.push_list.ensures
+    (ap (λ l. map (λ x. x.1) (fold put_by_text [] l)) (ap (map written_text) given ∙ c.in_ok-items.ensures.texts) ∙ items_sorted (λ k. k.0) keyspace_text c.args.keyspaces.now.entries))
+    c.push_sorted.ensures
