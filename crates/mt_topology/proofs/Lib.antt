@@ -7,4 +7,5 @@ pub mod OrderLemmas
 pub mod ReserveLemmas
 pub mod RoomLemmas
 pub mod SaysLemmas
+pub mod TextLemmas
 pub mod WriteLemmas
