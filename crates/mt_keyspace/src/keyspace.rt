@@ -1,25 +1,22 @@
 //! One keyspace of a topology.
-ghost use Rattle.std.specs.Prelude.{◌≡◌, ◌&&◌, ◌==◌, ◌≤◌, ◌++◌, [], true, false, length, is_some, map, slice_get, IfOk, OnOk, string_bytes};
+ghost use Rattle.std.specs.Prelude.{◌≡◌, ◌&&◌, ◌==◌, ◌≤◌, ◌++◌, [], true, false, length, is_some, map, slice_get, OnOk, string_bytes};
 ghost use Rattle.std.specs.List.{AllByRecursion, IsDistinct};
 ghost use Rattle.std.specs.Map.{keys_of, lookup};
-ghost use Rattle.serde_json.specs.View.{view};
 ghost use Rattle.mt_names.specs.Names.{IsTableName, same_text};
 ghost use Rattle.mt_model.specs.Limits.{most_tables_in_keyspace};
 ghost use Rattle.mt_model.specs.Part.{table_routes};
 ghost use Rattle.mt_model.specs.Topology.{is_marked, with_table_mark, with_denied_mark, with_new_table, with_table_place, without_table_place, with_denied_place, without_denied_place};
 ghost use Rattle.mt_keyspace.specs.Edits.{Edits, answer_of, new_table_refusal, lacks_table_place};
 ghost use Rattle.mt_keyspace.specs.Room.{has_mark_room, lacking_marks, lacks_mark_place, mark_place_refusal};
-ghost use Rattle.mt_keyspace.specs.Values.{HasSameTexts, texts_value};
 ghost use Rattle.mt_model.specs.Documents.{array, marked, quoted, tables_in_order};
 ghost use Rattle.mt_rules.specs.Written.{written_text};
 ghost use Rattle.mt_keyspace.specs.Written.{items_behind};
 
-use crate::{routes, text, write};
+use crate::{routes, text};
 use mt_denied::{DeniedFault, DeniedTables, TableMarks};
 use mt_model::{Entry, MAX_TABLES_IN_KEYSPACE, TopologyFault};
 use mt_names::{KeyspaceName, TableName};
 use mt_rules::WrittenItem;
-use serde_json::Value;
 use std::alloc::{AllocError, Global};
 use std::marker::Model;
 
@@ -171,14 +168,6 @@ impl Keyspace {
         routes::table_entry(name, self.tables.places(), index)
     }
 
-    /// The tables that are there, as the value of a list in the order of their names.
-    pub(crate) fn value_of_tables(&self, alloc: Global) -> Result<Value, AllocError>
-        ensures value { IfOk result (λ list. view list ≡ texts_value (tables_in_order self.now)) }
-        ensures named { OnOk result (AllByRecursion IsTableName (tables_in_order self.now)) }
-    {
-        write::value_of_tables(alloc, self.tables.places())
-    }
-
     /// Appends the list of the tables that are there, in the order of their names.
     pub(crate) fn push_tables(&self, alloc: Global, text: &mut String) -> Result<(), AllocError>
         ensures text { OnOk result (string_bytes text.new ≡ string_bytes text.old ++ array (map quoted (tables_in_order self.now))) }
@@ -198,20 +187,6 @@ impl Keyspace {
         ensures named { OnOk result (AllByRecursion IsTableName (marked self.now.denied)) }
     {
         text::add_names(alloc, items, before, self.denied.places())
-    }
-
-    /// The denied tables, in the order of their names.
-    pub(crate) fn denied_tables(&self, alloc: Global) -> Result<Vec<TableName>, AllocError>
-        ensures { IfOk result (λ tables. HasSameTexts tables.items (marked self.now.denied)) }
-    {
-        self.denied.facts();
-        if self.denied.len() == 0 {
-            return Ok(Vec::new(alloc));
-        }
-        match self.denied.sorted(alloc) {
-            Ok(tables) => Ok(tables),
-            Err(_) => Err(AllocError),
-        }
     }
 
     /// Adds a table. `T4 Exists`, `T5 Full` at a 257th place, `T0 Memory`.

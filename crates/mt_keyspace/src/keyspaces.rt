@@ -3,27 +3,21 @@ ghost use Rattle.std.specs.Prelude.{◌≡◌, ◌++◌, ◌∷◌, ◌≤◌, �
 ghost use Rattle.std.specs.List.{AllByRecursion};
 ghost use Rattle.std.specs.Map.{lookup};
 ghost use Rattle.std.specs.Option.{option_map_or};
-ghost use Rattle.serde_json.specs.Data.{array};
-ghost use Rattle.serde_json.specs.View.{view, items_of};
 ghost use Rattle.mt_names.specs.Names.{same_text};
-ghost use Rattle.mt_model.specs.Documents.{array as doc_array, denied_sorted, denied_texts, keyspace_text, keyspaces_in_order, quoted};
+ghost use Rattle.mt_model.specs.Documents.{array, denied_sorted, denied_texts, keyspace_text, keyspaces_in_order, quoted};
 ghost use Rattle.mt_model.specs.Limits.{most_keyspaces, most_tables_in_keyspace};
 ghost use Rattle.mt_model.specs.Part.{table_routes};
 ghost use Rattle.mt_model.specs.Topology.{holders, is_denied, is_present, keyspace_at, sole_holder, with_denied_mark, with_denied_place, with_keyspace_state, with_new_table, with_table_mark, with_table_place, without_denied_place, without_table_place};
 ghost use Rattle.mt_keyspace.specs.Edits.{Edits, add_keyspace_refusal, add_table_grows, add_table_refusal, answer_of, denied_place_grows, denied_place_refusal, table_place_grows, table_place_refusal};
 ghost use Rattle.mt_keyspace.specs.Keyspaces.{AreKeyspaces};
-ghost use Rattle.mt_keyspace.specs.Values.{IsDenialText, IsNamedKeyspace, keyspace_value, texts_value};
-ghost use Rattle.mt_keyspace.specs.Written.{denied_in_order};
+ghost use Rattle.mt_keyspace.specs.Values.{IsDenialText, IsNamedKeyspace};
 
 use crate::keyspace::Keyspace;
 use crate::text::{push_denials, push_keyspaces};
-use crate::write::{denials_by_text, keyspaces_by_name};
 use indexmap::IndexMap;
 use mt_denied::DeniedFault;
 use mt_model::{Entry, MAX_KEYSPACES, TopologyFault};
 use mt_names::{KeyspaceName, RuleTarget, TableName};
-use mt_rules::list_of_values;
-use serde_json::Value;
 use std::alloc::{AllocError, Global};
 use std::marker::Model;
 
@@ -278,28 +272,10 @@ impl Keyspaces {
         None
     }
 
-    /// The keyspaces with their tables, as the value of a list in the order of their names.
-    pub fn to_value(&self, alloc: Global) -> Result<Value, AllocError>
-        ensures value { IfOk result (λ list. view list ≡ array (items_of (map keyspace_value (keyspaces_in_order (record { rules = []; keyspaces = self.now }))))) }
-        ensures named { OnOk result (AllByRecursion IsNamedKeyspace (keyspaces_in_order (record { rules = []; keyspaces = self.now }))) }
-    {
-        let values = keyspaces_by_name(alloc, &self.places)?;
-        list_of_values(alloc, values)
-    }
-
-    /// The texts of all denials, as the value of a list in their order.
-    pub fn denials_to_value(&self, alloc: Global) -> Result<Value, AllocError>
-        ensures value { IfOk result (λ list. view list ≡ texts_value (denied_in_order (record { rules = []; keyspaces = self.now }))) }
-        ensures named { OnOk result (AllByRecursion IsDenialText (denied_in_order (record { rules = []; keyspaces = self.now }))) }
-    {
-        let values = denials_by_text(alloc, &self.places)?;
-        list_of_values(alloc, values)
-    }
-
     /// Appends the list of the keyspaces with their tables, in the order of their names.
     pub fn push_list(&self, alloc: Global, text: &mut String) -> Result<(), AllocError>
         ensures text { OnOk result (string_bytes text.new ≡ string_bytes text.old
-            ++ doc_array (map keyspace_text (keyspaces_in_order (record { rules = []; keyspaces = self.now })))) }
+            ++ array (map keyspace_text (keyspaces_in_order (record { rules = []; keyspaces = self.now })))) }
         ensures named { OnOk result (AllByRecursion IsNamedKeyspace self.now) }
     {
         push_keyspaces(alloc, text, &self.places)
@@ -307,7 +283,7 @@ impl Keyspaces {
 
     /// Appends the list of the texts of all denials, in their order.
     pub fn push_denials(&self, alloc: Global, text: &mut String) -> Result<(), AllocError>
-        ensures text { OnOk result (string_bytes text.new ≡ string_bytes text.old ++ doc_array (map quoted (denied_sorted (record { rules = []; keyspaces = self.now })))) }
+        ensures text { OnOk result (string_bytes text.new ≡ string_bytes text.old ++ array (map quoted (denied_sorted (record { rules = []; keyspaces = self.now })))) }
         ensures named { OnOk result (AllByRecursion IsDenialText (flat_map denied_texts self.now)) }
     {
         push_denials(alloc, text, &self.places)

@@ -7,7 +7,6 @@ mod keyspaces;
 mod load;
 mod routes;
 mod text;
-mod write;
 
 pub use keyspace::Keyspace;
 pub use keyspaces::Keyspaces;

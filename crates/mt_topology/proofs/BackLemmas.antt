@@ -20,8 +20,8 @@ use Rattle.mt_rules.specs.Member.{unless_fault}
 use Rattle.mt_rules.proofs.KeysLemmas.{none_yet, still_none}
 use Rattle.mt_keyspace.specs.Load.{denials_of, keyspaces_of, state_of, tables_of, with_denial, with_denial_of, with_new_denial, with_new_keyspace, with_new_mark}
 use Rattle.mt_keyspace.specs.Values.{IsNamedKeyspace, keyspace_value}
+use Rattle.mt_keyspace.proofs.DifferLemmas.{of_keyspaces, of_tables}
 use Rattle.mt_keyspace.proofs.GatherLemmas.{or-grouped}
-use Rattle.mt_topology.proofs.OnceLemmas.{of_keyspaces, of_tables}
 
 -- ---- keyspaces without denials
 

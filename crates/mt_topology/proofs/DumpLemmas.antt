@@ -61,7 +61,7 @@ keyspaces_text (k ∷ ks) named = (compact_text-keyspace k named.0, keyspaces_te
 
 -- ---- the whole
 
-one_text : decimal 1 ≡ 49 ∷ []
+pub one_text : decimal 1 ≡ 49 ∷ []
 unfolding digits
 one_text = refl
 

@@ -8,4 +8,5 @@ pub mod ReleaseLemmas
 pub mod ReserveLemmas
 pub mod RoomLemmas
 pub mod SaysLemmas
+pub mod TextLemmas
 pub mod WriteLemmas

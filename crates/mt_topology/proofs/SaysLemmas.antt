@@ -32,13 +32,14 @@ use Rattle.mt_rules.proofs.ReadLemmas.{value_of_text-some}
 use Rattle.mt_keyspace.specs.Load.{denials_of, has_too_many_tables, keyspaces_in}
 use Rattle.mt_keyspace.specs.Values.{IsDenialText, IsNamedKeyspace, by_name, keyspace_value}
 use Rattle.mt_keyspace.specs.Written.{denied_in_order}
+use Rattle.mt_keyspace.proofs.DifferLemmas.{marked_distinct, of_keyspaces, texts_differ}
 use Rattle.mt_keyspace.proofs.GatherLemmas.{or-false, or-true}
 use Rattle.mt_keyspace.proofs.SortLemmas.{marked-found}
 use Rattle.mt_topology.specs.Dump.{is_too_large, whole_topology, within_limits}
 use Rattle.mt_topology.specs.Says.{HasDeniedTables, Says}
 use Rattle.mt_topology.specs.Values.{IsNamedTopology, dump_value}
 use Rattle.mt_topology.proofs.BackLemmas.{Denies, IsReady, same_denial, denials_back, keyspaces_back, read_keyspaces, read_state, read_tables, tables_alone}
-use Rattle.mt_topology.proofs.OnceLemmas.{denied_once, marked_distinct, of_keyspaces, of_pairs, names_of, texts_differ, unsorted}
+use Rattle.mt_topology.proofs.OnceLemmas.{denied_once, of_pairs, names_of, unsorted}
 use Rattle.mt_topology.proofs.OrderLemmas.{all-ordered, any-sorted, distinct-ordered, distinct-sorted, keyspace_at-ordered, length-ordered, length-sorted}
 
 -- ---- the document is not deep

@@ -1,30 +1,28 @@
 -- The text of the document, and what it says.
-use Rattle.std.proofs.Common.{string_bytes, ap, ◌∙◌}
-use Rattle.std.proofs.lemmas.Result.{IfOk-weaker}
+use Rattle.std.proofs.Common.{◌≡◌, map, string_bytes, refl, ap, ◌∙◌}
+use Rattle.serde_json.specs.Read.{read}
 use Rattle.std.proofs.lemmas.Str.{IsUtf8-string_bytes}
-use Rattle.serde_json.specs.View.{view}
-use Rattle.serde_json.specs.Written.{compact_text, has_float}
 use Rattle.mt_model.specs.Topology.{HasDistinctPlaces, TopologyState}
 use Rattle.mt_model.proofs.DistinctLemmas.{distinct-rules}
-use Rattle.mt_model.specs.Documents.{document_text}
-use Rattle.mt_topology.proofs.DumpLemmas.{compact_text-dump, no_float}
-use Rattle.mt_topology.proofs.OnceLemmas.{denied_once}
+use Rattle.mt_model.specs.Documents.{array, denied_sorted, dump_text, keyspace_text, keyspaces_in_order, quoted, rules_array}
+use Rattle.mt_topology.specs.Values.{IsNamedTopology, dump_value}
 use Rattle.mt_topology.proofs.SaysLemmas.{dump_says}
+use Rattle.mt_topology.proofs.TextLemmas.{dump_read, is_named, seven_parts}
 use Rattle.mt_topology.proofs.write.text_of_parts.Goals as goal
-
--- no name and no key has two places
-all_distinct : (c : goal.Joined-document) → HasDistinctPlaces (record { rules = c.args.rules.now; keyspaces = c.args.keyspaces.now })
-all_distinct c = distinct-rules _ c.args.rules.now c.facts.ensures.distinct c.facts-2.ensures.distinct
 
 pub returns-clause-text : goal.returns-clause-text
 returns-clause-text c =
     let t : TopologyState = record { rules = c.args.rules.now; keyspaces = c.args.keyspaces.now } in
-    let is = c.in_ok-document.ensures.value in
-    IfOk-weaker c.to_string.result _ _
-    (λ s h. h (ap has_float is ∙ no_float t) ∙ ap compact_text is ∙ compact_text-dump t c.in_ok-document.ensures.named ∙ ap (λ denied. document_text denied t) (denied_once t (all_distinct c) c.in_ok-document.ensures.named)) c.to_string.ensures.text
+    seven_parts (string_bytes c.new-text.result) (string_bytes c.push_str.new.self) (string_bytes c.push_denials.new.text) (string_bytes c.push_str-2.new.self) (string_bytes c.push_list.new.text) (string_bytes c.push_str-3.new.self)
+    (string_bytes c.push_list-2.new.text) (string_bytes c.push_str-4.new.self) (array (map quoted (denied_sorted t))) (array (map keyspace_text (keyspaces_in_order t))) (rules_array t.rules) c.new-text.ensures.bytes
+    c.in_ok-push_str.ensures.bytes c.in_ok-push_denials.ensures.text c.in_ok-push_str-2.ensures.bytes c.in_ok-push_list.ensures.text c.in_ok-push_str-3.ensures.bytes c.in_ok-push_list-2.ensures.text
+    c.in_ok-push_str-4.ensures.bytes
 
 pub returns-clause-says : goal.returns-clause-says
-returns-clause-says c =
+returns-clause-says c = λ there.
     let t : TopologyState = record { rules = c.args.rules.now; keyspaces = c.args.keyspaces.now } in
-    IfOk-weaker c.to_string.result _ _
-    (λ s h there. dump_says t (view c.in_ok-document.document) (string_bytes s) c.in_ok-document.ensures.value (all_distinct c) c.in_ok-document.ensures.named c.facts-2.ensures.few (IsUtf8-string_bytes s) h there) c.to_string.ensures.reads_back
+    let distinct : HasDistinctPlaces t = distinct-rules _ c.args.rules.now c.facts.ensures.distinct c.facts-2.ensures.distinct in
+    let named : IsNamedTopology t = is_named t c.in_ok-push_denials.ensures.named c.in_ok-push_list.ensures.named c.in_ok-push_list-2.ensures.sorted c.facts.ensures.within in
+    let text = string_bytes c.push_str-4.new.self in
+    let is : text ≡ dump_text t = returns-clause-text c in
+    dump_says t (dump_value t) text refl distinct named c.facts-2.ensures.few (IsUtf8-string_bytes c.push_str-4.new.self) (λ shallow. ap read is ∙ dump_read t distinct named) there
