@@ -2,14 +2,14 @@
 ghost use Rattle.std.specs.Prelude.{◌≡◌, true, All, [], ◌∷◌, IfOk, IfErr, OnOk};
 ghost use Rattle.mt_names.specs.Types.{no_types};
 ghost use Rattle.mt_model.specs.Part.{table_part_keys, with_entries};
-ghost use Rattle.mt_model.specs.Topology.{has_place, value_of};
-ghost use Rattle.mt_workflow.specs.Workflows.{live_of};
+ghost use Rattle.mt_model.specs.Topology.{has_place, value_of, with_entry};
+ghost use Rattle.mt_workflow.specs.Workflows.{live_of, wanted};
 ghost use Rattle.mt_site_topology.specs.Keys.{kept_entries, keys_of_part, part_entries, rules_only};
 ghost use Rattle.mt_site_state.specs.Workflows.{change_of};
 ghost use Rattle.mt_site.specs.Parts.{is_created, with_created_keys};
 
 use mt_event::Refusal;
-use mt_model::{Entry, EntryKey, table_part_keys};
+use mt_model::{EntryKey, table_part_keys};
 use mt_names::{RuleTarget, TableName, TypeSet};
 use mt_topology::Topology;
 use mt_watch::Change;
@@ -23,24 +23,41 @@ pub(crate) fn write_part(topology: &mut Topology, workflow: &Workflow)
 {
     for index in 0..workflow.part_len() {
         let key = workflow.part_key(index);
-        topology.write(workflow.wanted(&key, TypeSet::NONE));
+        put_wanted(topology, workflow, &key);
     }
 }
 
-/// The entry of a key as it was before Create.
-fn kept_entry(workflow: &Workflow, key: &EntryKey) -> Entry
-    ensures { result ≡ value_of (rules_only workflow.now.kept) key.now }
+/// Writes the entry of a key as it is with nothing switched. It copies no key.
+fn put_wanted(topology: &mut Topology, workflow: &Workflow, key: &EntryKey)
+    requires { has_place topology.old key.now ≡ true }
+    ensures { topology.new ≡ with_entry topology.old (wanted workflow.now no_types key.now) }
 {
     match key {
         EntryKey::Rule(key) => {
-            Entry::Rule(key.copied(), workflow.kept(key).map(RuleTarget::copied))
+            topology.put_rule(key, workflow.wanted_rule(key, TypeSet::NONE));
         }
         EntryKey::Denied(keyspace, table) => {
-            Entry::Denied(keyspace.copied(), table.copied(), false)
+            topology.put_denied(
+                keyspace,
+                table,
+                workflow.is_denied_at(keyspace, TypeSet::NONE),
+            );
         }
-        EntryKey::Present(keyspace, table) => {
-            Entry::Present(keyspace.copied(), table.copied(), false)
+        EntryKey::Present(keyspace, table) => topology.put_present(keyspace, table, true),
+    }
+}
+
+/// Writes the entry of a key as it was before Create. It copies no key.
+fn put_kept(topology: &mut Topology, workflow: &Workflow, key: &EntryKey)
+    requires { has_place topology.old key.now ≡ true }
+    ensures { topology.new ≡ with_entry topology.old (value_of (rules_only workflow.now.kept) key.now) }
+{
+    match key {
+        EntryKey::Rule(key) => {
+            topology.put_rule(key, workflow.kept(key).map(RuleTarget::copied));
         }
+        EntryKey::Denied(keyspace, table) => topology.put_denied(keyspace, table, false),
+        EntryKey::Present(keyspace, table) => topology.put_present(keyspace, table, false),
     }
 }
 
@@ -51,7 +68,7 @@ pub(crate) fn write_kept(topology: &mut Topology, workflow: &Workflow)
 {
     for index in 0..workflow.part_len() {
         let key = workflow.part_key(index);
-        topology.write(kept_entry(workflow, &key));
+        put_kept(topology, workflow, &key);
     }
 }
 
