@@ -4,8 +4,9 @@ ghost use Rattle.std.specs.List.{list_all};
 ghost use Rattle.mt_plain.specs.Script.{is_blank, is_readable, is_silent, read_line};
 ghost use Rattle.mt_script.specs.Requests.{meaning_from, meaning_of, row_from};
 
-use crate::commands::{is_row_verb, read_command, row_command};
-use crate::words::{first_word, is_blank, is_visible, text_of};
+use crate::commands::read_command;
+use crate::rows::common_row;
+use crate::words::{is_blank, is_visible};
 use arrayvec::ArrayVec;
 use mt_model::Op;
 use mt_names::{
@@ -138,13 +139,8 @@ pub fn read_line(line: &[u8]) -> Line
 pub fn row_line(line: &[u8]) -> Option<RowRequest>
     ensures { IfSome result (λ row. Some (Ok (row_from row)) ≡ meaning_of (read_line line.now)) }
 {
-    if is_silent(line) || line.len() > MAX_LINE_LENGTH || !is_readable(line) {
+    if line.len() > MAX_LINE_LENGTH {
         return None;
     }
-    let (verb, rest) = first_word(line)?;
-    let verb = text_of(verb);
-    if !is_row_verb(verb) {
-        return None;
-    }
-    row_command(verb, rest)?.ok()
+    common_row(line)
 }
