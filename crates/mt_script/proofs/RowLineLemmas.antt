@@ -18,8 +18,10 @@ use Rattle.mt_plain.specs.Script.{MAX_LINE_LENGTH, change, command_of, get, is_b
 use Rattle.mt_script.specs.declared.lines.RowRequest.{RowRequest}
 use Rattle.mt_script.specs.declared.rows.RowVerb.{RowVerb}
 use Rattle.mt_script.specs.declared.rows.RowVerb.TheVariants as verb
+use Rattle.mt_script.specs.declared.rows.ValueVerb.{ValueVerb}
+use Rattle.mt_script.specs.declared.rows.ValueVerb.TheVariants as valued
 use Rattle.mt_script.specs.Requests.{meaning_of, row_from}
-use Rattle.mt_script.specs.Rows.{BeginsWithNumber, IsReadOf, IsTextOfTable, IsWordBehind, IsWriteOf, verb_text}
+use Rattle.mt_script.specs.Rows.{BeginsWithNumber, IsReadOf, IsTextOfTable, IsValueWrite, IsWordBehind, IsWriteOf, op_of, value_verb_text, verb_text}
 use Rattle.mt_script.proofs.LineLemmas.{means-read}
 use Rattle.mt_script.proofs.WordLemmas.{NoBlanks, words_of-alone, words_of-append}
 
@@ -63,25 +65,31 @@ all-visible (b ∷ bs) visible =
 -- ---- the verb in front
 
 verb-not_silent : (v : RowVerb) (rest : List ℕ) → is_silent (verb_text v ++ 32 ∷ rest) ≡ false
-verb-not_silent verb.Insert rest = refl
-verb-not_silent verb.Update rest = refl
-verb-not_silent verb.Append rest = refl
+verb-not_silent (verb.Change valued.Insert) rest = refl
+verb-not_silent (verb.Change valued.Update) rest = refl
+verb-not_silent (verb.Change valued.Append) rest = refl
 verb-not_silent verb.Delete rest = refl
 verb-not_silent verb.Get rest = refl
 
 verb-readable : (v : RowVerb) (rest : List ℕ) → is_readable (verb_text v ++ 32 ∷ rest) ≡ is_readable rest
-verb-readable verb.Insert rest = refl
-verb-readable verb.Update rest = refl
-verb-readable verb.Append rest = refl
+verb-readable (verb.Change valued.Insert) rest = refl
+verb-readable (verb.Change valued.Update) rest = refl
+verb-readable (verb.Change valued.Append) rest = refl
 verb-readable verb.Delete rest = refl
 verb-readable verb.Get rest = refl
 
 verb-words : (v : RowVerb) (rest : List ℕ) → words_of (verb_text v ++ 32 ∷ rest) ≡ verb_text v ∷ words_of rest
-verb-words verb.Insert rest = refl
-verb-words verb.Update rest = refl
-verb-words verb.Append rest = refl
+verb-words (verb.Change valued.Insert) rest = refl
+verb-words (verb.Change valued.Update) rest = refl
+verb-words (verb.Change valued.Append) rest = refl
 verb-words verb.Delete rest = refl
 verb-words verb.Get rest = refl
+
+-- the command of a verb with a value
+value-command : (u : ValueVerb) (ws : List (List ℕ)) → command_of (value_verb_text u ∷ ws) ≡ with_value change (op_of u) ws
+value-command valued.Insert ws = refl
+value-command valued.Update ws = refl
+value-command valued.Append ws = refl
 
 -- nothing stands where no byte does
 pub nothing : (line : List ℕ) (empty : Bool) → empty ≡ (length line == 0) → empty ≡ true → line ≡ []
@@ -125,7 +133,7 @@ name-visible byte is = grind (arith, common_steps)
 
 -- a table's name is its key, without marks
 pub table-key : (name table : List ℕ) → Ok table ≡ read_table name → IsTableName name → IsTextOfTable name (record { keyspace = None; table = table; tablet_type = None })
-table-key name table reads named = record { reads = key; visible = list_all-from_AllPass is_visible name (λ i d h. name-visible (get_or name i d) (named.each i d h)); plain = after-lacks at_sign name (lacks at_sign refl) }
+table-key name table reads named = record { reads = key; visible = list_all-from_AllPass is_visible name (λ i d h. name-visible (get_or name i d) (named.each i d h)); plain = after-lacks at_sign name (lacks at_sign refl); each_type = refl }
   where
     lacks : (mark : ℕ) → allows WithDollar mark ≡ false → Lacks mark name
     lacks mark refused i h e = true≢false (sym (named.each i 0 h) ∙ ap (allows WithDollar) e ∙ refused)
@@ -181,10 +189,9 @@ module _ (v : RowVerb) (line behind name words : List ℕ) (number : ℕ) (rest 
         ∙ ap (λ l. verb_text v ∷ name ∷ digits ∷ l) (last-word value.items behind_it.some behind_it.visible)
 
   -- a write with a value
-  pub written : (make : ℕ → RowValue → Op) → ((ws : List (List ℕ)) → command_of (verb_text v ∷ ws) ≡ with_value change make ws)
-      → (value : RowValue) → IsWordBehind rest value → (asked : RowRequest) → IsWriteOf name (make number value) asked
+  pub written : (u : ValueVerb) → v ≡ verb.Change u → (asked : RowRequest) → IsValueWrite u name number rest asked
       → Some (Ok (row_from asked)) ≡ meaning_of (read_line line)
-  written make commands value word asked write = means-read line not_silent short is_all (Ok (row_from asked)) (sym means)
+  written u same asked (value, word, write) = means-read line not_silent short is_all (Ok (row_from asked)) (sym means)
     where
       is_all : is_readable line ≡ true
       is_all = readable write.1.visible (ap is_readable word.text ∙ all-visible value.items word.visible)
@@ -195,14 +202,13 @@ module _ (v : RowVerb) (line behind name words : List ℕ) (number : ℕ) (rest 
       means : option_map request_of (command_of (words_of line)) ≡ Some (Ok (row_from asked))
       means =
           ap (λ ws. option_map request_of (command_of ws)) (with-value write.0 write.1.reads write.1.visible value word)
-          ∙ ap (option_map request_of) (commands (name ∷ digits ∷ value.items ∷ []))
+          ∙ ap (option_map request_of) (ap (λ w. command_of (verb_text w ∷ name ∷ digits ∷ value.items ∷ [])) same ∙ value-command u (name ∷ digits ∷ value.items ∷ []))
           ∙ rw (begins.1, value-read, write.1.plain, write.1.reads, write.2) refl
 
   -- a delete
-  pub deleted : ((ws : List (List ℕ)) → command_of (verb_text v ∷ ws) ≡ without_value change ws)
-      → rest ≡ [] → (asked : RowRequest) → IsWriteOf name (Delete number) asked
+  pub deleted : v ≡ verb.Delete → (asked : RowRequest) → (rest ≡ []) × IsWriteOf name (Delete number) asked
       → Some (Ok (row_from asked)) ≡ meaning_of (read_line line)
-  deleted commands none asked write = means-read line not_silent short is_all (Ok (row_from asked)) (sym means)
+  deleted same asked (none, write) = means-read line not_silent short is_all (Ok (row_from asked)) (sym means)
     where
       is_all : is_readable line ≡ true
       is_all = readable write.1.visible (ap is_readable none)
@@ -210,14 +216,13 @@ module _ (v : RowVerb) (line behind name words : List ℕ) (number : ℕ) (rest 
       means : option_map request_of (command_of (words_of line)) ≡ Some (Ok (row_from asked))
       means =
           ap (λ ws. option_map request_of (command_of ws)) (without-value write.0 write.1.reads write.1.visible none)
-          ∙ ap (option_map request_of) (commands (name ∷ digits ∷ []))
+          ∙ ap (option_map request_of) (ap (λ w. command_of (verb_text w ∷ name ∷ digits ∷ [])) same)
           ∙ rw (begins.1, write.1.plain, write.1.reads, write.2) refl
 
   -- a read
-  pub got : ((ws : List (List ℕ)) → command_of (verb_text v ∷ ws) ≡ read_get get ws)
-      → rest ≡ [] → (asked : RowRequest) → IsReadOf name number asked
+  pub got : v ≡ verb.Get → (asked : RowRequest) → (rest ≡ []) × IsReadOf name number asked
       → Some (Ok (row_from asked)) ≡ meaning_of (read_line line)
-  got commands none asked read = means-read line not_silent short is_all (Ok (row_from asked)) (sym means)
+  got same asked (none, read) = means-read line not_silent short is_all (Ok (row_from asked)) (sym means)
     where
       is_all : is_readable line ≡ true
       is_all = readable read.1.visible (ap is_readable none)
@@ -225,5 +230,5 @@ module _ (v : RowVerb) (line behind name words : List ℕ) (number : ℕ) (rest 
       means : option_map request_of (command_of (words_of line)) ≡ Some (Ok (row_from asked))
       means =
           ap (λ ws. option_map request_of (command_of ws)) (without-value read.0 read.1.reads read.1.visible none)
-          ∙ ap (option_map request_of) (commands (name ∷ digits ∷ []))
+          ∙ ap (option_map request_of) (ap (λ w. command_of (verb_text w ∷ name ∷ digits ∷ [])) same)
           ∙ rw (begins.1, read.1.reads, read.2) refl

@@ -5,7 +5,9 @@ ghost use Rattle.mt_plain.specs.Script.{is_blank, is_readable, is_silent, read_l
 ghost use Rattle.mt_script.specs.Requests.{meaning_from, meaning_of, row_from};
 
 use crate::commands::read_command;
-use crate::rows::common_row;
+use crate::rows::{
+    RowVerb, delete_of, name_in_front, number_in_front, read_of, verb_in_front, write_of,
+};
 use crate::words::{is_blank, is_visible};
 use arrayvec::ArrayVec;
 use mt_model::Op;
@@ -134,13 +136,21 @@ pub fn read_line(line: &[u8]) -> Line
     }
 }
 
-/// Reads a line that asks for a row where a name leads, as `read_line` reads it. `None` is any other line, and one that
-/// `read_line` refuses.
+/// Reads a line that asks for a row where a name leads, as `read_line` reads it, if it is in the common form: one space
+/// between two words, and no other blank. `None` is any other line, and one that `read_line` refuses.
+#[inline(never)]
 pub fn row_line(line: &[u8]) -> Option<RowRequest>
     ensures { IfSome result (λ row. Some (Ok (row_from row)) ≡ meaning_of (read_line line.now)) }
 {
     if line.len() > MAX_LINE_LENGTH {
         return None;
     }
-    common_row(line)
+    let (verb, words) = verb_in_front(line)?;
+    let (name, words) = name_in_front(words)?;
+    let (number, words) = number_in_front(words)?;
+    match verb {
+        RowVerb::Change(verb) => write_of(verb, name, number, words),
+        RowVerb::Delete => delete_of(name, number, words),
+        RowVerb::Get => read_of(name, number, words),
+    }
 }

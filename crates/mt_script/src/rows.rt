@@ -1,10 +1,10 @@
 //! Lines that ask for a row in their common form: one space between two words, and no other blank.
-ghost use Rattle.std.specs.Prelude.{◌≡◌, ◌≤◌, ◌<◌, ◌∷◌, ◌++◌, length, take, IfSome, Ok, Some, true};
+ghost use Rattle.std.specs.Prelude.{◌≡◌, ◌≤◌, ◌<◌, ◌∷◌, ◌++◌, [], length, take, IfSome, true};
 ghost use Rattle.std.specs.Char.{is_ascii_digit};
 ghost use Rattle.std.specs.List.{list_all};
-ghost use Rattle.mt_plain.specs.Script.{MAX_LINE_LENGTH, is_visible, number_of_digits, read_line};
-ghost use Rattle.mt_script.specs.Requests.{meaning_of, row_from};
-ghost use Rattle.mt_script.specs.Rows.{BeginsWithNumber, IsReadOf, IsTextOfKey, IsTextOfTable, IsWordBehind, IsWriteOf, verb_text};
+ghost use Rattle.mt_model.specs.declared.rows.Op.TheVariants.{Delete};
+ghost use Rattle.mt_plain.specs.Script.{is_visible, number_of_digits};
+ghost use Rattle.mt_script.specs.Rows.{BeginsWithNumber, IsReadOf, IsTextOfKey, IsTextOfTable, IsValueWrite, IsWordBehind, IsWriteOf, op_of, verb_text};
 
 use crate::lines::RowRequest;
 use crate::words::{is_visible, text_of};
@@ -12,15 +12,22 @@ use mt_model::Op;
 use mt_names::{RuleKey, TableName, TabletType, Value};
 use std::str;
 
-/// The verb of an operation on a row.
+/// A verb behind whose name stand a number and a value.
 #[derive(Clone, Copy)]
-pub enum RowVerb {
+pub enum ValueVerb {
     /// `insert`.
     Insert,
     /// `update`.
     Update,
     /// `append`.
     Append,
+}
+
+/// The verb of an operation on a row.
+#[derive(Clone, Copy)]
+pub enum RowVerb {
+    /// `insert`, `update` or `append`.
+    Change(ValueVerb),
     /// `delete`.
     Delete,
     /// `get`.
@@ -28,21 +35,27 @@ pub enum RowVerb {
 }
 
 /// The verb that a line begins with, and what stands behind it and a space.
-fn verb_in_front(line: &[u8]) -> Option<(RowVerb, &[u8])>
+pub fn verb_in_front(line: &[u8]) -> Option<(RowVerb, &[u8])>
     ensures { IfSome result (λ parts. line.now ≡ verb_text parts.0 ++ 32 ∷ parts.1.now) }
 {
     match line {
-        [b'i', b'n', b's', b'e', b'r', b't', b' ', rest @ ..] => Some((RowVerb::Insert, rest)),
-        [b'g', b'e', b't', b' ', rest @ ..] => Some((RowVerb::Get, rest)),
-        [b'u', b'p', b'd', b'a', b't', b'e', b' ', rest @ ..] => Some((RowVerb::Update, rest)),
-        [b'a', b'p', b'p', b'e', b'n', b'd', b' ', rest @ ..] => Some((RowVerb::Append, rest)),
+        [b'i', b'n', b's', b'e', b'r', b't', b' ', rest @ ..] => {
+            Some((RowVerb::Change(ValueVerb::Insert), rest))
+        }
+        [b'u', b'p', b'd', b'a', b't', b'e', b' ', rest @ ..] => {
+            Some((RowVerb::Change(ValueVerb::Update), rest))
+        }
+        [b'a', b'p', b'p', b'e', b'n', b'd', b' ', rest @ ..] => {
+            Some((RowVerb::Change(ValueVerb::Append), rest))
+        }
         [b'd', b'e', b'l', b'e', b't', b'e', b' ', rest @ ..] => Some((RowVerb::Delete, rest)),
+        [b'g', b'e', b't', b' ', rest @ ..] => Some((RowVerb::Get, rest)),
         _ => None,
     }
 }
 
 /// What stands before the first space, and behind it.
-fn name_in_front(words: &[u8]) -> Option<(&[u8], &[u8])>
+pub fn name_in_front(words: &[u8]) -> Option<(&[u8], &[u8])>
     ensures { IfSome result (λ parts. words.now ≡ parts.0.now ++ 32 ∷ parts.1.now) }
 {
     let end = words.iter().position(|&byte| byte == b' ')?;
@@ -67,7 +80,7 @@ fn digits_in_front(words: &[u8]) -> (u64, usize)
 }
 
 /// The number in front, and what stands behind its digits.
-fn number_in_front(words: &[u8]) -> Option<(u64, &[u8])>
+pub fn number_in_front(words: &[u8]) -> Option<(u64, &[u8])>
     ensures { IfSome result (λ parts. BeginsWithNumber words.now parts.0 parts.1.now) }
 {
     let (number, end) = digits_in_front(words);
@@ -92,7 +105,11 @@ fn value_of(word: &[u8]) -> Option<Value>
     if word.is_empty() || !is_all_visible(word) {
         return None;
     }
-    Value::try_from(word).ok()
+    let mut value = Value::new();
+    match value.try_extend_from_slice(word) {
+        Ok(()) => Some(value),
+        Err(_) => None,
+    }
 }
 
 /// The value behind a space, with nothing behind it.
@@ -105,7 +122,7 @@ fn value_behind(words: &[u8]) -> Option<Value>
     }
 }
 
-/// The key that a table's name is.
+/// The key that a table's name is, which has no marks.
 fn table_key(name: &[u8]) -> Option<RuleKey>
     ensures { IfSome result (λ key. IsTextOfTable name.now key) }
 {
@@ -118,7 +135,41 @@ fn table_key(name: &[u8]) -> Option<RuleKey>
     })
 }
 
-/// The key that a name is.
+/// The operation of a verb.
+fn op_of(verb: ValueVerb, number: u64, value: Value) -> Op
+    ensures { result ≡ op_of verb number value }
+{
+    match verb {
+        ValueVerb::Insert => Op::Insert(number, value),
+        ValueVerb::Update => Op::Update(number, value),
+        ValueVerb::Append => Op::Append(number, value),
+    }
+}
+
+/// A write of a value to the table of a name.
+#[inline(always)]
+pub fn write_of(verb: ValueVerb, name: &[u8], number: u64, words: &[u8]) -> Option<RowRequest>
+    ensures { IfSome result (λ row. IsValueWrite verb name.now number words.now row) }
+{
+    let key = table_key(name)?;
+    let value = value_behind(words)?;
+    Some(RowRequest::Write(key, op_of(verb, number, value)))
+}
+
+/// A delete in the table of a name.
+#[inline(always)]
+pub fn delete_of(name: &[u8], number: u64, words: &[u8]) -> Option<RowRequest>
+    ensures { IfSome result (λ row. (words.now ≡ []) × IsWriteOf name.now (Delete number) row) }
+{
+    if !words.is_empty() {
+        return None;
+    }
+    let key = table_key(name)?;
+    Some(RowRequest::Write(key, Op::Delete(number)))
+}
+
+/// The key that a name is, which may have a keyspace and a type.
+#[inline(never)]
 fn any_key(name: &[u8]) -> Option<RuleKey>
     ensures { IfSome result (λ key. IsTextOfKey name.now key) }
 {
@@ -128,47 +179,18 @@ fn any_key(name: &[u8]) -> Option<RuleKey>
     RuleKey::parse(text_of(name)).ok()
 }
 
-/// The key of a row that is read.
-fn read_key_of(name: &[u8]) -> Option<RuleKey>
-    ensures { IfSome result (λ key. IsTextOfKey name.now key) }
+/// A read of the table of a name. One without marks is read by itself, which is faster.
+#[inline(always)]
+pub fn read_of(name: &[u8], number: u64, words: &[u8]) -> Option<RowRequest>
+    ensures { IfSome result (λ row. (words.now ≡ []) × IsReadOf name.now number row) }
 {
-    match table_key(name) {
-        Some(key) => Some(key),
-        None => any_key(name),
+    if !words.is_empty() {
+        return None;
     }
-}
-
-/// A write to the table of a name that has no marks.
-fn write_of(name: &[u8], op: Op) -> Option<RowRequest>
-    ensures { IfSome result (λ row. IsWriteOf name.now op row) }
-{
-    let key = table_key(name)?;
-    Some(RowRequest::Write(key, op))
-}
-
-/// A read of the table of a name.
-fn read_of(name: &[u8], number: u64) -> Option<RowRequest>
-    ensures { IfSome result (λ row. IsReadOf name.now number row) }
-{
-    let key = read_key_of(name)?;
+    if let Some(key) = table_key(name) {
+        return Some(RowRequest::Read(key, number, TabletType::Primary));
+    }
+    let key = any_key(name)?;
     let tablet_type = key.tablet_type.unwrap_or(TabletType::Primary);
     Some(RowRequest::Read(key, number, tablet_type))
-}
-
-/// Reads a line that asks for a row and is in the common form. `None` is any other line, and each that is refused.
-pub fn common_row(line: &[u8]) -> Option<RowRequest>
-    requires { length line.now ≤ MAX_LINE_LENGTH }
-    ensures { IfSome result (λ row. Some (Ok (row_from row)) ≡ meaning_of (read_line line.now)) }
-{
-    let (verb, words) = verb_in_front(line)?;
-    let (name, words) = name_in_front(words)?;
-    let (number, rest) = number_in_front(words)?;
-    match verb {
-        RowVerb::Insert => write_of(name, Op::Insert(number, value_behind(rest)?)),
-        RowVerb::Update => write_of(name, Op::Update(number, value_behind(rest)?)),
-        RowVerb::Append => write_of(name, Op::Append(number, value_behind(rest)?)),
-        RowVerb::Delete if rest.is_empty() => write_of(name, Op::Delete(number)),
-        RowVerb::Get if rest.is_empty() => read_of(name, number),
-        _ => None,
-    }
 }
