@@ -10,11 +10,10 @@ use Rattle.mt_names.specs.declared.text.Alphabet.TheVariants.{WithDollar}
 use Rattle.mt_names.specs.Keys.{at_sign, dot, read_key}
 use Rattle.mt_names.specs.Names.{IsTableName, allows, read_table}
 use Rattle.mt_names.proofs.CutLemmas.{Lacks, after-lacks, before-lacks}
-use Rattle.mt_model.specs.declared.rows.Op.{Op}
 use Rattle.mt_model.specs.declared.rows.Op.TheVariants.{Delete}
 use Rattle.mt_model.specs.Limits.{longest_value}
 use Rattle.mt_model.specs.Rows.{RowValue}
-use Rattle.mt_plain.specs.Script.{MAX_LINE_LENGTH, change, command_of, get, is_blank, is_number, is_readable, is_silent, is_visible, is_word, read_get, read_line, read_number, read_value, request_of, with_value, without_value, words_of}
+use Rattle.mt_plain.specs.Script.{MAX_LINE_LENGTH, change, command_of, is_blank, is_number, is_readable, is_silent, is_visible, is_word, read_line, read_number, read_value, request_of, with_value, words_of}
 use Rattle.mt_script.specs.declared.lines.RowRequest.{RowRequest}
 use Rattle.mt_script.specs.declared.rows.RowVerb.{RowVerb}
 use Rattle.mt_script.specs.declared.rows.RowVerb.TheVariants as verb

@@ -138,7 +138,7 @@ pub fn read_line(line: &[u8]) -> Line
 
 /// Reads a line that asks for a row where a name leads, as `read_line` reads it, if it is in the common form: one space
 /// between two words, and no other blank. `None` is any other line, and one that `read_line` refuses.
-#[inline(never)]
+#[inline(always)]
 pub fn row_line(line: &[u8]) -> Option<RowRequest>
     ensures { IfSome result (λ row. Some (Ok (row_from row)) ≡ meaning_of (read_line line.now)) }
 {

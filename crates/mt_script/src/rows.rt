@@ -147,7 +147,7 @@ fn op_of(verb: ValueVerb, number: u64, value: Value) -> Op
 }
 
 /// A write of a value to the table of a name.
-#[inline(always)]
+#[inline(never)]
 pub fn write_of(verb: ValueVerb, name: &[u8], number: u64, words: &[u8]) -> Option<RowRequest>
     ensures { IfSome result (λ row. IsValueWrite verb name.now number words.now row) }
 {
@@ -157,7 +157,7 @@ pub fn write_of(verb: ValueVerb, name: &[u8], number: u64, words: &[u8]) -> Opti
 }
 
 /// A delete in the table of a name.
-#[inline(always)]
+#[inline(never)]
 pub fn delete_of(name: &[u8], number: u64, words: &[u8]) -> Option<RowRequest>
     ensures { IfSome result (λ row. (words.now ≡ []) × IsWriteOf name.now (Delete number) row) }
 {
@@ -180,7 +180,7 @@ fn any_key(name: &[u8]) -> Option<RuleKey>
 }
 
 /// A read of the table of a name. One without marks is read by itself, which is faster.
-#[inline(always)]
+#[inline(never)]
 pub fn read_of(name: &[u8], number: u64, words: &[u8]) -> Option<RowRequest>
     ensures { IfSome result (λ row. (words.now ≡ []) × IsReadOf name.now number row) }
 {
