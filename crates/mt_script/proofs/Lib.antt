@@ -3,5 +3,6 @@ pub mod LineLemmas
 pub mod ManyWordsLemmas
 pub mod NumberLemmas
 pub mod RowLemmas
+pub mod RowLineLemmas
 pub mod TextLemmas
 pub mod WordLemmas

@@ -19,7 +19,7 @@ use Rattle.mt_plain.specs.Script.{is_blank, is_readable, is_visible, is_word, wo
 abbrev Blanks : List ℕ → Type 0
 Blanks bytes = AllByRecursion (λ byte. is_blank byte ≡ true) bytes
 
-abbrev NoBlanks : List ℕ → Type 0
+abbrev pub NoBlanks : List ℕ → Type 0
 NoBlanks bytes = AllByRecursion (λ byte. is_blank byte ≡ false) bytes
 
 -- blanks in front of a line add no word
@@ -57,12 +57,12 @@ Blanks-from_not [] all = tt
 Blanks-from_not (b ∷ bs) all = (not-false (is_blank b) all.0, Blanks-from_not bs all.1)
 
 -- a word of some bytes, and what a blank begins behind it
-words_of-append : (word : List ℕ) (blank : ℕ) (line : List ℕ) → is_word word ≡ true → NoBlanks word → is_blank blank ≡ true
+pub words_of-append : (word : List ℕ) (blank : ℕ) (line : List ℕ) → is_word word ≡ true → NoBlanks word → is_blank blank ≡ true
     → words_of (word ++ blank ∷ line) ≡ word ∷ words_of (blank ∷ line)
 words_of-append [] blank line some all is = absurd (true≢false (sym some))
 words_of-append (byte ∷ bytes) blank line some all is = words_of-word byte bytes blank line all is
 
-words_of-alone : (word : List ℕ) → is_word word ≡ true → NoBlanks word → words_of word ≡ word ∷ []
+pub words_of-alone : (word : List ℕ) → is_word word ≡ true → NoBlanks word → words_of word ≡ word ∷ []
 words_of-alone [] some all = absurd (true≢false (sym some))
 words_of-alone (byte ∷ bytes) some all = words_of-one byte bytes all
 

@@ -5,6 +5,7 @@ mod commands;
 mod cut;
 mod lines;
 mod numbers;
+mod rows;
 mod shown;
 mod texts;
 mod words;

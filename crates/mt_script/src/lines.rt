@@ -4,8 +4,11 @@ ghost use Rattle.std.specs.List.{list_all};
 ghost use Rattle.mt_plain.specs.Script.{is_blank, is_readable, is_silent, read_line};
 ghost use Rattle.mt_script.specs.Requests.{meaning_from, meaning_of, row_from};
 
-use crate::commands::{is_row_verb, read_command, row_command};
-use crate::words::{first_word, is_blank, is_visible, text_of};
+use crate::commands::read_command;
+use crate::rows::{
+    RowVerb, delete_of, name_in_front, number_in_front, read_of, verb_in_front, write_of,
+};
+use crate::words::{is_blank, is_visible};
 use arrayvec::ArrayVec;
 use mt_model::Op;
 use mt_names::{
@@ -133,18 +136,21 @@ pub fn read_line(line: &[u8]) -> Line
     }
 }
 
-/// Reads a line that asks for a row where a name leads, as `read_line` reads it. `None` is any other line, and one that
-/// `read_line` refuses.
+/// Reads a line that asks for a row where a name leads, as `read_line` reads it, if it is in the common form: one space
+/// between two words, and no other blank. `None` is any other line, and one that `read_line` refuses.
+#[inline(always)]
 pub fn row_line(line: &[u8]) -> Option<RowRequest>
     ensures { IfSome result (λ row. Some (Ok (row_from row)) ≡ meaning_of (read_line line.now)) }
 {
-    if is_silent(line) || line.len() > MAX_LINE_LENGTH || !is_readable(line) {
+    if line.len() > MAX_LINE_LENGTH {
         return None;
     }
-    let (verb, rest) = first_word(line)?;
-    let verb = text_of(verb);
-    if !is_row_verb(verb) {
-        return None;
+    let (verb, words) = verb_in_front(line)?;
+    let (name, words) = name_in_front(words)?;
+    let (number, words) = number_in_front(words)?;
+    match verb {
+        RowVerb::Change(verb) => write_of(verb, name, number, words),
+        RowVerb::Delete => delete_of(name, number, words),
+        RowVerb::Get => read_of(name, number, words),
     }
-    row_command(verb, rest)?.ok()
 }

@@ -1,0 +1,196 @@
+//! Lines that ask for a row in their common form: one space between two words, and no other blank.
+ghost use Rattle.std.specs.Prelude.{◌≡◌, ◌≤◌, ◌<◌, ◌∷◌, ◌++◌, [], length, take, IfSome, true};
+ghost use Rattle.std.specs.Char.{is_ascii_digit};
+ghost use Rattle.std.specs.List.{list_all};
+ghost use Rattle.mt_model.specs.declared.rows.Op.TheVariants.{Delete};
+ghost use Rattle.mt_plain.specs.Script.{is_visible, number_of_digits};
+ghost use Rattle.mt_script.specs.Rows.{BeginsWithNumber, IsReadOf, IsTextOfKey, IsTextOfTable, IsValueWrite, IsWordBehind, IsWriteOf, op_of, verb_text};
+
+use crate::lines::RowRequest;
+use crate::words::{is_visible, text_of};
+use mt_model::Op;
+use mt_names::{RuleKey, TableName, TabletType, Value};
+use std::str;
+
+/// A verb behind whose name stand a number and a value.
+#[derive(Clone, Copy)]
+pub enum ValueVerb {
+    /// `insert`.
+    Insert,
+    /// `update`.
+    Update,
+    /// `append`.
+    Append,
+}
+
+/// The verb of an operation on a row.
+#[derive(Clone, Copy)]
+pub enum RowVerb {
+    /// `insert`, `update` or `append`.
+    Change(ValueVerb),
+    /// `delete`.
+    Delete,
+    /// `get`.
+    Get,
+}
+
+/// The verb that a line begins with, and what stands behind it and a space.
+pub fn verb_in_front(line: &[u8]) -> Option<(RowVerb, &[u8])>
+    ensures { IfSome result (λ parts. line.now ≡ verb_text parts.0 ++ 32 ∷ parts.1.now) }
+{
+    match line {
+        [b'i', b'n', b's', b'e', b'r', b't', b' ', rest @ ..] => {
+            Some((RowVerb::Change(ValueVerb::Insert), rest))
+        }
+        [b'u', b'p', b'd', b'a', b't', b'e', b' ', rest @ ..] => {
+            Some((RowVerb::Change(ValueVerb::Update), rest))
+        }
+        [b'a', b'p', b'p', b'e', b'n', b'd', b' ', rest @ ..] => {
+            Some((RowVerb::Change(ValueVerb::Append), rest))
+        }
+        [b'd', b'e', b'l', b'e', b't', b'e', b' ', rest @ ..] => Some((RowVerb::Delete, rest)),
+        [b'g', b'e', b't', b' ', rest @ ..] => Some((RowVerb::Get, rest)),
+        _ => None,
+    }
+}
+
+/// What stands before the first space, and behind it.
+pub fn name_in_front(words: &[u8]) -> Option<(&[u8], &[u8])>
+    ensures { IfSome result (λ parts. words.now ≡ parts.0.now ++ 32 ∷ parts.1.now) }
+{
+    let end = words.iter().position(|&byte| byte == b' ')?;
+    let (name, rest) = words.split_at(end);
+    let (_space, rest) = rest.split_at(1);
+    Some((name, rest))
+}
+
+/// The number of the digits in front, as far as it surely fits, and how many they are.
+fn digits_in_front(words: &[u8]) -> (u64, usize)
+    ensures end { result.1 ≤ length words.now }
+    ensures digits { list_all is_ascii_digit (take result.1 words.now) ≡ true }
+    ensures number { result.0 ≡ number_of_digits (take result.1 words.now) }
+{
+    let mut number = 0;
+    let mut end = 0;
+    while end < words.len() && words[end].is_ascii_digit() && number < 1_844_674_407_370_955_161 {
+        number = number * 10 + (words[end] - b'0') as u64;
+        end += 1;
+    }
+    (number, end)
+}
+
+/// The number in front, and what stands behind its digits.
+pub fn number_in_front(words: &[u8]) -> Option<(u64, &[u8])>
+    ensures { IfSome result (λ parts. BeginsWithNumber words.now parts.0 parts.1.now) }
+{
+    let (number, end) = digits_in_front(words);
+    if end == 0 || end > 20 {
+        return None;
+    }
+    let (_digits, rest) = words.split_at(end);
+    Some((number, rest))
+}
+
+/// Whether each byte is visible. It looks at all of them, without an early end, which is faster.
+fn is_all_visible(word: &[u8]) -> bool
+    ensures { result ≡ list_all is_visible word.now }
+{
+    word.iter().fold(true, |all, &byte| all & is_visible(byte))
+}
+
+/// The value that a word is.
+fn value_of(word: &[u8]) -> Option<Value>
+    ensures { IfSome result (λ value. IsWordBehind (32 ∷ word.now) value) }
+{
+    if word.is_empty() || !is_all_visible(word) {
+        return None;
+    }
+    let mut value = Value::new();
+    match value.try_extend_from_slice(word) {
+        Ok(()) => Some(value),
+        Err(_) => None,
+    }
+}
+
+/// The value behind a space, with nothing behind it.
+fn value_behind(words: &[u8]) -> Option<Value>
+    ensures { IfSome result (λ value. IsWordBehind words.now value) }
+{
+    match words {
+        [b' ', word @ ..] => value_of(word),
+        _ => None,
+    }
+}
+
+/// The key that a table's name is, which has no marks.
+fn table_key(name: &[u8]) -> Option<RuleKey>
+    ensures { IfSome result (λ key. IsTextOfTable name.now key) }
+{
+    let text = str::from_utf8(name).ok()?;
+    let table = TableName::parse(text).ok()?;
+    Some(RuleKey {
+        keyspace: None,
+        table,
+        tablet_type: None,
+    })
+}
+
+/// The operation of a verb.
+fn op_of(verb: ValueVerb, number: u64, value: Value) -> Op
+    ensures { result ≡ op_of verb number value }
+{
+    match verb {
+        ValueVerb::Insert => Op::Insert(number, value),
+        ValueVerb::Update => Op::Update(number, value),
+        ValueVerb::Append => Op::Append(number, value),
+    }
+}
+
+/// A write of a value to the table of a name.
+#[inline(never)]
+pub fn write_of(verb: ValueVerb, name: &[u8], number: u64, words: &[u8]) -> Option<RowRequest>
+    ensures { IfSome result (λ row. IsValueWrite verb name.now number words.now row) }
+{
+    let key = table_key(name)?;
+    let value = value_behind(words)?;
+    Some(RowRequest::Write(key, op_of(verb, number, value)))
+}
+
+/// A delete in the table of a name.
+#[inline(never)]
+pub fn delete_of(name: &[u8], number: u64, words: &[u8]) -> Option<RowRequest>
+    ensures { IfSome result (λ row. (words.now ≡ []) × IsWriteOf name.now (Delete number) row) }
+{
+    if !words.is_empty() {
+        return None;
+    }
+    let key = table_key(name)?;
+    Some(RowRequest::Write(key, Op::Delete(number)))
+}
+
+/// The key that a name is, which may have a keyspace and a type.
+#[inline(never)]
+fn any_key(name: &[u8]) -> Option<RuleKey>
+    ensures { IfSome result (λ key. IsTextOfKey name.now key) }
+{
+    if !is_all_visible(name) {
+        return None;
+    }
+    RuleKey::parse(text_of(name)).ok()
+}
+
+/// A read of the table of a name. One without marks is read by itself, which is faster.
+#[inline(never)]
+pub fn read_of(name: &[u8], number: u64, words: &[u8]) -> Option<RowRequest>
+    ensures { IfSome result (λ row. (words.now ≡ []) × IsReadOf name.now number row) }
+{
+    if !words.is_empty() {
+        return None;
+    }
+    if let Some(key) = table_key(name) {
+        return Some(RowRequest::Read(key, number, TabletType::Primary));
+    }
+    let key = any_key(name)?;
+    let tablet_type = key.tablet_type.unwrap_or(TabletType::Primary);
+    Some(RowRequest::Read(key, number, tablet_type))
+}
