@@ -12,4 +12,3 @@ pub use fault::RulesFault;
 pub use read::value_of_text;
 pub use rules::RoutingRules;
 pub use text::{WrittenItem, push_sorted};
-pub use write::list_of_values;

@@ -8,7 +8,7 @@ ghost use Rattle.mt_model.specs.Part.{rule_routes};
 ghost use Rattle.mt_model.specs.Topology.{rule_at, without_rule_place};
 ghost use Rattle.mt_rules.specs.Read.{IsUnlessMemory, answer_with, rules_of_text, with_one_more};
 ghost use Rattle.serde_json.specs.View.{view};
-ghost use Rattle.mt_rules.specs.Values.{IsWellSorted, Says, rules_value};
+ghost use Rattle.mt_rules.specs.Values.{IsWellSorted, Says};
 ghost use Rattle.mt_rules.specs.Member.{rules_within};
 ghost use Rattle.mt_model.specs.Documents.{rules_array, rules_text};
 ghost use Rattle.mt_rules.specs.Rules.{Reserves, has_rule_place};
@@ -87,18 +87,6 @@ impl RoutingRules {
     {
         match write::text_of_rules(alloc, &self.places) {
             Ok(text) => Ok(text),
-            Err(_) => Err(RulesFault::Memory),
-        }
-    }
-
-    /// The rules as the value of a list, for a larger document. `R0 Memory`.
-    pub fn to_value(&self, alloc: Global) -> Result<Value, RulesFault>
-        ensures value { IfOk result (λ value. view value ≡ rules_value self.now) }
-        ensures sorted { OnOk result (IsWellSorted self.now) }
-        ensures memory { IfErr result (λ fault. fault ≡ RulesFault.Memory) }
-    {
-        match write::value_of_rules(alloc, &self.places) {
-            Ok(value) => Ok(value),
             Err(_) => Err(RulesFault::Memory),
         }
     }
