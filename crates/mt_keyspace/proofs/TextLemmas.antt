@@ -13,6 +13,7 @@ use Rattle.mt_rules.proofs.AscendLemmas.{seconds, sort-map, under}
 use Rattle.mt_rules.proofs.PutLemmas.{all-put, of_seconds}
 use Rattle.mt_keyspace.specs.Values.{IsDenialText, IsNamedKeyspace, by_themselves}
 use Rattle.mt_keyspace.specs.Written.{items_behind, keyspace_item}
+use Rattle.mt_keyspace.proofs.LoadLemmas.{all-append}
 
 -- ---- items under their names
 
@@ -106,10 +107,6 @@ pub record WritesDenials (now : List (List ℕ × List ℕ)) (left all : Keyspac
 
 pub WritesDenials-none : (all : Keyspaces) → WritesDenials [] all all
 WritesDenials-none all = record { texts = refl; named = λ named. named; names = λ names. names }
-
-all-append : {A : Type 0} (P : A → Type 0) (xs ys : List A) → AllByRecursion P xs → AllByRecursion P ys → AllByRecursion P (xs ++ ys)
-all-append P [] ys one two = two
-all-append P (x ∷ xs) ys one two = (one.0, all-append P xs ys one.1 two)
 
 pub WritesDenials-put : (now : List (List ℕ × List ℕ)) (k : List ℕ × KeyspaceState) (left all : Keyspaces) → AllByRecursion IsDenialText (denied_texts k) → IsKeyspaceName k.0 → WritesDenials now (k ∷ left) all
     → WritesDenials (now ++ map quoted_item (denied_texts k)) left all
