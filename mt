@@ -17,7 +17,7 @@ is_stale() {
 
 mkdir -p "$top/out" || exit 1
 if [ ! -x "$program" ] || is_stale; then
-    echo "mt: proving and building the program; a first build takes some thirty minutes, a later one less" >&2
+    echo "mt: proving and building the program; a first build takes some ninety minutes, a later one less" >&2
     (cd "$crate" && rt run -- run) </dev/null 2>&1 | tee "$top/out/mt.log" | sed -un 's/^rt: chose .* for /mt: proving /p' >&2
     if [ "${PIPESTATUS[0]}" != 0 ]; then
         echo "mt: the build failed; out/mt.log has its messages" >&2
