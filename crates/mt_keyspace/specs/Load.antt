@@ -1,6 +1,7 @@
 -- The keyspaces of a dump: which a value says, however many and however large, or none.
 use Rattle.std.specs.Prelude.{◌≡◌, ◌⊎◌, ℕ, nat_lt, Bool, true, is_some, if◌then◌else◌, List, [], ◌∷◌, ◌++◌, length, codes, Option, None, Some, option_map, option_and_then, Result, Ok, Err}
 use Rattle.std.specs.Map.{lookup, set_value}
+use Rattle.indexmap.specs.IndexMap.{IndexMap}
 use Rattle.serde_json.specs.Data.{Data, null, boolean, number, string, array, object, Items, no_items, item}
 use Rattle.serde_json.specs.Find.{get, as_str}
 use Rattle.mt_names.specs.declared.keys.RuleTarget.{RuleTarget}
@@ -12,7 +13,11 @@ use Rattle.mt_model.specs.Limits.{most_tables_in_keyspace}
 use Rattle.mt_model.specs.Topology.{Keyspaces, KeyspaceState, Marks, is_marked, keyspace_at}
 use Rattle.mt_rules.specs.Member.{unless_fault}
 pub use Rattle.mt_rules.specs.Read.{answer_with}
-pub use Rattle.mt_rules.specs.Member.{listed}
+
+-- a map's entries, or a fault
+abbrev pub listed : {K V S E : Type 0} → Result (IndexMap K V S) E → Result (List (K × V)) E
+listed (Ok map) = Ok map.entries
+listed (Err fault) = Err fault
 
 -- the list of a member, which may be missing
 abbrev pub list_of : Option Data → Option Items

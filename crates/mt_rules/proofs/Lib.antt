@@ -2,6 +2,7 @@ pub mod AscendLemmas
 pub mod BackLemmas
 pub mod KeysLemmas
 pub mod ListLemmas
+pub mod PlacesLemmas
 pub mod PutLemmas
 pub mod ReadLemmas
 pub mod RouteLemmas

@@ -1,9 +1,6 @@
--- A place more, at a key that has none.
-use Rattle.std.proofs.Common.{◌≡◌, ◌==◌, ℕ, Bool, true, false, length, Ok, [], ◌∷◌, ◌++◌, Option, None, Some, position, remove, refl, sym, ap, ◌∙◌}
+-- A place more, at a key that has none, and one less; how many there are.
+use Rattle.std.proofs.Common.{◌≡◌, ◌≤◌, ◌==◌, Bool, arith, true, false, length, Ok, [], ◌∷◌, ◌++◌, Option, None, Some, refl, sym, ap, ◌∙◌}
 use Rattle.std.specs.Map.{keys_of, lookup, remove_entry}
-use Rattle.indexmap.proofs.MapLemmas.{Found-position, remove_entry-first}
-use Rattle.indexmap.proofs.CallerLemmas.{insert_entry-new}
-use Rattle.indexmap.specs.IndexMap.{IndexMap, insert_entry}
 use Rattle.mt_names.specs.declared.keys.RuleKey.{RuleKey}
 use Rattle.mt_names.specs.declared.keys.RuleTarget.{RuleTarget}
 use Rattle.mt_names.specs.Same.{same_key}
@@ -16,16 +13,6 @@ use Rattle.mt_rules.specs.Member.{or_shape, with_new_rule}
 
 pub with_rule_place-new : (rules : Rules) (key : RuleKey) → has_rule_place rules key ≡ false → with_rule_place rules key ≡ rules ++ (key, None) ∷ []
 with_rule_place-new rules key lacks = rw (none_from (lookup (same_key key) rules) lacks) refl
-
--- what `insert` makes of the map
-pub insert_entry-last : {S : Type 0} (m : IndexMap RuleKey (Option RuleTarget) S) (rules : Rules) (key : RuleKey) (rule : Option RuleTarget) → m.entries ≡ rules → has_rule_place rules key ≡ false → insert_entry same_key m.entries key rule ≡ rules ++ (key, rule) ∷ []
-insert_entry-last m rules key rule is lacks =
-    insert_entry-new same_key m key rule (ap (lookup (same_key key)) is ∙ none_from (lookup (same_key key) rules) lacks) ∙ ap (λ es. es ++ (key, rule) ∷ []) is
-
--- where it has no rule
-pub insert_entry-place : {S : Type 0} (m : IndexMap RuleKey (Option RuleTarget) S) (rules : Rules) (key copy : RuleKey) → m.entries ≡ rules → copy ≡ key → has_rule_place rules key ≡ false → insert_entry same_key m.entries copy None ≡ with_rule_place rules key
-insert_entry-place m rules key copy is copied lacks =
-    ap (λ k. insert_entry same_key m.entries k None) copied ∙ insert_entry-last m rules key None is lacks ∙ sym (with_rule_place-new rules key lacks)
 
 pub with_one_more-new : (rules : Rules) (r : RuleKey × RuleTarget) (new : Rules) → has_rule_place rules r.0 ≡ false → (length rules == most_rules) ≡ false → new ≡ rules ++ (r.0, Some r.1) ∷ [] → Ok new ≡ with_one_more rules r
 with_one_more-new rules r new lacks room is = rw (lacks, room) (ap Ok is)
@@ -48,6 +35,11 @@ remove_entry-none test (r ∷ rules) none = by (remove_entry-none test rules) (t
 pub released-none : (rules : Rules) (key : RuleKey) → lookup (same_key key) rules ≡ None → rules ≡ without_rule_place rules key
 released-none rules key none = rw none (sym (remove_entry-none (same_key key) rules none))
 
--- where it has one without a rule, by its index
-pub released-there : (rules : Rules) (key : RuleKey) (i : ℕ) → position (same_key key) (keys_of rules) ≡ Some i → lookup (same_key key) rules ≡ Some None → remove rules i ≡ without_rule_place rules key
-released-there rules key i at there = rw there (sym (remove_entry-first (same_key key) rules i (Found-position (same_key key) rules i at).first))
+-- there are no more places than before
+pub length-remove_entry : (test : RuleKey → Bool) (rules : Rules) → length (remove_entry test rules) ≤ length rules
+length-remove_entry test [] = omega (arith)
+length-remove_entry test (r ∷ rules) = by (length-remove_entry test rules) (test r.0) refl
+  where
+    by : length (remove_entry test rules) ≤ length rules → (t : Bool) → test r.0 ≡ t → length (remove_entry test (r ∷ rules)) ≤ length (r ∷ rules)
+    by again true t = rw t (omega (arith))
+    by again false t = rw t (omega (arith, again))

@@ -1,7 +1,6 @@
 -- The rules as a member of a larger document: however many they are, they are read to the end, and the limit is told last.
 use Rattle.std.specs.Prelude.{nat_lt, if◌then◌else◌, List, [], ◌∷◌, ◌++◌, length, Option, None, Some, option_and_then, Result, Ok, Err}
 use Rattle.std.specs.Option.{option_map_or}
-use Rattle.indexmap.specs.IndexMap.{IndexMap}
 use Rattle.serde_json.specs.Data.{Data, null, boolean, number, string, array, object, Items, no_items, item}
 use Rattle.mt_names.specs.declared.keys.RuleKey.{RuleKey}
 use Rattle.mt_names.specs.declared.keys.RuleTarget.{RuleTarget}
@@ -52,8 +51,3 @@ unless_full rules = if nat_lt most_rules (length rules) then Err Full else Ok ru
 -- the rules of a member, or the fault: the limit is told only where nothing else is wrong
 abbrev pub rules_within : Option Data → Result Rules RulesFault
 rules_within member = option_map_or unless_full (rules_in member) (Err Shape)
-
--- a map's entries, or a fault
-abbrev pub listed : {K V S E : Type 0} → Result (IndexMap K V S) E → Result (List (K × V)) E
-listed (Ok map) = Ok map.entries
-listed (Err fault) = Err fault

@@ -3,6 +3,7 @@
 
 mod fault;
 mod member;
+mod places;
 mod read;
 mod rules;
 mod text;

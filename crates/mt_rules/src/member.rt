@@ -1,66 +1,64 @@
 //! Reading the rules as a member of a larger document, which are read to the end before a limit is told.
-ghost use Rattle.std.specs.Prelude.{◌≡◌, [], option_map, IfOk, OnOk};
-ghost use Rattle.std.specs.List.{IsDistinct};
-ghost use Rattle.std.specs.Map.{keys_of};
+ghost use Rattle.std.specs.Prelude.{◌≡◌, [], option_map};
 ghost use Rattle.serde_json.specs.View.{view, items_view};
-ghost use Rattle.mt_names.specs.Same.{same_key};
 ghost use Rattle.mt_rules.specs.Read.{IsUnlessMemory, answer_with};
-ghost use Rattle.mt_rules.specs.Member.{listed, or_shape, rules_in, rules_of, with_new_rule, with_rule_of};
+ghost use Rattle.mt_rules.specs.Member.{or_shape, rules_in, rules_of, with_new_rule, with_rule_of};
 
 use crate::RulesFault;
+use crate::places::Places;
 use crate::read::rule_of;
-use indexmap::IndexMap;
 use mt_names::{RuleKey, RuleTarget};
 use serde_json::Value;
 use std::alloc::Global;
 
-/// Rules by their keys, however many.
-type Places = IndexMap<RuleKey, Option<RuleTarget>>;
-
 /// Adds a rule, whose key must be new.
-fn add(places: &mut Places, key: RuleKey, target: RuleTarget) -> Result<(), RulesFault>
-    ensures answer { IsUnlessMemory (answer_with places.new.entries result) (or_shape (with_new_rule places.old.entries (key, target))) }
-    ensures distinct { OnOk result (IsDistinct same_key (keys_of places.new.entries)) }
+fn add(places: &mut Places, key: &RuleKey, target: RuleTarget) -> Result<(), RulesFault>
+    ensures { IsUnlessMemory (answer_with places.new result) (or_shape (with_new_rule places.old (key.now, target))) }
 {
-    if places.contains_key(&key) {
+    if places.contains(key) {
         return Err(RulesFault::Shape);
     }
-    match places.insert(key, Some(target)) {
-        Ok(_) => Ok(()),
+    match places.add(key, Some(target)) {
+        Ok(()) => Ok(()),
         Err(_) => Err(RulesFault::Memory),
     }
 }
 
 /// Adds the rule of a value.
 fn add_rule_of(places: &mut Places, rule: &Value) -> Result<(), RulesFault>
-    ensures answer { IsUnlessMemory (answer_with places.new.entries result) (or_shape (with_rule_of places.old.entries (view rule.now))) }
-    ensures distinct { OnOk result (IsDistinct same_key (keys_of places.new.entries)) }
+    ensures { IsUnlessMemory (answer_with places.new result) (or_shape (with_rule_of places.old (view rule.now))) }
 {
     match rule_of(rule) {
-        Ok((key, target)) => add(places, key, target),
+        Ok((key, target)) => add(places, &key, target),
         Err(_) => Err(RulesFault::Shape),
     }
 }
 
+/// Adds the rules of a list.
+fn add_rules_of(places: &mut Places, list: &[Value]) -> Result<(), RulesFault>
+    ensures { IsUnlessMemory (answer_with places.new result) (or_shape (rules_of places.old (items_view list.now))) }
+{
+    'values: for value in list {
+        add_rule_of(places, value)?;
+    }
+    Ok(())
+}
+
 /// The rules of a list.
 fn places_of_list(alloc: Global, list: &[Value]) -> Result<Places, RulesFault>
-    ensures answer { IsUnlessMemory (listed result) (or_shape (rules_of [] (items_view list.now))) }
-    ensures distinct { IfOk result (λ places. IsDistinct same_key (keys_of places.entries)) }
+    ensures { IsUnlessMemory result (or_shape (rules_of [] (items_view list.now))) }
 {
-    let mut places = IndexMap::new(alloc);
-    'values: for value in list {
-        add_rule_of(&mut places, value)?;
-    }
+    let mut places = Places::new(alloc);
+    add_rules_of(&mut places, list)?;
     Ok(places)
 }
 
 /// The rules of a document's member.
 pub fn places_of_member(alloc: Global, found: Option<&Value>) -> Result<Places, RulesFault>
-    ensures answer { IsUnlessMemory (listed result) (or_shape (rules_in (option_map (λ v. view v.now) found.entry))) }
-    ensures distinct { IfOk result (λ places. IsDistinct same_key (keys_of places.entries)) }
+    ensures { IsUnlessMemory result (or_shape (rules_in (option_map (λ v. view v.now) found.entry))) }
 {
     match found {
-        None | Some(Value::Null) => Ok(IndexMap::new(alloc)),
+        None | Some(Value::Null) => Ok(Places::new(alloc)),
         Some(Value::Array(list)) => places_of_list(alloc, list),
         Some(_) => Err(RulesFault::Shape),
     }

@@ -13,35 +13,31 @@ ghost use Rattle.mt_rules.specs.Member.{rules_within};
 ghost use Rattle.mt_model.specs.Documents.{rules_array, rules_text};
 ghost use Rattle.mt_rules.specs.Rules.{Reserves, has_rule_place};
 
+use crate::places::{Linked, Places};
 use crate::{RulesFault, member, read, text, write};
-use indexmap::IndexMap;
 use mt_model::{Entry, MAX_RULES};
 use mt_names::{RuleKey, RuleTarget};
 use serde_json::Value;
 use std::alloc::{AllocError, Global};
 use std::marker::Model;
-use std::mem;
 
 /// Routing rules by their keys. A key is reserved before its rule is set, so that to set it takes no memory: it then
 /// has a place, with a rule or without one. There are at most 4,096 places.
 #[derive(Drop)]
 pub struct RoutingRules {
-    places: IndexMap<RuleKey, Option<RuleTarget>>,
+    places: Places,
 }
 
 impl Model for RoutingRules {
     ghost use Rattle.std.specs.Prelude.{◌≤◌, length};
-    ghost use Rattle.std.specs.List.{IsDistinct};
-    ghost use Rattle.std.specs.Map.{keys_of};
-    ghost use Rattle.mt_names.specs.Same.{same_key};
     ghost use Rattle.mt_model.specs.Limits.{most_rules};
     ghost use Rattle.mt_model.specs.Topology.{Rules};
 
     ghost Value = { Rules };
 
-    ghost view = { λ rules. rules.places.entries };
+    ghost view = { λ rules. rules.places };
 
-    ghost invariant = { λ rules. IsDistinct same_key (keys_of rules.places.entries) × (length rules.places.entries ≤ most_rules) };
+    ghost invariant = { λ rules. length rules.places ≤ most_rules };
 }
 
 impl RoutingRules {
@@ -50,7 +46,7 @@ impl RoutingRules {
         ensures { result ≡ [] }
     {
         RoutingRules {
-            places: IndexMap::new(alloc),
+            places: Places::new(alloc),
         }
     }
 
@@ -105,7 +101,7 @@ impl RoutingRules {
         ensures within { length self.now ≤ most_rules }
         ensures distinct { IsDistinct same_key (keys_of self.now) }
     {
-        let _places = &self.places;
+        let _distinct = self.places.len();
     }
 
     /// How many places there are.
@@ -120,7 +116,7 @@ impl RoutingRules {
     pub fn is_empty(&self) -> bool
         ensures { IsTrue result ↔ (self.now ≡ []) }
     {
-        self.places.is_empty()
+        self.len() == 0
     }
 
     /// Whether there are as many places as there may be.
@@ -144,7 +140,10 @@ impl RoutingRules {
         ensures value { result ≡ length (rule_routes self.now) }
         ensures within { result ≤ most_rules }
     {
-        rule_count(&self.places)
+        match self.places.linked() {
+            Some(linked) => rule_count(linked),
+            None => 0,
+        }
     }
 
     /// The entry of a rule, by its index among the keys that have one, in the order of their places. It takes no memory;
@@ -152,14 +151,14 @@ impl RoutingRules {
     pub fn rule_entry(&self, index: usize) -> Option<Entry>
         ensures { result ≡ slice_get (rule_routes self.now) index }
     {
-        rule_entry(&self.places, index)
+        rule_entry(self.places.linked()?, index)
     }
 
     /// Whether a key is reserved.
     pub fn has_place(&self, key: &RuleKey) -> bool
         ensures { result ≡ has_rule_place self.now key.now }
     {
-        self.places.contains_key(key)
+        self.places.contains(key)
     }
 
     /// Makes a place for a key, without a rule. Where the key has one nothing changes. `R1 Full` at a 4,097th place,
@@ -183,8 +182,8 @@ impl RoutingRules {
         requires room { length self.old < most_rules }
         ensures { Reserves self.old key.now result self.new }
     {
-        match self.places.insert(key.copied(), None) {
-            Ok(_) => Ok(()),
+        match self.places.add(key, None) {
+            Ok(()) => Ok(()),
             Err(_) => Err(RulesFault::Memory),
         }
     }
@@ -199,8 +198,8 @@ impl RoutingRules {
         if self.is_full() {
             return Err(RulesFault::Full);
         }
-        match self.places.insert(key, Some(target)) {
-            Ok(_) => Ok(()),
+        match self.places.add(&key, Some(target)) {
+            Ok(()) => Ok(()),
             Err(_) => Err(RulesFault::Memory),
         }
     }
@@ -211,10 +210,7 @@ impl RoutingRules {
         ensures before { result ≡ rule_at self.old key.now }
         ensures after { self.new ≡ set_value (same_key key.now) self.old target }
     {
-        match self.places.get_mut(key) {
-            Some(rule) => mem::replace(rule, target),
-            None => None,
-        }
+        self.places.replace(key, target)
     }
 
     /// Sets the rule of a reserved key, or takes it away. It takes no memory.
@@ -222,32 +218,30 @@ impl RoutingRules {
         requires { has_rule_place self.old key.now ≡ true }
         ensures { self.new ≡ set_value (same_key key.now) self.old target }
     {
-        if let Some(rule) = self.places.get_mut(key) {
-            *rule = target;
-        }
+        self.places.put(key, target);
     }
 
     /// Drops the place of a key that has no rule. Where the key has a rule nothing changes. It takes no memory.
     pub fn release_key(&mut self, key: &RuleKey)
         ensures { self.new ≡ without_rule_place self.old key.now }
     {
-        let Some((index, _, rule)) = self.places.get_full(key) else {
+        let Some(rule) = self.places.get(key) else {
             return;
         };
         if rule.is_none() {
-            self.places.shift_remove_index(index);
+            self.places.remove(key);
         }
     }
 }
 
 /// How many keys have a rule.
-fn rule_count(places: &IndexMap<RuleKey, Option<RuleTarget>>) -> usize
-    requires { length places.now.entries ≤ most_rules }
-    ensures value { result ≡ length (rule_routes places.now.entries) }
+fn rule_count(linked: &Linked) -> usize
+    requires { length linked.now.entries ≤ most_rules }
+    ensures value { result ≡ length (rule_routes linked.now.entries) }
     ensures within { result ≤ most_rules }
 {
     let mut count = 0;
-    for (_, rule) in places.iter() {
+    for (_, rule) in linked.iter() {
         if rule.is_some() {
             count += 1;
         }
@@ -256,11 +250,11 @@ fn rule_count(places: &IndexMap<RuleKey, Option<RuleTarget>>) -> usize
 }
 
 /// The entry of a rule, by its index among the keys that have one.
-fn rule_entry(places: &IndexMap<RuleKey, Option<RuleTarget>>, index: usize) -> Option<Entry>
-    ensures { result ≡ slice_get (rule_routes places.now.entries) index }
+fn rule_entry(linked: &Linked, index: usize) -> Option<Entry>
+    ensures { result ≡ slice_get (rule_routes linked.now.entries) index }
 {
     let mut before = index;
-    for (key, rule) in places.iter() {
+    for (key, rule) in linked.iter() {
         if let Some(target) = rule {
             if before == 0 {
                 return Some(Entry::Rule(key.copied(), Some(target.copied())));

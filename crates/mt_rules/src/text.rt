@@ -8,12 +8,12 @@ ghost use Rattle.mt_model.specs.Documents.{array, entries_of, put_by_text, rules
 ghost use Rattle.mt_rules.specs.Values.{IsNamed, IsWellSorted};
 ghost use Rattle.mt_rules.specs.Written.{named_text, quoted_item, text_of_texts, texts_of, written_document, written_text};
 
-use indexmap::IndexMap;
+use crate::places::Places;
 use mt_names::{RuleKey, RuleTarget};
 use std::alloc::{AllocError, Global};
 
 /// How many bytes the text of a rule is taken to have before it is known.
-const LIKELY_LENGTH: usize = 80;
+const LIKELY_LENGTH: usize = 112;
 
 /// An item of a list as it is written, with the key by which such items are sorted.
 #[derive(Drop)]
@@ -122,15 +122,17 @@ fn written_rule(
 }
 
 /// The rules as they are written, in the order of their places.
-pub fn written_rules(
-    alloc: Global,
-    places: &IndexMap<RuleKey, Option<RuleTarget>>,
-) -> Result<Vec<WrittenItem>, AllocError>
-    ensures texts { IfOk result (λ rules. map written_text rules.items ≡ texts_of places.now.entries) }
-    ensures named { OnOk result (AllByRecursion IsNamed (flat_map entries_of places.now.entries)) }
+pub fn written_rules(alloc: Global, places: &Places) -> Result<Vec<WrittenItem>, AllocError>
+    ensures texts { IfOk result (λ rules. map written_text rules.items ≡ texts_of places.now) }
+    ensures named { OnOk result (AllByRecursion IsNamed (flat_map entries_of places.now)) }
+    ensures distinct { IsDistinct same_key (keys_of places.now) }
 {
-    let mut rules = Vec::with_capacity(alloc, places.len())?;
-    'places: for (key, target) in places.iter() {
+    let len = places.len();
+    let mut rules = Vec::with_capacity(alloc, len)?;
+    let Some(linked) = places.linked() else {
+        return Ok(rules);
+    };
+    'places: for (key, target) in linked.iter() {
         if let Some(target) = target {
             let rule = written_rule(alloc, key, target)?;
             rules.push(rule)?;
@@ -153,14 +155,9 @@ pub fn document_of(alloc: Global, rules: &[WrittenItem]) -> Result<String, Alloc
 }
 
 /// Appends the list of the rules, in the order of their keys' texts.
-pub fn push_rules(
-    alloc: Global,
-    text: &mut String,
-    places: &IndexMap<RuleKey, Option<RuleTarget>>,
-) -> Result<(), AllocError>
-    requires { IsDistinct same_key (keys_of places.now.entries) }
-    ensures text { OnOk result (string_bytes text.new ≡ string_bytes text.old ++ rules_array places.now.entries) }
-    ensures sorted { OnOk result (IsWellSorted places.now.entries) }
+pub fn push_rules(alloc: Global, text: &mut String, places: &Places) -> Result<(), AllocError>
+    ensures text { OnOk result (string_bytes text.new ≡ string_bytes text.old ++ rules_array places.now) }
+    ensures sorted { OnOk result (IsWellSorted places.now) }
 {
     let rules = written_rules(alloc, places)?;
     push_sorted(alloc, text, &rules)

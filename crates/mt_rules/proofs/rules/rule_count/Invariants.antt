@@ -4,4 +4,4 @@ use Rattle.mt_model.specs.Part.{rule_routes}
 use Rattle.mt_rules.proofs.rules.rule_count.Given as goal
 
 abbrev pub invariant-loop-rule : goal.invariant-loop-rule
-invariant-loop-rule l = l.count + length (rule_routes l.rule-iterator) ≡ length (rule_routes l.places.entries)
+invariant-loop-rule l = l.count + length (rule_routes l.rule-iterator) ≡ length (rule_routes l.linked.entries)

@@ -4,4 +4,4 @@ use Rattle.mt_model.specs.Part.{rule_routes}
 use Rattle.mt_rules.proofs.rules.rule_entry.Given as goal
 
 abbrev pub invariant-loop-key : goal.invariant-loop-key
-invariant-loop-key l = slice_get (rule_routes l.places.entries) l.index ≡ slice_get (rule_routes l.key-iterator) l.before
+invariant-loop-key l = slice_get (rule_routes l.linked.entries) l.index ≡ slice_get (rule_routes l.key-iterator) l.before

@@ -7,11 +7,11 @@ use Rattle.mt_rules.proofs.text.written_rules.Goals as goal
 
 pub places-preserved-in-Continue-branch-3 : goal.places-preserved-in-Continue-branch-3
 places-preserved-in-Continue-branch-3 c =
-    let key = c.in-Some.key.now in
+    let key = c.in-Some-2.key.now in
     let target = c.in-Some-target.target in
     let found = c.places.rules.items in
     let left : c.places.key-iterator ≡ (key, Some target) ∷ c.next.new.self = search rules in
-    let before = subst (λ l. Writes (map written_text found) l c.args.places.now.entries) left c.places.invariant in
+    let before = subst (λ l. Writes (map written_text found) l c.args.places.now) left c.places.invariant in
     let texts : map written_text c.push.new.self.items ≡ map written_text found ++ named_text (key, target) ∷ [] =
     ap (map written_text) c.in_ok-push.ensures.items ∙ map-append written_text found (c.in_ok-rule.rule ∷ []) ∙ ap (λ t. map written_text found ++ t ∷ []) c.in_ok-rule.ensures.text in
-    subst (λ ts. Writes ts c.next.new.self c.args.places.now.entries) (sym texts) (Writes-put (map written_text found) key target c.next.new.self c.args.places.now.entries c.in_ok-rule.ensures.named before)
+    subst (λ ts. Writes ts c.next.new.self c.args.places.now) (sym texts) (Writes-put (map written_text found) key target c.next.new.self c.args.places.now c.in_ok-rule.ensures.named before)

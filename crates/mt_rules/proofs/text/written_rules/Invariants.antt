@@ -5,4 +5,4 @@ use Rattle.mt_rules.proofs.WrittenLemmas.{Writes}
 use Rattle.mt_rules.proofs.text.written_rules.Given as goal
 
 abbrev pub invariant-places : goal.invariant-places
-invariant-places l = Writes (map written_text l.rules.items) l.key-iterator l.places.entries
+invariant-places l = Writes (map written_text l.rules.items) l.key-iterator l.places

@@ -12,22 +12,22 @@ use Rattle.mt_rules.proofs.write.text_of_rules.Goals as goal
 pub document_of-requires : goal.document_of-requires
 document_of-requires c =
     let is : c.deref.result.now ≡ c.in_ok-rules.rules.items = search rules in
-    let given : map written_text c.deref.result.now ≡ texts_of c.args.places.now.entries = ap (map written_text) is ∙ c.in_ok-rules.ensures.texts in
-    subst (λ texts. IsDistinct same_text (map (λ x. x.0) texts)) (sym given) (distinct_texts c.args.places.now.entries c.requires.distinct c.in_ok-rules.ensures.named)
+    let given : map written_text c.deref.result.now ≡ texts_of c.args.places.now = ap (map written_text) is ∙ c.in_ok-rules.ensures.texts in
+    subst (λ texts. IsDistinct same_text (map (λ x. x.0) texts)) (sym given) (distinct_texts c.args.places.now c.in_ok-rules.ensures.distinct c.in_ok-rules.ensures.named)
 
 pub returns-clause-text : goal.returns-clause-text
 returns-clause-text c =
     let is : c.deref.result.now ≡ c.in_ok-rules.rules.items = search rules in
-    let given : map written_text c.deref.result.now ≡ texts_of c.args.places.now.entries = ap (map written_text) is ∙ c.in_ok-rules.ensures.texts in
+    let given : map written_text c.deref.result.now ≡ texts_of c.args.places.now = ap (map written_text) is ∙ c.in_ok-rules.ensures.texts in
     let texts = map written_text c.deref.result.now in
-    IfOk-weaker c.document_of.result _ _ (λ text ok. ok ∙ written_is c.args.places.now.entries (fold put_by_text [] texts) (ap (fold put_by_text []) given)) c.document_of.ensures
+    IfOk-weaker c.document_of.result _ _ (λ text ok. ok ∙ written_is c.args.places.now (fold put_by_text [] texts) (ap (fold put_by_text []) given)) c.document_of.ensures
 
 pub returns-clause-says : goal.returns-clause-says
 returns-clause-says c =
     let is : c.deref.result.now ≡ c.in_ok-rules.rules.items = search rules in
-    let given : map written_text c.deref.result.now ≡ texts_of c.args.places.now.entries = ap (map written_text) is ∙ c.in_ok-rules.ensures.texts in
-    let places = c.args.places.now.entries in
+    let given : map written_text c.deref.result.now ≡ texts_of c.args.places.now = ap (map written_text) is ∙ c.in_ok-rules.ensures.texts in
+    let places = c.args.places.now in
     let texts = map written_text c.deref.result.now in
-    let sorted = well_sorted places c.requires.distinct c.in_ok-rules.ensures.named in
+    let sorted = well_sorted places c.in_ok-rules.ensures.distinct c.in_ok-rules.ensures.named in
     IfOk-weaker c.document_of.result _ _
-    (λ text ok. text_says places (string_bytes text) (ok ∙ written_is places (fold put_by_text [] texts) (ap (fold put_by_text []) given)) sorted c.requires.few (IsUtf8-string_bytes text)) c.document_of.ensures
+    (λ text ok. text_says places (string_bytes text) (ok ∙ written_is places (fold put_by_text [] texts) (ap (fold put_by_text []) given)) sorted c.requires (IsUtf8-string_bytes text)) c.document_of.ensures
