@@ -9,7 +9,7 @@ ghost use Rattle.mt_model.specs.Limits.{most_keyspaces, most_tables_in_keyspace}
 ghost use Rattle.mt_model.specs.Part.{table_routes};
 ghost use Rattle.mt_model.specs.Topology.{holders, is_denied, is_present, keyspace_at, sole_holder, with_denied_mark, with_denied_place, with_keyspace_state, with_new_table, with_table_mark, with_table_place, without_denied_place, without_table_place};
 ghost use Rattle.mt_keyspace.specs.Edits.{Edits, add_keyspace_refusal, add_table_grows, add_table_refusal, answer_of, denied_place_grows, denied_place_refusal, table_place_grows, table_place_refusal};
-ghost use Rattle.mt_keyspace.specs.Keyspaces.{AreKeyspaces};
+ghost use Rattle.mt_keyspace.specs.Keyspaces.{AreKeyspaces, held_there};
 ghost use Rattle.mt_keyspace.specs.Values.{IsDenialText, IsNamedKeyspace};
 
 use crate::keyspace::Keyspace;
@@ -17,7 +17,7 @@ use crate::text::{push_denials, push_keyspaces};
 use indexmap::IndexMap;
 use mt_denied::DeniedFault;
 use mt_model::{Entry, MAX_KEYSPACES, TopologyFault};
-use mt_names::{KeyspaceName, RuleTarget, TableName};
+use mt_names::{KeyspaceName, TableName};
 use std::alloc::{AllocError, Global};
 use std::marker::Model;
 
@@ -135,9 +135,9 @@ impl Keyspaces {
         keyspace.set_denied(table, mark)
     }
 
-    /// The table of the one keyspace that has it.
-    pub fn sole_holder(&self, table: &TableName) -> Result<RuleTarget, TopologyFault>
-        ensures { result ≡ sole_holder (holders self.now table.now) table.now }
+    /// The one keyspace that has a table: `T2 NoTable` if none has it, `T3 Ambiguous` if several do. It takes no memory.
+    pub fn sole_holder(&self, table: &TableName) -> Result<&KeyspaceName, TopologyFault>
+        ensures { held_there result table.now ≡ sole_holder (holders self.now table.now) table.now }
     {
         let mut holder = None;
         for (name, keyspace) in self.places.iter() {
@@ -148,13 +148,7 @@ impl Keyspaces {
                 holder = Some(name);
             }
         }
-        match holder {
-            None => Err(TopologyFault::NoTable),
-            Some(keyspace) => Ok(RuleTarget {
-                keyspace: keyspace.copied(),
-                table: table.copied(),
-            }),
-        }
+        holder.ok_or(TopologyFault::NoTable)
     }
 
     /// Adds a keyspace without tables. `T4 Exists`, `T5 Full` at a 33rd, `T0 Memory`.

@@ -1,5 +1,5 @@
 //! What is looked up and edited at the rules.
-ghost use Rattle.std.specs.Prelude.{◌≡◌, true, Some, None};
+ghost use Rattle.std.specs.Prelude.{◌≡◌, true, Some, None, option_copied};
 ghost use Rattle.mt_model.specs.Topology.{rule_for, with_rule, with_rule_place};
 ghost use Rattle.mt_keyspace.specs.Edits.{Edits};
 ghost use Rattle.mt_topology.specs.Edits.{edit_rule_grows, edit_rule_refusal, lacks_rule_place, rule_place_refusal};
@@ -9,8 +9,12 @@ use mt_names::{RuleKey, RuleTarget, TabletType};
 use mt_rules::{RoutingRules, RulesFault};
 
 /// The rule that applies to a name: that for the type, else that for all types.
-pub fn rule_for(rules: &RoutingRules, key: &RuleKey, tablet_type: TabletType) -> Option<RuleTarget>
-    ensures { result ≡ rule_for rules.now key.now tablet_type }
+pub fn rule_for<'a>(
+    rules: &'a RoutingRules,
+    key: &RuleKey,
+    tablet_type: TabletType,
+) -> Option<&'a RuleTarget>
+    ensures { option_copied result ≡ rule_for rules.now key.now tablet_type }
 {
     if rules.is_empty() {
         return None;
@@ -18,10 +22,10 @@ pub fn rule_for(rules: &RoutingRules, key: &RuleKey, tablet_type: TabletType) ->
     let mut looked_up = key.copied();
     looked_up.tablet_type = Some(tablet_type);
     if let Some(target) = rules.get(&looked_up) {
-        return Some(target.copied());
+        return Some(target);
     }
     looked_up.tablet_type = None;
-    rules.get(&looked_up).map(RuleTarget::copied)
+    rules.get(&looked_up)
 }
 
 /// Sets the rule of a key, and makes its place where it has none.

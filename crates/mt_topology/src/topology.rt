@@ -10,6 +10,7 @@ ghost use Rattle.mt_topology.specs.Says.{HasDeniedTables, Says};
 ghost use Rattle.mt_model.specs.Documents.{dump_text};
 ghost use Rattle.mt_keyspace.specs.Edits.{Edits, add_keyspace_refusal, add_table_grows, add_table_refusal, answer_of};
 ghost use Rattle.mt_topology.specs.Edits.{edit_rule_grows, edit_rule_refusal};
+ghost use Rattle.mt_topology.specs.Leads.{lent_target};
 
 use crate::rules::{add_rule, put_rule, reserve_rule, rule_for, take_rule};
 use crate::{load, room, routes, write};
@@ -263,15 +264,28 @@ impl Topology {
     ) -> Result<RuleTarget, TopologyFault>
         ensures { result ≡ resolution self.now key.now tablet_type }
     {
+        let (keyspace, table) = self.look_up(key, tablet_type)?;
+        Ok(RuleTarget {
+            keyspace: keyspace.copied(),
+            table: table.copied(),
+        })
+    }
+
+    /// The names of the keyspace and the table that a name leads to for a type, as `resolve` answers them, without a copy
+    /// of either. It takes no memory.
+    pub fn look_up<'a>(
+        &'a self,
+        key: &'a RuleKey,
+        tablet_type: TabletType,
+    ) -> Result<(&'a KeyspaceName, &'a TableName), TopologyFault>
+        ensures { lent_target result ≡ resolution self.now key.now tablet_type }
+    {
         if let Some(target) = rule_for(&self.rules, key, tablet_type) {
-            return Ok(target);
+            return Ok((&target.keyspace, &target.table));
         }
         match &key.keyspace {
-            Some(keyspace) => Ok(RuleTarget {
-                keyspace: keyspace.copied(),
-                table: key.table.copied(),
-            }),
-            None => self.keyspaces.sole_holder(&key.table),
+            Some(keyspace) => Ok((keyspace, &key.table)),
+            None => Ok((self.keyspaces.sole_holder(&key.table)?, &key.table)),
         }
     }
 
