@@ -6,13 +6,16 @@ use Rattle.std.specs.Io.KnownBytes.{Appends}
 use Rattle.std.specs.Prelude.{string_bytes}
 use Rattle.std.specs.Str.Lines.{lines}
 use Rattle.mt_model.specs.declared.entries.Scope.{Scope}
+use Rattle.mt_model.specs.declared.faults.TopologyFault.{TopologyFault}
 use Rattle.mt_model.specs.Documents.{dump_text, rules_text}
+use Rattle.mt_model.specs.Faults.{topology_fault_text}
+use Rattle.mt_names.specs.declared.keys.RuleTarget.{RuleTarget}
 use Rattle.mt_plain.specs.Events.{Answer, Event, Refusal}
 use Rattle.mt_plain.specs.Answers.{Answers}
 use Rattle.mt_plain.specs.Drive.{Driven, Drives, Driving, EndRule, GoesOn, Heard, event_of, heard, most_turns}
 use Rattle.mt_plain.specs.Drive as turn
 use Rattle.mt_plain.specs.Next.{next}
-use Rattle.mt_plain.specs.Output.{Adds, IsOutputBy, Output, Told, asks, drives, line_feed, nothing, output_from, says, told, told_request}
+use Rattle.mt_plain.specs.Output.{Adds, IsOutputBy, Output, Told, asked_there, asks, drives, line_feed, nothing, output_from, refused_text, says, told, told_request}
 use Rattle.mt_plain.specs.Output as plain
 use Rattle.mt_plain.specs.Plain.{Plain, opening}
 use Rattle.mt_plain.specs.Script.{Request, read_line}
@@ -26,6 +29,7 @@ use Rattle.mt_io.specs.declared.fault.ScriptFault.{ScriptFault}
 use Rattle.mt_io.specs.declared.fault.ScriptFault.TheVariants as fault
 use Rattle.mt_io.specs.Bytes.{GoesOut, Known, Reads, Writes}
 use Rattle.mt_io.proofs.GoesLemmas.{cut_before, goes_on, nothing_out}
+use Rattle.mt_site.specs.Through.{IsThrough}
 use Rattle.mt_site_state.specs.Ways.{SiteStands, SiteState, SiteSteps}
 use Rattle.mt_run.specs.declared.script.LineOutput as answer
 use Rattle.mt_run.specs.declared.script.LineOutput.TheVariants as output
@@ -73,6 +77,24 @@ tells_adds scopes q (asks event) text core (answer, answers, some, stands) =
 pub asks_told : (scopes : List Scope) (old new : SiteState) (event : Event) (answer : Answer) (text : List ℕ) → text ≡ plain.answer_text answer ++ line_feed → SiteSteps scopes old event answer new
     → (p : Plain) → SiteStands p scopes old → Tells scopes p (asks event) (Some text) new
 asks_told scopes old new event answer text is steps p stands = let then = steps p stands in (answer, then.0, ap Some is, then.1)
+
+-- ---- a row, through a name
+
+-- the answer where the name leads, told
+pub answered_through : {A Stays : Type 0} (scopes : List Scope) (p : Plain) (old new : SiteState) (led : Result RuleTarget TopologyFault) (ask : (keyspace table : List ℕ) → Event)
+    (answer_of : A → Answer) (told : A) (text : List ℕ) → text ≡ plain.answer_text (answer_of told) ++ line_feed
+    → IsThrough led Stays (λ target answer. SiteSteps scopes old (ask target.keyspace target.table) (answer_of answer) new) (Ok told)
+    → SiteStands p scopes old → Tells scopes p (asked_there led ask) (Some text) new
+answered_through scopes p old new (Ok target) ask answer_of told text is steps stands = asks_told scopes old new (ask target.keyspace target.table) (answer_of told) text is steps p stands
+answered_through scopes p old new (Err fault) ask answer_of told text is steps stands = absurd steps
+
+-- that the name leads nowhere, told
+pub nowhere_told : {A Stays : Type 0} {Answers : RuleTarget → A → Type 0} (scopes : List Scope) (p : Plain) (new : SiteState) (led : Result RuleTarget TopologyFault)
+    (ask : (keyspace table : List ℕ) → Event) (told : TopologyFault) (text : List ℕ) → text ≡ refused_text (topology_fault_text told) ++ line_feed
+    → IsThrough led Stays Answers (Err told) → (Stays → SiteStands p scopes new) → Tells scopes p (asked_there led ask) (Some text) new
+nowhere_told scopes p new (Ok target) ask told text is nowhere stands = absurd nowhere
+nowhere_told scopes p new (Err fault) ask told text is nowhere stands =
+    (ap Some (is ∙ ap (λ f. refused_text (topology_fault_text f) ++ line_feed) nowhere.0), stands nowhere.1)
 
 -- the end of a drive, told
 pub drives_told : (scopes : List Scope) (old new : SiteState) (driving : Driving) (ended : Result Driven Refusal) (text : List ℕ) → text ≡ plain.ended_text ended ++ line_feed

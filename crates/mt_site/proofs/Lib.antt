@@ -10,4 +10,5 @@ pub mod PrimaryLemmas
 pub mod RunLemmas
 pub mod SiteLemmas
 pub mod TargetLemmas
+pub mod ThroughLemmas
 pub mod WriteLemmas

@@ -9,3 +9,4 @@ pub mod Owed
 pub mod Parts
 pub mod Runs
 pub mod Target
+pub mod Through

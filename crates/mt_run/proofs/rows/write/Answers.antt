@@ -1,16 +1,32 @@
 -- The answer is that of the core where the name leads.
-use Rattle.std.proofs.Common.{Some, ap, subst}
+use Rattle.std.proofs.Common.{Ok, Err, Some, subst, sym}
+use Rattle.mt_model.specs.Topology.{resolution}
+use Rattle.mt_names.specs.declared.types.TabletType.TheVariants.{Primary}
 use Rattle.mt_plain.specs.Events as plain
 use Rattle.mt_plain.specs.Output.{asked_there}
+use Rattle.mt_site_state.specs.Ways.{SiteStands}
+use Rattle.mt_site.specs.ByHand.{written_from}
 use Rattle.mt_run.specs.Runs.{Tells}
+use Rattle.mt_run.proofs.RunLemmas.{answered_through, nowhere_told}
 use Rattle.mt_run.proofs.rows.write.Goals as goal
 
 pub returns-in-Ok : goal.returns-in-Ok
 returns-in-Ok c = λ scopes p stands.
-    subst (λ r. Tells scopes p (asked_there r (λ keyspace table. plain.write keyspace table c.args.op)) (Some c.write_there.result.items) c.write_there.new.core)
-    (c.in-Ok.ensures.served p scopes stands) (c.write_there.ensures scopes p stands)
+    let ask = λ keyspace table. plain.write keyspace table c.args.op in
+    subst (λ r. Tells scopes p (asked_there r ask) (Some c.written_line.result.items) c.write_through.new.self) (c.write_through.ensures.served p scopes stands)
+    (answered_through scopes p c.args.core.now c.write_through.new.self (resolution c.args.core.now.core.topology c.args.name.now Primary) ask written_from (Ok tt) c.written_line.result.items c.written_line.ensures
+      (c.in-Ok.ensures.steps scopes) stands)
+
+pub returns-in-Ok-2 : goal.returns-in-Ok-2
+returns-in-Ok-2 c = λ scopes p stands.
+    let ask = λ keyspace table. plain.write keyspace table c.args.op in
+    subst (λ r. Tells scopes p (asked_there r ask) (Some c.row_refused_line.result.items) c.write_through.new.self) (c.write_through.ensures.served p scopes stands)
+    (answered_through scopes p c.args.core.now c.write_through.new.self (resolution c.args.core.now.core.topology c.args.name.now Primary) ask written_from (Err c.in-Ok.refusal) c.row_refused_line.result.items c.row_refused_line.ensures
+      (c.in-Ok.ensures.steps scopes) stands)
 
 pub returns-in-Err : goal.returns-in-Err
 returns-in-Err c = λ scopes p stands.
-    subst (λ r. Tells scopes p (asked_there r (λ keyspace table. plain.write keyspace table c.args.op)) (Some c.look_up_line.result.items) c.args.core.now)
-    (c.in-Err.ensures.served p scopes stands) (ap Some c.look_up_line.ensures, stands)
+    let ask = λ keyspace table. plain.write keyspace table c.args.op in
+    subst (λ r. Tells scopes p (asked_there r ask) (Some c.look_up_line.result.items) c.write_through.new.self) (c.write_through.ensures.served p scopes stands)
+    (nowhere_told scopes p c.write_through.new.self (resolution c.args.core.now.core.topology c.args.name.now Primary) ask c.in-Err.fault c.look_up_line.result.items c.look_up_line.ensures
+      (c.in-Err.ensures.steps scopes) (λ same. subst (SiteStands p scopes) (sym same) stands))
