@@ -226,11 +226,7 @@ impl Core {
     }
 
     /// The same, for the core alone.
-    fn write_led(
-        &mut self,
-        name: &RuleKey,
-        op: Op,
-    ) -> Result<Result<(), Refusal>, TopologyFault>
+    fn write_led(&mut self, name: &RuleKey, op: Op) -> Result<Result<(), Refusal>, TopologyFault>
         ensures does { IsThrough (resolution self.old.core.topology name.now TabletType.Primary) (self.new.core ≡ self.old.core)
             (λ target told. WritesRow self.old.core target.keyspace target.table op (written_from told) self.new.core) result }
         ensures ways { self.new.ways ≡ self.old.ways }

@@ -13,18 +13,18 @@ returns-in-Ok c = λ scopes p stands.
     let ask = λ keyspace table. plain.read keyspace table c.args.key c.args.type_of in
     subst (λ r. Tells scopes p (asked_there r ask) (Some c.row_answer_line.result.items) c.args.core.now) (c.read_through.ensures.served p scopes stands)
     (answered_through scopes p c.args.core.now c.args.core.now (resolution c.args.core.now.core.topology c.args.name.now c.args.type_of) ask read_from (Ok c.in-Ok.row) c.row_answer_line.result.items c.row_answer_line.ensures
-      (c.in-Ok.ensures.steps scopes) stands)
+    (c.in-Ok.ensures.steps scopes) stands)
 
 pub returns-in-Ok-2 : goal.returns-in-Ok-2
 returns-in-Ok-2 c = λ scopes p stands.
     let ask = λ keyspace table. plain.read keyspace table c.args.key c.args.type_of in
     subst (λ r. Tells scopes p (asked_there r ask) (Some c.row_refused_line.result.items) c.args.core.now) (c.read_through.ensures.served p scopes stands)
     (answered_through scopes p c.args.core.now c.args.core.now (resolution c.args.core.now.core.topology c.args.name.now c.args.type_of) ask read_from (Err c.in-Ok.refusal) c.row_refused_line.result.items c.row_refused_line.ensures
-      (c.in-Ok.ensures.steps scopes) stands)
+    (c.in-Ok.ensures.steps scopes) stands)
 
 pub returns-in-Err : goal.returns-in-Err
 returns-in-Err c = λ scopes p stands.
     let ask = λ keyspace table. plain.read keyspace table c.args.key c.args.type_of in
     subst (λ r. Tells scopes p (asked_there r ask) (Some c.look_up_line.result.items) c.args.core.now) (c.read_through.ensures.served p scopes stands)
     (nowhere_told scopes p c.args.core.now (resolution c.args.core.now.core.topology c.args.name.now c.args.type_of) ask c.in-Err.fault c.look_up_line.result.items c.look_up_line.ensures
-      (c.in-Err.ensures.steps scopes) (λ stays. stands))
+    (c.in-Err.ensures.steps scopes) (λ stays. stands))

@@ -15,18 +15,18 @@ returns-in-Ok c = λ scopes p stands.
     let ask = λ keyspace table. plain.write keyspace table c.args.op in
     subst (λ r. Tells scopes p (asked_there r ask) (Some c.written_line.result.items) c.write_through.new.self) (c.write_through.ensures.served p scopes stands)
     (answered_through scopes p c.args.core.now c.write_through.new.self (resolution c.args.core.now.core.topology c.args.name.now Primary) ask written_from (Ok tt) c.written_line.result.items c.written_line.ensures
-      (c.in-Ok.ensures.steps scopes) stands)
+    (c.in-Ok.ensures.steps scopes) stands)
 
 pub returns-in-Ok-2 : goal.returns-in-Ok-2
 returns-in-Ok-2 c = λ scopes p stands.
     let ask = λ keyspace table. plain.write keyspace table c.args.op in
     subst (λ r. Tells scopes p (asked_there r ask) (Some c.row_refused_line.result.items) c.write_through.new.self) (c.write_through.ensures.served p scopes stands)
     (answered_through scopes p c.args.core.now c.write_through.new.self (resolution c.args.core.now.core.topology c.args.name.now Primary) ask written_from (Err c.in-Ok.refusal) c.row_refused_line.result.items c.row_refused_line.ensures
-      (c.in-Ok.ensures.steps scopes) stands)
+    (c.in-Ok.ensures.steps scopes) stands)
 
 pub returns-in-Err : goal.returns-in-Err
 returns-in-Err c = λ scopes p stands.
     let ask = λ keyspace table. plain.write keyspace table c.args.op in
     subst (λ r. Tells scopes p (asked_there r ask) (Some c.look_up_line.result.items) c.write_through.new.self) (c.write_through.ensures.served p scopes stands)
     (nowhere_told scopes p c.write_through.new.self (resolution c.args.core.now.core.topology c.args.name.now Primary) ask c.in-Err.fault c.look_up_line.result.items c.look_up_line.ensures
-      (c.in-Err.ensures.steps scopes) (λ same. subst (SiteStands p scopes) (sym same) stands))
+    (c.in-Err.ensures.steps scopes) (λ same. subst (SiteStands p scopes) (sym same) stands))

@@ -16,8 +16,8 @@ returns-clause-steps c = λ scopes.
     through (resolution old.core.topology c.args.name.now c.args.tablet_type) c.read_led.result
     (λ stays. stays)
     (λ target told does.
-      subst (λ s. SiteSteps scopes old (read target.keyspace target.table c.args.key c.args.tablet_type) (read_from told) s) (joined old old refl)
-      (c.events_by_hand_step_and_leave_the_ways.ensures.read scopes old old.core target.keyspace target.table c.args.key c.args.tablet_type (read_from told) does))
+    subst (λ s. SiteSteps scopes old (read target.keyspace target.table c.args.key c.args.tablet_type) (read_from told) s) (joined old old refl)
+    (c.events_by_hand_step_and_leave_the_ways.ensures.read scopes old old.core target.keyspace target.table c.args.key c.args.tablet_type (read_from told) does))
     c.read_led.ensures
 
 pub returns-clause-headline : goal.returns-clause-headline
@@ -26,7 +26,7 @@ returns-clause-headline c = λ scopes.
     through (resolution old.core.topology c.args.name.now c.args.tablet_type) c.read_led.result
     (λ stays. stays)
     (λ target told steps.
-      headline_kept scopes old old (read target.keyspace target.table c.args.key c.args.tablet_type ∷ []) (read_from told ∷ [])
-      (λ p stands. let r = steps p stands in ((r.0, tt), r.1))
-      c.every_run_keeps_the_headline.ensures.with_earlier_lines)
+    headline_kept scopes old old (read target.keyspace target.table c.args.key c.args.tablet_type ∷ []) (read_from told ∷ [])
+    (λ p stands. let r = steps p stands in ((r.0, tt), r.1))
+    c.every_run_keeps_the_headline.ensures.with_earlier_lines)
     (returns-clause-steps c scopes)
