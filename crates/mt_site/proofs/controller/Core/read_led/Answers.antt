@@ -1,5 +1,6 @@
 -- The row is read where the name leads.
-use Rattle.std.proofs.Common.{◌≡◌, ⊤, Ok, refl, rules, subst}
+use Rattle.std.proofs.Common.{◌≡◌, Ok, refl, rules, subst}
+use Rattle.std.specs.Prelude.{⊤}
 use Rattle.mt_model.specs.Topology.{resolution}
 use Rattle.mt_site_state.specs.ByHand.{ReadsRow, read_at}
 use Rattle.mt_site_state.specs.Core.{primary_at}
