@@ -2,7 +2,7 @@
 
 use mt_desk::Answer;
 use mt_event::Event;
-use mt_script::{Line, Request, answer_line, read_line};
+use mt_script::{Line, LineText, Request, read_line, write_answer};
 
 /// The event that a line asks for; none if it asks for none, for several, or where a name leads.
 pub fn event_of(line: &str) -> Option<Event> {
@@ -29,13 +29,13 @@ pub fn event_of(line: &str) -> Option<Event> {
 }
 
 /// The same, if it is one on a workflow.
-fn event_of_workflow(request: Request) -> Option<Event> {
+fn event_of_workflow(request: Request<'_>) -> Option<Event> {
     match request {
         Request::Create(workflow, source, target, tables) => Some(Event::Create {
             workflow,
             source,
             target,
-            tables,
+            tables: tables.tables(),
         }),
         Request::Advance(workflow, stream, at, max) => Some(Event::Advance {
             workflow,
@@ -56,6 +56,7 @@ fn event_of_workflow(request: Request) -> Option<Event> {
 
 /// Whether an answer is written so.
 pub fn is_written(answer: &Answer, want: &str) -> bool {
-    let line = answer_line(answer);
+    let mut line = LineText::new();
+    write_answer(&mut line, answer);
     line.starts_with(want.as_bytes()) && line.len() == want.len() + 1
 }

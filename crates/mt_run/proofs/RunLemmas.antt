@@ -123,16 +123,16 @@ document_tells scopes p line core stands (request, is, same) =
     (words.0 ++ line_feed, subst (λ t. Tells scopes p t (Some (words.0 ++ line_feed)) core) (sym words.1 ∙ told-meant p (read_line line) (Some (Ok request)) same) (refl, stands))
 
 -- what the request of a line adds is what the line adds
-pub line_outputs : (scopes : List Scope) (p : Plain) (line : List ℕ) (request : Request) (r : answer.LineOutput) (core : SiteState) → Some (Ok request) ≡ meaning_of (read_line line)
-    → IsLineOutput scopes p (told_request p (Ok request)) (is_document request ≡ true) r core → IsLineOutput scopes p (told read_line p line) (AsksDocument line) r core
-line_outputs scopes p line request r core same = by r
+pub line_outputs : (scopes : List Scope) (p : Plain) (line : List ℕ) (request : Request) (written : List ℕ) (r : answer.LineOutput) (core : SiteState) → Some (Ok request) ≡ meaning_of (read_line line)
+    → IsLineOutput scopes p (told_request p (Ok request)) (is_document request ≡ true) written r core → IsLineOutput scopes p (told read_line p line) (AsksDocument line) written r core
+line_outputs scopes p line request written r core same = by r
   where
     told-same : told_request p (Ok request) ≡ told read_line p line
     told-same = told-meant p (read_line line) (Some (Ok request)) same
 
-    by : (r : answer.LineOutput) → IsLineOutput scopes p (told_request p (Ok request)) (is_document request ≡ true) r core → IsLineOutput scopes p (told read_line p line) (AsksDocument line) r core
+    by : (r : answer.LineOutput) → IsLineOutput scopes p (told_request p (Ok request)) (is_document request ≡ true) written r core → IsLineOutput scopes p (told read_line p line) (AsksDocument line) written r core
     by output.Silent is = subst (λ t. Tells scopes p t None core) told-same is
-    by (output.Line text) is = subst (λ t. Tells scopes p t (Some text.items) core) told-same is
+    by output.Line is = subst (λ t. Tells scopes p t (Some written) core) told-same is
     by (output.Row text) is = subst (λ t. Tells scopes p t (Some text.items) core) told-same is
     by (output.Document text) is = subst (λ t. Tells scopes p t (Some (string_bytes text ++ line_feed)) core) told-same is
     by output.NoMemory (is, stands) = ((request, is, same), stands)

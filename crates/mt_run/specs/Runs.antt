@@ -47,18 +47,19 @@ is_document other = false
 abbrev pub AsksDocument : List ℕ → Type 0
 AsksDocument line = (request : Request) × (is_document request ≡ true) × (Some (Ok request) ≡ meaning_of (read_line line))
 
--- what something that is told adds to the output. A document may find no memory, and then nothing changed
-abbrev pub IsLineOutput : List Scope → Plain → Told → (IsDocument : Type 0) → code.LineOutput → SiteState → Type 0
-IsLineOutput scopes p t IsDocument output.Silent core = Tells scopes p t None core
-IsLineOutput scopes p t IsDocument (output.Line text) core = Tells scopes p t (Some text.items) core
-IsLineOutput scopes p t IsDocument (output.Row text) core = Tells scopes p t (Some text.items) core
-IsLineOutput scopes p t IsDocument (output.Document text) core = Tells scopes p t (Some (string_bytes text ++ line_feed)) core
-IsLineOutput scopes p t IsDocument output.NoMemory core = IsDocument × SiteStands p scopes core
+-- what something that is told adds to the output, where this text was written last. A document may find no memory, and then
+-- nothing changed
+abbrev pub IsLineOutput : List Scope → Plain → Told → (IsDocument : Type 0) → (written : List ℕ) → code.LineOutput → SiteState → Type 0
+IsLineOutput scopes p t IsDocument written output.Silent core = Tells scopes p t None core
+IsLineOutput scopes p t IsDocument written output.Line core = Tells scopes p t (Some written) core
+IsLineOutput scopes p t IsDocument written (output.Row text) core = Tells scopes p t (Some text.items) core
+IsLineOutput scopes p t IsDocument written (output.Document text) core = Tells scopes p t (Some (string_bytes text ++ line_feed)) core
+IsLineOutput scopes p t IsDocument written output.NoMemory core = IsDocument × SiteStands p scopes core
 
 -- what a request adds to the output, where the core stood for a state before it
-abbrev pub IsRequestOutput : List Scope → SiteState → Request → code.LineOutput → SiteState → Type 0
-IsRequestOutput scopes old request result new =
-    (p : Plain) → SiteStands p scopes old → IsLineOutput scopes p (told_request p (Ok request)) (is_document request ≡ true) result new
+abbrev pub IsRequestOutput : List Scope → SiteState → Request → (written : List ℕ) → code.LineOutput → SiteState → Type 0
+IsRequestOutput scopes old request written result new =
+    (p : Plain) → SiteStands p scopes old → IsLineOutput scopes p (told_request p (Ok request)) (is_document request ≡ true) written result new
 
 -- what a request for a row adds to the output, with whatever watchers: they aren't asked
 abbrev pub IsRowOutput : SiteState → Request → (text : List ℕ) → SiteState → Type 0

@@ -2,6 +2,7 @@
 //! canonical form.
 #![tactic(auto)]
 
+mod asking;
 mod canon;
 mod command;
 mod rows;

@@ -38,13 +38,13 @@ fn is_for_reads(name: &str) -> bool
     }
 }
 
-fn keyspace_request(name: &str) -> Result<Request, NameFault>
+fn keyspace_request(name: &str) -> Result<Request<'_>, NameFault>
     ensures { read_from result ≡ request_of (keyspace name.now) }
 {
     Ok(Request::AddKeyspace(KeyspaceName::parse(name)?))
 }
 
-fn table_request(keyspace: &str, name: &str) -> Result<Request, NameFault>
+fn table_request<'a>(keyspace: &'a str, name: &'a str) -> Result<Request<'a>, NameFault>
     ensures { read_from result ≡ request_of (table keyspace.now name.now) }
 {
     let keyspace = KeyspaceName::parse(keyspace)?;
@@ -63,7 +63,7 @@ fn rule_target(word: &str) -> Result<Option<RuleTarget>, NameFault>
     Ok(Some(target))
 }
 
-fn rule_request(key: &str, target: &str) -> Result<Request, NameFault>
+fn rule_request<'a>(key: &'a str, target: &'a str) -> Result<Request<'a>, NameFault>
     ensures { read_from result ≡ request_of (rule key.now target.now) }
 {
     let key = RuleKey::parse(key)?;
@@ -183,7 +183,7 @@ fn is_qualified(name: &str) -> bool
     }
 }
 
-fn write_at_request(name: &str, op: Op) -> Result<Request, NameFault>
+fn write_at_request(name: &str, op: Op) -> Result<Request<'_>, NameFault>
     requires { is_qualified name.now ≡ true }
     ensures { read_from result ≡ request_of (change_at name.now op) }
 {
@@ -198,7 +198,7 @@ fn write_at_request(name: &str, op: Op) -> Result<Request, NameFault>
     }
 }
 
-fn get_at_request(name: &str, number: u64) -> Result<Request, NameFault>
+fn get_at_request(name: &str, number: u64) -> Result<Request<'_>, NameFault>
     requires { is_qualified name.now ≡ true }
     ensures { read_from result ≡ request_of (get_at name.now number) }
 {
@@ -215,7 +215,7 @@ fn get_at_request(name: &str, number: u64) -> Result<Request, NameFault>
 }
 
 /// The request of some work on a table of its keyspace.
-fn work_there(name: &str, work: RowWork) -> Option<Result<Request, NameFault>>
+fn work_there(name: &str, work: RowWork) -> Option<Result<Request<'_>, NameFault>>
     requires { is_qualified name.now ≡ true }
     ensures { option_map read_from result ≡ option_map request_of (work_of change_at get_at name.now work) }
 {
@@ -231,7 +231,7 @@ fn work_there(name: &str, work: RowWork) -> Option<Result<Request, NameFault>>
 }
 
 /// Reads what stands behind `at`: the qualified name of a table, a verb, and the work.
-fn at_command(words: &[u8]) -> Option<Result<Request, NameFault>>
+fn at_command(words: &[u8]) -> Option<Result<Request<'_>, NameFault>>
     requires { is_readable words.now ≡ true }
     ensures { option_map read_from result ≡ option_map request_of (read_at (words_of words.now)) }
 {
@@ -253,7 +253,7 @@ pub fn is_row_verb(verb: &str) -> bool
 }
 
 /// Reads an operation on a row, or a command on a workflow, behind its verb.
-fn other_command(verb: &str, words: &[u8]) -> Option<Result<Request, NameFault>>
+fn other_command<'a>(verb: &str, words: &'a [u8]) -> Option<Result<Request<'a>, NameFault>>
     requires { is_readable words.now ≡ true }
     ensures { option_map read_from result ≡ option_map request_of (other_command verb.now (words_of words.now)) }
 {
@@ -267,7 +267,7 @@ fn other_command(verb: &str, words: &[u8]) -> Option<Result<Request, NameFault>>
 }
 
 /// Reads a command: its verb, its words, and then its names. `None` is a bad line.
-pub fn read_command(line: &[u8]) -> Option<Result<Request, NameFault>>
+pub fn read_command(line: &[u8]) -> Option<Result<Request<'_>, NameFault>>
     requires { is_readable line.now ≡ true }
     ensures { option_map read_from result ≡ option_map request_of (command_of (words_of line.now)) }
 {

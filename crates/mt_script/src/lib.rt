@@ -7,13 +7,15 @@ mod lines;
 mod numbers;
 mod rows;
 mod shown;
+mod tables;
 mod texts;
 mod words;
 mod workflows;
 
 pub use cut::first_line;
 pub use lines::{Line, LineRefusal, MAX_LINE_LENGTH, Request, RowRequest, read_line, row_line};
+pub use tables::TableText;
 pub use texts::{
-    LONGEST_ROW_LINE, LineText, RowText, answer_line, driven_line, look_up_line, refusal_line,
-    row_answer_line, row_refused_line, written_line,
+    LONGEST_ROW_LINE, LineText, RowText, look_up_line, row_answer_line, row_refused_line,
+    write_answer, write_driven, write_refusal, written_line,
 };

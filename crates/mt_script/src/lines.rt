@@ -8,12 +8,12 @@ use crate::commands::read_command;
 use crate::rows::{
     RowVerb, delete_of, name_in_front, number_in_front, read_of, verb_in_front, write_of,
 };
+use crate::tables::TableText;
 use crate::words::{is_blank, is_visible};
-use arrayvec::ArrayVec;
 use mt_model::Op;
 use mt_names::{
-    KeyspaceName, MAX_TABLES, NameFault, Position, RuleKey, RuleTarget, TableName, TabletType,
-    TypeSet, WorkflowName,
+    KeyspaceName, NameFault, Position, RuleKey, RuleTarget, TableName, TabletType, TypeSet,
+    WorkflowName,
 };
 use mt_workflow::Slot;
 
@@ -29,9 +29,9 @@ pub enum RowRequest {
     Read(RuleKey, u64, TabletType),
 }
 
-/// What a line asks for, with its names read.
+/// What a line asks for, with its names read. It borrows a list of tables from the line.
 #[derive(Debug, Drop)]
-pub enum Request {
+pub enum Request<'a> {
     /// `keyspace K`: makes a keyspace.
     AddKeyspace(KeyspaceName),
     /// `table K T`: makes a table in a keyspace.
@@ -45,7 +45,7 @@ pub enum Request {
     /// `at K.T get N`: reads the table of the keyspace for the name's type, without a look-up.
     ReadAt(KeyspaceName, TableName, u64, TabletType),
     /// `create W S T TABLES`: makes a workflow that moves tables from S to T.
-    Create(WorkflowName, KeyspaceName, KeyspaceName, ArrayVec<TableName, MAX_TABLES>),
+    Create(WorkflowName, KeyspaceName, KeyspaceName, TableText<'a>),
     /// `advance W forward AT MAX`, or `back`: the workflow's stream at this position copies rows or reads entries, so many at
     /// most.
     Advance(WorkflowName, Slot, Position, u16),
@@ -86,13 +86,13 @@ pub enum LineRefusal {
 
 /// What a line says.
 #[derive(Debug, Drop)]
-pub enum Line {
+pub enum Line<'a> {
     /// Nothing: it is empty, of spaces and tabs alone, or a comment, which begins with `#`.
     Silent,
     /// It is refused.
     Refused(LineRefusal),
     /// It asks for something.
-    Request(Request),
+    Request(Request<'a>),
 }
 
 /// Whether a line writes nothing.
@@ -117,7 +117,7 @@ fn is_readable(line: &[u8]) -> bool
 
 /// Reads a line: what it asks for, with each name and number as it is written, or its first fault, a bad byte with its
 /// place. The length is tested before the bytes, these before the words, the words before the names.
-pub fn read_line(line: &[u8]) -> Line
+pub fn read_line(line: &[u8]) -> Line<'_>
     ensures { meaning_from result ≡ meaning_of (read_line line.now) }
 {
     if is_silent(line) {

@@ -3,17 +3,17 @@ ghost use Rattle.std.specs.Prelude.{◌≡◌, ◌+◌, ◌<◌, ◌++◌, Ok, c
 ghost use Rattle.mt_plain.specs.Numbers.{number_text};
 ghost use Rattle.mt_plain.specs.Drive.{stopped};
 ghost use Rattle.mt_plain.specs.Events.{advanced, done, refused};
-ghost use Rattle.mt_plain.specs.Output.{answer_text, driven_text, ended_text, line_feed, refused_text, spaced};
+ghost use Rattle.mt_plain.specs.Output.{answer_text, driven_text, ended_text, line_feed, refused_text, shown_text, spaced};
 ghost use Rattle.mt_event.specs.Drives.{ended_from};
 ghost use Rattle.mt_event.specs.declared.reply.Reply.TheVariants as reply;
-ghost use Rattle.mt_event.specs.Events.{answer_from, refusal_from};
+ghost use Rattle.mt_event.specs.Events.{answer_from, refusal_from, shown_from};
 ghost use Rattle.mt_model.specs.Faults.{topology_fault_text};
 ghost use Rattle.mt_script.specs.Requests.{line_refusal_text};
 
 use crate::lines::LineRefusal;
 use crate::shown::{number, shown_text, spaced};
 use arrayvec::ArrayVec;
-use mt_event::{Driven, Refusal, Reply};
+use mt_event::{Driven, Refusal, Reply, Shown};
 use mt_io::LONGEST_LINE;
 use mt_model::TopologyFault;
 use mt_names::Value;
@@ -29,8 +29,8 @@ pub const LONGEST_ROW_LINE: usize = 96;
 pub type RowText = ArrayVec<u8, LONGEST_ROW_LINE>;
 
 /// A line of the two texts, one behind the other.
-fn line_of<const N: usize>(first: &[u8], second: &[u8]) -> ArrayVec<u8, N>
-    requires { length first.now + length second.now < N }
+fn line_of(first: &[u8], second: &[u8]) -> RowText
+    requires { length first.now + length second.now < LONGEST_ROW_LINE }
     ensures { result.items ≡ first.now ++ second.now ++ line_feed }
 {
     let mut line = ArrayVec::new();
@@ -38,6 +38,17 @@ fn line_of<const N: usize>(first: &[u8], second: &[u8]) -> ArrayVec<u8, N>
     let _fits = line.try_extend_from_slice(second);
     line.push(b'\n');
     line
+}
+
+/// Writes a line of the two texts, one behind the other, in place of the text that was there.
+fn write_line(text: &mut LineText, first: &[u8], second: &[u8])
+    requires { length first.now + length second.now < LONGEST_LINE }
+    ensures { text.new.items ≡ first.now ++ second.now ++ line_feed }
+{
+    text.clear();
+    let _fits = text.try_extend_from_slice(first);
+    let _fits = text.try_extend_from_slice(second);
+    text.push(b'\n');
 }
 
 /// How many rows an advance copied.
@@ -54,57 +65,72 @@ fn events_text(events: u16, rows: &ArrayVec<u8, 25>) -> ArrayVec<u8, 46>
     spaced(&number(u64::from(events)), rows)
 }
 
-/// The line that tells what an advance did.
-fn advanced_line(did: Advanced) -> LineText
-    ensures { result.items ≡ answer_text (advanced did.events did.rows) ++ line_feed }
+/// Writes the line that tells what an advance did.
+fn write_advanced(text: &mut LineText, did: Advanced)
+    ensures { text.new.items ≡ answer_text (advanced did.events did.rows) ++ line_feed }
 {
-    line_of(b"events ", &events_text(did.events, &rows_text(did.rows)))
+    write_line(
+        text,
+        b"events ",
+        &events_text(did.events, &rows_text(did.rows)),
+    );
 }
 
-/// The line that tells the answer to an event.
-pub fn answer_line(answer: &Result<Reply, Refusal>) -> LineText
-    ensures { result.items ≡ answer_text (answer_from answer.now) ++ line_feed }
+/// Writes the line that tells of a workflow.
+#[inline(never)]
+fn write_shown(text: &mut LineText, shown: &Shown)
+    ensures { text.new.items ≡ shown_text (shown_from shown.now) ++ line_feed }
+{
+    write_line(text, &shown_text(shown), b"");
+}
+
+/// Writes the line that tells the answer to an event, in place of the text that was there.
+pub fn write_answer(text: &mut LineText, answer: &Result<Reply, Refusal>)
+    ensures { text.new.items ≡ answer_text (answer_from answer.now) ++ line_feed }
 {
     match answer {
-        Ok(Reply::Done) => line_of(b"ok", b""),
-        Ok(Reply::Row(None)) => line_of(b"none", b""),
-        Ok(Reply::Row(Some(value))) => line_of(b"row ", value),
-        Ok(Reply::Advanced(advanced)) => advanced_line(*advanced),
-        Ok(Reply::Shown(shown)) => line_of(&shown_text(shown), b""),
-        Err(refusal) => line_of(b"refused ", refusal.as_str().as_bytes()),
+        Ok(Reply::Done) => write_line(text, b"ok", b""),
+        Ok(Reply::Row(None)) => write_line(text, b"none", b""),
+        Ok(Reply::Row(Some(value))) => write_line(text, b"row ", value),
+        Ok(Reply::Advanced(advanced)) => write_advanced(text, *advanced),
+        Ok(Reply::Shown(shown)) => write_shown(text, shown),
+        Err(refusal) => write_line(text, b"refused ", refusal.as_str().as_bytes()),
     }
 }
 
-/// The line that tells of a refusal behind the journal, and how many steps are done.
-fn stopped_line(refusal: &Refusal, steps: u64) -> LineText
-    ensures { result.items ≡ driven_text (stopped (refusal_from refusal.now) steps) ++ line_feed }
+/// Writes the line that tells of a refusal behind the journal, and how many steps are done.
+fn write_stopped(text: &mut LineText, refusal: &Refusal, steps: u64)
+    ensures { text.new.items ≡ driven_text (stopped (refusal_from refusal.now) steps) ++ line_feed }
 {
     let told = spaced::<41>(refusal.as_str().as_bytes(), &number(steps));
-    line_of(b"stopped ", &told)
+    write_line(text, b"stopped ", &told);
 }
 
-/// The line that tells how a whole switch or reversal of traffic ended, or that its begin was refused.
-pub fn driven_line(end: &Result<Driven, Refusal>) -> LineText
-    ensures { result.items ≡ ended_text (ended_from end.now) ++ line_feed }
+/// Writes the line that tells how a whole switch or reversal of traffic ended, or that its begin was refused, in place of the
+/// text that was there.
+pub fn write_driven(text: &mut LineText, end: &Result<Driven, Refusal>)
+    ensures { text.new.items ≡ ended_text (ended_from end.now) ++ line_feed }
 {
     match end {
-        Ok(Driven::Done) => line_of(b"ok", b""),
-        Ok(Driven::Abandoned(refusal)) => line_of(b"abandoned ", refusal.as_str().as_bytes()),
-        Ok(Driven::Stopped(refusal, steps)) => stopped_line(refusal, *steps),
-        Err(refusal) => line_of(b"refused ", refusal.as_str().as_bytes()),
+        Ok(Driven::Done) => write_line(text, b"ok", b""),
+        Ok(Driven::Abandoned(refusal)) => {
+            write_line(text, b"abandoned ", refusal.as_str().as_bytes());
+        }
+        Ok(Driven::Stopped(refusal, steps)) => write_stopped(text, refusal, *steps),
+        Err(refusal) => write_line(text, b"refused ", refusal.as_str().as_bytes()),
     }
 }
 
-/// The line that tells why a line is refused.
-pub fn refusal_line(refusal: LineRefusal) -> LineText
-    ensures { result.items ≡ refused_text (line_refusal_text refusal) ++ line_feed }
+/// Writes the line that tells why a line is refused, in place of the text that was there.
+pub fn write_refusal(text: &mut LineText, refusal: LineRefusal)
+    ensures { text.new.items ≡ refused_text (line_refusal_text refusal) ++ line_feed }
 {
-    let text = match refusal {
+    let why = match refusal {
         LineRefusal::BadLine => "X1 BadLine",
         LineRefusal::TooLong => "X2 LineTooLong",
         LineRefusal::Name(fault) => fault.as_str(),
     };
-    line_of(b"refused ", text.as_bytes())
+    write_line(text, b"refused ", why.as_bytes());
 }
 
 /// The line that tells that a row is written.

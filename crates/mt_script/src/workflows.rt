@@ -6,8 +6,9 @@ ghost use Rattle.mt_script.specs.Requests.{read_from};
 
 use crate::lines::Request;
 use crate::numbers::{read_number, read_small_number};
+use crate::tables::TableText;
 use crate::words::{four_words, one_word, two_words};
-use mt_names::{KeyspaceName, NameFault, Position, TypeSet, WorkflowName, table_list};
+use mt_names::{KeyspaceName, NameFault, Position, TypeSet, WorkflowName};
 use mt_workflow::Slot;
 
 /// Reads which stream is meant: `forward` or `back`.
@@ -21,18 +22,18 @@ fn read_stream(word: &str) -> Option<Slot>
     }
 }
 
-fn create_request(
+fn create_request<'a>(
     workflow: &str,
     source: &str,
     target: &str,
-    tables: &str,
-) -> Result<Request, NameFault>
+    tables: &'a str,
+) -> Result<Request<'a>, NameFault>
     ensures { read_from result ≡ request_of (create workflow.now source.now target.now tables.now) }
 {
     let workflow = WorkflowName::parse(workflow)?;
     let source = KeyspaceName::parse(source)?;
     let target = KeyspaceName::parse(target)?;
-    let tables = table_list(tables)?;
+    let tables = TableText::parse(tables)?;
     Ok(Request::Create(workflow, source, target, tables))
 }
 
@@ -41,14 +42,14 @@ fn advance_request(
     stream: Slot,
     at: Position,
     max: u16,
-) -> Result<Request, NameFault>
+) -> Result<Request<'_>, NameFault>
     ensures { read_from result ≡ request_of (advance workflow.now (stream_name stream) at max) }
 {
     let workflow = WorkflowName::parse(workflow)?;
     Ok(Request::Advance(workflow, stream, at, max))
 }
 
-fn begin_switch_request(workflow: &str, types: &str) -> Result<Request, NameFault>
+fn begin_switch_request<'a>(workflow: &'a str, types: &'a str) -> Result<Request<'a>, NameFault>
     ensures { read_from result ≡ request_of (begin_switch workflow.now types.now) }
 {
     let workflow = WorkflowName::parse(workflow)?;
@@ -56,7 +57,7 @@ fn begin_switch_request(workflow: &str, types: &str) -> Result<Request, NameFaul
     Ok(Request::BeginSwitch(workflow, types))
 }
 
-fn begin_reverse_request(workflow: &str, types: &str) -> Result<Request, NameFault>
+fn begin_reverse_request<'a>(workflow: &'a str, types: &'a str) -> Result<Request<'a>, NameFault>
     ensures { read_from result ≡ request_of (begin_reverse workflow.now types.now) }
 {
     let workflow = WorkflowName::parse(workflow)?;
@@ -64,19 +65,19 @@ fn begin_reverse_request(workflow: &str, types: &str) -> Result<Request, NameFau
     Ok(Request::BeginReverse(workflow, types))
 }
 
-fn step_request(workflow: &str, at: u64) -> Result<Request, NameFault>
+fn step_request(workflow: &str, at: u64) -> Result<Request<'_>, NameFault>
     ensures { read_from result ≡ request_of (step workflow.now at) }
 {
     Ok(Request::Step(WorkflowName::parse(workflow)?, at))
 }
 
-fn undo_request(workflow: &str, at: u64) -> Result<Request, NameFault>
+fn undo_request(workflow: &str, at: u64) -> Result<Request<'_>, NameFault>
     ensures { read_from result ≡ request_of (undo workflow.now at) }
 {
     Ok(Request::Undo(WorkflowName::parse(workflow)?, at))
 }
 
-fn switch_request(workflow: &str, types: &str) -> Result<Request, NameFault>
+fn switch_request<'a>(workflow: &'a str, types: &'a str) -> Result<Request<'a>, NameFault>
     ensures { read_from result ≡ request_of (switch workflow.now types.now) }
 {
     let workflow = WorkflowName::parse(workflow)?;
@@ -84,7 +85,7 @@ fn switch_request(workflow: &str, types: &str) -> Result<Request, NameFault>
     Ok(Request::Switch(workflow, types))
 }
 
-fn reverse_request(workflow: &str, types: &str) -> Result<Request, NameFault>
+fn reverse_request<'a>(workflow: &'a str, types: &'a str) -> Result<Request<'a>, NameFault>
     ensures { read_from result ≡ request_of (reverse workflow.now types.now) }
 {
     let workflow = WorkflowName::parse(workflow)?;
@@ -92,26 +93,26 @@ fn reverse_request(workflow: &str, types: &str) -> Result<Request, NameFault>
     Ok(Request::Reverse(workflow, types))
 }
 
-fn cancel_request(workflow: &str) -> Result<Request, NameFault>
+fn cancel_request(workflow: &str) -> Result<Request<'_>, NameFault>
     ensures { read_from result ≡ request_of (cancel workflow.now) }
 {
     Ok(Request::Cancel(WorkflowName::parse(workflow)?))
 }
 
-fn complete_request(workflow: &str) -> Result<Request, NameFault>
+fn complete_request(workflow: &str) -> Result<Request<'_>, NameFault>
     ensures { read_from result ≡ request_of (complete workflow.now) }
 {
     Ok(Request::Complete(WorkflowName::parse(workflow)?))
 }
 
-fn show_request(workflow: &str) -> Result<Request, NameFault>
+fn show_request(workflow: &str) -> Result<Request<'_>, NameFault>
     ensures { read_from result ≡ request_of (show workflow.now) }
 {
     Ok(Request::Show(WorkflowName::parse(workflow)?))
 }
 
 /// Reads what stands behind `create`: the workflow, the source, the target, the tables.
-fn create_command(words: &[u8]) -> Option<Result<Request, NameFault>>
+fn create_command(words: &[u8]) -> Option<Result<Request<'_>, NameFault>>
     requires { is_readable words.now ≡ true }
     ensures { option_map read_from result ≡ option_map request_of (option_map (λ w. create w.0 w.1 w.2 w.3) (four_words (words_of words.now))) }
 {
@@ -120,7 +121,7 @@ fn create_command(words: &[u8]) -> Option<Result<Request, NameFault>>
 }
 
 /// Reads what stands behind `advance`: the workflow, the stream, the position, how many at most.
-fn advance_command(words: &[u8]) -> Option<Result<Request, NameFault>>
+fn advance_command(words: &[u8]) -> Option<Result<Request<'_>, NameFault>>
     requires { is_readable words.now ≡ true }
     ensures { option_map read_from result ≡ option_map request_of (read_advance (words_of words.now)) }
 {
@@ -132,7 +133,7 @@ fn advance_command(words: &[u8]) -> Option<Result<Request, NameFault>>
 }
 
 /// Reads a command on a workflow, behind its verb.
-pub fn workflow_command(verb: &str, words: &[u8]) -> Option<Result<Request, NameFault>>
+pub fn workflow_command<'a>(verb: &str, words: &'a [u8]) -> Option<Result<Request<'a>, NameFault>>
     requires { is_readable words.now ≡ true }
     ensures { option_map read_from result ≡ option_map request_of (read_workflow_command verb.now (words_of words.now)) }
 {

@@ -9,8 +9,8 @@ returns-in-Silent g c = λ p stands. line_tells (g.A.Asks.scopes c.args.watchers
 
 pub returns-in-Refused : goal.returns-in-Refused
 returns-in-Refused g c = λ p stands.
-    line_tells (g.A.Asks.scopes c.args.watchers.now) p c.args.line.now (Some (Err c.in-Refused.refusal)) (Some c.refusal_line.result.items) c.args.core.now c.in-Refused.ensures (ap Some c.refusal_line.ensures, stands)
+    line_tells (g.A.Asks.scopes c.args.watchers.now) p c.args.line.now (Some (Err c.in-Refused.refusal)) (Some c.write_refusal.new.text.items) c.args.core.now c.in-Refused.ensures (ap Some c.write_refusal.ensures, stands)
 
 pub returns-in-Request : goal.returns-in-Request
 returns-in-Request g c = λ p stands.
-    line_outputs (g.A.Asks.scopes c.args.watchers.now) p c.args.line.now (request_from c.in-Request.request) c.request_output.result c.request_output.new.core c.in-Request.ensures (c.request_output.ensures p stands)
+    line_outputs (g.A.Asks.scopes c.args.watchers.now) p c.args.line.now (request_from c.in-Request.request) c.request_output.new.text.items c.request_output.result c.request_output.new.core c.in-Request.ensures (c.request_output.ensures p stands)

@@ -4,4 +4,4 @@ use Rattle.mt_plain.specs.Output.{line_feed}
 use Rattle.mt_run.proofs.script.rules.Goals as goal
 
 pub returns-in-Ok : goal.returns-in-Ok
-returns-in-Ok c = λ scopes p stands. (ap (λ t. Some (t ++ line_feed)) (c.in-Ok.ensures.served p scopes stands), stands)
+returns-in-Ok c = λ scopes written p stands. (ap (λ t. Some (t ++ line_feed)) (c.in-Ok.ensures.served p scopes stands), stands)
