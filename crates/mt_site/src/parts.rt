@@ -115,7 +115,9 @@ pub(crate) fn change_of(alloc: Global, workflow: &Workflow) -> Result<Change, Re
     ensures memory { IfErr result (λ refusal. refusal ≡ Refusal.Memory) }
 {
     workflow.facts();
-    let mut change = Change::new(alloc);
+    let Ok(mut change) = Change::with_room(alloc, workflow.part_len()) else {
+        return Err(Refusal::Memory);
+    };
     for table in workflow.tables() {
         push_table(&mut change, workflow, table)?;
     }

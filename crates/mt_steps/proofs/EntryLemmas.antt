@@ -1,8 +1,10 @@
 -- Entries recorded, written and written back.
-use Rattle.std.proofs.Common.{◌≡◌, ◌≢◌, ◌==◌, ℕ, zero, suc, ◌+◌, ◌<◌, ◌≤◌, Bool, true, false, if◌then◌else◌, List, [], ◌∷◌, ◌++◌, length, map, filter, flat_map, fold, get_or, take, drop, set, Option, None, Some, All, slice_index_or, append_assoc, append-nil, refl, sym, ap, subst, ◌∙◌, arith}
+use Rattle.std.proofs.Common.{◌≡◌, ◌≢◌, ◌==◌, ℕ, zero, suc, ◌+◌, ◌<◌, ◌≤◌, Bool, true, false, if◌then◌else◌, List, [], ◌∷◌, ◌++◌, length, map, filter, flat_map, fold, get_or, take, drop, set, Option, None, Some, All, AllPairs, slice_index_or, append_assoc, append-nil, refl, sym, ap, subst, ◌∙◌, arith}
 use Rattle.std.proofs.lemmas.Grind.{drop_more_same}
 use Rattle.std.proofs.lemmas.List.{drop_all, drop-set-lt, drop_more, flat_map_more, map-append, take_all, take_more, take_more_set}
+use Rattle.std.proofs.lemmas.List.Sums.{fold-append}
 use Rattle.std.proofs.lemmas.Bool.Decides.{nat_tests}
+use Rattle.mt_model.proofs.TopologyLemmas.{value_of-written_elsewhere}
 use Rattle.mt_names.specs.declared.types.TabletType.{TabletType}
 use Rattle.mt_names.specs.declared.types.TabletType.TheVariants.{Primary, Replica, Rdonly}
 use Rattle.mt_names.specs.declared.types.TypeSet.{TypeSet}
@@ -80,18 +82,77 @@ keys_recorded w n t (e ∷ entries) = rw (key_of-recorded w n t e, keys_recorded
 
 -- ---- places
 
+as_many : (es : List Entry) → length (map key_of es) ≡ length es
+as_many [] = refl
+as_many (e ∷ es) = omega (arith, as_many es)
+
+item : (es : List Entry) (i : ℕ) (d : Entry) → slice_index_or (map key_of es) i (key_of d) ≡ key_of (slice_index_or es i d)
+item [] i d = refl
+item (e ∷ es) zero d = refl
+item (e ∷ es) (suc i) d = item es i d
+
 pub entries_have_places : (t : TopologyState) (keys : List EntryKey) (entries : List Entry) → map key_of entries ≡ keys → All (λ key. has_place t key ≡ true) keys → All (λ e. has_place t (key_of e) ≡ true) entries
 entries_have_places t keys entries is places = λ i d inside.
     sym (ap (has_place t) (item entries i d)) ∙ (subst (All (λ key. has_place t key ≡ true)) (sym is) places i (key_of d) (omega (arith, as_many entries, inside)))
-  where
-    as_many : (es : List Entry) → length (map key_of es) ≡ length es
-    as_many [] = refl
-    as_many (e ∷ es) = omega (arith, as_many es)
 
-    item : (es : List Entry) (i : ℕ) (d : Entry) → slice_index_or (map key_of es) i (key_of d) ≡ key_of (slice_index_or es i d)
-    item [] i d = refl
-    item (e ∷ es) zero d = refl
-    item (e ∷ es) (suc i) d = item es i d
+pub entries_are_distinct : (keys : List EntryKey) (entries : List Entry) → map key_of entries ≡ keys → AllPairs (λ a b. a ≢ b) keys → AllPairs (λ a b. key_of a ≢ key_of b) entries
+entries_are_distinct keys entries is distinct = λ i j d below inside same.
+    subst (AllPairs (λ a b. a ≢ b)) (sym is) distinct i j (key_of d) below (omega (arith, as_many entries, inside)) (item entries i d ∙ same ∙ sym (item entries j d))
+
+any_default : (es : List Entry) (j : ℕ) (d e : Entry) → j < length es → slice_index_or es j d ≡ slice_index_or es j e
+any_default [] j d e inside = absurd (omega (arith, inside))
+any_default (x ∷ es) zero d e inside = refl
+any_default (x ∷ es) (suc j) d e inside = any_default es j d e (omega (arith, inside))
+
+-- ---- a loop that records and writes: what was written before is of other keys
+
+wanted_elsewhere : (w : WorkflowState) (types : TypeSet) (n : ℕ) (t : TopologyState) (k key : EntryKey) → k ≢ key → value_of (with_wanted w types n t k) key ≡ value_of t key
+wanted_elsewhere w types n t k key apart = by (is_of_step w n k)
+  where
+    by : (b : Bool) → value_of (if b then with_entry t (wanted w types k) else t) key ≡ value_of t key
+    by true = value_of-written_elsewhere t (wanted w types k) key (λ same. apart (sym (key_of-wanted w types k) ∙ same))
+    by false = refl
+
+value_stays : (w : WorkflowState) (types : TypeSet) (n : ℕ) (key : EntryKey) (t : TopologyState) (es : List Entry) → ((j : ℕ) (d : Entry) → j < length es → key_of (slice_index_or es j d) ≢ key)
+    → value_of (fold (λ u e. with_wanted w types n u (key_of e)) t es) key ≡ value_of t key
+value_stays w types n key t [] apart = refl
+value_stays w types n key t (e ∷ es) apart =
+    value_stays w types n key (with_wanted w types n t (key_of e)) es (λ j d inside. apart (suc j) d (omega (arith, inside)))
+    ∙ wanted_elsewhere w types n t (key_of e) key (apart zero e (omega arith))
+
+taken : (es : List Entry) (i j : ℕ) (d : Entry) → j < i → slice_index_or (take i es) j d ≡ slice_index_or es j d
+taken es zero j d below = absurd (omega (arith, below))
+taken [] (suc i) j d below = refl
+taken (e ∷ es) (suc i) zero d below = refl
+taken (e ∷ es) (suc i) (suc j) d below = taken es i j d (omega (arith, below))
+
+few_taken : (es : List Entry) (i j : ℕ) → j < length (take i es) → j < i
+few_taken es zero j inside = absurd (omega (arith, inside))
+few_taken [] (suc i) j inside = absurd (omega (arith, inside))
+few_taken (e ∷ es) (suc i) zero inside = omega arith
+few_taken (e ∷ es) (suc i) (suc j) inside = omega (arith, few_taken es i j (omega (arith, inside)))
+
+-- the item that is next is still that of the whole list
+pub same_item : (all entries : List Entry) (i : ℕ) (d : Entry) → i < length entries → i < length all → drop i entries ≡ drop i all → slice_index_or entries i d ≡ slice_index_or all i d
+same_item all entries i d inside within rest =
+    let both : slice_index_or entries i d ∷ drop (i + 1) entries ≡ slice_index_or all i d ∷ drop (i + 1) all = sym (drop_more entries i d inside) ∙ rest ∙ drop_more all i d within in
+    cc
+
+pub one_recorded : (w : WorkflowState) (types : TypeSet) (n : ℕ) (t u : TopologyState) (all : List Entry) (i : ℕ) (d x : Entry) → i < length all → AllPairs (λ a b. key_of a ≢ key_of b) all
+    → x ≡ slice_index_or all i d → u ≡ fold (λ v e. with_wanted w types n v (key_of e)) t (take i all) → recorded_entry w n u x ≡ recorded_entry w n t x
+one_recorded w types n t u all i d x within distinct is written =
+    ap (λ v. if is_of_step w n (key_of x) then v else x)
+    (ap (λ v. value_of v (key_of x)) written
+    ∙ value_stays w types n (key_of x) t (take i all) (λ j e inside same.
+        let below : j < i = few_taken all i j inside in
+        distinct j i d below within (ap key_of (sym (taken all i j d below) ∙ any_default (take i all) j d e inside) ∙ same ∙ ap key_of is)))
+
+pub written_next : (w : WorkflowState) (types : TypeSet) (n : ℕ) (t u : TopologyState) (all : List Entry) (i : ℕ) (d x : Entry) → i < length all
+    → x ≡ slice_index_or all i d → u ≡ fold (λ v e. with_wanted w types n v (key_of e)) t (take i all)
+    → with_wanted w types n u (key_of x) ≡ fold (λ v e. with_wanted w types n v (key_of e)) t (take (i + 1) all)
+written_next w types n t u all i d x within is written =
+    let f : TopologyState → Entry → TopologyState = λ v e. with_wanted w types n v (key_of e) in
+    ap (λ v. f v x) written ∙ ap (f (fold f t (take i all))) is ∙ sym (fold-append f t (take i all) (slice_index_or all i d ∷ [])) ∙ ap (fold f t) (sym (take_more all i d within))
 
 -- ---- a loop that writes where it is of the step, as one list of entries
 

@@ -1,7 +1,7 @@
 //! The entries that a step writes, and what stood before them.
-ghost use Rattle.std.specs.Prelude.{◌≡◌, true, false, All, fold};
+ghost use Rattle.std.specs.Prelude.{◌≡◌, ◌≢◌, true, false, All, AllPairs, fold};
 ghost use Rattle.mt_model.specs.declared.entries.EntryKey.{EntryKey};
-ghost use Rattle.mt_model.specs.Topology.{has_place, key_of, with_entry};
+ghost use Rattle.mt_model.specs.Topology.{has_place, key_of, value_of, with_entry};
 ghost use Rattle.mt_plain.specs.Serve.{step_of_entry};
 ghost use Rattle.mt_workflow.specs.Workflows.{WorkflowState, live_of, wanted};
 ghost use Rattle.mt_steps.specs.Entries.{is_of_step, recorded, recorded_entry, with_recorded, with_wanted};
@@ -41,76 +41,69 @@ fn writes_entries(step: u8) -> bool
     matches!(step, 0 | 1 | 7 | 9)
 }
 
-/// Records of each entry that changes with a step what the topology says there.
-pub(crate) fn record_step(topology: &Topology, workflow: &Workflow, step: u8, entries: &mut [Entry])
-    ensures { entries.new ≡ recorded workflow.now step topology.now entries.old }
+/// Writes each of these entries that changes with a step as it is to be once these types are switched, and records of it what the
+/// topology said there. No two are of the same key.
+pub(crate) fn exchange_step(
+    topology: &mut Topology,
+    workflow: &Workflow,
+    types: TypeSet,
+    step: u8,
+    entries: &mut [Entry],
+)
+    requires places { All (λ e. has_place topology.old (key_of e) ≡ true) entries.old }
+    requires distinct { AllPairs (λ a b. key_of a ≢ key_of b) entries.old }
+    ensures recorded { entries.new ≡ recorded workflow.now step topology.old entries.old }
+    ensures written { topology.new ≡ fold (λ t e. with_wanted workflow.now types step t (key_of e)) topology.old entries.old }
 {
     if !writes_entries(step) {
         return;
     }
     for entry in entries.iter_mut() {
-        record_entry(topology, workflow, step, entry);
+        exchange_entry(topology, workflow, types, step, entry);
     }
 }
 
 /// The same of one entry.
-fn record_entry(topology: &Topology, workflow: &Workflow, step: u8, entry: &mut Entry)
-    ensures { entry.new ≡ recorded_entry workflow.now step topology.now entry.old }
-{
-    if step_of_entry(workflow, entry) != step {
-        return;
-    }
-    topology.read_into(entry);
-}
-
-/// Writes each of these entries that changes with a step as it is to be once these types are switched.
-pub(crate) fn write_step(
+fn exchange_entry(
     topology: &mut Topology,
     workflow: &Workflow,
     types: TypeSet,
     step: u8,
-    entries: &[Entry],
+    entry: &mut Entry,
 )
-    requires { All (λ e. has_place topology.old (key_of e) ≡ true) entries.now }
-    ensures { topology.new ≡ fold (λ t e. with_wanted workflow.now types step t (key_of e)) topology.old entries.now }
-{
-    if !writes_entries(step) {
-        return;
-    }
-    for entry in entries {
-        write_wanted(topology, workflow, types, step, entry);
-    }
-}
-
-/// The same of one entry.
-fn write_wanted(
-    topology: &mut Topology,
-    workflow: &Workflow,
-    types: TypeSet,
-    step: u8,
-    entry: &Entry,
-)
-    requires { has_place topology.old (key_of entry.now) ≡ true }
-    ensures written { topology.new ≡ with_wanted workflow.now types step topology.old (key_of entry.now) }
+    requires { has_place topology.old (key_of entry.old) ≡ true }
+    ensures recorded { entry.new ≡ recorded_entry workflow.now step topology.old entry.old }
+    ensures written { topology.new ≡ with_wanted workflow.now types step topology.old (key_of entry.old) }
     ensures places { (k : EntryKey) → has_place topology.new k ≡ has_place topology.old k }
 {
     if step_of_entry(workflow, entry) != step {
         return;
     }
-    put_wanted(topology, workflow, types, entry);
+    exchange_wanted(topology, workflow, types, entry);
 }
 
-/// Writes an entry as it is to be once these types are switched. It copies no key.
-fn put_wanted(topology: &mut Topology, workflow: &Workflow, types: TypeSet, entry: &Entry)
-    requires { has_place topology.old (key_of entry.now) ≡ true }
-    ensures { topology.new ≡ with_entry topology.old (wanted workflow.now types (key_of entry.now)) }
+/// Writes an entry as it is to be once these types are switched, and leaves what stood before in place of it. It copies no key.
+fn exchange_wanted(
+    topology: &mut Topology,
+    workflow: &Workflow,
+    types: TypeSet,
+    entry: &mut Entry,
+)
+    requires { has_place topology.old (key_of entry.old) ≡ true }
+    ensures before { entry.new ≡ value_of topology.old (key_of entry.old) }
+    ensures after { topology.new ≡ with_entry topology.old (wanted workflow.now types (key_of entry.old)) }
 {
     match entry {
-        Entry::Rule(key, _) => topology.put_rule(key, workflow.wanted_rule(key, types)),
-        Entry::Denied(keyspace, table, _) => {
-            topology.put_denied(keyspace, table, workflow.is_denied_at(keyspace, types));
+        Entry::Rule(key, target) => {
+            *target = topology.exchange_rule(key, workflow.wanted_rule(key, types));
         }
-        Entry::Present(keyspace, table, _) => topology.put_present(keyspace, table, true),
+        Entry::Denied(keyspace, table, is_denied) => {
+            let wanted = workflow.is_denied_at(keyspace, types);
+            *is_denied = topology.exchange_denied(keyspace, table, wanted);
+        }
+        Entry::Present(keyspace, table, is_present) => {
+            *is_present = topology.exchange_present(keyspace, table, true);
+        }
     }
 }
 

@@ -1,16 +1,16 @@
 //! What is kept of a way for its undo.
 ghost use Rattle.std.specs.Prelude.{◌≡◌, ◌++◌, map, IfOk, IfErr, OnOk};
-ghost use Rattle.mt_model.specs.Part.{table_part_keys};
+ghost use Rattle.mt_model.specs.Part.{table_part_keys, with_entries};
 ghost use Rattle.mt_workflow.specs.Workflows.{wanted};
-ghost use Rattle.mt_steps.specs.Entries.{recorded};
+ghost use Rattle.mt_steps.specs.Entries.{HasPlaces, recorded, step_entries};
 ghost use Rattle.mt_steps.specs.Steps.{given_listed, given_slot, left_listed, left_slot};
-ghost use Rattle.mt_steps.specs.Undo.{new_log};
+ghost use Rattle.mt_steps.specs.Undo.{IsLogOf, new_log};
 
-use crate::entries::record_step;
+use crate::entries::exchange_step;
 use crate::fault::StepFault;
 use crate::step::Step;
-use mt_model::{Entry, table_part_keys};
-use mt_names::TableName;
+use mt_model::{Entry, part_keys_are_distinct, table_part_keys};
+use mt_names::{TableName, TypeSet};
 use mt_primary::Before;
 use mt_stream::Stream;
 use mt_topology::Topology;
@@ -73,11 +73,23 @@ impl UndoLog {
         &self.entries
     }
 
-    /// Records what the topology says at the entries that change with a step.
-    pub(crate) fn record(&mut self, topology: &Topology, workflow: &Workflow, step: u8)
-        ensures { self.new ≡ record self.old { entries = recorded workflow.now step topology.now self.old.entries } }
+    /// Writes the entries of a workflow's part that change with a step as they are to be once these types are switched, and records
+    /// what the topology said there.
+    pub(crate) fn exchange(
+        &mut self,
+        topology: &mut Topology,
+        workflow: &Workflow,
+        types: TypeSet,
+        step: u8,
+    )
+        requires places { HasPlaces topology.old workflow.now }
+        requires log { IsLogOf workflow.now self.old }
+        ensures recorded { self.new ≡ record self.old { entries = recorded workflow.now step topology.old self.old.entries } }
+        ensures written { topology.new ≡ with_entries topology.old (step_entries workflow.now types step) }
     {
-        record_step(topology, workflow, step, &mut self.entries);
+        workflow.facts();
+        part_keys_are_distinct();
+        exchange_step(topology, workflow, types, step, &mut self.entries);
     }
 
     /// Takes what the undo of a step gives back to a primary's own list.

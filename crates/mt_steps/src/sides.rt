@@ -10,7 +10,7 @@ ghost use Rattle.mt_steps.specs.Steps.{IsGivenBack, IsUndone, Steps, open_way};
 ghost use Rattle.mt_steps.specs.Undo.{IsLogOf};
 
 use crate::attempt::attempt;
-use crate::entries::{write_back, write_step};
+use crate::entries::write_back;
 use crate::fault::StepFault;
 use crate::log::UndoLog;
 use crate::step::Step;
@@ -116,8 +116,7 @@ fn step_of_way<W: Asks>(
     attempt(
         alloc, way, step, id, topology, workflow, source, target, journal, watchers, listed,
     )?;
-    log.record(topology, workflow, step.number());
-    write_step(topology, workflow, way.after, step.number(), log.entries());
+    log.exchange(topology, workflow, way.after, step.number());
     step_streams(workflow, way, step, end, &mut log.slot);
     count_step(workflow, way, step);
     Ok(())

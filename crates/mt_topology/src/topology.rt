@@ -1,7 +1,7 @@
 //! The topology as one value.
 ghost use Rattle.std.specs.Prelude.{◌≡◌, ◌<◌, ◌≤◌, true, false, All, None, Some, IfOk, IfErr, OnOk, length, reverse, slice_get, string_bytes};
 ghost use Rattle.mt_model.specs.Limits.{most_keyspaces};
-ghost use Rattle.mt_model.specs.Topology.{HasDistinctPlaces, empty_topology, has_place, key_of, resolution, routes_of, value_of, with_entry, with_keyspace, with_keyspace_state, with_rule, with_table, without_table_place};
+ghost use Rattle.mt_model.specs.Topology.{HasDistinctPlaces, empty_topology, has_place, is_denied, is_present, key_of, resolution, routes_of, rule_at, value_of, with_entry, with_keyspace, with_keyspace_state, with_rule, with_table, without_table_place};
 ghost use Rattle.mt_model.specs.Part.{befores, part_keys, with_entries, with_place, with_places, without_place, without_places};
 ghost use Rattle.mt_topology.specs.Part.{lacks_a_place, place_grows, place_refusal, places_refusal, reserve_refusal};
 ghost use Rattle.mt_keyspace.specs.Load.{IsUnlessMemory};
@@ -21,6 +21,9 @@ use mt_names::{KeyspaceName, RuleKey, RuleTarget, TableName, TabletType};
 use mt_rules::RoutingRules;
 use std::alloc::Global;
 use std::marker::Model;
+
+/// How many keys each table adds to a part.
+const KEYS_OF_TABLE: usize = 15;
 
 /// The topology: routing rules, and keyspaces with their tables and denials. What is written has a place before, so a write takes
 /// no memory.
@@ -140,6 +143,20 @@ impl Topology {
         }
     }
 
+    /// Whether a keyspace has a table, as `value` says it of that entry. It takes no memory, and copies no key.
+    pub fn is_present(&self, keyspace: &KeyspaceName, table: &TableName) -> bool
+        ensures { result ≡ is_present self.now.keyspaces keyspace.now table.now }
+    {
+        self.keyspaces.is_present(keyspace, table)
+    }
+
+    /// Whether a keyspace's primary is to refuse a table, as `value` says it of that entry. It takes no memory, and copies no key.
+    pub fn is_denied(&self, keyspace: &KeyspaceName, table: &TableName) -> bool
+        ensures { result ≡ is_denied self.now.keyspaces keyspace.now table.now }
+    {
+        self.keyspaces.is_denied(keyspace, table)
+    }
+
     /// Whether a key has a place, so that its entry can be written. It takes no memory.
     pub fn has_place(&self, key: &EntryKey) -> bool
         ensures { result ≡ has_place self.now key.now }
@@ -195,6 +212,38 @@ impl Topology {
         ensures { self.new ≡ with_entry self.old (Entry.Present keyspace.now table.now is_present) }
     {
         self.keyspaces.set_present(keyspace, table, is_present);
+    }
+
+    /// Writes the rule of a key that has a place, or takes it away, and answers which stood before. It takes no memory.
+    pub fn exchange_rule(
+        &mut self,
+        key: &RuleKey,
+        target: Option<RuleTarget>,
+    ) -> Option<RuleTarget>
+        requires { has_place self.old (EntryKey.Rule key.now) ≡ true }
+        ensures before { result ≡ rule_at self.old.rules key.now }
+        ensures after { self.new ≡ with_entry self.old (Entry.Rule key.now target) }
+    {
+        self.rules.set(key, target)
+    }
+
+    /// Writes whether a keyspace's primary is to refuse a table, where that has a place, and answers what stood before. It takes no
+    /// memory.
+    pub fn exchange_denied(&mut self, keyspace: &KeyspaceName, table: &TableName, mark: bool) -> bool
+        requires { has_place self.old (EntryKey.Denied keyspace.now table.now) ≡ true }
+        ensures before { result ≡ is_denied self.old.keyspaces keyspace.now table.now }
+        ensures after { self.new ≡ with_entry self.old (Entry.Denied keyspace.now table.now mark) }
+    {
+        self.keyspaces.set_denied(keyspace, table, mark)
+    }
+
+    /// Writes whether a keyspace has a table, where that has a place, and answers what stood before. It takes no memory.
+    pub fn exchange_present(&mut self, keyspace: &KeyspaceName, table: &TableName, mark: bool) -> bool
+        requires { has_place self.old (EntryKey.Present keyspace.now table.now) ≡ true }
+        ensures before { result ≡ is_present self.old.keyspaces keyspace.now table.now }
+        ensures after { self.new ≡ with_entry self.old (Entry.Present keyspace.now table.now mark) }
+    {
+        self.keyspaces.set_present(keyspace, table, mark)
     }
 
     /// Writes an entry that has a place, as `write` does, and leaves it to the caller. It takes no memory.
@@ -357,7 +406,10 @@ impl Topology {
         if !self.lacks_a_place(source, target, tables) {
             return Ok(());
         }
-        let mut made = Vec::new(self.alloc);
+        let most = tables.len().saturating_mul(KEYS_OF_TABLE);
+        let Ok(mut made) = Vec::with_capacity(self.alloc, most) else {
+            return Err(TopologyFault::Memory);
+        };
         let answer = self.make_part(source, target, tables, &mut made);
         if answer.is_err() {
             self.take_back(&made);

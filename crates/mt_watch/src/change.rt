@@ -1,5 +1,5 @@
 //! A change.
-ghost use Rattle.std.specs.Prelude.{◌≡◌, []};
+ghost use Rattle.std.specs.Prelude.{◌≡◌, [], IfErr, IfOk};
 ghost use Rattle.mt_watch.specs.Lists.{Pushes};
 
 use crate::WatchersFault;
@@ -29,6 +29,17 @@ impl Change {
     {
         Change {
             entries: Vec::new(alloc),
+        }
+    }
+
+    /// A change of nothing, with room for some entries. `H0 Memory`.
+    pub fn with_room(alloc: Global, entries: usize) -> Result<Self, WatchersFault>
+        ensures value { IfOk result (λ change. change ≡ []) }
+        ensures memory { IfErr result (λ fault. fault ≡ WatchersFault.Memory) }
+    {
+        match Vec::with_capacity(alloc, entries) {
+            Ok(entries) => Ok(Change { entries }),
+            Err(_) => Err(WatchersFault::Memory),
         }
     }
 

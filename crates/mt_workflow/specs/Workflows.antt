@@ -1,5 +1,6 @@
 -- A workflow: what it keeps, how the definitions know it, and what its part is to say.
-use Rattle.std.specs.Prelude.{◌≡◌, true, ◌≢◌, ℕ, ◌≤◌, List, [], map, flat_map, length, AllPairs, if◌then◌else◌, Option, None, Some}
+use Rattle.std.specs.Prelude.{◌≡◌, Bool, true, false, ◌||◌, ◌≢◌, ℕ, ◌≤◌, List, [], map, flat_map, length, AllPairs, if◌then◌else◌, Option, None, Some, is_some}
+use Rattle.std.specs.Option.{option_map_or}
 use Rattle.mt_names.specs.declared.keys.RuleKey.{RuleKey}
 use Rattle.mt_names.specs.declared.types.TypeSet.{TypeSet}
 use Rattle.mt_names.specs.Names.{same_text}
@@ -76,6 +77,11 @@ keys_of_part w = part_keys w.source w.target w.tables
 -- what an entry of its part is to say once some types are switched (How traffic is switched)
 abbrev pub wanted : WorkflowState → TypeSet → EntryKey → Entry
 wanted w types key = serve (rules_only w.kept) (live_of w) types key
+
+-- whether a rule key is to say what stood there before Create: that of the name at the source for all types, as long as the source
+-- is the owner (How traffic is switched)
+abbrev pub is_as_before : WorkflowState → TypeSet → RuleKey → Bool
+is_as_before w types key = if types.primary || is_some key.tablet_type then false else option_map_or (same_text w.source) key.keyspace false
 
 -- ---- what is kept of the rules before Create
 

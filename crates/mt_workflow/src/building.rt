@@ -13,6 +13,9 @@ use mt_names::{KeyspaceName, MAX_TABLES, RuleKey, RuleTarget, TableName};
 use mt_rules::RoutingRules;
 use std::alloc::Global;
 
+/// How many rule keys each table adds to a part.
+const RULES_OF_TABLE: usize = 12;
+
 /// Tables as a set, in the order in which they are first named. `W0 Memory`.
 pub(crate) fn each_once(
     alloc: Global,
@@ -21,7 +24,9 @@ pub(crate) fn each_once(
     ensures value { IfOk result (λ set. set.keys ≡ each_once tables.now) }
     ensures memory { IfErr result (λ fault. fault ≡ WorkflowFault.Memory) }
 {
-    let mut set = IndexSet::new(alloc);
+    let Ok(mut set) = IndexSet::with_capacity(alloc, tables.len()) else {
+        return Err(WorkflowFault::Memory);
+    };
     for table in tables {
         if set.insert(table.copied()).is_err() {
             return Err(WorkflowFault::Memory);
@@ -56,7 +61,10 @@ pub(crate) fn kept_rules(
     ensures memory { IfErr result (λ fault. fault ≡ WorkflowFault.Memory) }
 {
     part_keys_are_distinct();
-    let mut kept = IndexMap::new(alloc);
+    let most = tables.len().saturating_mul(RULES_OF_TABLE);
+    let Ok(mut kept) = IndexMap::with_capacity(alloc, most) else {
+        return Err(WorkflowFault::Memory);
+    };
     for table in tables {
         keep(&mut kept, &table_rule_keys(source, target, table), rules)?;
     }

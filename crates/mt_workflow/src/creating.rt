@@ -1,11 +1,10 @@
 //! When a workflow isn't created.
 ghost use Rattle.std.specs.Prelude.{◌≡◌, ◌||◌, ℕ, List, find, option_copied};
 ghost use Rattle.mt_model.specs.Part.{table_rule_keys};
-ghost use Rattle.mt_model.specs.Topology.{is_denied, is_present};
 ghost use Rattle.mt_workflow.specs.Creates.{answer_of, conflict_of, create_refusal, is_denied_by_hand, leads_elsewhere, table_refusal, tables_refusal};
 
 use crate::fault::WorkflowFault;
-use mt_model::{Entry, EntryKey, table_rule_keys};
+use mt_model::table_rule_keys;
 use mt_names::{KeyspaceName, RuleKey, TableName};
 use mt_rules::RoutingRules;
 use mt_topology::Topology;
@@ -73,10 +72,10 @@ fn table_refusal(
 ) -> Option<WorkflowFault>
     ensures { result ≡ table_refusal topology.now source.now target.now table.now }
 {
-    if !is_present(topology, source, table) {
+    if !topology.is_present(source, table) {
         return Some(WorkflowFault::NoTable(table.copied()));
     }
-    if is_present(topology, target, table) {
+    if topology.is_present(target, table) {
         return Some(WorkflowFault::TargetHasTable(table.copied()));
     }
     let keys = table_rule_keys(source, target, table);
@@ -98,23 +97,7 @@ fn is_denied_by_hand(
 ) -> bool
     ensures { result ≡ is_denied_by_hand topology.now source.now target.now table.now }
 {
-    is_denied(topology, source, table) || is_denied(topology, target, table)
-}
-
-/// Whether a keyspace has a table.
-fn is_present(topology: &Topology, keyspace: &KeyspaceName, table: &TableName) -> bool
-    ensures { result ≡ is_present topology.now.keyspaces keyspace.now table.now }
-{
-    let key = EntryKey::Present(keyspace.copied(), table.copied());
-    matches!(topology.value(&key), Entry::Present(_, _, true))
-}
-
-/// Whether a keyspace's primary is to refuse a table.
-fn is_denied(topology: &Topology, keyspace: &KeyspaceName, table: &TableName) -> bool
-    ensures { result ≡ is_denied topology.now.keyspaces keyspace.now table.now }
-{
-    let key = EntryKey::Denied(keyspace.copied(), table.copied());
-    matches!(topology.value(&key), Entry::Denied(_, _, true))
+    topology.is_denied(source, table) || topology.is_denied(target, table)
 }
 
 /// The first of some rule keys whose rule leads elsewhere than to the table at the source.

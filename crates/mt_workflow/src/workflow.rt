@@ -1,11 +1,11 @@
 //! A workflow.
-ghost use Rattle.std.specs.Prelude.{◌≡◌, ◌≢◌, ℕ, ◌<◌, ◌≤◌, true, if◌then◌else◌, Some, AllPairs, IfOk, IfErr, length, option_copied, option_map, slice_get};
+ghost use Rattle.std.specs.Prelude.{◌≡◌, ◌≢◌, ℕ, ◌<◌, ◌≤◌, true, false, if◌then◌else◌, None, Some, AllPairs, IfOk, IfErr, length, option_copied, option_map, slice_get};
 ghost use Rattle.mt_names.specs.Tables.{most_tables};
 ghost use Rattle.mt_model.specs.Topology.{rule_at};
 ghost use Rattle.mt_plain.specs.Plain.{each_once, in_keyspace, is_side};
 ghost use Rattle.mt_plain.specs.Serve.{is_denied_at, owned_before, serve_plain, serve_rule, step_of_entry};
 ghost use Rattle.mt_plain.specs.Slots.{written_side};
-ghost use Rattle.mt_workflow.specs.Workflows.{IsWorkflow, feeding, keys_of_part, live_of, new_workflow, rules_only, slot_of, stream_name, wanted, way_from, with_slot};
+ghost use Rattle.mt_workflow.specs.Workflows.{IsWorkflow, feeding, is_as_before, keys_of_part, live_of, new_workflow, rules_only, slot_of, stream_name, wanted, way_from, with_slot};
 
 use crate::building::{each_once, kept_rules, table_list};
 use crate::fault::WorkflowFault;
@@ -201,43 +201,80 @@ impl Workflow {
     pub fn wanted_rule(&self, key: &RuleKey, types: TypeSet) -> Option<RuleTarget>
         ensures { result ≡ serve_rule (rules_only self.now.kept) (live_of self.now) types key.now key.now.tablet_type }
     {
+        if self.is_as_before(key, types) {
+            return self.kept_rule(key);
+        }
+        let keyspace = self.leads_to(key, types)?;
+        Some(RuleTarget {
+            keyspace: keyspace.copied(),
+            table: key.table.copied(),
+        })
+    }
+
+    /// Whether a key is to have the rule from before Create: that of the name at the source, as long as the source is the owner.
+    fn is_as_before(&self, key: &RuleKey, types: TypeSet) -> bool
+        ensures { result ≡ is_as_before self.now types key.now }
+    {
+        if types.primary || key.tablet_type.is_some() {
+            return false;
+        }
+        match &key.keyspace {
+            None => false,
+            Some(keyspace) => &self.source == keyspace,
+        }
+    }
+
+    /// The rule that a key had before Create, as a value of its own.
+    #[inline(never)]
+    fn kept_rule(&self, key: &RuleKey) -> Option<RuleTarget>
+        ensures { result ≡ rule_at self.now.kept key.now }
+    {
+        self.kept(key).map(RuleTarget::copied)
+    }
+
+    /// The keyspace that the rule of a key leads to, if the key is to have a rule that isn't the one from before Create.
+    fn leads_to(&self, key: &RuleKey, types: TypeSet) -> Option<&KeyspaceName>
+        requires { is_as_before self.now types key.now ≡ false }
+        ensures { option_map (λ keyspace. in_keyspace keyspace key.now.table) (option_copied result)
+            ≡ serve_rule (rules_only self.now.kept) (live_of self.now) types key.now key.now.tablet_type }
+    {
         match key.tablet_type {
-            None => self.wanted_plain(key, types),
+            None => self.plain_leads_to(key, types),
             Some(TabletType::Primary) => None,
-            Some(TabletType::Replica) => Some(self.at_target_if(types.replica, key)),
-            Some(TabletType::Rdonly) => Some(self.at_target_if(types.rdonly, key)),
+            Some(TabletType::Replica) => Some(self.side(types.replica)),
+            Some(TabletType::Rdonly) => Some(self.side(types.rdonly)),
         }
     }
 
     /// The same of a key for all types.
-    fn wanted_plain(&self, key: &RuleKey, types: TypeSet) -> Option<RuleTarget>
-        ensures { result ≡ serve_plain (rules_only self.now.kept) (live_of self.now) types key.now key.now.keyspace }
+    fn plain_leads_to(&self, key: &RuleKey, types: TypeSet) -> Option<&KeyspaceName>
+        requires plain { key.now.tablet_type ≡ None }
+        requires other { is_as_before self.now types key.now ≡ false }
+        ensures { option_map (λ keyspace. in_keyspace keyspace key.now.table) (option_copied result)
+            ≡ serve_plain (rules_only self.now.kept) (live_of self.now) types key.now key.now.keyspace }
     {
         match &key.keyspace {
-            None => Some(self.at_target_if(types.primary, key)),
-            Some(keyspace) if &self.source == keyspace => {
-                if types.primary {
-                    return Some(self.at_target_if(true, key));
+            None => Some(self.side(types.primary)),
+            Some(keyspace) => {
+                if !types.primary {
+                    return Some(&self.source);
                 }
-                self.kept(key).map(RuleTarget::copied)
+                if &self.source == keyspace {
+                    return Some(&self.target);
+                }
+                None
             }
-            Some(_) if types.primary => None,
-            Some(_) => Some(self.at_target_if(false, key)),
         }
     }
 
-    /// A key's table at the target, or at the source.
-    fn at_target_if(&self, is_at_target: bool, key: &RuleKey) -> RuleTarget
-        ensures { result ≡ in_keyspace (if is_at_target then self.now.target else self.now.source) key.now.table }
+    /// The target, or the source.
+    fn side(&self, is_target: bool) -> &KeyspaceName
+        ensures { result.now ≡ (if is_target then self.now.target else self.now.source) }
     {
-        let keyspace = if is_at_target {
+        if is_target {
             &self.target
         } else {
             &self.source
-        };
-        RuleTarget {
-            keyspace: keyspace.copied(),
-            table: key.table.copied(),
         }
     }
 
