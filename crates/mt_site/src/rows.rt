@@ -37,13 +37,13 @@ pub(crate) fn write_row(
         → WritesRow (record { topology = topology; primaries = primaries.old.entries; workflows = workflows }) keyspace.now table.now op (written_from result)
         (record { topology = topology; primaries = primaries.new.entries; workflows = workflows }) }
 {
-    match primaries.get_mut(keyspace) {
-        None => Err(Refusal::NoKeyspace),
-        Some(primary) => match primary.write(table, op) {
-            Ok(_) => Ok(()),
-            Err(fault) => Err(refusal_by_primary(fault)),
-        },
+    let Some(primary) = primaries.get_mut(keyspace) else {
+        return Err(Refusal::NoKeyspace);
+    };
+    if let Err(fault) = primary.write(table, op) {
+        return Err(refusal_by_primary(fault));
     }
+    Ok(())
 }
 
 /// Reads a row at the primary of its keyspace, as a tablet of this type has it.
@@ -56,11 +56,11 @@ pub(crate) fn read_row(
 ) -> Result<Option<Value>, Refusal>
     ensures { read_from result ≡ read_at (primary_at primaries.now.entries keyspace.now) table.now key tablet_type }
 {
-    match primaries.get(keyspace) {
-        None => Err(Refusal::NoKeyspace),
-        Some(primary) => match primary.read(table, key, tablet_type) {
-            Ok(row) => Ok(row),
-            Err(fault) => Err(refusal_by_primary(fault)),
-        },
+    let Some(primary) = primaries.get(keyspace) else {
+        return Err(Refusal::NoKeyspace);
+    };
+    match primary.read(table, key, tablet_type) {
+        Ok(row) => Ok(row),
+        Err(fault) => Err(refusal_by_primary(fault)),
     }
 }
