@@ -45,13 +45,11 @@ MakesAtTarget scopes may_answer w change old result new =
     (primary : PrimaryState) × MakesTarget scopes may_answer w change (primary_of old w.target) result primary
     × (new ≡ set_value (same_text w.target) old primary)
 
--- a workflow is made, and the primary of its target has its tables; or primaries are as they were, if there is no memory or the watchers
--- refuse
-abbrev pub Prepares : List Scope → Answering → (made : WorkflowState) → Primaries → Result WorkflowState Refusal → Primaries → Type 0
-Prepares scopes may_answer made old (Ok w) new =
-    (w ≡ made)
-    × ((notice : List Entry) × AsksEach scopes may_answer (scope.Primary made.target) (change_of made) (Ok notice)
-    × (new ≡ with_primary old made.target (target_made made notice)))
+-- the primary of a new workflow's target has its tables; or primaries are as they were, if there is no memory or the watchers refuse
+abbrev pub Prepares : List Scope → Answering → (made : WorkflowState) → Primaries → Result ⊤ Refusal → Primaries → Type 0
+Prepares scopes may_answer made old (Ok done) new =
+    (notice : List Entry) × AsksEach scopes may_answer (scope.Primary made.target) (change_of made) (Ok notice)
+    × (new ≡ with_primary old made.target (target_made made notice))
 Prepares scopes may_answer made old (Err refusal.Memory) new = new ≡ old
 Prepares scopes may_answer made old (Err (refusal.WatcherRefused index)) new =
     AsksEach scopes may_answer (scope.Primary made.target) (change_of made) (Err (watchers.Refused index)) × (new ≡ old)

@@ -196,35 +196,25 @@ fn make_at_target<W: Asks>(
     }
 }
 
-/// Makes a workflow, room for it, and its tables at the primary of its target. `F0 Memory`, then `F23 WatcherRefused`.
+/// Makes room for a new workflow, and its tables at the primary of its target. `F0 Memory`, then `F23 WatcherRefused`.
 fn prepare<W: Asks>(
     alloc: Global,
-    topology: &Topology,
     primaries: &mut Primaries,
     workflows: &mut Workflows,
     watchers: &W,
-    name: &WorkflowName,
-    source: &KeyspaceName,
-    target: &KeyspaceName,
-    tables: &[TableName],
-) -> Result<Workflow, Refusal>
-    requires few { length tables.now ≤ most_tables }
-    requires ready { IsReady (W.scopes watchers.now) primaries.old.entries source.now target.now tables.now }
-    ensures made { Prepares (W.scopes watchers.now) (W.may_answer watchers.now) (new_workflow topology.now.rules name.now source.now target.now tables.now (length (primary_of primaries.old.entries source.now).log)) primaries.old.entries result primaries.new.entries }
+    workflow: &Workflow,
+) -> Result<(), Refusal>
+    requires { IsReady (W.scopes watchers.now) primaries.old.entries workflow.now.source workflow.now.target workflow.now.tables }
+    ensures made { Prepares (W.scopes watchers.now) (W.may_answer watchers.now) workflow.now primaries.old.entries result primaries.new.entries }
     ensures room { OnOk result (1 ≤ spare workflows.new) }
     ensures workflows { workflows.new.entries ≡ workflows.old.entries }
 {
-    let position = position_of(primaries, source);
-    let made = Workflow::new(alloc, name, source, target, tables, topology, position);
-    let Ok(workflow) = made else {
-        return Err(Refusal::Memory);
-    };
-    let change = change_of(alloc, &workflow)?;
+    let change = change_of(alloc, workflow)?;
     if workflows.reserve(1).is_err() {
         return Err(Refusal::Memory);
     }
-    make_at_target(primaries, watchers, &workflow, &change)?;
-    Ok(workflow)
+    make_at_target(primaries, watchers, workflow, &change)?;
+    Ok(())
 }
 
 /// Makes a workflow whose part has its places, writes that, and puts it behind the live ones. Where it isn't made, the
@@ -248,10 +238,13 @@ fn make<W: Asks>(
         (record { topology = topology.old; primaries = primaries.old.entries; workflows = workflows.old.entries }) result
         (record { topology = topology.new; primaries = primaries.new.entries; workflows = workflows.new.entries }) }
 {
-    match prepare(
-        alloc, topology, primaries, workflows, watchers, name, source, target, tables,
-    ) {
-        Ok(workflow) => {
+    let position = position_of(primaries, source);
+    let Ok(workflow) = Workflow::new(alloc, name, source, target, tables, topology, position) else {
+        topology.release_part(source, target, tables);
+        return Err(Refusal::Memory);
+    };
+    match prepare(alloc, primaries, workflows, watchers, &workflow) {
+        Ok(()) => {
             write_part(topology, &workflow);
             match workflows.insert(name.copied(), workflow) {
                 Ok(_) => Ok(Reply::Done),
