@@ -144,8 +144,8 @@ one_recorded w types n t u all i d x within distinct is written =
     ap (λ v. if is_of_step w n (key_of x) then v else x)
     (ap (λ v. value_of v (key_of x)) written
     ∙ value_stays w types n (key_of x) t (take i all) (λ j e inside same.
-        let below : j < i = few_taken all i j inside in
-        distinct j i d below within (ap key_of (sym (taken all i j d below) ∙ any_default (take i all) j d e inside) ∙ same ∙ ap key_of is)))
+    let below : j < i = few_taken all i j inside in
+    distinct j i d below within (ap key_of (sym (taken all i j d below) ∙ any_default (take i all) j d e inside) ∙ same ∙ ap key_of is)))
 
 pub written_next : (w : WorkflowState) (types : TypeSet) (n : ℕ) (t u : TopologyState) (all : List Entry) (i : ℕ) (d x : Entry) → i < length all
     → x ≡ slice_index_or all i d → u ≡ fold (λ v e. with_wanted w types n v (key_of e)) t (take i all)

@@ -83,12 +83,7 @@ fn exchange_entry(
 }
 
 /// Writes an entry as it is to be once these types are switched, and leaves what stood before in place of it. It copies no key.
-fn exchange_wanted(
-    topology: &mut Topology,
-    workflow: &Workflow,
-    types: TypeSet,
-    entry: &mut Entry,
-)
+fn exchange_wanted(topology: &mut Topology, workflow: &Workflow, types: TypeSet, entry: &mut Entry)
     requires { has_place topology.old (key_of entry.old) ≡ true }
     ensures before { entry.new ≡ value_of topology.old (key_of entry.old) }
     ensures after { topology.new ≡ with_entry topology.old (wanted workflow.now types (key_of entry.old)) }

@@ -215,11 +215,7 @@ impl Topology {
     }
 
     /// Writes the rule of a key that has a place, or takes it away, and answers which stood before. It takes no memory.
-    pub fn exchange_rule(
-        &mut self,
-        key: &RuleKey,
-        target: Option<RuleTarget>,
-    ) -> Option<RuleTarget>
+    pub fn exchange_rule(&mut self, key: &RuleKey, target: Option<RuleTarget>) -> Option<RuleTarget>
         requires { has_place self.old (EntryKey.Rule key.now) ≡ true }
         ensures before { result ≡ rule_at self.old.rules key.now }
         ensures after { self.new ≡ with_entry self.old (Entry.Rule key.now target) }
@@ -229,7 +225,12 @@ impl Topology {
 
     /// Writes whether a keyspace's primary is to refuse a table, where that has a place, and answers what stood before. It takes no
     /// memory.
-    pub fn exchange_denied(&mut self, keyspace: &KeyspaceName, table: &TableName, mark: bool) -> bool
+    pub fn exchange_denied(
+        &mut self,
+        keyspace: &KeyspaceName,
+        table: &TableName,
+        mark: bool,
+    ) -> bool
         requires { has_place self.old (EntryKey.Denied keyspace.now table.now) ≡ true }
         ensures before { result ≡ is_denied self.old.keyspaces keyspace.now table.now }
         ensures after { self.new ≡ with_entry self.old (Entry.Denied keyspace.now table.now mark) }
@@ -238,7 +239,12 @@ impl Topology {
     }
 
     /// Writes whether a keyspace has a table, where that has a place, and answers what stood before. It takes no memory.
-    pub fn exchange_present(&mut self, keyspace: &KeyspaceName, table: &TableName, mark: bool) -> bool
+    pub fn exchange_present(
+        &mut self,
+        keyspace: &KeyspaceName,
+        table: &TableName,
+        mark: bool,
+    ) -> bool
         requires { has_place self.old (EntryKey.Present keyspace.now table.now) ≡ true }
         ensures before { result ≡ is_present self.old.keyspaces keyspace.now table.now }
         ensures after { self.new ≡ with_entry self.old (Entry.Present keyspace.now table.now mark) }
