@@ -24,12 +24,15 @@ pub enum Progress {
     Whole,
 }
 
-/// Reads once, and adds what was read to the script. After a fault the script is as it was.
-fn read_more<R: Read>(script: &mut Vec<u8>, reader: &mut R) -> Result<Progress, ScriptFault>
+/// Reads once, by way of a piece, and adds what was read to the script. After a fault the script is as it was.
+fn read_more<R: Read>(
+    script: &mut Vec<u8>,
+    piece: &mut [u8; PIECE],
+    reader: &mut R,
+) -> Result<Progress, ScriptFault>
     ensures { ReadsMore (R.remaining reader.old) (R.remaining reader.new) script.old.items script.new.items result }
 {
-    let mut piece = [0; PIECE];
-    let count = match reader.read(&mut piece) {
+    let count = match reader.read(piece) {
         Ok(count) => count,
         Err(error) if error.kind() == ErrorKind::Interrupted => return Ok(Progress::More),
         Err(_) => return Err(ScriptFault::Read),
@@ -50,8 +53,9 @@ pub fn read_script<R: Read>(alloc: Global, reader: &mut R) -> Result<Vec<u8>, Sc
     ensures { Reads (R.remaining reader.old) (R.remaining reader.new) (result_map_both (λ script. script.items) (λ fault. fault) result) }
 {
     let mut script = Vec::new(alloc);
+    let mut piece = [0; PIECE];
     for _ in 0..MAX_READS {
-        match read_more(&mut script, reader)? {
+        match read_more(&mut script, &mut piece, reader)? {
             Progress::Whole => return Ok(script),
             Progress::More => {
                 if script.len() > MAX_SCRIPT_LENGTH {
