@@ -63,7 +63,7 @@ fn request_output<A: Asks>(
     request: Request<'_>,
     text: &mut LineText,
 ) -> LineOutput
-    ensures { IsRequestOutput (A.scopes watchers.now) core.old (request_from request) text.new.items result core.new }
+    ensures { IsRequestOutput (A.scopes watchers.now) core.old (request_from request.entry) text.new.items result core.new }
 {
     match request {
         Request::AddKeyspace(keyspace) => add_keyspace(core, watchers, keyspace, text),
