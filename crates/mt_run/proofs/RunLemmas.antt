@@ -81,19 +81,19 @@ asks_told scopes old new event answer text is steps p stands = let then = steps 
 -- ---- a row, through a name
 
 -- the answer where the name leads, told
-pub answered_through : {A Stays : Type 0} (scopes : List Scope) (p : Plain) (old new : SiteState) (led : Result RuleTarget TopologyFault) (ask : (keyspace table : List ℕ) → Event)
+pub answered_through : {A : Type 0} (Stays : Type 0) (scopes : List Scope) (p : Plain) (old new : SiteState) (led : Result RuleTarget TopologyFault) (ask : (keyspace table : List ℕ) → Event)
     (answer_of : A → Answer) (told : A) (text : List ℕ) → text ≡ plain.answer_text (answer_of told) ++ line_feed
     → IsThrough led Stays (λ target answer. SiteSteps scopes old (ask target.keyspace target.table) (answer_of answer) new) (Ok told)
     → SiteStands p scopes old → Tells scopes p (asked_there led ask) (Some text) new
-answered_through scopes p old new (Ok target) ask answer_of told text is steps stands = asks_told scopes old new (ask target.keyspace target.table) (answer_of told) text is steps p stands
-answered_through scopes p old new (Err fault) ask answer_of told text is steps stands = absurd steps
+answered_through Stays scopes p old new (Ok target) ask answer_of told text is steps stands = asks_told scopes old new (ask target.keyspace target.table) (answer_of told) text is steps p stands
+answered_through Stays scopes p old new (Err fault) ask answer_of told text is steps stands = absurd steps
 
 -- that the name leads nowhere, told
-pub nowhere_told : {A Stays : Type 0} {Answers : RuleTarget → A → Type 0} (scopes : List Scope) (p : Plain) (new : SiteState) (led : Result RuleTarget TopologyFault)
+pub nowhere_told : {A : Type 0} (Stays : Type 0) (Answers : RuleTarget → A → Type 0) (scopes : List Scope) (p : Plain) (new : SiteState) (led : Result RuleTarget TopologyFault)
     (ask : (keyspace table : List ℕ) → Event) (told : TopologyFault) (text : List ℕ) → text ≡ refused_text (topology_fault_text told) ++ line_feed
     → IsThrough led Stays Answers (Err told) → (Stays → SiteStands p scopes new) → Tells scopes p (asked_there led ask) (Some text) new
-nowhere_told scopes p new (Ok target) ask told text is nowhere stands = absurd nowhere
-nowhere_told scopes p new (Err fault) ask told text is nowhere stands =
+nowhere_told Stays Answers scopes p new (Ok target) ask told text is nowhere stands = absurd nowhere
+nowhere_told Stays Answers scopes p new (Err fault) ask told text is nowhere stands =
     (ap Some (is ∙ ap (λ f. refused_text (topology_fault_text f) ++ line_feed) nowhere.0), stands nowhere.1)
 
 -- the end of a drive, told

@@ -1,30 +1,32 @@
 -- The answer is that of the core where the name leads.
-use Rattle.std.proofs.Common.{Ok, Err, Some, subst}
+use Rattle.std.proofs.Common.{◌++◌, ℕ, List, Some, ap, subst, sym, ◌∙◌}
 use Rattle.mt_model.specs.Topology.{resolution}
 use Rattle.mt_plain.specs.Events as plain
-use Rattle.mt_plain.specs.Output.{asked_there}
+use Rattle.mt_plain.specs.Output.{answer_text, asked_there, line_feed}
 use Rattle.mt_site.specs.ByHand.{read_from}
 use Rattle.mt_run.specs.Runs.{Tells}
 use Rattle.mt_run.proofs.RunLemmas.{answered_through, nowhere_told}
 use Rattle.mt_run.proofs.rows.read.Goals as goal
 
-pub returns-in-Ok : goal.returns-in-Ok
-returns-in-Ok c = λ scopes p stands.
-    let ask = λ keyspace table. plain.read keyspace table c.args.key c.args.type_of in
+pub returns-in-Ok-Ok : goal.returns-in-Ok-Ok
+returns-in-Ok-Ok c = λ scopes p stands.
+    let ask : (keyspace table : List ℕ) → plain.Event = λ keyspace table. plain.read keyspace table c.args.key c.args.type_of in
     subst (λ r. Tells scopes p (asked_there r ask) (Some c.row_answer_line.result.items) c.args.core.now) (c.read_through.ensures.served p scopes stands)
-    (answered_through scopes p c.args.core.now c.args.core.now (resolution c.args.core.now.core.topology c.args.name.now c.args.type_of) ask read_from (Ok c.in-Ok.row) c.row_answer_line.result.items c.row_answer_line.ensures
-    (c.in-Ok.ensures.steps scopes) stands)
+    (answered_through _ scopes p c.args.core.now c.args.core.now (resolution c.args.core.now.core.topology c.args.name.now c.args.type_of) ask read_from c.in-Ok-Ok.field-0 c.row_answer_line.result.items
+    (c.row_answer_line.ensures ∙ ap (λ told. answer_text (read_from told) ++ line_feed) (sym c.in-Ok-Ok.field-0-is))
+    (c.in-Ok-Ok.ensures.steps scopes) stands)
 
-pub returns-in-Ok-2 : goal.returns-in-Ok-2
-returns-in-Ok-2 c = λ scopes p stands.
-    let ask = λ keyspace table. plain.read keyspace table c.args.key c.args.type_of in
+pub returns-in-Ok-Err : goal.returns-in-Ok-Err
+returns-in-Ok-Err c = λ scopes p stands.
+    let ask : (keyspace table : List ℕ) → plain.Event = λ keyspace table. plain.read keyspace table c.args.key c.args.type_of in
     subst (λ r. Tells scopes p (asked_there r ask) (Some c.row_refused_line.result.items) c.args.core.now) (c.read_through.ensures.served p scopes stands)
-    (answered_through scopes p c.args.core.now c.args.core.now (resolution c.args.core.now.core.topology c.args.name.now c.args.type_of) ask read_from (Err c.in-Ok.refusal) c.row_refused_line.result.items c.row_refused_line.ensures
-    (c.in-Ok.ensures.steps scopes) stands)
+    (answered_through _ scopes p c.args.core.now c.args.core.now (resolution c.args.core.now.core.topology c.args.name.now c.args.type_of) ask read_from c.in-Ok-Err.field-0 c.row_refused_line.result.items
+    (c.row_refused_line.ensures ∙ ap (λ told. answer_text (read_from told) ++ line_feed) (sym c.in-Ok-Err.field-0-is))
+    (c.in-Ok-Err.ensures.steps scopes) stands)
 
 pub returns-in-Err : goal.returns-in-Err
 returns-in-Err c = λ scopes p stands.
-    let ask = λ keyspace table. plain.read keyspace table c.args.key c.args.type_of in
+    let ask : (keyspace table : List ℕ) → plain.Event = λ keyspace table. plain.read keyspace table c.args.key c.args.type_of in
     subst (λ r. Tells scopes p (asked_there r ask) (Some c.look_up_line.result.items) c.args.core.now) (c.read_through.ensures.served p scopes stands)
-    (nowhere_told scopes p c.args.core.now (resolution c.args.core.now.core.topology c.args.name.now c.args.type_of) ask c.in-Err.fault c.look_up_line.result.items c.look_up_line.ensures
+    (nowhere_told _ _ scopes p c.args.core.now (resolution c.args.core.now.core.topology c.args.name.now c.args.type_of) ask c.in-Err.fault c.look_up_line.result.items c.look_up_line.ensures
     (c.in-Err.ensures.steps scopes) (λ stays. stands))

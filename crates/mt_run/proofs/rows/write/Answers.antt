@@ -1,32 +1,34 @@
 -- The answer is that of the core where the name leads.
-use Rattle.std.proofs.Common.{Ok, Err, Some, subst, sym}
+use Rattle.std.proofs.Common.{◌++◌, ℕ, List, Some, ap, subst, sym, ◌∙◌}
 use Rattle.mt_model.specs.Topology.{resolution}
 use Rattle.mt_names.specs.declared.types.TabletType.TheVariants.{Primary}
 use Rattle.mt_plain.specs.Events as plain
-use Rattle.mt_plain.specs.Output.{asked_there}
+use Rattle.mt_plain.specs.Output.{answer_text, asked_there, line_feed}
 use Rattle.mt_site_state.specs.Ways.{SiteStands}
 use Rattle.mt_site.specs.ByHand.{written_from}
 use Rattle.mt_run.specs.Runs.{Tells}
 use Rattle.mt_run.proofs.RunLemmas.{answered_through, nowhere_told}
 use Rattle.mt_run.proofs.rows.write.Goals as goal
 
-pub returns-in-Ok : goal.returns-in-Ok
-returns-in-Ok c = λ scopes p stands.
-    let ask = λ keyspace table. plain.write keyspace table c.args.op in
+pub returns-in-Ok-Ok : goal.returns-in-Ok-Ok
+returns-in-Ok-Ok c = λ scopes p stands.
+    let ask : (keyspace table : List ℕ) → plain.Event = λ keyspace table. plain.write keyspace table c.args.op in
     subst (λ r. Tells scopes p (asked_there r ask) (Some c.written_line.result.items) c.write_through.new.self) (c.write_through.ensures.served p scopes stands)
-    (answered_through scopes p c.args.core.now c.write_through.new.self (resolution c.args.core.now.core.topology c.args.name.now Primary) ask written_from (Ok tt) c.written_line.result.items c.written_line.ensures
-    (c.in-Ok.ensures.steps scopes) stands)
+    (answered_through _ scopes p c.args.core.now c.write_through.new.self (resolution c.args.core.now.core.topology c.args.name.now Primary) ask written_from c.in-Ok-Ok.field-0 c.written_line.result.items
+    (c.written_line.ensures ∙ ap (λ told. answer_text (written_from told) ++ line_feed) (sym c.in-Ok-Ok.field-0-is))
+    (c.in-Ok-Ok.ensures.steps scopes) stands)
 
-pub returns-in-Ok-2 : goal.returns-in-Ok-2
-returns-in-Ok-2 c = λ scopes p stands.
-    let ask = λ keyspace table. plain.write keyspace table c.args.op in
+pub returns-in-Ok-Err : goal.returns-in-Ok-Err
+returns-in-Ok-Err c = λ scopes p stands.
+    let ask : (keyspace table : List ℕ) → plain.Event = λ keyspace table. plain.write keyspace table c.args.op in
     subst (λ r. Tells scopes p (asked_there r ask) (Some c.row_refused_line.result.items) c.write_through.new.self) (c.write_through.ensures.served p scopes stands)
-    (answered_through scopes p c.args.core.now c.write_through.new.self (resolution c.args.core.now.core.topology c.args.name.now Primary) ask written_from (Err c.in-Ok.refusal) c.row_refused_line.result.items c.row_refused_line.ensures
-    (c.in-Ok.ensures.steps scopes) stands)
+    (answered_through _ scopes p c.args.core.now c.write_through.new.self (resolution c.args.core.now.core.topology c.args.name.now Primary) ask written_from c.in-Ok-Err.field-0 c.row_refused_line.result.items
+    (c.row_refused_line.ensures ∙ ap (λ told. answer_text (written_from told) ++ line_feed) (sym c.in-Ok-Err.field-0-is))
+    (c.in-Ok-Err.ensures.steps scopes) stands)
 
 pub returns-in-Err : goal.returns-in-Err
 returns-in-Err c = λ scopes p stands.
-    let ask = λ keyspace table. plain.write keyspace table c.args.op in
+    let ask : (keyspace table : List ℕ) → plain.Event = λ keyspace table. plain.write keyspace table c.args.op in
     subst (λ r. Tells scopes p (asked_there r ask) (Some c.look_up_line.result.items) c.write_through.new.self) (c.write_through.ensures.served p scopes stands)
-    (nowhere_told scopes p c.write_through.new.self (resolution c.args.core.now.core.topology c.args.name.now Primary) ask c.in-Err.fault c.look_up_line.result.items c.look_up_line.ensures
+    (nowhere_told _ _ scopes p c.write_through.new.self (resolution c.args.core.now.core.topology c.args.name.now Primary) ask c.in-Err.fault c.look_up_line.result.items c.look_up_line.ensures
     (c.in-Err.ensures.steps scopes) (λ same. subst (SiteStands p scopes) (sym same) stands))
