@@ -133,7 +133,6 @@ line_outputs scopes p line request written r core same = by r
     by : (r : answer.LineOutput) → IsLineOutput scopes p (told_request p (Ok request)) (is_document request ≡ true) written r core → IsLineOutput scopes p (told read_line p line) (AsksDocument line) written r core
     by output.Silent is = subst (λ t. Tells scopes p t None core) told-same is
     by output.Line is = subst (λ t. Tells scopes p t (Some written) core) told-same is
-    by (output.Row text) is = subst (λ t. Tells scopes p t (Some text.items) core) told-same is
     by (output.Document text) is = subst (λ t. Tells scopes p t (Some (string_bytes text ++ line_feed)) core) told-same is
     by output.NoMemory (is, stands) = ((request, is, same), stands)
 

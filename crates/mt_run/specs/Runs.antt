@@ -52,7 +52,6 @@ AsksDocument line = (request : Request) × (is_document request ≡ true) × (So
 abbrev pub IsLineOutput : List Scope → Plain → Told → (IsDocument : Type 0) → (written : List ℕ) → code.LineOutput → SiteState → Type 0
 IsLineOutput scopes p t IsDocument written output.Silent core = Tells scopes p t None core
 IsLineOutput scopes p t IsDocument written output.Line core = Tells scopes p t (Some written) core
-IsLineOutput scopes p t IsDocument written (output.Row text) core = Tells scopes p t (Some text.items) core
 IsLineOutput scopes p t IsDocument written (output.Document text) core = Tells scopes p t (Some (string_bytes text ++ line_feed)) core
 IsLineOutput scopes p t IsDocument written output.NoMemory core = IsDocument × SiteStands p scopes core
 

@@ -15,7 +15,7 @@ use crate::asking::{
 };
 use crate::rows::row_output;
 use mt_io::{ScriptFault, Waiting, flush, put_document, put_line, read_script};
-use mt_script::{Line, LineText, Request, RowText, first_line, read_line, row_line, write_refusal};
+use mt_script::{Line, LineText, Request, first_line, read_line, row_line, write_refusal};
 use mt_site::Core;
 use mt_watch::Asks;
 use std::alloc::Global;
@@ -28,8 +28,6 @@ pub enum LineOutput {
     Silent,
     /// The line that was written, with its line feed.
     Line,
-    /// The line of a row, with its line feed.
-    Row(RowText),
     /// A document, without a line feed.
     Document(String),
     /// There was no memory for a document.
@@ -69,7 +67,10 @@ fn request_output<A: Asks>(
         Request::AddKeyspace(keyspace) => add_keyspace(core, watchers, keyspace, text),
         Request::AddTable(keyspace, table) => add_table(core, watchers, keyspace, table, text),
         Request::EditRule(key, target) => edit_rule(core, watchers, key, target, text),
-        Request::Row(row) => LineOutput::Row(row_output(core, row)),
+        Request::Row(row) => {
+            row_output(core, row, text);
+            LineOutput::Line
+        }
         Request::WriteAt(keyspace, table, op) => write_at(
             core, watchers, keyspace, table, op, text,
         ),
@@ -141,7 +142,6 @@ fn run_other<W: Write, A: Asks>(
     match line_output(core, watchers, line, text) {
         LineOutput::Silent => Ok(()),
         LineOutput::Line => put_line(waiting, writer, text),
-        LineOutput::Row(row) => put_line(waiting, writer, &row),
         LineOutput::Document(document) => { put_document(waiting, writer, document.as_bytes()) }
         LineOutput::NoMemory => {
             flush(waiting, writer)?;
@@ -164,7 +164,10 @@ fn run_line<W: Write, A: Asks>(
         → RunsLine (A.scopes watchers.now) p line.now core.new (W.contents writer.old) (W.contents writer.new) waiting.old.items waiting.new.items result }
 {
     match row_line(line) {
-        Some(row) => put_line(waiting, writer, &row_output(core, row)),
+        Some(row) => {
+            row_output(core, row, text);
+            put_line(waiting, writer, text)
+        }
         None => run_other(core, watchers, waiting, writer, line, text),
     }
 }

@@ -16,6 +16,6 @@ pub use cut::first_line;
 pub use lines::{Line, LineRefusal, MAX_LINE_LENGTH, Request, RowRequest, read_line, row_line};
 pub use tables::TableText;
 pub use texts::{
-    LONGEST_ROW_LINE, LineText, RowText, look_up_line, row_answer_line, row_refused_line,
-    write_answer, write_driven, write_refusal, written_line,
+    LineText, write_answer, write_driven, write_look_up, write_refusal, write_row,
+    write_row_refused, write_written,
 };

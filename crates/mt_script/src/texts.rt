@@ -22,24 +22,6 @@ use mt_stream::Advanced;
 /// The text of a line of output, with its line feed.
 pub type LineText = ArrayVec<u8, LONGEST_LINE>;
 
-/// The longest line that answers for a row, in bytes, and more: `row `, a value of 64 bytes, and the line feed are 69.
-pub const LONGEST_ROW_LINE: usize = 96;
-
-/// The text of a line that answers for a row, with its line feed.
-pub type RowText = ArrayVec<u8, LONGEST_ROW_LINE>;
-
-/// A line of the two texts, one behind the other.
-fn line_of(first: &[u8], second: &[u8]) -> RowText
-    requires { length first.now + length second.now < LONGEST_ROW_LINE }
-    ensures { result.items ≡ first.now ++ second.now ++ line_feed }
-{
-    let mut line = ArrayVec::new();
-    let _fits = line.try_extend_from_slice(first);
-    let _fits = line.try_extend_from_slice(second);
-    line.push(b'\n');
-    line
-}
-
 /// Writes a line of the two texts, one behind the other, in place of the text that was there.
 fn write_line(text: &mut LineText, first: &[u8], second: &[u8])
     requires { length first.now + length second.now < LONGEST_LINE }
@@ -133,33 +115,33 @@ pub fn write_refusal(text: &mut LineText, refusal: LineRefusal)
     write_line(text, b"refused ", why.as_bytes());
 }
 
-/// The line that tells that a row is written.
-pub fn written_line() -> RowText
-    ensures { result.items ≡ answer_text done ++ line_feed }
+/// Writes the line that tells that a row is written, in place of the text that was there.
+pub fn write_written(text: &mut LineText)
+    ensures { text.new.items ≡ answer_text done ++ line_feed }
 {
-    line_of(b"ok", b"")
+    write_line(text, b"ok", b"");
 }
 
-/// The line that tells of a row that was read, or that there is none.
-pub fn row_answer_line(row: &Option<Value>) -> RowText
-    ensures { result.items ≡ answer_text (answer_from (Ok (reply.Row row.now))) ++ line_feed }
+/// Writes the line that tells of a row that was read, or that there is none, in place of the text that was there.
+pub fn write_row(text: &mut LineText, row: &Option<Value>)
+    ensures { text.new.items ≡ answer_text (answer_from (Ok (reply.Row row.now))) ++ line_feed }
 {
     match row {
-        None => line_of(b"none", b""),
-        Some(value) => line_of(b"row ", value),
+        None => write_line(text, b"none", b""),
+        Some(value) => write_line(text, b"row ", value),
     }
 }
 
-/// The line that tells why a row is refused.
-pub fn row_refused_line(refusal: &Refusal) -> RowText
-    ensures { result.items ≡ answer_text (refused (refusal_from refusal.now)) ++ line_feed }
+/// Writes the line that tells why a row is refused, in place of the text that was there.
+pub fn write_row_refused(text: &mut LineText, refusal: &Refusal)
+    ensures { text.new.items ≡ answer_text (refused (refusal_from refusal.now)) ++ line_feed }
 {
-    line_of(b"refused ", refusal.as_str().as_bytes())
+    write_line(text, b"refused ", refusal.as_str().as_bytes());
 }
 
-/// The line that tells why a look-up is refused.
-pub fn look_up_line(fault: TopologyFault) -> RowText
-    ensures { result.items ≡ refused_text (topology_fault_text fault) ++ line_feed }
+/// Writes the line that tells why a look-up is refused, in place of the text that was there.
+pub fn write_look_up(text: &mut LineText, fault: TopologyFault)
+    ensures { text.new.items ≡ refused_text (topology_fault_text fault) ++ line_feed }
 {
-    line_of(b"refused ", fault.as_str().as_bytes())
+    write_line(text, b"refused ", fault.as_str().as_bytes());
 }

@@ -13,22 +13,22 @@ use Rattle.mt_run.proofs.rows.write.Goals as goal
 pub returns-in-Ok-Ok : goal.returns-in-Ok-Ok
 returns-in-Ok-Ok c = λ scopes p stands.
     let ask : (keyspace table : List ℕ) → plain.Event = λ keyspace table. plain.write keyspace table c.args.op in
-    subst (λ r. Tells scopes p (asked_there r ask) (Some c.written_line.result.items) c.write_through.new.self) (c.write_through.ensures.served p scopes stands)
-    (answered_through _ scopes p c.args.core.now c.write_through.new.self (resolution c.args.core.now.core.topology c.args.name.now Primary) ask written_from c.in-Ok-Ok.field-0 c.written_line.result.items
-    (c.written_line.ensures ∙ ap (λ told. answer_text (written_from told) ++ line_feed) (sym c.in-Ok-Ok.field-0-is))
+    subst (λ r. Tells scopes p (asked_there r ask) (Some c.write_written.new.text.items) c.write_through.new.self) (c.write_through.ensures.served p scopes stands)
+    (answered_through _ scopes p c.args.core.now c.write_through.new.self (resolution c.args.core.now.core.topology c.args.name.now Primary) ask written_from c.in-Ok-Ok.field-0 c.write_written.new.text.items
+    (c.write_written.ensures ∙ ap (λ told. answer_text (written_from told) ++ line_feed) (sym c.in-Ok-Ok.field-0-is))
     (c.in-Ok-Ok.ensures.steps scopes) stands)
 
 pub returns-in-Ok-Err : goal.returns-in-Ok-Err
 returns-in-Ok-Err c = λ scopes p stands.
     let ask : (keyspace table : List ℕ) → plain.Event = λ keyspace table. plain.write keyspace table c.args.op in
-    subst (λ r. Tells scopes p (asked_there r ask) (Some c.row_refused_line.result.items) c.write_through.new.self) (c.write_through.ensures.served p scopes stands)
-    (answered_through _ scopes p c.args.core.now c.write_through.new.self (resolution c.args.core.now.core.topology c.args.name.now Primary) ask written_from c.in-Ok-Err.field-0 c.row_refused_line.result.items
-    (c.row_refused_line.ensures ∙ ap (λ told. answer_text (written_from told) ++ line_feed) (sym c.in-Ok-Err.field-0-is))
+    subst (λ r. Tells scopes p (asked_there r ask) (Some c.write_row_refused.new.text.items) c.write_through.new.self) (c.write_through.ensures.served p scopes stands)
+    (answered_through _ scopes p c.args.core.now c.write_through.new.self (resolution c.args.core.now.core.topology c.args.name.now Primary) ask written_from c.in-Ok-Err.field-0 c.write_row_refused.new.text.items
+    (c.write_row_refused.ensures ∙ ap (λ told. answer_text (written_from told) ++ line_feed) (sym c.in-Ok-Err.field-0-is))
     (c.in-Ok-Err.ensures.steps scopes) stands)
 
 pub returns-in-Err : goal.returns-in-Err
 returns-in-Err c = λ scopes p stands.
     let ask : (keyspace table : List ℕ) → plain.Event = λ keyspace table. plain.write keyspace table c.args.op in
-    subst (λ r. Tells scopes p (asked_there r ask) (Some c.look_up_line.result.items) c.write_through.new.self) (c.write_through.ensures.served p scopes stands)
-    (nowhere_told _ _ scopes p c.write_through.new.self (resolution c.args.core.now.core.topology c.args.name.now Primary) ask c.in-Err.fault c.look_up_line.result.items c.look_up_line.ensures
+    subst (λ r. Tells scopes p (asked_there r ask) (Some c.write_look_up.new.text.items) c.write_through.new.self) (c.write_through.ensures.served p scopes stands)
+    (nowhere_told _ _ scopes p c.write_through.new.self (resolution c.args.core.now.core.topology c.args.name.now Primary) ask c.in-Err.fault c.write_look_up.new.text.items c.write_look_up.ensures
     (c.in-Err.ensures.steps scopes) (λ same. subst (SiteStands p scopes) (sym same) stands))

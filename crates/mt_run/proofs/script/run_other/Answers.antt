@@ -12,11 +12,6 @@ returns-in-Line g c = λ p stands.
     line_written (g.A.Asks.scopes c.args.watchers.now) p c.args.line.now c.line_output.new.core _ _ c.args.waiting.now.items c.put_line.new.waiting.items (Some c.line_output.new.text.items) c.put_line.result (c.in-Line.ensures p stands)
     (subst (λ line. Writes (g.W.Write.contents c.args.writer.now) (g.W.Write.contents c.put_line.new.writer) (c.args.waiting.now.items ++ line) c.put_line.new.waiting.items c.put_line.result) c.deref.ensures.0 c.put_line.ensures)
 
-pub returns-in-Row : goal.returns-in-Row
-returns-in-Row g c = λ p stands.
-    line_written (g.A.Asks.scopes c.args.watchers.now) p c.args.line.now c.line_output.new.core _ _ c.args.waiting.now.items c.put_line-in-Row.new.waiting.items (Some c.in-Row.row.items) c.put_line-in-Row.result (c.in-Row.ensures p stands)
-    (subst (λ line. Writes (g.W.Write.contents c.args.writer.now) (g.W.Write.contents c.put_line-in-Row.new.writer) (c.args.waiting.now.items ++ line) c.put_line-in-Row.new.waiting.items c.put_line-in-Row.result) c.deref-in-Row.ensures.0 c.put_line-in-Row.ensures)
-
 pub returns-in-Document : goal.returns-in-Document
 returns-in-Document g c = λ p stands.
     line_written (g.A.Asks.scopes c.args.watchers.now) p c.args.line.now c.line_output.new.core _ _ c.args.waiting.now.items c.put_document.new.waiting.items (Some (string_bytes c.in-Document.document ++ line_feed)) c.put_document.result (c.in-Document.ensures p stands)
