@@ -6,6 +6,7 @@ ghost use Rattle.mt_workflow.specs.Workflows.{stream_name};
 ghost use Rattle.mt_run.specs.Runs.{IsRequestOutput};
 
 use crate::script::LineOutput;
+use mt_cache::CachedCore;
 use mt_drive::drive;
 use mt_event::Event;
 use mt_model::Op;
@@ -13,23 +14,27 @@ use mt_names::{
     KeyspaceName, Position, RuleKey, RuleTarget, TableName, TabletType, TypeSet, WorkflowName,
 };
 use mt_script::{LineText, TableText, write_answer, write_driven};
-use mt_site::Core;
 use mt_watch::Asks;
 use mt_workflow::Slot;
 
 /// What an event adds to the output: its answer. An event is large, so each kind is made in a function of its own.
 #[inline(never)]
-fn ask<A: Asks>(core: &mut Core, watchers: &A, asked: &Event, text: &mut LineText) -> LineOutput
+fn ask<A: Asks>(
+    core: &mut CachedCore,
+    watchers: &A,
+    asked: &Event,
+    text: &mut LineText,
+) -> LineOutput
     ensures { IsRequestOutput (A.scopes watchers.now) core.old (event (event_of asked.now)) text.new.items result core.new }
 {
-    write_answer(text, &core.apply(watchers, asked));
+    write_answer(text, &core.core_mut().apply(watchers, asked));
     LineOutput::Line
 }
 
 /// Makes a keyspace.
 #[inline(never)]
 pub fn add_keyspace<A: Asks>(
-    core: &mut Core,
+    core: &mut CachedCore,
     watchers: &A,
     keyspace: KeyspaceName,
     text: &mut LineText,
@@ -42,7 +47,7 @@ pub fn add_keyspace<A: Asks>(
 /// Makes a table in a keyspace.
 #[inline(never)]
 pub fn add_table<A: Asks>(
-    core: &mut Core,
+    core: &mut CachedCore,
     watchers: &A,
     keyspace: KeyspaceName,
     table: TableName,
@@ -56,7 +61,7 @@ pub fn add_table<A: Asks>(
 /// Sets the routing rule of a key, or takes it away.
 #[inline(never)]
 pub fn edit_rule<A: Asks>(
-    core: &mut Core,
+    core: &mut CachedCore,
     watchers: &A,
     key: RuleKey,
     target: Option<RuleTarget>,
@@ -70,7 +75,7 @@ pub fn edit_rule<A: Asks>(
 /// Writes to a table of a keyspace.
 #[inline(never)]
 pub fn write_at<A: Asks>(
-    core: &mut Core,
+    core: &mut CachedCore,
     watchers: &A,
     keyspace: KeyspaceName,
     table: TableName,
@@ -94,7 +99,7 @@ pub fn write_at<A: Asks>(
 /// Reads a row of a table of a keyspace.
 #[inline(never)]
 pub fn read_at<A: Asks>(
-    core: &mut Core,
+    core: &mut CachedCore,
     watchers: &A,
     keyspace: KeyspaceName,
     table: TableName,
@@ -120,7 +125,7 @@ pub fn read_at<A: Asks>(
 /// Creates a workflow.
 #[inline(never)]
 pub fn create<A: Asks>(
-    core: &mut Core,
+    core: &mut CachedCore,
     watchers: &A,
     workflow: WorkflowName,
     source: KeyspaceName,
@@ -146,7 +151,7 @@ pub fn create<A: Asks>(
 /// Advances a stream of a workflow.
 #[inline(never)]
 pub fn advance<A: Asks>(
-    core: &mut Core,
+    core: &mut CachedCore,
     watchers: &A,
     workflow: WorkflowName,
     stream: Slot,
@@ -172,7 +177,7 @@ pub fn advance<A: Asks>(
 /// Begins to switch traffic to the target of a workflow.
 #[inline(never)]
 pub fn begin_switch<A: Asks>(
-    core: &mut Core,
+    core: &mut CachedCore,
     watchers: &A,
     workflow: WorkflowName,
     types: TypeSet,
@@ -191,7 +196,7 @@ pub fn begin_switch<A: Asks>(
 /// Begins to send traffic back to the source of a workflow.
 #[inline(never)]
 pub fn begin_reverse<A: Asks>(
-    core: &mut Core,
+    core: &mut CachedCore,
     watchers: &A,
     workflow: WorkflowName,
     types: TypeSet,
@@ -210,7 +215,7 @@ pub fn begin_reverse<A: Asks>(
 /// Does the next step of the way that is open on a workflow.
 #[inline(never)]
 pub fn step<A: Asks>(
-    core: &mut Core,
+    core: &mut CachedCore,
     watchers: &A,
     workflow: WorkflowName,
     at: u64,
@@ -224,7 +229,7 @@ pub fn step<A: Asks>(
 /// Undoes the last step of it.
 #[inline(never)]
 pub fn undo<A: Asks>(
-    core: &mut Core,
+    core: &mut CachedCore,
     watchers: &A,
     workflow: WorkflowName,
     at: u64,
@@ -238,7 +243,7 @@ pub fn undo<A: Asks>(
 /// Takes a workflow back.
 #[inline(never)]
 pub fn cancel<A: Asks>(
-    core: &mut Core,
+    core: &mut CachedCore,
     watchers: &A,
     workflow: WorkflowName,
     text: &mut LineText,
@@ -251,7 +256,7 @@ pub fn cancel<A: Asks>(
 /// Ends a workflow.
 #[inline(never)]
 pub fn complete<A: Asks>(
-    core: &mut Core,
+    core: &mut CachedCore,
     watchers: &A,
     workflow: WorkflowName,
     text: &mut LineText,
@@ -264,7 +269,7 @@ pub fn complete<A: Asks>(
 /// Tells of a workflow.
 #[inline(never)]
 pub fn show<A: Asks>(
-    core: &mut Core,
+    core: &mut CachedCore,
     watchers: &A,
     workflow: WorkflowName,
     text: &mut LineText,
@@ -277,7 +282,7 @@ pub fn show<A: Asks>(
 /// Switches the traffic of a workflow as a whole, or reverses it.
 #[inline(never)]
 pub fn drive_whole<A: Asks>(
-    core: &mut Core,
+    core: &mut CachedCore,
     watchers: &A,
     workflow: &WorkflowName,
     types: TypeSet,
@@ -286,6 +291,9 @@ pub fn drive_whole<A: Asks>(
 ) -> LineOutput
     ensures { IsRequestOutput (A.scopes watchers.now) core.old (drive workflow.now types back) text.new.items result core.new }
 {
-    write_driven(text, &drive(core, watchers, workflow, types, back));
+    write_driven(
+        text,
+        &drive(core.core_mut(), watchers, workflow, types, back),
+    );
     LineOutput::Line
 }

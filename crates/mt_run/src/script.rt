@@ -14,9 +14,9 @@ use crate::asking::{
     drive_whole, edit_rule, read_at, show, step, undo, write_at,
 };
 use crate::rows::row_output;
+use mt_cache::CachedCore;
 use mt_io::{ScriptFault, Waiting, flush, put_document, put_line, read_script};
 use mt_script::{Line, LineText, Request, first_line, read_line, row_line, write_refusal};
-use mt_site::Core;
 use mt_watch::Asks;
 use std::alloc::Global;
 use std::io::{Read, Write};
@@ -35,20 +35,20 @@ pub enum LineOutput {
 }
 
 /// What the document of the rules adds to the output.
-fn rules(core: &Core) -> LineOutput
+fn rules(core: &CachedCore) -> LineOutput
     ensures { (scopes : List Scope) (written : List ℕ) → IsRequestOutput scopes core.now rules_document written result core.now }
 {
-    match core.rules_json() {
+    match core.core().rules_json() {
         Ok(text) => LineOutput::Document(text),
         Err(_) => LineOutput::NoMemory,
     }
 }
 
 /// What the document of the whole topology adds to the output.
-fn dump(core: &Core) -> LineOutput
+fn dump(core: &CachedCore) -> LineOutput
     ensures { (scopes : List Scope) (written : List ℕ) → IsRequestOutput scopes core.now dump_document written result core.now }
 {
-    match core.dump() {
+    match core.core().dump() {
         Ok(text) => LineOutput::Document(text),
         Err(_) => LineOutput::NoMemory,
     }
@@ -56,7 +56,7 @@ fn dump(core: &Core) -> LineOutput
 
 /// What a request adds to the output. A line is written into the text, in place of the one that was there.
 fn request_output<A: Asks>(
-    core: &mut Core,
+    core: &mut CachedCore,
     watchers: &A,
     request: Request<'_>,
     text: &mut LineText,
@@ -107,7 +107,7 @@ fn request_output<A: Asks>(
 
 /// What a line of a script adds to the output.
 fn line_output<A: Asks>(
-    core: &mut Core,
+    core: &mut CachedCore,
     watchers: &A,
     line: &[u8],
     text: &mut LineText,
@@ -129,7 +129,7 @@ fn line_output<A: Asks>(
 /// is no memory for it, what waits is.
 #[inline(never)]
 fn run_other<W: Write, A: Asks>(
-    core: &mut Core,
+    core: &mut CachedCore,
     watchers: &A,
     waiting: &mut Waiting,
     writer: &mut W,
@@ -153,7 +153,7 @@ fn run_other<W: Write, A: Asks>(
 /// Answers a line of a script, as `run_other` does. A line that asks for a row takes a short way: what other lines need is
 /// larger by far.
 fn run_line<W: Write, A: Asks>(
-    core: &mut Core,
+    core: &mut CachedCore,
     watchers: &A,
     waiting: &mut Waiting,
     writer: &mut W,
@@ -174,7 +174,7 @@ fn run_line<W: Write, A: Asks>(
 
 /// Answers each line of a script, and writes the answers in pieces.
 fn run_lines<W: Write, A: Asks>(
-    core: &mut Core,
+    core: &mut CachedCore,
     watchers: &A,
     script: &[u8],
     writer: &mut W,
@@ -205,6 +205,6 @@ pub fn run_script<R: Read, W: Write, A: Asks>(
     ensures { Runs (A.scopes watchers.now) (R.remaining reader.old) (R.remaining reader.new) (W.contents writer.old) (W.contents writer.new) result }
 {
     let script = read_script(alloc, reader)?;
-    let mut core = Core::new(alloc);
+    let mut core = CachedCore::new(alloc);
     run_lines(&mut core, watchers, &script, writer)
 }

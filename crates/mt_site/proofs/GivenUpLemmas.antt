@@ -1,9 +1,9 @@
 -- An undo before the journal, and a Cancel where nothing is switched and no way is open, are done.
-use Rattle.std.proofs.Common.{◌≡◌, ℕ, Bool, true, false, not, List, Option, None, Some, is_some, refl, sym, ap, subst, ◌∙◌}
+use Rattle.std.proofs.Common.{◌≡◌, ℕ, true, false, not, List, Option, None, Some, is_some, refl, sym, ap, subst, ◌∙◌}
 use Rattle.std.proofs.lemmas.Bool.{true≢false}
 use Rattle.std.specs.Prelude.{◌==◌, ◌||◌}
 use Rattle.mt_model.specs.declared.entries.Scope.{Scope}
-use Rattle.mt_plain.specs.Events.{Answer, done, row, advanced, shown, refused, Refusal, memory, Event, cancel, undo, past_journal, stale, traffic_switched, under_way, Way}
+use Rattle.mt_plain.specs.Events.{Answer, done, row, advanced, shown, refused, memory, Event, cancel, undo, past_journal, stale, traffic_switched, under_way, Way}
 use Rattle.mt_plain.specs.Plain.{stands_done, write_journal}
 use Rattle.mt_plain.specs.Refuse.{cancel_refusal, or_else, refuse_if}
 use Rattle.mt_watch.specs.Asking.{Answering}

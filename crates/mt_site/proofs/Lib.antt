@@ -6,6 +6,7 @@ pub mod HandLemmas
 pub mod LeaveLemmas
 pub mod MakeLemmas
 pub mod OwedLemmas
+pub mod PlacedLemmas
 pub mod PrimaryLemmas
 pub mod RunLemmas
 pub mod SiteLemmas

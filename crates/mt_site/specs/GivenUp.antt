@@ -1,5 +1,5 @@
 -- What must be taken, so that a move can always be given up (this profile's own).
-use Rattle.std.specs.Prelude.{◌≡◌, ℕ, true, false, ◌||◌, ◌==◌, List, None, Some}
+use Rattle.std.specs.Prelude.{◌≡◌, true, false, ◌||◌, ◌==◌, None, Some}
 use Rattle.mt_plain.specs.Events.{Event, cancel, undo, Way}
 use Rattle.mt_plain.specs.Plain.{stands_done, write_journal}
 use Rattle.mt_workflow.specs.Workflows.{WorkflowState}

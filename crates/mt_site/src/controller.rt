@@ -22,11 +22,13 @@ ghost use Rattle.mt_site_state.specs.Ways.{SiteStands, SiteSteps, empty_site};
 ghost use Rattle.mt_site_state.specs.Workflows.{AdvancesWorkflow, Cancels, Creates, ShowsWorkflow};
 ghost use Rattle.mt_workflow.specs.Workflows.{stream_name};
 
+mod placed;
 mod through;
 
 use crate::given_up::a_move_can_be_given_up;
 use crate::owed::a_core_owes_what_its_state_owes;
 use crate::primaries::each_is_a_primary;
+use crate::rows::{Hint, NOWHERE};
 use crate::{OpenWays, Primaries, Workflows, advance, by_hand, cancel, create, owed, rows, show};
 use indexmap::IndexMap;
 use mt_event::{Event, Refusal, Reply};
@@ -51,6 +53,7 @@ use mt_site_ways::{
 use mt_topology::Topology;
 use mt_watch::Asks;
 use mt_workflow::{Slot, Workflow};
+pub use placed::Place;
 use std::alloc::Global;
 use std::marker::Model;
 
@@ -202,6 +205,7 @@ impl Core {
     /// Writes a row of a table, for the core alone.
     fn write_at(
         &mut self,
+        hint: Hint,
         keyspace: &KeyspaceName,
         table: &TableName,
         op: Op,
@@ -212,7 +216,7 @@ impl Core {
     {
         a_site_stays_one();
         events_by_hand_step_and_leave_the_ways();
-        rows::write_row(&mut self.primaries, keyspace, table, op)
+        rows::write_row(&mut self.primaries, hint, keyspace, table, op)
     }
 
     /// The same, as an answer.
@@ -226,7 +230,7 @@ impl Core {
         ensures ways { self.new.ways ≡ self.old.ways }
         ensures unchanged { OnErr result (self.new ≡ self.old) }
     {
-        match self.write_at(keyspace, table, op) {
+        match self.write_at(NOWHERE, keyspace, table, op) {
             Ok(()) => Ok(Reply::Done),
             Err(refusal) => Err(refusal),
         }
@@ -242,7 +246,7 @@ impl Core {
     ) -> Result<Reply, Refusal>
         ensures { ReadsRow self.now.core keyspace.now table.now key tablet_type (answer_from result) self.now.core }
     {
-        match rows::read_row(&self.primaries, keyspace, table, key, tablet_type) {
+        match rows::read_row(&self.primaries, NOWHERE, keyspace, table, key, tablet_type) {
             Ok(row) => Ok(Reply::Row(row)),
             Err(refusal) => Err(refusal),
         }

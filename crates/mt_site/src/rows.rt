@@ -1,6 +1,9 @@
 //! Clients' rows: they are written and read at the primary of a keyspace.
-ghost use Rattle.std.specs.Prelude.{◌≡◌};
+ghost use Rattle.std.specs.Prelude.{◌≡◌, true, None, Some, MatchOption, slice_get, option_copied};
+ghost use Rattle.std.specs.List.{IsDistinct};
+ghost use Rattle.std.specs.Map.{keys_of};
 ghost use Rattle.mt_model.specs.Topology.{TopologyState};
+ghost use Rattle.mt_names.specs.Names.{same_text};
 ghost use Rattle.mt_site_state.specs.ByHand.{WritesRow, read_at};
 ghost use Rattle.mt_site_state.specs.Core.{primary_at};
 ghost use Rattle.mt_site_state.specs.Core as core;
@@ -10,6 +13,23 @@ use crate::Primaries;
 use mt_event::Refusal;
 use mt_model::{Op, PrimaryFault};
 use mt_names::{KeyspaceName, TableName, TabletType, Value};
+use mt_primary::Primary;
+
+/// Where the primary of a keyspace may stand among the others, and where a table may stand in it. Nothing is promised of either:
+/// there they are looked for first.
+#[derive(Clone, Copy)]
+pub(crate) struct Hint {
+    /// The place of the primary.
+    pub primary: usize,
+    /// The place of the table.
+    pub table: usize,
+}
+
+/// A hint at which nothing stands.
+pub(crate) const NOWHERE: Hint = Hint {
+    primary: usize::MAX,
+    table: usize::MAX,
+};
 
 /// The refusal of the core for one of a primary.
 fn refusal_by_primary(fault: PrimaryFault) -> Refusal
@@ -26,9 +46,32 @@ fn refusal_by_primary(fault: PrimaryFault) -> Refusal
     }
 }
 
-/// Writes a row at the primary of its keyspace.
+/// Whether the primary of a keyspace stands at a place among the others.
+fn stands_at(primaries: &Primaries, place: usize, keyspace: &KeyspaceName) -> bool
+    ensures there { result ≡ true → slice_get (keys_of primaries.now.entries) place ≡ Some keyspace.now }
+    ensures distinct { IsDistinct same_text (keys_of primaries.now.entries) }
+{
+    match primaries.as_slice().get_index(place) {
+        Some((name, _)) => name == keyspace,
+        None => false,
+    }
+}
+
+/// Where the primary of a keyspace stands among the others, if it is there: it is looked for at a place first.
+fn place_of(primaries: &Primaries, place: usize, keyspace: &KeyspaceName) -> Option<usize>
+    ensures found { MatchOption result (primary_at primaries.now.entries keyspace.now ≡ None) (λ at. slice_get (keys_of primaries.now.entries) at ≡ Some keyspace.now) }
+    ensures distinct { IsDistinct same_text (keys_of primaries.now.entries) }
+{
+    if stands_at(primaries, place, keyspace) {
+        return Some(place);
+    }
+    primaries.get_index_of(keyspace)
+}
+
+/// Writes a row at the primary of its keyspace, wherever that stands.
 pub(crate) fn write_row(
     primaries: &mut Primaries,
+    hint: Hint,
     keyspace: &KeyspaceName,
     table: &TableName,
     op: Op,
@@ -37,18 +80,34 @@ pub(crate) fn write_row(
         → WritesRow (record { topology = topology; primaries = primaries.old.entries; workflows = workflows }) keyspace.now table.now op (written_from result)
         (record { topology = topology; primaries = primaries.new.entries; workflows = workflows }) }
 {
-    let Some(primary) = primaries.get_mut(keyspace) else {
+    let Some(place) = place_of(primaries, hint.primary, keyspace) else {
         return Err(Refusal::NoKeyspace);
     };
-    if let Err(fault) = primary.write(table, op) {
-        return Err(refusal_by_primary(fault));
+    let primary = &mut primaries[place];
+    match primary.write_placed(hint.table, table, op) {
+        Ok(_) => Ok(()),
+        Err(fault) => Err(refusal_by_primary(fault)),
     }
-    Ok(())
 }
 
-/// Reads a row at the primary of its keyspace, as a tablet of this type has it.
+/// The primary of a keyspace, which is looked for at a place among the others first.
+fn primary_at<'a>(
+    primaries: &'a Primaries,
+    place: usize,
+    keyspace: &KeyspaceName,
+) -> Option<&'a Primary>
+    ensures { option_copied result ≡ primary_at primaries.now.entries keyspace.now }
+{
+    match primaries.get_index(place) {
+        Some((name, primary)) if name == keyspace => Some(primary),
+        _ => primaries.get(keyspace),
+    }
+}
+
+/// Reads a row at the primary of its keyspace, wherever that stands, as a tablet of this type has it.
 pub(crate) fn read_row(
     primaries: &Primaries,
+    hint: Hint,
     keyspace: &KeyspaceName,
     table: &TableName,
     key: u64,
@@ -56,10 +115,10 @@ pub(crate) fn read_row(
 ) -> Result<Option<Value>, Refusal>
     ensures { read_from result ≡ read_at (primary_at primaries.now.entries keyspace.now) table.now key tablet_type }
 {
-    let Some(primary) = primaries.get(keyspace) else {
+    let Some(primary) = primary_at(primaries, hint.primary, keyspace) else {
         return Err(Refusal::NoKeyspace);
     };
-    match primary.read(table, key, tablet_type) {
+    match primary.read_placed(hint.table, table, key, tablet_type) {
         Ok(row) => Ok(row),
         Err(fault) => Err(refusal_by_primary(fault)),
     }

@@ -12,7 +12,7 @@ ghost use Rattle.mt_site.specs.Headline.{KeepsTheHeadline};
 ghost use Rattle.mt_site.specs.Through.{IsThrough};
 
 use crate::controller::Core;
-use crate::rows;
+use crate::rows::{self, NOWHERE};
 use mt_event::Refusal;
 use mt_laws::every_run_keeps_the_headline;
 use mt_model::{Op, TopologyFault};
@@ -58,7 +58,7 @@ impl Core {
         events_by_hand_step_and_leave_the_ways();
         match self.topology.look_up(name, TabletType::Primary) {
             Ok((keyspace, table)) => {
-                Ok(rows::write_row(&mut self.primaries, keyspace, table, op))
+                Ok(rows::write_row(&mut self.primaries, NOWHERE, keyspace, table, op))
             }
             Err(fault) => Err(fault),
         }
@@ -100,7 +100,7 @@ impl Core {
     {
         match self.topology.look_up(name, tablet_type) {
             Ok((keyspace, table)) => {
-                Ok(rows::read_row(&self.primaries, keyspace, table, key, tablet_type))
+                Ok(rows::read_row(&self.primaries, NOWHERE, keyspace, table, key, tablet_type))
             }
             Err(fault) => Err(fault),
         }

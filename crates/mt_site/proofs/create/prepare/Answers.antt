@@ -1,6 +1,5 @@
 -- What isn't made leaves primaries as they were.
 use Rattle.std.proofs.Common.{◌≡◌, Err, rules, subst}
-use Rattle.mt_site_state.specs.Workflows.{change_of}
 use Rattle.mt_site.specs.Create.{MakesAtTarget, Prepares}
 use Rattle.mt_site.proofs.MakeLemmas.{not-prepared}
 use Rattle.mt_site.proofs.create.prepare.Goals as goal

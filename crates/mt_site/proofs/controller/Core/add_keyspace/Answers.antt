@@ -1,5 +1,5 @@
 -- The keyspace is made in each state that the controller stands for.
-use Rattle.std.proofs.Common.{◌≡◌, [], refl, subst}
+use Rattle.std.proofs.Common.{◌≡◌, [], subst}
 use Rattle.std.specs.Result.{OnErr}
 use Rattle.mt_event.specs.Events.{answer_from}
 use Rattle.mt_site_state.specs.Core.{CoreState}

@@ -1,5 +1,5 @@
 -- What Complete writes has places, and the next state is stood for.
-use Rattle.std.proofs.Common.{◌≡◌, [], refl, subst}
+use Rattle.std.proofs.Common.{◌≡◌, [], subst}
 use Rattle.std.specs.Result.{OnErr}
 use Rattle.mt_event.specs.Events.{answer_from}
 use Rattle.mt_plain.specs.Events.{complete}

@@ -1,8 +1,7 @@
 -- The workflow stands in its place, with a record of its open way; and the next state is stood for.
-use Rattle.std.proofs.Common.{◌≡◌, [], refl, subst}
+use Rattle.std.proofs.Common.{◌≡◌, subst}
 use Rattle.std.specs.Result.{OnErr}
 use Rattle.mt_event.specs.Events.{answer_from}
-use Rattle.mt_plain.specs.Events.{step}
 use Rattle.mt_site_state.specs.Switching.{StepsWorkflow}
 use Rattle.mt_site_state.specs.Ways.{SiteState}
 use Rattle.mt_site.proofs.SiteLemmas.{can_step, steps_leave, site}

@@ -1,5 +1,5 @@
 -- The workflow stands in its place, with a record of its open way; and the next state is stood for.
-use Rattle.std.proofs.Common.{◌≡◌, [], refl, subst}
+use Rattle.std.proofs.Common.{◌≡◌, [], subst}
 use Rattle.std.specs.Result.{OnErr}
 use Rattle.mt_event.specs.Events.{answer_from}
 use Rattle.mt_plain.specs.Events.{undo}

@@ -1,6 +1,6 @@
 -- Where the name leads, the write leads from each state that the controller stands for to the next one, and of a run that goes on with it the
 -- headline holds.
-use Rattle.std.proofs.Common.{◌≡◌, [], ◌∷◌, ap, subst, sym, ◌∙◌}
+use Rattle.std.proofs.Common.{[], ◌∷◌, ap, subst, sym, ◌∙◌}
 use Rattle.mt_model.specs.Topology.{resolution}
 use Rattle.mt_names.specs.declared.types.TabletType.TheVariants.{Primary}
 use Rattle.mt_plain.specs.Events.{write}

@@ -1,0 +1,7 @@
+//! A core beside where names led when rows were last asked for by them.
+#![tactic(auto)]
+
+mod cached;
+mod names;
+
+pub use cached::CachedCore;

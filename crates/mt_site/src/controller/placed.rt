@@ -1,0 +1,87 @@
+//! Rows of a table that a name was found to lead to: an event in one call, without a look-up.
+ghost use Rattle.std.specs.Prelude.{◌≡◌, List, [], ◌∷◌, OnErr};
+ghost use Rattle.mt_model.specs.declared.entries.Scope.{Scope};
+ghost use Rattle.mt_plain.specs.Events as plain;
+ghost use Rattle.mt_site_state.specs.ByHand.{ReadsRow, WritesRow};
+ghost use Rattle.mt_site_state.specs.Ways.{SiteSteps};
+ghost use Rattle.mt_site.specs.ByHand.{read_from, written_from};
+ghost use Rattle.mt_site.specs.Headline.{KeepsTheHeadline};
+
+use crate::controller::Core;
+use crate::rows::{self, Hint, NOWHERE};
+use mt_event::Refusal;
+use mt_laws::every_run_keeps_the_headline;
+use mt_model::Op;
+use mt_names::{RuleTarget, TabletType, Value};
+use mt_site_ways::events_by_hand_step_and_leave_the_ways;
+
+/// A table of a keyspace, with a hint of where it stands.
+#[derive(Drop)]
+pub struct Place {
+    /// The table, and its keyspace.
+    pub target: RuleTarget,
+    /// Where it may stand.
+    hint: Hint,
+}
+
+impl Core {
+    /// A table, with a hint of where it stands now, by which `write_placed` and `read_placed` find it sooner. Nothing is promised
+    /// of the hint: the table may be dropped, or not be there. It takes no memory.
+    pub fn place_of(&self, target: RuleTarget) -> Place
+        ensures { result.target ≡ target }
+    {
+        let hint = match self.primaries.get_full(&target.keyspace) {
+            Some((place, _, primary)) => Hint {
+                primary: place,
+                table: primary.place_of(&target.table).unwrap_or(usize::MAX),
+            },
+            None => NOWHERE,
+        };
+        Place { target, hint }
+    }
+
+    /// Writes a row of the table of a place. It is the event Write, as `apply` applies it, without the event and without a copy of
+    /// a name: `F1 NoKeyspace`, `F2 NoTable`, `F3 Denied`, `F4 RowExists` or `F5 NoRow`, `F29 TooLong`, `F27 Full`, `F0 Memory`.
+    /// Each leaves the core as it was, and the topology stays whatever is answered.
+    pub fn write_placed(&mut self, place: &Place, op: Op) -> Result<(), Refusal>
+        ensures does { WritesRow self.old.core place.now.target.keyspace place.now.target.table op (written_from result) self.new.core }
+        ensures topology { self.new.core.topology ≡ self.old.core.topology }
+        ensures ways { self.new.ways ≡ self.old.ways }
+        ensures steps { (scopes : List Scope)
+            → SiteSteps scopes self.old (plain.write place.now.target.keyspace place.now.target.table op) (written_from result) self.new }
+        ensures unchanged { OnErr result (self.new ≡ self.old) }
+        ensures headline { (scopes : List Scope)
+            → KeepsTheHeadline scopes self.old (plain.write place.now.target.keyspace place.now.target.table op ∷ []) (written_from result ∷ []) self.new }
+    {
+        events_by_hand_step_and_leave_the_ways();
+        every_run_keeps_the_headline();
+        self.write_at(place.hint, &place.target.keyspace, &place.target.table, op)
+    }
+
+    /// Reads a row, or none, of the table of a place, as a tablet of this type has it. It is the event Read, as `apply` applies it,
+    /// without the event and without a copy of a name: `F1 NoKeyspace`, `F2 NoTable`, and of type primary `F3 Denied`. It takes no
+    /// memory.
+    pub fn read_placed(
+        &self,
+        place: &Place,
+        key: u64,
+        tablet_type: TabletType,
+    ) -> Result<Option<Value>, Refusal>
+        ensures does { ReadsRow self.now.core place.now.target.keyspace place.now.target.table key tablet_type (read_from result) self.now.core }
+        ensures steps { (scopes : List Scope)
+            → SiteSteps scopes self.now (plain.read place.now.target.keyspace place.now.target.table key tablet_type) (read_from result) self.now }
+        ensures headline { (scopes : List Scope)
+            → KeepsTheHeadline scopes self.now (plain.read place.now.target.keyspace place.now.target.table key tablet_type ∷ []) (read_from result ∷ []) self.now }
+    {
+        events_by_hand_step_and_leave_the_ways();
+        every_run_keeps_the_headline();
+        rows::read_row(
+            &self.primaries,
+            place.hint,
+            &place.target.keyspace,
+            &place.target.table,
+            key,
+            tablet_type,
+        )
+    }
+}
