@@ -1,26 +1,47 @@
--- Each name that is kept leads there, and so does one more.
-use Rattle.std.proofs.Common.{◌≡◌, ◌<◌, ℕ, zero, suc, List, [], ◌∷◌, ◌++◌, get_or, length, Option, None, Result, arith, sym, ap, subst, ◌∙◌}
-use Rattle.mt_names.specs.declared.keys.RuleKey.{RuleKey}
-use Rattle.mt_names.specs.declared.keys.RuleTarget.{RuleTarget}
-use Rattle.mt_names.specs.declared.types.TabletType.TheVariants.{Primary}
-use Rattle.mt_model.specs.declared.faults.TopologyFault.{TopologyFault}
-use Rattle.mt_model.specs.Topology.{TopologyState, resolution}
-use Rattle.mt_cache.specs.declared.names.Name.{Name}
-use Rattle.mt_cache.specs.Names.{LeadThere, Leads, plain_key}
+-- What is kept leads there still, with one more name; what is kept is read as a name, and bytes that are no text aren't.
+use Rattle.std.proofs.Common.{◌≡◌, ℕ, ◌<◌, Bool, true, false, List, Some, Result, Ok, Err, get_or, is_ok, arith, sym, ap, subst, ◌∙◌, refl}
+use Rattle.std.proofs.lemmas.Grind.{common_steps}
+use Rattle.std.proofs.lemmas.Str.{IsUtf8-from_ascii}
+use Rattle.std.proofs.lemmas.Str.Ascii.{IsAscii-from_all}
+use Rattle.std.specs.Str.{IsUtf8}
+use Rattle.std.specs.Prelude.{cond}
+use Rattle.std.specs.Map.{lookup}
+use Rattle.std.specs.Cmp.Lexicographic.{bytes_decides}
+use Rattle.mt_names.proofs.NameLemmas.{name_from_read, read_name-name}
+use Rattle.mt_names.specs.declared.fault.NameFault.{NameFault}
+use Rattle.mt_names.specs.declared.text.Alphabet.TheVariants.{WithDollar}
+use Rattle.mt_names.specs.Names.{IsTableName, allows, read_table, same_text}
+use Rattle.mt_model.specs.Topology.{TopologyState}
+use Rattle.mt_site.specs.declared.controller.placed.Place.{Place}
+use Rattle.mt_cache.specs.Names.{LeadThere, LeadsTo}
 
--- the one at a place leads there
-pub leads_at : (t : TopologyState) (names : List Name) (i : ℕ) (name : Name) → i < length names → name ≡ get_or names i name → LeadThere t names → Leads t name
-leads_at t [] i name inside is lead = absurd (omega (arith, inside))
-leads_at t (n ∷ ns) zero name inside is lead = subst (Leads t) (sym is) lead.0
-leads_at t (n ∷ ns) (suc i) name inside is lead = leads_at t ns i name (omega (arith, inside)) is lead.1
+pub lead_more : (t : TopologyState) (old new : List (List ℕ × Place)) (name : List ℕ) (place : Place)
+    → ((q : List ℕ) → lookup (same_text q) new ≡ cond (same_text name q) (Some place) (lookup (same_text q) old))
+    → LeadsTo t name place → LeadThere t old → LeadThere t new
+lead_more t old new name place updates leads lead = record { each = λ q p is. by q p is (same_text name q) refl }
+  where
+    by : (q : List ℕ) (p : Place) → lookup (same_text q) new ≡ Some p → (b : Bool) → same_text name q ≡ b → LeadsTo t q p
+    by q p is true same =
+        let found : Some p ≡ Some place = sym is ∙ updates q ∙ ap (λ b. cond b (Some place) (lookup (same_text q) old)) same in
+        let there : p ≡ place = cc in
+        let names : name ≡ q = (bytes_decides name q).0 same in
+        subst (λ x. LeadsTo t q x) (sym there) (subst (λ n. LeadsTo t n place) names leads)
+    by q p is false other = lead.each q p (sym (updates q ∙ ap (λ b. cond b (Some place) (lookup (same_text q) old)) other) ∙ is)
 
--- and so does one more
-pub lead_more : (t : TopologyState) (names : List Name) (name : Name) → LeadThere t names → Leads t name → LeadThere t (names ++ name ∷ [])
-lead_more t [] name lead leads = (leads, tt)
-lead_more t (n ∷ ns) name lead leads = (lead.0, lead_more t ns name lead.1 leads)
+-- a name is ASCII, and so a text
+name_ascii : (byte : ℕ) → allows WithDollar byte ≡ true → byte < 128
+name_ascii byte is = grind (arith, common_steps)
 
--- a name without a keyspace leads where its table's name alone does
-pub leads_alone : (t : TopologyState) (key : RuleKey) (table : List ℕ) → key.keyspace ≡ None → table ≡ key.table → resolution t (plain_key table) Primary ≡ resolution t key Primary
-leads_alone t key table none same =
-    let led : Option (List ℕ) → List ℕ → Result RuleTarget TopologyFault = λ keyspace name. resolution t (record { keyspace = keyspace; table = name; tablet_type = None }) Primary in
-    ap (λ name. led None name) same ∙ ap (λ keyspace. led keyspace key.table) (sym none)
+IsUtf8-name : (name : List ℕ) → IsTableName name → IsUtf8 name
+IsUtf8-name name named = IsUtf8-from_ascii name (IsAscii-from_all name (λ k d h. name_ascii (get_or name k d) (named.each k d h)))
+
+pub not_read : (name : List ℕ) → (IsUtf8 name → ⊥) → false ≡ is_ok (read_table name)
+not_read name not_text = by (read_table name) refl
+  where
+    by : (r : Result (List ℕ) NameFault) → read_table name ≡ r → false ≡ is_ok (read_table name)
+    by (Ok read) e = absurd (not_text (IsUtf8-name name (name_from_read WithDollar name read e).0))
+    by (Err fault) e = sym (ap is_ok e)
+
+-- what is kept is read as a name
+pub is_read : (name : List ℕ) → IsTableName name → true ≡ is_ok (read_table name)
+is_read name named = sym (ap is_ok (read_name-name WithDollar name named))

@@ -1,19 +1,21 @@
 -- Names that lead where it is kept that they lead.
-use Rattle.std.specs.Prelude.{◌≡◌, ℕ, List, [], ◌∷◌, None, Ok}
+use Rattle.std.specs.Prelude.{◌≡◌, ℕ, List, None, Some, Ok}
+use Rattle.std.specs.Map.{lookup}
 use Rattle.mt_names.specs.declared.keys.RuleKey.{RuleKey}
 use Rattle.mt_names.specs.declared.types.TabletType.TheVariants.{Primary}
+use Rattle.mt_names.specs.Names.{IsTableName, same_text}
 use Rattle.mt_model.specs.Topology.{TopologyState, resolution}
-use Rattle.mt_cache.specs.declared.names.Name.{Name}
+use Rattle.mt_site.specs.declared.controller.placed.Place.{Place}
 
 -- a table's name alone, as a key
 abbrev pub plain_key : List ℕ → RuleKey
 plain_key table = record { keyspace = None; table = table; tablet_type = None }
 
--- a name leads there for the primary
-abbrev pub Leads : TopologyState → Name → Type 0
-Leads t name = resolution t (plain_key name.table) Primary ≡ Ok name.place.target
+-- it is a table's name, which leads there for the primary
+pub record LeadsTo (t : TopologyState) (name : List ℕ) (place : Place) : Type 0 where
+  pub is_name : IsTableName name
+  pub leads : resolution t (plain_key name) Primary ≡ Ok place.target
 
--- each of them does
-abbrev pub LeadThere : TopologyState → List Name → Type 0
-LeadThere t [] = Unit {0}
-LeadThere t (name ∷ names) = Leads t name × LeadThere t names
+-- each name leads where it is kept that it does
+pub record LeadThere (t : TopologyState) (kept : List (List ℕ × Place)) : Type 0 where
+  pub each : (name : List ℕ) (place : Place) → lookup (same_text name) kept ≡ Some place → LeadsTo t name place

@@ -1,28 +1,26 @@
 //! A core that is asked for rows by the names of their tables.
-ghost use Rattle.std.specs.Prelude.{◌≡◌, ⊤, IfOk, List, [], ◌∷◌, OnErr};
+ghost use Rattle.std.specs.Prelude.{◌≡◌, List, IfSome, IfNone, is_ok, is_some};
 ghost use Rattle.std.specs.Borrow.{Lends, sem};
 ghost use Rattle.mt_cache.specs.contracts.cached.CachedCore.{the_row};
 ghost use Rattle.mt_site.specs.contracts.controller.Core.{the_row as core_row};
 ghost use Rattle.mt_cache.specs.Rows.{ReadThrough, WrittenThrough};
 ghost use Rattle.mt_model.specs.declared.entries.Scope.{Scope};
 ghost use Rattle.mt_model.specs.Topology.{resolution};
-ghost use Rattle.mt_plain.specs.Events as plain;
 ghost use Rattle.mt_plain.specs.Plain.{Plain, opening};
 ghost use Rattle.mt_plain.specs.Serve.{served};
-ghost use Rattle.mt_site_state.specs.ByHand.{ReadsRow, WritesRow};
-ghost use Rattle.mt_site_state.specs.Ways.{SiteStands, SiteSteps, empty_site};
-ghost use Rattle.mt_site.specs.ByHand.{read_from, written_from};
-ghost use Rattle.mt_site.specs.Headline.{KeepsTheHeadline};
-ghost use Rattle.mt_site.specs.Through.{IsThrough};
+ghost use Rattle.mt_site_state.specs.Ways.{SiteStands, empty_site};
+ghost use Rattle.mt_names.specs.Names.{read_table};
+ghost use Rattle.mt_cache.specs.Names.{plain_key};
 
 use crate::names::Names;
 use mt_event::Refusal;
 use mt_model::{Op, TopologyFault};
-use mt_names::{RuleKey, TabletType, Value};
+use mt_names::{RuleKey, TableName, TabletType, Value};
 use mt_site::Core;
 use mt_site_events::a_core_tells_what_its_state_serves;
 use std::alloc::Global;
 use std::marker::Model;
+use std::str;
 
 /// A core beside where names led when rows were last asked for by them. These are forgotten as soon as the core is lent to be changed,
 /// so that most rows of a script are found without a hash, where the core alone takes four and more. For its callers it is the core.
@@ -40,7 +38,7 @@ impl Model for CachedCore {
 
     ghost view = { λ cached. cached.core };
 
-    ghost invariant = { λ cached. LeadThere cached.core.core.topology cached.names.kept.items };
+    ghost invariant = { λ cached. LeadThere cached.core.core.topology cached.names.kept.entries };
 }
 
 impl CachedCore {
@@ -72,99 +70,149 @@ impl CachedCore {
     }
 
     /// Keeps where a name by which a row was asked for leads for the primary, if it is to be kept.
-    fn keep(&mut self, name: &RuleKey, tablet_type: TabletType)
+    fn keep(&mut self, name: RuleKey)
+        requires { name ≡ plain_key name.table }
         ensures { self.new ≡ self.old }
     {
-        if tablet_type != TabletType::Primary || !self.names.wants(name) {
+        if !self.names.wants_more() {
             return;
         }
-        if let Ok(target) = self.core.resolve(name, TabletType::Primary) {
+        if let Ok(target) = self.core.resolve(&name, TabletType::Primary) {
             let place = self.core.place_of(target);
-            self.names.keep(name, place);
+            self.names.keep(name.table, place);
         }
     }
 
-    /// Writes a row of the table that a name leads to for the primary: see `Core::write_through`.
-    pub fn write_through(
+    /// Writes a row of the table that a name alone leads to for the primary, as `Core::write_through` does. The name is given as
+    /// its bytes; of bytes that are no table's name nothing is done, and there is no answer. A name that is kept isn't read.
+    pub fn write_named(
         &mut self,
-        name: &RuleKey,
+        name: &[u8],
         op: Op,
-    ) -> Result<Result<(), Refusal>, TopologyFault>
-        ensures does { IsThrough (resolution self.old.core.topology name.now TabletType.Primary) (self.new.core ≡ self.old.core)
-            (λ target told. WritesRow self.old.core target.keyspace target.table op (written_from told) self.new.core) result }
-        ensures ways { self.new.ways ≡ self.old.ways }
+    ) -> Option<Result<Result<(), Refusal>, TopologyFault>>
+        ensures name { is_some result ≡ is_ok (read_table name.now) }
+        ensures none { IfNone result (self.new ≡ self.old) }
+        ensures told { IfSome result (λ told. WrittenThrough self.old (plain_key name.now) op told self.new) }
         ensures served { (p : Plain) (scopes : List Scope) → SiteStands p scopes self.old
-            → resolution self.old.core.topology name.now TabletType.Primary ≡ resolution (served p) name.now TabletType.Primary }
-        ensures steps { (scopes : List Scope) → IsThrough (resolution self.old.core.topology name.now TabletType.Primary) (self.new ≡ self.old)
-            (λ target told. SiteSteps scopes self.old (plain.write target.keyspace target.table op) (written_from told) self.new) result }
-        ensures unchanged { IfOk result (λ told. OnErr told (self.new ≡ self.old)) }
-        ensures headline { (scopes : List Scope) → IsThrough (resolution self.old.core.topology name.now TabletType.Primary) (self.new ≡ self.old)
-            (λ target told. KeepsTheHeadline scopes self.old (plain.write target.keyspace target.table op ∷ []) (written_from told ∷ []) self.new) result }
+            → resolution self.old.core.topology (plain_key name.now) TabletType.Primary ≡ resolution (served p) (plain_key name.now) TabletType.Primary }
     {
         a_core_tells_what_its_state_serves();
         match self.names.find(name) {
-            Some(place) => Ok(self.core.write_placed(place, op)),
+            Some(place) => Some(Ok(self.core.write_placed(place, op))),
             None => self.write_found(name, op),
         }
     }
 
     /// The same, by a look-up.
     #[inline(never)]
-    fn write_found(&mut self, name: &RuleKey, op: Op) -> Result<Result<(), Refusal>, TopologyFault>
-        ensures { WrittenThrough self.old name.now op result self.new }
+    fn write_found(
+        &mut self,
+        name: &[u8],
+        op: Op,
+    ) -> Option<Result<Result<(), Refusal>, TopologyFault>>
+        ensures name { is_some result ≡ is_ok (read_table name.now) }
+        ensures none { IfNone result (self.new ≡ self.old) }
+        ensures told { IfSome result (λ told. WrittenThrough self.old (plain_key name.now) op told self.new) }
     {
-        match self.core.write_through(name, op) {
+        let key = table_key(name)?;
+        Some(self.write_led(key, op))
+    }
+
+    /// Writes a row of the table that a name alone leads to, by a look-up, and keeps where that is.
+    fn write_led(&mut self, key: RuleKey, op: Op) -> Result<Result<(), Refusal>, TopologyFault>
+        requires { key ≡ plain_key key.table }
+        ensures { WrittenThrough self.old key op result self.new }
+    {
+        match self.core.write_through(&key, op) {
             Ok(told) => {
-                self.keep(name, TabletType::Primary);
+                self.keep(key);
                 Ok(told)
             }
             Err(fault) => Err(fault),
         }
     }
 
-    /// Reads a row, or none, of the table that a name leads to for a type: see `Core::read_through`. The core stays as it is.
-    pub fn read_through(
+    /// Reads a row, or none, of the table that a name alone leads to for the primary, as `Core::read_through` does. The core stays
+    /// as it is. The name is given as its bytes; of bytes that are no table's name there is no answer. A name that is kept isn't
+    /// read.
+    pub fn read_named(
         &mut self,
-        name: &RuleKey,
+        name: &[u8],
         key: u64,
-        tablet_type: TabletType,
-    ) -> Result<Result<Option<Value>, Refusal>, TopologyFault>
+    ) -> Option<Result<Result<Option<Value>, Refusal>, TopologyFault>>
         ensures same { self.new ≡ self.old }
-        ensures does { IsThrough (resolution self.old.core.topology name.now tablet_type) ⊤
-            (λ target told. ReadsRow self.old.core target.keyspace target.table key tablet_type (read_from told) self.old.core) result }
+        ensures name { is_some result ≡ is_ok (read_table name.now) }
+        ensures told { IfSome result (λ told. ReadThrough self.old (plain_key name.now) key TabletType.Primary told) }
         ensures served { (p : Plain) (scopes : List Scope) → SiteStands p scopes self.old
-            → resolution self.old.core.topology name.now tablet_type ≡ resolution (served p) name.now tablet_type }
-        ensures steps { (scopes : List Scope) → IsThrough (resolution self.old.core.topology name.now tablet_type) ⊤
-            (λ target told. SiteSteps scopes self.old (plain.read target.keyspace target.table key tablet_type) (read_from told) self.old) result }
-        ensures headline { (scopes : List Scope) → IsThrough (resolution self.old.core.topology name.now tablet_type) ⊤
-            (λ target told. KeepsTheHeadline scopes self.old (plain.read target.keyspace target.table key tablet_type ∷ []) (read_from told ∷ []) self.old) result }
+            → resolution self.old.core.topology (plain_key name.now) TabletType.Primary ≡ resolution (served p) (plain_key name.now) TabletType.Primary }
     {
         a_core_tells_what_its_state_serves();
-        if tablet_type == TabletType::Primary {
-            if let Some(place) = self.names.find(name) {
-                return Ok(self.core.read_placed(place, key, tablet_type));
-            }
+        match self.names.find(name) {
+            Some(place) => Some(Ok(self.core.read_placed(place, key, TabletType::Primary))),
+            None => self.read_found(name, key),
         }
-        self.read_found(name, key, tablet_type)
     }
 
     /// The same, by a look-up.
     #[inline(never)]
     fn read_found(
         &mut self,
-        name: &RuleKey,
+        name: &[u8],
         key: u64,
-        tablet_type: TabletType,
-    ) -> Result<Result<Option<Value>, Refusal>, TopologyFault>
+    ) -> Option<Result<Result<Option<Value>, Refusal>, TopologyFault>>
         ensures same { self.new ≡ self.old }
-        ensures told { ReadThrough self.old name.now key tablet_type result }
+        ensures name { is_some result ≡ is_ok (read_table name.now) }
+        ensures told { IfSome result (λ told. ReadThrough self.old (plain_key name.now) key TabletType.Primary told) }
     {
-        match self.core.read_through(name, key, tablet_type) {
+        let name = table_key(name)?;
+        Some(self.read_led(name, key))
+    }
+
+    /// Reads a row of the table that a name alone leads to, by a look-up, and keeps where that is.
+    fn read_led(
+        &mut self,
+        name: RuleKey,
+        key: u64,
+    ) -> Result<Result<Option<Value>, Refusal>, TopologyFault>
+        requires { name ≡ plain_key name.table }
+        ensures same { self.new ≡ self.old }
+        ensures told { ReadThrough self.old name key TabletType.Primary result }
+    {
+        match self.core.read_through(&name, key, TabletType::Primary) {
             Ok(told) => {
-                self.keep(name, tablet_type);
+                self.keep(name);
                 Ok(told)
             }
             Err(fault) => Err(fault),
         }
+    }
+
+    /// Writes a row of the table that a name leads to for the primary: see `Core::write_through`. What is kept stays.
+    pub fn write_through(
+        &mut self,
+        name: &RuleKey,
+        op: Op,
+    ) -> Result<Result<(), Refusal>, TopologyFault>
+        ensures told { WrittenThrough self.old name.now op result self.new }
+        ensures served { (p : Plain) (scopes : List Scope) → SiteStands p scopes self.old
+            → resolution self.old.core.topology name.now TabletType.Primary ≡ resolution (served p) name.now TabletType.Primary }
+    {
+        a_core_tells_what_its_state_serves();
+        self.core.write_through(name, op)
+    }
+}
+
+/// A table's name alone as a key, of the bytes that are one.
+fn table_key(name: &[u8]) -> Option<RuleKey>
+    ensures named { is_some result ≡ is_ok (read_table name.now) }
+    ensures key { IfSome result (λ key. key ≡ plain_key name.now) }
+{
+    match str::from_utf8(name) {
+        Ok(text) => Some(RuleKey {
+            keyspace: None,
+            table: TableName::parse(text).ok()?,
+            tablet_type: None,
+        }),
+        Err(_) => None,
     }
 }

@@ -2,6 +2,7 @@
 #![tactic(auto)]
 
 mod cached;
+mod name_text;
 mod names;
 
 pub use cached::CachedCore;
