@@ -1,2 +1,3 @@
 pub mod CanonLemmas
+pub mod RowAnswerLemmas
 pub mod RunLemmas

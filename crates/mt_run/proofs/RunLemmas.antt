@@ -33,7 +33,7 @@ use Rattle.mt_site.specs.Through.{IsThrough}
 use Rattle.mt_site_state.specs.Ways.{SiteStands, SiteState, SiteSteps}
 use Rattle.mt_run.specs.declared.script.LineOutput as answer
 use Rattle.mt_run.specs.declared.script.LineOutput.TheVariants as output
-use Rattle.mt_run.specs.Runs.{AsksDocument, IsLineOutput, Runs, RunsLine, RunsLines, Tells, bytes_of, is_document}
+use Rattle.mt_run.specs.Runs.{AsksDocument, IsLineOutput, Runs, RunsLine, RunsLines, Tells, bytes_of, is_document, through_text}
 
 -- ---- a line
 
@@ -81,7 +81,7 @@ asks_told scopes old new event answer text is steps p stands = let then = steps 
 -- ---- a row, through a name
 
 -- the answer where the name leads, told
-pub answered_through : {A : Type 0} (Stays : Type 0) (scopes : List Scope) (p : Plain) (old new : SiteState) (led : Result RuleTarget TopologyFault) (ask : (keyspace table : List ℕ) → Event)
+answered_through : {A : Type 0} (Stays : Type 0) (scopes : List Scope) (p : Plain) (old new : SiteState) (led : Result RuleTarget TopologyFault) (ask : (keyspace table : List ℕ) → Event)
     (answer_of : A → Answer) (told : A) (text : List ℕ) → text ≡ plain.answer_text (answer_of told) ++ line_feed
     → IsThrough led Stays (λ target answer. SiteSteps scopes old (ask target.keyspace target.table) (answer_of answer) new) (Ok told)
     → SiteStands p scopes old → Tells scopes p (asked_there led ask) (Some text) new
@@ -89,12 +89,21 @@ answered_through Stays scopes p old new (Ok target) ask answer_of told text is s
 answered_through Stays scopes p old new (Err fault) ask answer_of told text is steps stands = absurd steps
 
 -- that the name leads nowhere, told
-pub nowhere_told : {A : Type 0} (Stays : Type 0) (Answers : RuleTarget → A → Type 0) (scopes : List Scope) (p : Plain) (new : SiteState) (led : Result RuleTarget TopologyFault)
+nowhere_told : {A : Type 0} (Stays : Type 0) (Answers : RuleTarget → A → Type 0) (scopes : List Scope) (p : Plain) (new : SiteState) (led : Result RuleTarget TopologyFault)
     (ask : (keyspace table : List ℕ) → Event) (told : TopologyFault) (text : List ℕ) → text ≡ refused_text (topology_fault_text told) ++ line_feed
     → IsThrough led Stays Answers (Err told) → (Stays → SiteStands p scopes new) → Tells scopes p (asked_there led ask) (Some text) new
 nowhere_told Stays Answers scopes p new (Ok target) ask told text is nowhere stands = absurd nowhere
 nowhere_told Stays Answers scopes p new (Err fault) ask told text is nowhere stands =
     (ap Some (is ∙ ap (λ f. refused_text (topology_fault_text f) ++ line_feed) nowhere.0), stands nowhere.1)
+
+-- either of them, told
+pub through_told : {A : Type 0} (Stays : Type 0) (scopes : List Scope) (p : Plain) (old new : SiteState) (led : Result RuleTarget TopologyFault) (ask : (keyspace table : List ℕ) → Event)
+    (answer_of : A → Answer) (result : Result A TopologyFault) (text : List ℕ) → text ≡ through_text answer_of result
+    → IsThrough led Stays (λ target answer. SiteSteps scopes old (ask target.keyspace target.table) (answer_of answer) new) result
+    → (Stays → SiteStands p scopes new) → SiteStands p scopes old → Tells scopes p (asked_there led ask) (Some text) new
+through_told Stays scopes p old new led ask answer_of (Ok told) text is steps stays stands = answered_through Stays scopes p old new led ask answer_of told text is steps stands
+through_told Stays scopes p old new led ask answer_of (Err fault) text is nowhere stays stands =
+    nowhere_told Stays (λ target answer. SiteSteps scopes old (ask target.keyspace target.table) (answer_of answer) new) scopes p new led ask fault text is nowhere stays
 
 -- the end of a drive, told
 pub drives_told : (scopes : List Scope) (old new : SiteState) (driving : Driving) (ended : Result Driven Refusal) (text : List ℕ) → text ≡ plain.ended_text ended ++ line_feed

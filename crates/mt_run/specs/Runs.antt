@@ -3,6 +3,8 @@ use Rattle.std.specs.Prelude.{◌≡◌, ◌≢◌, ◌⊎◌, ⊤, ℕ, Bool, t
 use Rattle.std.specs.Str.Lines.{lines}
 use Rattle.std.specs.Io.KnownBytes.{Appends, Consumes}
 use Rattle.mt_model.specs.declared.entries.Scope.{Scope}
+use Rattle.mt_model.specs.declared.faults.TopologyFault.{TopologyFault}
+use Rattle.mt_model.specs.Faults.{topology_fault_text}
 use Rattle.mt_laws.specs.Headline.{Headline}
 use Rattle.mt_laws.specs.Scripts.{IsScriptRun}
 use Rattle.mt_plain.specs.Events.{Answer, Event}
@@ -10,10 +12,11 @@ use Rattle.mt_plain.specs.Answers.{Answers, Run}
 use Rattle.mt_plain.specs.Drive.{Drives, most_turns}
 use Rattle.mt_plain.specs.Next.{next}
 use Rattle.mt_plain.specs.Output as plain
-use Rattle.mt_plain.specs.Output.{IsOutput, Leaves, Told, answer_text, asks, drives, ended_text, Output, line_feed, nothing, says, told, told_request}
+use Rattle.mt_plain.specs.Output.{IsOutput, Leaves, Told, answer_text, asks, drives, ended_text, Output, line_feed, nothing, refused_text, says, told, told_request}
 use Rattle.mt_plain.specs.Plain.{Plain, opening}
 use Rattle.mt_plain.specs.Script.{Request, dump_document, read_line, rules_document}
-use Rattle.mt_script.specs.Requests.{meaning_of}
+use Rattle.mt_script.specs.declared.lines.RowRequest.{RowRequest}
+use Rattle.mt_script.specs.Requests.{meaning_of, row_from}
 use Rattle.mt_io.specs.declared.fault.ScriptFault.{ScriptFault}
 use Rattle.mt_io.specs.declared.fault.ScriptFault.TheVariants as fault
 use Rattle.mt_io.specs.Bytes.{GoesOut, HasRead, IsCutShort, IsWhole, Known}
@@ -63,6 +66,16 @@ IsRequestOutput scopes old request written result new =
 -- what a request for a row adds to the output, with whatever watchers: they aren't asked
 abbrev pub IsRowOutput : SiteState → Request → (text : List ℕ) → SiteState → Type 0
 IsRowOutput old request text new = (scopes : List Scope) (p : Plain) → SiteStands p scopes old → Tells scopes p (told_request p (Ok request)) (Some text) new
+
+-- the text of what was asked through a name: the answer, or why the name leads nowhere
+abbrev pub through_text : {A : Type 0} → (A → Answer) → Result A TopologyFault → List ℕ
+through_text answer_of (Ok told) = answer_text (answer_of told) ++ line_feed
+through_text answer_of (Err fault) = refused_text (topology_fault_text fault) ++ line_feed
+
+-- a row is answered as some request asks of which this holds, or nothing is done
+abbrev pub IsRowAnswered : SiteState → (RowRequest → Type 0) → (text : List ℕ) → SiteState → (is_answered : Bool) → Type 0
+IsRowAnswered old IsAsked text new true = (asked : RowRequest) × IsAsked asked × IsRowOutput old (row_from asked) text new
+IsRowAnswered old IsAsked text new false = new ≡ old
 
 -- a line is answered, and its text is written behind what waited. Where a document finds no memory, all that waited is
 -- written, and nothing more

@@ -13,10 +13,10 @@ use crate::asking::{
     add_keyspace, add_table, advance, begin_reverse, begin_switch, cancel, complete, create,
     drive_whole, edit_rule, read_at, show, step, undo, write_at,
 };
-use crate::rows::row_output;
+use crate::rows::{row_line_output, row_output};
 use mt_cache::CachedCore;
 use mt_io::{ScriptFault, Waiting, flush, put_document, put_line, read_script};
-use mt_script::{Line, LineText, Request, first_line, read_line, row_line, write_refusal};
+use mt_script::{Line, LineText, Request, first_line, read_line, write_refusal};
 use mt_watch::Asks;
 use std::alloc::Global;
 use std::io::{Read, Write};
@@ -163,13 +163,10 @@ fn run_line<W: Write, A: Asks>(
     ensures { (p : Plain) → SiteStands p (A.scopes watchers.now) core.old
         → RunsLine (A.scopes watchers.now) p line.now core.new (W.contents writer.old) (W.contents writer.new) waiting.old.items waiting.new.items result }
 {
-    match row_line(line) {
-        Some(row) => {
-            row_output(core, row, text);
-            put_line(waiting, writer, text)
-        }
-        None => run_other(core, watchers, waiting, writer, line, text),
+    if row_line_output(core, line, text) {
+        return put_line(waiting, writer, text);
     }
+    run_other(core, watchers, waiting, writer, line, text)
 }
 
 /// Answers each line of a script, and writes the answers in pieces.

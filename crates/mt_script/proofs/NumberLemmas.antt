@@ -1,5 +1,6 @@
 -- Numbers of a script, as the standard parser reads them.
-use Rattle.std.proofs.Common.{◌≡◌, ℕ, ◌+◌, ◌-◌, ◌*◌, ◌^◌, ◌<◌, ◌≤◌, true, ltb, leb, ◌&&◌, List, length, fold, if◌then◌else◌, None, Some, Result, Ok, Err, refl, ap, rules}
+use Rattle.std.proofs.Common.{◌≡◌, ℕ, ◌+◌, ◌-◌, ◌*◌, ◌^◌, ◌<◌, ◌≤◌, true, ltb, leb, ◌&&◌, List, length, fold, if◌then◌else◌, None, Some, Result, Ok, Err, refl, ap, arith, rules}
+use Rattle.std.proofs.Math.Nat.{pow-le-pow_right}
 use Rattle.std.proofs.lemmas.Bool.{and_parts, false_from_ne_true, lt-ltb, le-leb, ltb-true}
 use Rattle.std.proofs.lemmas.Str.Parse.{IsNumeralModel, numerals_by_fold, parse_digits}
 use Rattle.std.specs.Char.{is_ascii_digit}
@@ -37,3 +38,10 @@ module _ (most bits : ℕ) where
           → result_ok r ≡ (if is_number_of most (2 ^ bits) word then Some (number_of_digits word) else None)
       by (Ok x) is = rw (both_tests word short digits is.0.0 is.0.1) (ap Some is.1)
       by (Err e) not = rw (false_from_ne_true (is_number_of most (2 ^ bits) word) (λ is. not (tests_from word is))) refl
+
+-- a number of fewer than 19 digits, and one more digit
+pub next-fits : (number count : ℕ) → number < 10 ^ count → count < 19 → number < 1000000000000000000
+next-fits number count below few =
+    let most : count ≤ 18 = omega (arith, few) in
+    let at_most : 10 ^ count ≤ 10 ^ 18 = pow-le-pow_right (omega arith) most in
+    omega (arith, below, at_most)

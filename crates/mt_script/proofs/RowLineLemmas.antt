@@ -20,7 +20,7 @@ use Rattle.mt_script.specs.declared.rows.RowVerb.TheVariants as verb
 use Rattle.mt_script.specs.declared.rows.ValueVerb.{ValueVerb}
 use Rattle.mt_script.specs.declared.rows.ValueVerb.TheVariants as valued
 use Rattle.mt_script.specs.Requests.{meaning_of, row_from}
-use Rattle.mt_script.specs.Rows.{BeginsWithNumber, IsReadOf, IsTextOfTable, IsValueWrite, IsWordBehind, IsWriteOf, op_of, value_verb_text, verb_text}
+use Rattle.mt_script.specs.Rows.{BeginsWithNumber, IsReadOf, IsRequest, IsTextOfTable, IsValueWrite, IsWordBehind, IsWriteOf, op_of, value_verb_text, verb_text}
 use Rattle.mt_script.proofs.LineLemmas.{means-read}
 use Rattle.mt_script.proofs.WordLemmas.{NoBlanks, words_of-alone, words_of-append}
 
@@ -188,7 +188,7 @@ module _ (v : RowVerb) (line behind name words : List ℕ) (number : ℕ) (rest 
         ∙ ap (λ l. verb_text v ∷ name ∷ digits ∷ l) (last-word value.items behind_it.some behind_it.visible)
 
   -- a write with a value
-  pub written : (u : ValueVerb) → v ≡ verb.Change u → (asked : RowRequest) → IsValueWrite u name number rest asked
+  written : (u : ValueVerb) → v ≡ verb.Change u → (asked : RowRequest) → IsValueWrite u name number rest asked
       → Some (Ok (row_from asked)) ≡ meaning_of (read_line line)
   written u same asked (value, word, write) = means-read line not_silent short is_all (Ok (row_from asked)) (sym means)
     where
@@ -205,7 +205,7 @@ module _ (v : RowVerb) (line behind name words : List ℕ) (number : ℕ) (rest 
           ∙ rw (begins.1, value-read, write.1.plain, write.1.reads, write.2) refl
 
   -- a delete
-  pub deleted : v ≡ verb.Delete → (asked : RowRequest) → (rest ≡ []) × IsWriteOf name (Delete number) asked
+  deleted : v ≡ verb.Delete → (asked : RowRequest) → (rest ≡ []) × IsWriteOf name (Delete number) asked
       → Some (Ok (row_from asked)) ≡ meaning_of (read_line line)
   deleted same asked (none, write) = means-read line not_silent short is_all (Ok (row_from asked)) (sym means)
     where
@@ -219,7 +219,7 @@ module _ (v : RowVerb) (line behind name words : List ℕ) (number : ℕ) (rest 
           ∙ rw (begins.1, write.1.plain, write.1.reads, write.2) refl
 
   -- a read
-  pub got : v ≡ verb.Get → (asked : RowRequest) → (rest ≡ []) × IsReadOf name number asked
+  got : v ≡ verb.Get → (asked : RowRequest) → (rest ≡ []) × IsReadOf name number asked
       → Some (Ok (row_from asked)) ≡ meaning_of (read_line line)
   got same asked (none, read) = means-read line not_silent short is_all (Ok (row_from asked)) (sym means)
     where
@@ -231,3 +231,12 @@ module _ (v : RowVerb) (line behind name words : List ℕ) (number : ℕ) (rest 
           ap (λ ws. option_map request_of (command_of ws)) (without-value read.0 read.1.reads read.1.visible none)
           ∙ ap (option_map request_of) (ap (λ w. command_of (verb_text w ∷ name ∷ digits ∷ [])) same)
           ∙ rw (begins.1, read.1.reads, read.2) refl
+
+  -- what the words ask for is what the line asks for
+  pub asked : (a : RowRequest) → IsRequest v name number rest a → Some (Ok (row_from a)) ≡ meaning_of (read_line line)
+  asked = by v refl
+    where
+      by : (w : RowVerb) → v ≡ w → (a : RowRequest) → IsRequest w name number rest a → Some (Ok (row_from a)) ≡ meaning_of (read_line line)
+      by (verb.Change u) same = written u same
+      by verb.Delete same = deleted same
+      by verb.Get same = got same

@@ -1,10 +1,10 @@
 -- Lines that ask for a row, in their common form: one space between two words, and no other blank.
-use Rattle.std.specs.Prelude.{◌≡◌, ℕ, ◌<◌, ◌≤◌, true, List, ◌∷◌, ◌++◌, length, codes, None, Some, Ok}
+use Rattle.std.specs.Prelude.{◌≡◌, ℕ, ◌<◌, ◌≤◌, true, List, [], ◌∷◌, ◌++◌, length, codes, None, Some, Ok}
 use Rattle.std.specs.List.{list_all}
 use Rattle.mt_names.specs.declared.keys.RuleKey.{RuleKey}
 use Rattle.mt_names.specs.Keys.{after, at_sign, read_key}
 use Rattle.mt_model.specs.declared.rows.Op.{Op}
-use Rattle.mt_model.specs.declared.rows.Op.TheVariants.{Insert, Update, Append}
+use Rattle.mt_model.specs.declared.rows.Op.TheVariants.{Insert, Update, Append, Delete}
 use Rattle.mt_model.specs.Limits.{longest_value}
 use Rattle.mt_model.specs.Rows.{RowValue}
 use Rattle.mt_plain.specs.Script.{is_visible, read_number, type_of}
@@ -66,3 +66,9 @@ IsValueWrite v name number words asked = (value : RowValue) × IsWordBehind word
 -- a read where a name leads
 abbrev pub IsReadOf : (name : List ℕ) → ℕ → RowRequest → Type 0
 IsReadOf name number asked = (key : RuleKey) × IsTextOfKey name key × (asked ≡ row.Read key number (type_of key))
+
+-- what a verb asks for of a name, with a number and what stands behind it
+abbrev pub IsRequest : RowVerb → (name : List ℕ) → ℕ → (rest : List ℕ) → RowRequest → Type 0
+IsRequest (verb.Change v) name number rest asked = IsValueWrite v name number rest asked
+IsRequest verb.Delete name number rest asked = (rest ≡ []) × IsWriteOf name (Delete number) asked
+IsRequest verb.Get name number rest asked = (rest ≡ []) × IsReadOf name number asked

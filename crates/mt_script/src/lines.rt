@@ -2,11 +2,13 @@
 ghost use Rattle.std.specs.Prelude.{◌≡◌, ◌||◌, IfSome, Ok, Some};
 ghost use Rattle.std.specs.List.{list_all};
 ghost use Rattle.mt_plain.specs.Script.{is_blank, is_readable, is_silent, read_line};
+ghost use Rattle.mt_script.specs.declared.lines.RowRequest.{RowRequest};
 ghost use Rattle.mt_script.specs.Requests.{meaning_from, meaning_of, row_from};
+ghost use Rattle.mt_script.specs.Rows.{IsRequest};
 
 use crate::commands::read_command;
 use crate::rows::{
-    RowVerb, delete_of, name_in_front, number_in_front, read_of, verb_in_front, write_of,
+    RowVerb, RowWords, delete_of, name_in_front, number_in_front, read_of, verb_in_front, write_of,
 };
 use crate::tables::TableText;
 use crate::words::{is_blank, is_visible};
@@ -136,21 +138,37 @@ pub fn read_line(line: &[u8]) -> Line<'_>
     }
 }
 
-/// Reads a line that asks for a row where a name leads, as `read_line` reads it, if it is in the common form: one space
-/// between two words, and no other blank. `None` is any other line, and one that `read_line` refuses.
+/// Cuts a line that asks for a row, if it is in the common form: one space between two words, and no other blank. What such
+/// words ask for, with the name and the value read, is what `read_line` reads of the line.
 #[inline(always)]
-pub fn row_line(line: &[u8]) -> Option<RowRequest>
-    ensures { IfSome result (λ row. Some (Ok (row_from row)) ≡ meaning_of (read_line line.now)) }
+pub fn row_words(line: &[u8]) -> Option<RowWords<'_>>
+    ensures { IfSome result (λ row. (asked : RowRequest) → IsRequest row.verb row.name.now row.number row.rest.now asked
+        → Some (Ok (row_from asked)) ≡ meaning_of (read_line line.now)) }
 {
     if line.len() > MAX_LINE_LENGTH {
         return None;
     }
     let (verb, words) = verb_in_front(line)?;
     let (name, words) = name_in_front(words)?;
-    let (number, words) = number_in_front(words)?;
-    match verb {
-        RowVerb::Change(verb) => write_of(verb, name, number, words),
-        RowVerb::Delete => delete_of(name, number, words),
-        RowVerb::Get => read_of(name, number, words),
+    let (number, rest) = number_in_front(words)?;
+    Some(RowWords {
+        verb,
+        name,
+        number,
+        rest,
+    })
+}
+
+/// Reads a line that asks for a row where a name leads, as `read_line` reads it, if it is in the common form: one space
+/// between two words, and no other blank. `None` is any other line, and one that `read_line` refuses.
+#[inline(always)]
+pub fn row_line(line: &[u8]) -> Option<RowRequest>
+    ensures { IfSome result (λ row. Some (Ok (row_from row)) ≡ meaning_of (read_line line.now)) }
+{
+    let row = row_words(line)?;
+    match row.verb {
+        RowVerb::Change(verb) => write_of(verb, row.name, row.number, row.rest),
+        RowVerb::Delete => delete_of(row.name, row.number, row.rest),
+        RowVerb::Get => read_of(row.name, row.number, row.rest),
     }
 }

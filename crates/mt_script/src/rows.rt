@@ -34,6 +34,19 @@ pub enum RowVerb {
     Get,
 }
 
+/// A line that asks for a row in its common form, cut at its spaces. It borrows the name and what is behind the number.
+#[derive(Clone, Copy)]
+pub struct RowWords<'a> {
+    /// What is asked.
+    pub verb: RowVerb,
+    /// The name of the table, which isn't read yet.
+    pub name: &'a [u8],
+    /// The number of the row.
+    pub number: u64,
+    /// What stands behind the number: a space and a value, or nothing.
+    pub rest: &'a [u8],
+}
+
 /// The verb that a line begins with, and what stands behind it and a space.
 pub fn verb_in_front(line: &[u8]) -> Option<(RowVerb, &[u8])>
     ensures { IfSome result (λ parts. line.now ≡ verb_text parts.0 ++ 32 ∷ parts.1.now) }
@@ -54,7 +67,8 @@ pub fn verb_in_front(line: &[u8]) -> Option<(RowVerb, &[u8])>
     }
 }
 
-/// What stands before the first space, and behind it.
+/// What stands before the first space, and behind it. Its loop is a function of its own, which is faster.
+#[inline(never)]
 pub fn name_in_front(words: &[u8]) -> Option<(&[u8], &[u8])>
     ensures { IfSome result (λ parts. words.now ≡ parts.0.now ++ 32 ∷ parts.1.now) }
 {
@@ -64,15 +78,18 @@ pub fn name_in_front(words: &[u8]) -> Option<(&[u8], &[u8])>
     Some((name, rest))
 }
 
-/// The number of the digits in front, as far as it surely fits, and how many they are.
+/// The number of the first 19 digits in front, or fewer, and how many they are. So many surely fit.
+#[inline(never)]
 fn digits_in_front(words: &[u8]) -> (u64, usize)
     ensures end { result.1 ≤ length words.now }
+    ensures short { result.1 ≤ 19 }
     ensures digits { list_all is_ascii_digit (take result.1 words.now) ≡ true }
     ensures number { result.0 ≡ number_of_digits (take result.1 words.now) }
 {
+    let most = words.len().min(19);
     let mut number = 0;
     let mut end = 0;
-    while end < words.len() && words[end].is_ascii_digit() && number < 1_844_674_407_370_955_161 {
+    while end < most && words[end].is_ascii_digit() {
         number = number * 10 + (words[end] - b'0') as u64;
         end += 1;
     }
@@ -84,7 +101,7 @@ pub fn number_in_front(words: &[u8]) -> Option<(u64, &[u8])>
     ensures { IfSome result (λ parts. BeginsWithNumber words.now parts.0 parts.1.now) }
 {
     let (number, end) = digits_in_front(words);
-    if end == 0 || end > 20 {
+    if end == 0 {
         return None;
     }
     let (_digits, rest) = words.split_at(end);
@@ -113,7 +130,7 @@ fn value_of(word: &[u8]) -> Option<Value>
 }
 
 /// The value behind a space, with nothing behind it.
-fn value_behind(words: &[u8]) -> Option<Value>
+pub fn value_behind(words: &[u8]) -> Option<Value>
     ensures { IfSome result (λ value. IsWordBehind words.now value) }
 {
     match words {
@@ -123,7 +140,7 @@ fn value_behind(words: &[u8]) -> Option<Value>
 }
 
 /// The key that a table's name is, which has no marks.
-fn table_key(name: &[u8]) -> Option<RuleKey>
+pub fn table_key(name: &[u8]) -> Option<RuleKey>
     ensures { IfSome result (λ key. IsTextOfTable name.now key) }
 {
     let text = str::from_utf8(name).ok()?;
@@ -136,7 +153,7 @@ fn table_key(name: &[u8]) -> Option<RuleKey>
 }
 
 /// The operation of a verb.
-fn op_of(verb: ValueVerb, number: u64, value: Value) -> Op
+pub fn op_of(verb: ValueVerb, number: u64, value: Value) -> Op
     ensures { result ≡ op_of verb number value }
 {
     match verb {
@@ -170,7 +187,7 @@ pub fn delete_of(name: &[u8], number: u64, words: &[u8]) -> Option<RowRequest>
 
 /// The key that a name is, which may have a keyspace and a type.
 #[inline(never)]
-fn any_key(name: &[u8]) -> Option<RuleKey>
+pub fn any_key(name: &[u8]) -> Option<RuleKey>
     ensures { IfSome result (λ key. IsTextOfKey name.now key) }
 {
     if !is_all_visible(name) {

@@ -1,34 +1,19 @@
 -- The answer is that of the core where the name leads.
-use Rattle.std.proofs.Common.{◌++◌, ℕ, List, Some, ap, subst, sym, ◌∙◌}
+use Rattle.std.proofs.Common.{ℕ, List, Some, subst, sym}
 use Rattle.mt_model.specs.Topology.{resolution}
 use Rattle.mt_names.specs.declared.types.TabletType.TheVariants.{Primary}
 use Rattle.mt_plain.specs.Events as plain
-use Rattle.mt_plain.specs.Output.{answer_text, asked_there, line_feed}
+use Rattle.mt_plain.specs.Output.{asked_there}
 use Rattle.mt_site_state.specs.Ways.{SiteStands}
 use Rattle.mt_site.specs.ByHand.{written_from}
 use Rattle.mt_run.specs.Runs.{Tells}
-use Rattle.mt_run.proofs.RunLemmas.{answered_through, nowhere_told}
+use Rattle.mt_run.proofs.RunLemmas.{through_told}
 use Rattle.mt_run.proofs.rows.write.Goals as goal
 
-pub returns-in-Ok-Ok : goal.returns-in-Ok-Ok
-returns-in-Ok-Ok c = λ scopes p stands.
+pub returns : goal.returns
+returns c = λ scopes p stands.
     let ask : (keyspace table : List ℕ) → plain.Event = λ keyspace table. plain.write keyspace table c.args.op in
-    subst (λ r. Tells scopes p (asked_there r ask) (Some c.write_written.new.text.items) c.write_through.new.self) (c.write_through.ensures.served p scopes stands)
-    (answered_through _ scopes p c.args.core.now c.write_through.new.self (resolution c.args.core.now.core.topology c.args.name.now Primary) ask written_from c.in-Ok-Ok.field-0 c.write_written.new.text.items
-    (c.write_written.ensures ∙ ap (λ told. answer_text (written_from told) ++ line_feed) (sym c.in-Ok-Ok.field-0-is))
-    (c.in-Ok-Ok.ensures.steps scopes) stands)
-
-pub returns-in-Ok-Err : goal.returns-in-Ok-Err
-returns-in-Ok-Err c = λ scopes p stands.
-    let ask : (keyspace table : List ℕ) → plain.Event = λ keyspace table. plain.write keyspace table c.args.op in
-    subst (λ r. Tells scopes p (asked_there r ask) (Some c.write_row_refused.new.text.items) c.write_through.new.self) (c.write_through.ensures.served p scopes stands)
-    (answered_through _ scopes p c.args.core.now c.write_through.new.self (resolution c.args.core.now.core.topology c.args.name.now Primary) ask written_from c.in-Ok-Err.field-0 c.write_row_refused.new.text.items
-    (c.write_row_refused.ensures ∙ ap (λ told. answer_text (written_from told) ++ line_feed) (sym c.in-Ok-Err.field-0-is))
-    (c.in-Ok-Err.ensures.steps scopes) stands)
-
-pub returns-in-Err : goal.returns-in-Err
-returns-in-Err c = λ scopes p stands.
-    let ask : (keyspace table : List ℕ) → plain.Event = λ keyspace table. plain.write keyspace table c.args.op in
-    subst (λ r. Tells scopes p (asked_there r ask) (Some c.write_look_up.new.text.items) c.write_through.new.self) (c.write_through.ensures.served p scopes stands)
-    (nowhere_told _ _ scopes p c.write_through.new.self (resolution c.args.core.now.core.topology c.args.name.now Primary) ask c.in-Err.fault c.write_look_up.new.text.items c.write_look_up.ensures
-    (c.in-Err.ensures.steps scopes) (λ same. subst (SiteStands p scopes) (sym same) stands))
+    let new = c.write_through-told.new.self in
+    subst (λ r. Tells scopes p (asked_there r ask) (Some c.tell_written.new.text.items) new) (c.write_through-told.ensures.served p scopes stands)
+    (through_told _ scopes p c.args.core.now new (resolution c.args.core.now.core.topology c.args.name.now Primary) ask written_from c.write_through-told.result c.tell_written.new.text.items
+    c.tell_written.ensures (c.write_through-told.ensures.told.steps scopes) (λ same. subst (SiteStands p scopes) (sym same) stands) stands)

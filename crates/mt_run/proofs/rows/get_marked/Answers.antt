@@ -1,0 +1,6 @@
+-- A row of a name that may have marks is read for the name's type.
+use Rattle.mt_run.proofs.RowAnswerLemmas.{row_read}
+use Rattle.mt_run.proofs.rows.get_marked.Goals as goal
+
+pub returns : goal.returns
+returns c = row_read c.args.core.now c.args.core.now c.read.new.text.items c.args.name.now c.args.number c.in-Some.key c.unwrap_or-tablet_type.result c.in-Some.ensures c.unwrap_or-tablet_type.ensures c.read.ensures
