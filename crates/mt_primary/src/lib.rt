@@ -4,6 +4,7 @@
 mod before;
 mod change_laws;
 mod laws;
+mod placed;
 mod primary;
 mod read_laws;
 mod table;

@@ -21,8 +21,8 @@ use std::marker::Model;
 /// denied tables that a primary tablet has in its memory, which it reads anew on RefreshState.)
 #[derive(Drop)]
 pub struct Primary {
-    tables: IndexMap<TableName, Table>,
-    log: Vec<RowChange>,
+    pub(crate) tables: IndexMap<TableName, Table>,
+    pub(crate) log: Vec<RowChange>,
 }
 
 impl Model for Primary {
@@ -145,10 +145,7 @@ impl Primary {
     {
         match self.tables.get(table) {
             None => Err(PrimaryFault::NoTable),
-            Some(rows) if tablet_type == TabletType::Primary && rows.is_denied() => {
-                Err(PrimaryFault::Denied)
-            }
-            Some(rows) => Ok(rows.row(key).map(|value| copied_value(value))),
+            Some(rows) => rows.read(key, tablet_type),
         }
     }
 

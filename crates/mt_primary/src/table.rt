@@ -4,11 +4,11 @@ ghost use Rattle.std.specs.Option.{option_copied};
 ghost use Rattle.std.specs.Vec.{vec_len, vec_capacity};
 ghost use Rattle.mt_model.specs.Rows.{appended, op_row};
 ghost use Rattle.mt_primary.specs.Primary.{new_table, row_in};
-ghost use Rattle.mt_primary.specs.Reads.{next_row_in};
+ghost use Rattle.mt_primary.specs.Reads.{next_row_in, read_row_in};
 ghost use Rattle.mt_primary.specs.Tables.{ChangesRow, MakesChange, TellsRoom, edit_key, edited_row, row_with_room, start_above};
 
 use mt_model::{MAX_LOG, Op, PrimaryFault, RowChange};
-use mt_names::{Position, TableName, Value, copied_value};
+use mt_names::{Position, TableName, TabletType, Value, copied_value};
 use std::alloc::Global;
 use std::collections::BTreeMap;
 use std::collections::btree_map::Entry;
@@ -86,6 +86,16 @@ impl Table {
         ensures { option_copied result ≡ row_in self.now key }
     {
         self.rows.get(&key)
+    }
+
+    /// The row of a key, as a tablet of this type has it: `P2 Denied` of type primary alone, where it is denied.
+    pub fn read(&self, key: u64, tablet_type: TabletType) -> Result<Option<Value>, PrimaryFault>
+        ensures { result ≡ read_row_in self.now key tablet_type }
+    {
+        if tablet_type == TabletType::Primary && self.denied {
+            return Err(PrimaryFault::Denied);
+        }
+        Ok(self.row(key).map(|value| copied_value(value)))
     }
 
     /// The first row in the order of the keys, or the first above a key.
