@@ -43,20 +43,20 @@ fn insert_row(
     log: &mut Vec<RowChange>,
     name: &TableName,
     key: u64,
-    value: &Value,
+    value: Value,
 ) -> Result<Position, PrimaryFault>
-    ensures { ChangesRow (record { table = table.old; log = log.old.items }) name.now (Write (Insert key value.now)) result (record { table = table.new; log = log.new.items }) }
+    ensures { ChangesRow (record { table = table.old; log = log.old.items }) name.now (Write (Insert key value)) result (record { table = table.new; log = log.new.items }) }
 {
     match table.rows.entry(key) {
         Ok(Entry::Occupied(_place)) => return Err(PrimaryFault::RowExists),
         Ok(Entry::Vacant(place)) => {
             make_room(log)?;
-            place.insert(copied_value(value));
+            place.insert(copied_value(&value));
             log.push_reserved(RowChange {
                 table: name.copied(),
                 key,
                 before: None,
-                after: Some(copied_value(value)),
+                after: Some(value),
             });
             Ok(log.len() as u64)
         }
@@ -73,19 +73,19 @@ fn update_row(
     log: &mut Vec<RowChange>,
     name: &TableName,
     key: u64,
-    value: &Value,
+    value: Value,
 ) -> Result<Position, PrimaryFault>
-    ensures { ChangesRow (record { table = table.old; log = log.old.items }) name.now (Write (Update key value.now)) result (record { table = table.new; log = log.new.items }) }
+    ensures { ChangesRow (record { table = table.old; log = log.old.items }) name.now (Write (Update key value)) result (record { table = table.new; log = log.new.items }) }
 {
     match table.rows.get_mut(&key) {
         Some(row) => {
             make_room(log)?;
-            let before = replace(row, copied_value(value));
+            let before = replace(row, copied_value(&value));
             log.push_reserved(RowChange {
                 table: name.copied(),
                 key,
                 before: Some(before),
-                after: Some(copied_value(value)),
+                after: Some(value),
             });
             Ok(log.len() as u64)
         }
@@ -99,14 +99,14 @@ fn append_row(
     log: &mut Vec<RowChange>,
     name: &TableName,
     key: u64,
-    more: &Value,
+    more: Value,
 ) -> Result<Position, PrimaryFault>
-    ensures { ChangesRow (record { table = table.old; log = log.old.items }) name.now (Write (Append key more.now)) result (record { table = table.new; log = log.new.items }) }
+    ensures { ChangesRow (record { table = table.old; log = log.old.items }) name.now (Write (Append key more)) result (record { table = table.new; log = log.new.items }) }
 {
     match table.rows.get_mut(&key) {
         Some(row) => {
             let mut after = copied_value(row);
-            extend(&mut after, more)?;
+            extend(&mut after, &more)?;
             make_room(log)?;
             let before = replace(row, copied_value(&after));
             log.push_reserved(RowChange {
@@ -200,15 +200,15 @@ pub fn write_row(
     table: &mut Table,
     log: &mut Vec<RowChange>,
     name: &TableName,
-    op: &Op,
+    op: Op,
 ) -> Result<Position, PrimaryFault>
-    ensures { ChangesRow (record { table = table.old; log = log.old.items }) name.now (Write op.now) result (record { table = table.new; log = log.new.items }) }
+    ensures { ChangesRow (record { table = table.old; log = log.old.items }) name.now (Write op) result (record { table = table.new; log = log.new.items }) }
 {
     match op {
-        Op::Insert(key, value) => insert_row(table, log, name, *key, value),
-        Op::Update(key, value) => update_row(table, log, name, *key, value),
-        Op::Append(key, more) => append_row(table, log, name, *key, more),
-        Op::Delete(key) => delete_row(table, log, name, *key),
+        Op::Insert(key, value) => insert_row(table, log, name, key, value),
+        Op::Update(key, value) => update_row(table, log, name, key, value),
+        Op::Append(key, more) => append_row(table, log, name, key, more),
+        Op::Delete(key) => delete_row(table, log, name, key),
     }
 }
 

@@ -77,6 +77,6 @@ impl Primary {
         if rows.is_denied() {
             return Err(PrimaryFault::Denied);
         }
-        write_row(rows, &mut self.log, table, &op)
+        write_row(rows, &mut self.log, table, op)
     }
 }

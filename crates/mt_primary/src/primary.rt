@@ -108,7 +108,7 @@ impl Primary {
                 if rows.is_denied() {
                     return Err(PrimaryFault::Denied);
                 }
-                write_row(rows, &mut self.log, table, &op)
+                write_row(rows, &mut self.log, table, op)
             }
             None => Err(PrimaryFault::NoTable),
         }
