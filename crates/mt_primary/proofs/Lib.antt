@@ -2,6 +2,7 @@ pub mod ChangeLemmas
 pub mod DenialLemmas
 pub mod LawLemmas
 pub mod LogLemmas
+pub mod PlacedLemmas
 pub mod PrimaryLemmas
 pub mod PutLemmas
 pub mod ReadLemmas

@@ -1,5 +1,5 @@
 -- A primary: its tables with their rows, its own denied list, and its log. What is found in it, and what holds of every one.
-use Rattle.std.specs.Prelude.{◌≡◌, ℕ, ◌≤◌, Bool, false, List, [], length, take, slice_get, Option, None, Some, is_some, nat_eq}
+use Rattle.std.specs.Prelude.{◌≡◌, ℕ, ◌≤◌, Bool, false, List, [], length, take, slice_get, Option, None, Some, is_some, nat_eq, position}
 use Rattle.std.specs.List.{IsDistinct}
 use Rattle.std.specs.List.Sorted.{IsStrictlySortedBy}
 use Rattle.std.specs.Map.{keys_of, lookup}
@@ -33,6 +33,10 @@ table_at p name = lookup (same_text name) p.tables
 
 abbrev pub has_table : PrimaryState → List ℕ → Bool
 has_table p name = is_some (table_at p name)
+
+-- the place of a table among the others, in the order in which they were made
+abbrev pub place_at : PrimaryState → List ℕ → Option ℕ
+place_at p name = position (same_text name) (keys_of p.tables)
 
 -- the position at which a table was made
 abbrev pub made_at : PrimaryState → List ℕ → Option ℕ

@@ -8,7 +8,7 @@ use Rattle.mt_model.specs.declared.faults.PrimaryFault.{PrimaryFault}
 use Rattle.mt_model.specs.declared.faults.PrimaryFault.TheVariants.{NoTable, Denied}
 use Rattle.mt_model.specs.declared.rows.RowChange.{RowChange}
 use Rattle.mt_model.specs.Rows.{Row, RowValue}
-use Rattle.mt_primary.specs.Primary.{PrimaryState, TableState, has_table, is_denied_at, row_at, table_at}
+use Rattle.mt_primary.specs.Primary.{PrimaryState, TableState, has_table, is_denied_at, row_at, row_in, table_at}
 
 -- ---- a row
 
@@ -22,6 +22,10 @@ abbrev pub read_row : PrimaryState → List ℕ → ℕ → TabletType → Resul
 read_row p name key tablet_type =
     if has_table p name then (if refuses_type (is_denied_at p name) tablet_type then Err Denied else Ok (row_at p name key))
     else Err NoTable
+
+-- the row of a key for a tablet type in a table that is there, or Denied
+abbrev pub read_row_in : TableState → ℕ → TabletType → Result Row PrimaryFault
+read_row_in table key tablet_type = if refuses_type table.denied tablet_type then Err Denied else Ok (row_in table key)
 
 -- ---- the log
 

@@ -3,7 +3,9 @@
 
 mod before;
 mod change_laws;
+mod edits;
 mod laws;
+mod placed;
 mod primary;
 mod read_laws;
 mod table;

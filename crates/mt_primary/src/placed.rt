@@ -1,0 +1,82 @@
+//! Calls of a primary with a place at which the table is looked for first. Where it stands there, no hash is computed.
+ghost use Rattle.std.specs.Prelude.{◌≡◌, true, Some, slice_get};
+ghost use Rattle.std.specs.Map.{keys_of};
+ghost use Rattle.mt_primary.specs.Primary.{place_at};
+ghost use Rattle.mt_primary.specs.Reads.{read_row};
+ghost use Rattle.mt_primary.specs.Writes.{Writes};
+
+use crate::edits::write_row;
+use crate::primary::Primary;
+use mt_model::{Op, PrimaryFault};
+use mt_names::{Position, TableName, TabletType, Value};
+
+impl Primary {
+    /// The place of a table among the primary's tables, if it is there: a hint for `write_placed` and `read_placed`. It
+    /// takes no memory.
+    pub fn place_of(&self, table: &TableName) -> Option<usize>
+        ensures { result ≡ place_at self.now table.now }
+    {
+        self.tables.get_index_of(table)
+    }
+
+    /// As `write`, with a place at which the table is looked for first. Whatever place is given, the table of this name
+    /// is written to. (Vitess: a client's write at a primary tablet)
+    pub fn write_placed(
+        &mut self,
+        place: usize,
+        table: &TableName,
+        op: Op,
+    ) -> Result<Position, PrimaryFault>
+        ensures { Writes self.old table.now op result self.new }
+    {
+        if self.stands_at(place, table) {
+            self.write_at(place, table, op)
+        } else {
+            self.write(table, op)
+        }
+    }
+
+    /// As `read`, with a place at which the table is looked for first. Whatever place is given, the table of this name
+    /// is read. It takes no memory. (Vitess: a query at a tablet of this type)
+    pub fn read_placed(
+        &self,
+        place: usize,
+        table: &TableName,
+        key: u64,
+        tablet_type: TabletType,
+    ) -> Result<Option<Value>, PrimaryFault>
+        ensures { result ≡ read_row self.now table.now key tablet_type }
+    {
+        match self.tables.get_index(place) {
+            Some((name, rows)) if name == table => rows.read(key, tablet_type),
+            _ => self.read(table, key, tablet_type),
+        }
+    }
+
+    /// Whether a table stands at a place.
+    fn stands_at(&self, place: usize, table: &TableName) -> bool
+        ensures { result ≡ true → slice_get (keys_of self.now.tables) place ≡ Some table.now }
+    {
+        match self.tables.get_index(place) {
+            Some((name, _)) => name == table,
+            None => false,
+        }
+    }
+
+    /// As `write` of the table that stands at a place.
+    fn write_at(
+        &mut self,
+        place: usize,
+        table: &TableName,
+        op: Op,
+    ) -> Result<Position, PrimaryFault>
+        requires there { slice_get (keys_of self.old.tables) place ≡ Some table.now }
+        ensures { Writes self.old table.now op result self.new }
+    {
+        let rows = &mut self.tables[place];
+        if rows.is_denied() {
+            return Err(PrimaryFault::Denied);
+        }
+        write_row(rows, &mut self.log, table, op)
+    }
+}
