@@ -6,6 +6,7 @@ ghost use Rattle.std.specs.Cmp.Lexicographic.{pointwise, slice_cmp, nat_list_eq_
 ghost use Rattle.std.specs.Cmp.Rules.{hashing};
 ghost use Rattle.std.specs.Hash as fed;
 ghost use Rattle.std.proofs.Common.{rules, refl};
+ghost use Rattle.mt_names.specs.declared.text.Alphabet.TheVariants.{WithDollar};
 ghost use Rattle.mt_names.specs.Names.{IsName, allows, bad_place, read_name, underscore};
 
 use crate::NameFault;
@@ -27,14 +28,33 @@ pub enum Alphabet {
     WithDollar,
 }
 
+// Each byte of a name, `$` among them, stands at its own place, and a dot at every other place.
+static NAME_BYTES: [u8; 256] = *b"\
+    ................................\
+    ....$........-..0123456789......\
+    .ABCDEFGHIJKLMNOPQRSTUVWXYZ...._\
+    .abcdefghijklmnopqrstuvwxyz.....\
+    ................................\
+    ................................\
+    ................................\
+    ................................";
+
+/// Whether a byte is an ASCII letter or digit, `_`, `-` or `$`.
+#[inline(always)]
+fn is_name_byte(byte: u8) -> bool
+    ensures { result ≡ allows WithDollar byte }
+{
+    NAME_BYTES[byte as usize] != b'.'
+}
+
 impl Alphabet {
+    #[inline(always)]
     fn allows(self, byte: u8) -> bool
         ensures { result ≡ allows self byte }
     {
-        let is_plain = byte.is_ascii_alphanumeric() || byte == b'_' || byte == b'-';
         match self {
-            Alphabet::Plain => is_plain,
-            Alphabet::WithDollar => is_plain || byte == b'$',
+            Alphabet::Plain => is_name_byte(byte) && byte != b'$',
+            Alphabet::WithDollar => is_name_byte(byte),
         }
     }
 }

@@ -1,72 +1,79 @@
--- What refuses a change of a row.
-use Rattle.std.proofs.Common.{◌≡◌, ◌≢◌, ℕ, ◌⊎◌, ◌+◌, Bool, true, false, List, length, None, Some, Result, Ok, Err, refl, ap, ◌∙◌, inl, inr, nat_lt}
+-- What an edit of a row does, by what its map, the log's room and memory answer.
+use Rattle.std.proofs.Common.{◌≡◌, ◌≢◌, ℕ, Bool, true, false, cond, List, [], ◌∷◌, ◌++◌, length, Some, Result, Ok, Err, refl, sym, ap, subst, ◌∙◌, nat_lt}
+use Rattle.std.proofs.lemmas.Map.Steps.{set_value_same}
 use Rattle.std.specs.Bool.{⊤}
-use Rattle.mt_names.specs.Results.{◌>>=◌}
+use Rattle.std.specs.BTreeMap.{is_at}
+use Rattle.std.specs.Map.{lookup, set_value}
+use Rattle.std.specs.Ordering.{nat_cmp}
 use Rattle.mt_model.specs.declared.faults.PrimaryFault.{PrimaryFault}
 use Rattle.mt_model.specs.declared.faults.PrimaryFault.TheVariants.{LogFull, Memory}
-use Rattle.mt_model.specs.declared.rows.Op.{Op}
-use Rattle.mt_model.specs.declared.rows.Op.TheVariants.{Append, Delete, Insert, Update}
 use Rattle.mt_model.specs.declared.rows.RowChange.{RowChange}
-use Rattle.mt_model.specs.Limits.{longest_log, longest_value}
-use Rattle.mt_model.specs.Rows.{Row, RowValue, appended, op_row}
-use Rattle.mt_primary.specs.declared.table.RowEdit.{RowEdit}
-use Rattle.mt_primary.specs.declared.table.RowEdit.TheVariants.{Put, Write}
-use Rattle.mt_primary.specs.Primary.{row_in}
-use Rattle.mt_primary.specs.Tables.{ChangesRow, LoggedTable, MakesChange, TellsRoom, changed_row, edit_key, edited_row}
+use Rattle.mt_model.specs.Limits.{longest_log}
+use Rattle.mt_model.specs.Rows.{Row, RowValue}
+use Rattle.mt_primary.specs.Primary.{IsInKeyOrder, TableState, row_in}
+use Rattle.mt_primary.specs.Tables.{ChangesRow, IsRowPut, LoggedTable, RowEdit, TellsRoom, changed_row, edit_key, edited_row}
+use Rattle.mt_primary.specs.Writes.{has_room}
+use Rattle.mt_primary.proofs.TableLemmas.{lookup-nat_cmp, row_put}
 
--- no test of a row tells of memory
-appended-told : (old more : RowValue) → appended old more ≢ Err Memory
-appended-told old more e = by (nat_lt longest_value (length old.items + length more.items)) refl
-  where
-    by : (b : Bool) → nat_lt longest_value (length old.items + length more.items) ≡ b → ⊥
-    by true at = absurd (let h = rw at at e in cc)
-    by false at = absurd (let h = rw at at e in cc)
+-- room that was made is there
+told_ok : (log : List RowChange) (room : Result ⊤ PrimaryFault) (done : ⊤) → room ≡ Ok done → TellsRoom log room → has_room log ≡ true
+told_ok log (Ok done) any is tells = tells
+told_ok log (Err fault) any is tells = absurd cc
 
-op_row-told : (op : Op) (row : Row) → op_row op row ≢ Err Memory
-op_row-told (Insert key value) None e = absurd cc
-op_row-told (Insert key value) (Some old) e = absurd cc
-op_row-told (Update key value) None e = absurd cc
-op_row-told (Update key value) (Some old) e = absurd cc
-op_row-told (Append key value) None e = absurd cc
-op_row-told (Append key value) (Some old) e = appended-told old value e
-op_row-told (Delete key) None e = absurd cc
-op_row-told (Delete key) (Some old) e = absurd cc
+-- a table whose row was set to what it is
+pub row_same : (table : TableState) (key : ℕ) (row : RowValue) (rows : List (ℕ × RowValue)) → lookup (is_at (nat_cmp key)) table.rows ≡ Some row → rows ≡ set_value (is_at (nat_cmp key)) table.rows row → record table { rows = rows } ≡ table
+row_same table key row rows stood set = ap (λ (r : List (ℕ × RowValue)). record table { rows = r }) (set ∙ set_value_same (is_at (nat_cmp key)) table.rows row stood)
 
-edited-told : (edit : RowEdit) (row : Row) → edited_row edit row ≢ Err Memory
-edited-told (Write op) row e = op_row-told op row e
-edited-told (Put key after) row e = absurd cc
+module _ (old new : TableState) (log new_log : List RowChange) (name : List ℕ) (edit : RowEdit) (stood : Row) (result : Result ℕ PrimaryFault) (is_stood : lookup (is_at (nat_cmp (edit_key edit))) old.rows ≡ stood) where
+  abbrev before : LoggedTable
+  before = record { table = old; log = log }
 
-module _ (old : LoggedTable) (name : List ℕ) (edit : RowEdit) where
-  -- a test that refuses, or a row that no test refuses
-  abbrev Told : PrimaryFault → Type 0
-  Told fault = ((fault ≢ Memory) × (changed_row old edit ≡ Err fault)) ⊎ ((fault ≡ Memory) × ((row : Row) × (changed_row old edit ≡ Ok row)))
+  abbrev behind : LoggedTable
+  behind = record { table = new; log = new_log }
 
-  refused_by : (new : LoggedTable) (fault : PrimaryFault) → new ≡ old → Told fault → ChangesRow old name edit (Err fault) new
-  refused_by new Memory same (inl h) = absurd (h.0 refl)
-  refused_by new Memory same (inr h) = (h.1, same)
-  refused_by new fault same (inl h) = (h.1, same)
-  refused_by new fault same (inr h) = absurd (let e = h.0 in cc)
+  row_is : row_in old (edit_key edit) ≡ stood
+  row_is = sym (lookup-nat_cmp (edit_key edit) old.rows) ∙ is_stood
 
-  -- the row is told of first, and then the log
-  told_by : (made : Result Row PrimaryFault) (room : Result ⊤ PrimaryFault) (fault : PrimaryFault) → edited_row edit (row_in old.table (edit_key edit)) ≡ made → TellsRoom old.log room
-      → ((made >>= λ left. room >>= λ done. Ok left) ≡ Err fault) ⊎ ((fault ≡ Memory) × ((row : Row) × ((made >>= λ left. room >>= λ done. Ok left) ≡ Ok row))) → Told fault
-  told_by (Err first) room fault at tells (inl e) =
-      let same : first ≡ fault = cc in
-      inl ((λ h. edited-told edit (row_in old.table (edit_key edit)) (at ∙ e ∙ ap Err h)), rw at e)
-  told_by (Err first) room fault at tells (inr h) = absurd (let e = h.1.1 in cc)
-  told_by (Ok left) (Ok done) fault at tells (inl e) = absurd cc
-  told_by (Ok left) (Ok done) fault at tells (inr h) = inr (h.0, (left, rw (at, tells) refl))
-  told_by (Ok left) (Err full) fault at tells (inr h) = absurd (let e = h.1.1 in cc)
-  told_by (Ok left) (Err full) fault at tells (inl e) = by (nat_lt (length old.log) longest_log) refl
+  unchanged : new ≡ old → new_log ≡ log → behind ≡ before
+  unchanged same same_log = rw (same, same_log) refl
+
+  -- the row refuses the edit
+  pub refused_row : (fault : PrimaryFault) → edited_row edit stood ≡ Err fault → fault ≢ Memory → result ≡ Err fault → new ≡ old → new_log ≡ log → ChangesRow before name edit result behind
+  refused_row fault refused other is same same_log = rw is (by fault (rw (row_is, refused) refl) other)
     where
-      by : (b : Bool) → nat_lt (length old.log) longest_log ≡ b → Told fault
-      by true below = let t = rw below at tells in let m : fault ≡ Memory = cc in inr (m, (left, rw (at, below) refl))
-      by false above = let t = rw above at tells in let f : fault ≡ LogFull = cc in rw f (inl ((λ h. absurd cc), rw (at, above) refl))
+      by : (f : PrimaryFault) → changed_row before edit ≡ Err f → f ≢ Memory → ChangesRow before name edit (Err f) behind
+      by Memory e apart = absurd (apart refl)
+      by f e apart = (e, unchanged same same_log)
 
-  pub change_refused : (new : LoggedTable) (room : Result ⊤ PrimaryFault) (made : Result RowChange PrimaryFault) (answer : Result ℕ PrimaryFault) (fault : PrimaryFault)
-      → made ≡ Err fault → answer ≡ Err fault → TellsRoom old.log room → MakesChange old.table name edit room made new.table → new.log ≡ old.log → ChangesRow old name edit answer new
-  change_refused new room (Ok change) answer fault is_made is_answer tells makes log = absurd cc
-  change_refused new room (Err first) (Ok position) fault is_made is_answer tells makes log = absurd cc
-  change_refused new room (Err first) (Err last) fault is_made is_answer tells makes log =
-      let same : last ≡ first = cc in
-      rw same (refused_by new first (rw (makes.0, log) refl) (told_by (edited_row edit (row_in old.table (edit_key edit))) room first refl tells makes.1))
+  module _ (left : Row) (allowed : edited_row edit stood ≡ Ok left) (room : Result ⊤ PrimaryFault) (tells : TellsRoom log room) where
+    left_is : edited_row edit (row_in old (edit_key edit)) ≡ Ok left
+    left_is = rw row_is allowed
+
+    -- the log has no room for the entry
+    pub refused_room : (fault : PrimaryFault) → room ≡ Err fault → result ≡ Err fault → new ≡ old → new_log ≡ log → ChangesRow before name edit result behind
+    refused_room fault full is same same_log = rw is (by (nat_lt (length log) longest_log) refl)
+      where
+        told : TellsRoom log (Err fault)
+        told = subst (TellsRoom log) full tells
+
+        by : (b : Bool) → nat_lt (length log) longest_log ≡ b → ChangesRow before name edit (Err fault) behind
+        by true below = let t = rw below at told in let of : fault ≡ Memory = cc in rw of ((left, rw (left_is, below) refl), unchanged same same_log)
+        by false above = let t = rw above at told in let of : fault ≡ LogFull = cc in rw of (rw (left_is, above) refl, unchanged same same_log)
+
+    -- there is no memory for the row
+    pub refused_memory : (done : ⊤) → room ≡ Ok done → result ≡ Err Memory → new ≡ old → new_log ≡ log → ChangesRow before name edit result behind
+    refused_memory done made is same same_log = rw is ((left, rw (left_is, told_ok log room done made tells) refl), unchanged same same_log)
+
+    -- the row is put, and its entry stands in the log
+    pub entered : (done : ⊤) → room ≡ Ok done → ((q : ℕ) → lookup (is_at (nat_cmp q)) new.rows ≡ cond (is_at (nat_cmp (edit_key edit)) q) left (lookup (is_at (nat_cmp q)) old.rows))
+        → new.made ≡ old.made → new.denied ≡ old.denied → IsInKeyOrder new
+        → new_log ≡ log ++ record { table = name; key = edit_key edit; before = stood; after = left } ∷ [] → (answer : ℕ) → result ≡ Ok answer → answer ≡ length new_log → ChangesRow before name edit result behind
+    entered done made updates same_made same_denied ordered pushed answer is at =
+        let put : IsRowPut old (edit_key edit) left new = row_put old new (edit_key edit) left updates same_made same_denied ordered in
+        let here : left ≡ row_in new (edit_key edit) = sym put.here in
+        rw is (record {
+          row = subst (λ row. changed_row before edit ≡ Ok row) here (rw (left_is, told_ok log room done made tells) refl);
+          put = subst (λ row. IsRowPut old (edit_key edit) row new) here put;
+          log = subst (λ row. new_log ≡ log ++ record { table = name; key = edit_key edit; before = row_in old (edit_key edit); after = row } ∷ []) here (rw row_is pushed);
+          position = at;
+        })

@@ -12,8 +12,7 @@ use Rattle.mt_model.specs.declared.faults.PrimaryFault.TheVariants.{Denied}
 use Rattle.mt_model.specs.declared.rows.Op.{Op}
 use Rattle.mt_model.specs.declared.rows.RowChange.{RowChange}
 use Rattle.mt_primary.specs.Primary.{IsPrimary, PrimaryState, TableState, table_at}
-use Rattle.mt_primary.specs.Tables.{ChangesRow}
-use Rattle.mt_primary.specs.declared.table.RowEdit.TheVariants.{Write}
+use Rattle.mt_primary.specs.Tables.{ChangesRow, Write}
 use Rattle.mt_primary.specs.Writes.{Writes, written_row}
 use Rattle.mt_primary.proofs.PrimaryLemmas.{change_is_write, denied_write, same_table, with_table}
 

@@ -20,8 +20,7 @@ use Rattle.mt_model.specs.declared.rows.Op.{Op}
 use Rattle.mt_model.specs.declared.rows.RowChange.{RowChange}
 use Rattle.mt_model.specs.Rows.{Row, op_key, row_since, row_with}
 use Rattle.mt_primary.specs.Primary.{IsInKeyOrder, IsPrimary, PrimaryState, TableState, is_denied_at, made_at, new_table, row_at, row_in, table_at}
-use Rattle.mt_primary.specs.Tables.{ChangesRow, IsRowPut, LoggedTable, changed_row}
-use Rattle.mt_primary.specs.declared.table.RowEdit.TheVariants.{Put, Write}
+use Rattle.mt_primary.specs.Tables.{ChangesRow, IsRowPut, LoggedTable, Put, Write, changed_row}
 use Rattle.mt_primary.specs.Writes.{IsPut, IsWritten, Puts, Writes, has_room, unless_full, with_new_table, without_table, written_row}
 use Rattle.mt_primary.proofs.LogLemmas.{row_since-end, row_since-push, row_with-here, row_with-other_key, row_with-other_table, slice_get_push}
 

@@ -1,7 +1,6 @@
 -- What a map's clause on an insert or a removal says of a table's rows.
-use Rattle.std.proofs.Common.{◌≡◌, ℕ, ◌&&◌, Bool, true, false, not, cond, eqb, nat_lt, List, [], ◌∷◌, filter, Option, None, Some, Result, Ok, refl, sym, ap, subst, ◌∙◌}
+use Rattle.std.proofs.Common.{◌≡◌, ℕ, ◌&&◌, Bool, true, false, not, cond, eqb, nat_lt, List, [], ◌∷◌, filter, Option, None, Some, refl, sym, ap, ◌∙◌}
 use Rattle.std.proofs.lemmas.Bool.{eq-eqb, ne_eqb}
-use Rattle.std.specs.Bool.{⊤}
 use Rattle.std.specs.BTreeMap.{is_at}
 use Rattle.std.specs.BTreeMap.Range.{entries_between}
 use Rattle.std.specs.Cmp.{unsigned_tied}
@@ -11,13 +10,10 @@ use Rattle.std.specs.declared.ops.Bound.{Bound}
 use Rattle.std.specs.declared.ops.Bound.TheVariants.{Excluded, Unbounded}
 use Rattle.std.specs.Map.{lookup}
 use Rattle.std.specs.Ordering.{is_lt, nat_cmp}
-use Rattle.mt_model.specs.declared.faults.PrimaryFault.{PrimaryFault}
-use Rattle.mt_model.specs.declared.rows.RowChange.{RowChange}
 use Rattle.mt_model.specs.Rows.{Row, RowValue}
-use Rattle.mt_primary.specs.declared.table.RowEdit.{RowEdit}
 use Rattle.mt_primary.specs.Primary.{IsInKeyOrder, TableState, row_in}
 use Rattle.mt_primary.specs.Reads.{is_above, next_row_in}
-use Rattle.mt_primary.specs.Tables.{IsChangeMade, IsRowPut, edit_key, row_with_room, start_above}
+use Rattle.mt_primary.specs.Tables.{IsRowPut, start_above}
 
 -- a look-up by the keys' order is one by their equality
 pub lookup-nat_cmp : {X : Type 0} (key : ℕ) (es : List (ℕ × X)) → lookup (is_at (nat_cmp key)) es ≡ lookup (eqb key) es
@@ -39,27 +35,6 @@ row_put old new key row updates made denied ordered = record {
     at q =
         let e : lookup (is_at (nat_cmp q)) new.rows ≡ cond (is_at (nat_cmp key) q) row (lookup (is_at (nat_cmp q)) old.rows) = updates q in
         rw (lookup-nat_cmp q new.rows, lookup-nat_cmp q old.rows, unsigned_tied key q) at e
-
--- ---- an edit of a row
-
--- an entry by its fields
-entry_is : (change : RowChange) (table : List ℕ) (key : ℕ) (before : Row) → change.table ≡ table → change.key ≡ key → change.before ≡ before
-    → change ≡ record { table = table; key = key; before = before; after = change.after }
-entry_is change table key before is_table is_key is_before = rw (← is_table, ← is_key, ← is_before) refl
-
--- an entry that tells of a row set or taken away
-pub change_made : (old new : TableState) (name : List ℕ) (edit : RowEdit) (room : Result ⊤ PrimaryFault) (change : RowChange)
-    → change.table ≡ name → change.key ≡ edit_key edit → change.before ≡ row_in old (edit_key edit) → row_with_room edit change.before room ≡ Ok change.after → IsRowPut old (edit_key edit) change.after new
-    → IsChangeMade old name edit room change new
-change_made old new name edit room change table key before row put = record {
-  row = subst (λ stood. row_with_room edit stood room ≡ Ok change.after) before row;
-  put = put;
-  entry = entry_is change name (edit_key edit) (row_in old (edit_key edit)) table key before;
-}
-
--- a row that isn't there is taken away
-pub row_put-same : (old : TableState) (key : ℕ) → row_in old key ≡ None → IsInKeyOrder old → IsRowPut old key None old
-row_put-same old key absent ordered = record { here = absent; others = λ other apart. refl; made = refl; denied = refl; ordered = ordered }
 
 -- ---- the rows above a key
 

@@ -1,14 +1,13 @@
 -- What a change of one table is, and what becomes of the log with it.
-use Rattle.std.specs.Prelude.{◌≡◌, ◌≢◌, ◌⊎◌, ℕ, true, List, [], ◌∷◌, ◌++◌, length, if◌then◌else◌, ⊤, Option, None, Some, Result, Ok, Err}
+use Rattle.std.specs.Prelude.{◌≡◌, ◌≢◌, ℕ, true, List, [], ◌∷◌, ◌++◌, length, if◌then◌else◌, ⊤, Option, None, Some, Result, Ok, Err}
 use Rattle.std.specs.declared.ops.Bound.{Bound}
 use Rattle.std.specs.declared.ops.Bound.TheVariants.{Excluded, Unbounded}
 use Rattle.mt_names.specs.Results.{◌>>=◌}
 use Rattle.mt_model.specs.declared.faults.PrimaryFault.{PrimaryFault}
 use Rattle.mt_model.specs.declared.faults.PrimaryFault.TheVariants.{Memory, LogFull}
+use Rattle.mt_model.specs.declared.rows.Op.{Op}
 use Rattle.mt_model.specs.declared.rows.RowChange.{RowChange}
 use Rattle.mt_model.specs.Rows.{Row, op_key, op_row}
-use Rattle.mt_primary.specs.declared.table.RowEdit.{RowEdit}
-use Rattle.mt_primary.specs.declared.table.RowEdit.TheVariants.{Put, Write}
 use Rattle.mt_primary.specs.Primary.{TableState, IsInKeyOrder, row_in}
 use Rattle.mt_primary.specs.Writes.{has_room, unless_full}
 
@@ -19,6 +18,12 @@ pub record IsRowPut (old : TableState) (key : ℕ) (row : Row) (new : TableState
   pub made : new.made ≡ old.made
   pub denied : new.denied ≡ old.denied
   pub ordered : IsInKeyOrder new
+
+-- an edit of one row: a client's operation, which the row that stands there may refuse, or a row that is set under a key, or
+-- taken away if there is none, whatever stands there
+pub data RowEdit : Type 0 where
+  Write : Op → RowEdit
+  Put : ℕ → Row → RowEdit
 
 -- the key of the row that is edited
 abbrev pub edit_key : RowEdit → ℕ
@@ -51,27 +56,12 @@ ChangesRow old name edit (Ok position) new = IsRowChanged old name edit position
 ChangesRow old name edit (Err Memory) new = ((row : Row) × (changed_row old edit ≡ Ok row)) × (new ≡ old)
 ChangesRow old name edit (Err fault) new = (changed_row old edit ≡ Err fault) × (new ≡ old)
 
--- ---- the steps of a change
+-- ---- the room for its entry
 
 -- whether the log has room for an entry, by what making it answered
 abbrev pub TellsRoom : List RowChange → Result ⊤ PrimaryFault → Type 0
 TellsRoom log (Ok done) = has_room log ≡ true
 TellsRoom log (Err fault) = fault ≡ (if has_room log then Memory else LogFull)
-
--- the row that an edit leaves where there is room for its entry, or what refuses it
-abbrev pub row_with_room : RowEdit → Row → Result ⊤ PrimaryFault → Result Row PrimaryFault
-row_with_room edit row room = edited_row edit row >>= λ left. room >>= λ done. Ok left
-
--- the row is what the edit makes of it, and the entry tells of that
-pub record IsChangeMade (old : TableState) (name : List ℕ) (edit : RowEdit) (room : Result ⊤ PrimaryFault) (change : RowChange) (new : TableState) : Type 0 where
-  pub row : row_with_room edit (row_in old (edit_key edit)) room ≡ Ok change.after
-  pub put : IsRowPut old (edit_key edit) change.after new
-  pub entry : change ≡ record { table = name; key = edit_key edit; before = row_in old (edit_key edit); after = change.after }
-
--- Memory is told where nothing else refuses it, or of the log's room
-abbrev pub MakesChange : TableState → List ℕ → RowEdit → Result ⊤ PrimaryFault → Result RowChange PrimaryFault → TableState → Type 0
-MakesChange old name edit room (Ok change) new = IsChangeMade old name edit room change new
-MakesChange old name edit room (Err fault) new = (new ≡ old) × ((row_with_room edit (row_in old (edit_key edit)) room ≡ Err fault) ⊎ ((fault ≡ Memory) × ((row : Row) × (row_with_room edit (row_in old (edit_key edit)) room ≡ Ok row))))
 
 -- ---- the rows above a key
 

@@ -3,6 +3,7 @@
 
 mod before;
 mod change_laws;
+mod edits;
 mod laws;
 mod placed;
 mod primary;

@@ -5,8 +5,8 @@ ghost use Rattle.mt_primary.specs.Primary.{place_at};
 ghost use Rattle.mt_primary.specs.Reads.{read_row};
 ghost use Rattle.mt_primary.specs.Writes.{Writes};
 
+use crate::edits::write_row;
 use crate::primary::Primary;
-use crate::table::{RowEdit, edit_row};
 use mt_model::{Op, PrimaryFault};
 use mt_names::{Position, TableName, TabletType, Value};
 
@@ -77,6 +77,6 @@ impl Primary {
         if rows.is_denied() {
             return Err(PrimaryFault::Denied);
         }
-        edit_row(rows, &mut self.log, table, RowEdit::Write(op))
+        write_row(rows, &mut self.log, table, op)
     }
 }

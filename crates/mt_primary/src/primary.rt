@@ -8,11 +8,12 @@ ghost use Rattle.mt_primary.specs.Reads.{entry_at, next_row, read_row};
 ghost use Rattle.mt_primary.specs.Writes.{Creates, Puts, Writes, put_of, without_table};
 
 use crate::before::{Before, Mark};
-use crate::table::{RowEdit, Table, edit_row};
+use crate::edits::{put_row, write_row};
+use crate::table::Table;
 use arrayvec::ArrayVec;
 use indexmap::IndexMap;
 use mt_model::{Entry, Op, PrimaryFault, RowChange};
-use mt_names::{KeyspaceName, Position, TableName, TabletType, Value, copied_value};
+use mt_names::{KeyspaceName, Position, TableName, TabletType, Value};
 use mt_watch::Notice;
 use std::alloc::Global;
 use std::marker::Model;
@@ -107,7 +108,7 @@ impl Primary {
                 if rows.is_denied() {
                     return Err(PrimaryFault::Denied);
                 }
-                edit_row(rows, &mut self.log, table, RowEdit::Write(op))
+                write_row(rows, &mut self.log, table, op)
             }
             None => Err(PrimaryFault::NoTable),
         }
@@ -122,12 +123,8 @@ impl Primary {
         requires there { has_table self.old change.now.table ≡ true }
         ensures { Puts self.old (put_of change.now) result self.new }
     {
-        let after = change.after.as_ref().map(|value| copied_value(value));
         match self.tables.get_mut(&change.table) {
-            Some(rows) => {
-                let edit = RowEdit::Put(change.key, after);
-                edit_row(rows, &mut self.log, &change.table, edit).map(|_| ())
-            }
+            Some(rows) => put_row(rows, &mut self.log, change).map(|_| ()),
             None => unreachable!(),
         }
     }

@@ -20,11 +20,11 @@ returns-then-is_denied c =
 pub invariant_of-self-in-Some : goal.invariant_of-self-in-Some
 invariant_of-self-in-Some c =
     let before : PrimaryState = record { tables = c.self.inside.tables.entries; log = c.self.inside.log.items } in
-    let written = change_is_write before c.args.table.now c.in-Some.rows.now c.edit_row.new.table (sym c.in-Some.ensures.value) c.args.op c.edit_row.new.log.items c.edit_row.result (sym c.is_denied.ensures ∙ c.if-is_denied.false) c.self.invariant c.edit_row.ensures in
-    rw (c.get_mut.follows.holds c.edit_row.new.table).0 written.0
+    let written = change_is_write before c.args.table.now c.in-Some.rows.now c.write_row.new.table (sym c.in-Some.ensures.value) c.args.op c.write_row.new.log.items c.write_row.result (sym c.is_denied.ensures ∙ c.if-is_denied.false) c.self.invariant c.write_row.ensures in
+    rw (c.get_mut.follows.holds c.write_row.new.table).0 written.0
 
 pub returns-else-is_denied : goal.returns-else-is_denied
 returns-else-is_denied c =
     let before : PrimaryState = record { tables = c.self.inside.tables.entries; log = c.self.inside.log.items } in
-    let written = change_is_write before c.args.table.now c.in-Some.rows.now c.edit_row.new.table (sym c.in-Some.ensures.value) c.args.op c.edit_row.new.log.items c.edit_row.result (sym c.is_denied.ensures ∙ c.if-is_denied.false) c.self.invariant c.edit_row.ensures in
-    rw (← c.self.view_is) (rw (c.get_mut.follows.holds c.edit_row.new.table).0 written.1)
+    let written = change_is_write before c.args.table.now c.in-Some.rows.now c.write_row.new.table (sym c.in-Some.ensures.value) c.args.op c.write_row.new.log.items c.write_row.result (sym c.is_denied.ensures ∙ c.if-is_denied.false) c.self.invariant c.write_row.ensures in
+    rw (← c.self.view_is) (rw (c.get_mut.follows.holds c.write_row.new.table).0 written.1)

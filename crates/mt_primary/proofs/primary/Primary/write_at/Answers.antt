@@ -23,12 +23,12 @@ pub invariant_of-self-2 : goal.invariant_of-self-2
 invariant_of-self-2 c =
     let before : PrimaryState = record { tables = c.self.inside.tables.entries; log = c.self.inside.log.items } in
     let there = rw (← c.self.view_is) at c.requires.there in
-    let written = change_at_is_write before c.args.place c.args.table.now c.index_mut-rows.result.now c.self.invariant there c.index_mut-rows.ensures.value c.edit_row.new.table c.args.op c.edit_row.new.log.items c.edit_row.result (sym c.is_denied.ensures ∙ c.if-is_denied.false) c.edit_row.ensures in
+    let written = change_at_is_write before c.args.place c.args.table.now c.index_mut-rows.result.now c.self.invariant there c.index_mut-rows.ensures.value c.write_row.new.table c.args.op c.write_row.new.log.items c.write_row.result (sym c.is_denied.ensures ∙ c.if-is_denied.false) c.write_row.ensures in
     written.0
 
 pub returns : goal.returns
 returns c =
     let before : PrimaryState = record { tables = c.self.inside.tables.entries; log = c.self.inside.log.items } in
     let there = rw (← c.self.view_is) at c.requires.there in
-    let written = change_at_is_write before c.args.place c.args.table.now c.index_mut-rows.result.now c.self.invariant there c.index_mut-rows.ensures.value c.edit_row.new.table c.args.op c.edit_row.new.log.items c.edit_row.result (sym c.is_denied.ensures ∙ c.if-is_denied.false) c.edit_row.ensures in
+    let written = change_at_is_write before c.args.place c.args.table.now c.index_mut-rows.result.now c.self.invariant there c.index_mut-rows.ensures.value c.write_row.new.table c.args.op c.write_row.new.log.items c.write_row.result (sym c.is_denied.ensures ∙ c.if-is_denied.false) c.write_row.ensures in
     rw (← c.self.view_is) written.1

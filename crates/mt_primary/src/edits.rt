@@ -1,0 +1,228 @@
+//! Edits of one row of a table, each with the log's entry of it. The own list isn't asked. The tests come in this order:
+//! what refuses the edit of the row (`P3 RowExists` or `P4 NoRow`, `P5 TooLong`), `P6 LogFull`, and last `P0 Memory`. Each
+//! answers the position behind its entry.
+ghost use Rattle.std.specs.Prelude.{◌≡◌, ◌<◌, None, Some, Ok, Err, OnOk, IfErr};
+ghost use Rattle.std.specs.Vec.{vec_len, vec_capacity};
+ghost use Rattle.mt_model.specs.declared.faults.PrimaryFault.TheVariants.{TooLong};
+ghost use Rattle.mt_model.specs.Rows.{appended};
+ghost use Rattle.mt_model.specs.declared.rows.Op.TheVariants.{Append, Delete, Insert, Update};
+ghost use Rattle.mt_primary.specs.Tables.{ChangesRow, Put, TellsRoom, Write};
+
+use crate::table::Table;
+use mt_model::{MAX_LOG, Op, PrimaryFault, RowChange};
+use mt_names::{Position, TableName, Value, copied_value};
+use std::collections::btree_map::Entry;
+use std::mem::replace;
+
+/// Makes room for one entry more in a log that isn't full. It leaves the entries.
+fn make_room(log: &mut Vec<RowChange>) -> Result<(), PrimaryFault>
+    ensures entries { log.new.items ≡ log.old.items }
+    ensures room { OnOk result (vec_len log.new < vec_capacity log.new) }
+    ensures told { TellsRoom log.old.items result }
+{
+    if log.len() as u64 >= MAX_LOG {
+        return Err(PrimaryFault::LogFull);
+    }
+    log.reserve(1).map_err(|_| PrimaryFault::Memory)
+}
+
+/// Adds bytes at the end of a value, if they fit.
+fn extend(value: &mut Value, more: &Value) -> Result<(), PrimaryFault>
+    ensures added { OnOk result (appended value.old more.now ≡ Ok (Some value.new)) }
+    ensures refused { IfErr result (λ fault. (fault ≡ TooLong) × (appended value.old more.now ≡ Err TooLong)) }
+{
+    match value.try_extend_from_slice(more) {
+        Ok(()) => Ok(()),
+        Err(_) => Err(PrimaryFault::TooLong),
+    }
+}
+
+/// Makes a row that isn't there.
+fn insert_row(
+    table: &mut Table,
+    log: &mut Vec<RowChange>,
+    name: &TableName,
+    key: u64,
+    value: Value,
+) -> Result<Position, PrimaryFault>
+    ensures { ChangesRow (record { table = table.old; log = log.old.items }) name.now (Write (Insert key value)) result (record { table = table.new; log = log.new.items }) }
+{
+    match table.rows.entry(key) {
+        Ok(Entry::Occupied(_place)) => return Err(PrimaryFault::RowExists),
+        Ok(Entry::Vacant(place)) => {
+            make_room(log)?;
+            place.insert(copied_value(&value));
+            log.push_reserved(RowChange {
+                table: name.copied(),
+                key,
+                before: None,
+                after: Some(value),
+            });
+            Ok(log.len() as u64)
+        }
+        Err(_) => {
+            make_room(log)?;
+            Err(PrimaryFault::Memory)
+        }
+    }
+}
+
+/// Sets the value of a row that is there.
+fn update_row(
+    table: &mut Table,
+    log: &mut Vec<RowChange>,
+    name: &TableName,
+    key: u64,
+    value: Value,
+) -> Result<Position, PrimaryFault>
+    ensures { ChangesRow (record { table = table.old; log = log.old.items }) name.now (Write (Update key value)) result (record { table = table.new; log = log.new.items }) }
+{
+    match table.rows.get_mut(&key) {
+        Some(row) => {
+            make_room(log)?;
+            let before = replace(row, copied_value(&value));
+            log.push_reserved(RowChange {
+                table: name.copied(),
+                key,
+                before: Some(before),
+                after: Some(value),
+            });
+            Ok(log.len() as u64)
+        }
+        None => Err(PrimaryFault::NoRow),
+    }
+}
+
+/// Adds bytes at the end of the value of a row that is there.
+fn append_row(
+    table: &mut Table,
+    log: &mut Vec<RowChange>,
+    name: &TableName,
+    key: u64,
+    more: Value,
+) -> Result<Position, PrimaryFault>
+    ensures { ChangesRow (record { table = table.old; log = log.old.items }) name.now (Write (Append key more)) result (record { table = table.new; log = log.new.items }) }
+{
+    match table.rows.get_mut(&key) {
+        Some(row) => {
+            let mut after = copied_value(row);
+            extend(&mut after, &more)?;
+            make_room(log)?;
+            let before = replace(row, copied_value(&after));
+            log.push_reserved(RowChange {
+                table: name.copied(),
+                key,
+                before: Some(before),
+                after: Some(after),
+            });
+            Ok(log.len() as u64)
+        }
+        None => Err(PrimaryFault::NoRow),
+    }
+}
+
+/// Takes away a row that is there.
+fn delete_row(
+    table: &mut Table,
+    log: &mut Vec<RowChange>,
+    name: &TableName,
+    key: u64,
+) -> Result<Position, PrimaryFault>
+    ensures { ChangesRow (record { table = table.old; log = log.old.items }) name.now (Write (Delete key)) result (record { table = table.new; log = log.new.items }) }
+{
+    if let Err(fault) = make_room(log) {
+        if table.rows.contains_key(&key) {
+            return Err(fault);
+        }
+        return Err(PrimaryFault::NoRow);
+    }
+    match table.rows.remove(&key) {
+        Some(before) => {
+            log.push_reserved(RowChange {
+                table: name.copied(),
+                key,
+                before: Some(before),
+                after: None,
+            });
+            Ok(log.len() as u64)
+        }
+        None => Err(PrimaryFault::NoRow),
+    }
+}
+
+/// Sets a row, whatever stands there.
+fn set_row(
+    table: &mut Table,
+    log: &mut Vec<RowChange>,
+    name: &TableName,
+    key: u64,
+    value: &Value,
+) -> Result<Position, PrimaryFault>
+    ensures { ChangesRow (record { table = table.old; log = log.old.items }) name.now (Put key (Some value.now)) result (record { table = table.new; log = log.new.items }) }
+{
+    make_room(log)?;
+    match table.rows.insert(key, copied_value(value)) {
+        Ok(before) => {
+            log.push_reserved(RowChange {
+                table: name.copied(),
+                key,
+                before,
+                after: Some(copied_value(value)),
+            });
+            Ok(log.len() as u64)
+        }
+        Err(_) => Err(PrimaryFault::Memory),
+    }
+}
+
+/// Takes a row away, if it is there.
+fn take_row(
+    table: &mut Table,
+    log: &mut Vec<RowChange>,
+    name: &TableName,
+    key: u64,
+) -> Result<Position, PrimaryFault>
+    ensures { ChangesRow (record { table = table.old; log = log.old.items }) name.now (Put key None) result (record { table = table.new; log = log.new.items }) }
+{
+    make_room(log)?;
+    let before = table.rows.remove(&key);
+    log.push_reserved(RowChange {
+        table: name.copied(),
+        key,
+        before,
+        after: None,
+    });
+    Ok(log.len() as u64)
+}
+
+/// Does a client's operation on a row, which the row that stands there may refuse.
+pub fn write_row(
+    table: &mut Table,
+    log: &mut Vec<RowChange>,
+    name: &TableName,
+    op: Op,
+) -> Result<Position, PrimaryFault>
+    ensures { ChangesRow (record { table = table.old; log = log.old.items }) name.now (Write op) result (record { table = table.new; log = log.new.items }) }
+{
+    match op {
+        Op::Insert(key, value) => insert_row(table, log, name, key, value),
+        Op::Update(key, value) => update_row(table, log, name, key, value),
+        Op::Append(key, more) => append_row(table, log, name, key, more),
+        Op::Delete(key) => delete_row(table, log, name, key),
+    }
+}
+
+/// Sets the row of a change's table and key to the one after it, or takes it away if there is none, whatever stands there.
+/// The change's own row before counts for nothing.
+pub fn put_row(
+    table: &mut Table,
+    log: &mut Vec<RowChange>,
+    change: &RowChange,
+) -> Result<Position, PrimaryFault>
+    ensures { ChangesRow (record { table = table.old; log = log.old.items }) change.now.table (Put change.now.key change.now.after) result (record { table = table.new; log = log.new.items }) }
+{
+    match &change.after {
+        Some(value) => set_row(table, log, &change.table, change.key, value),
+        None => take_row(table, log, &change.table, change.key),
+    }
+}
