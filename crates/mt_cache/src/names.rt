@@ -12,7 +12,7 @@ use std::alloc::Global;
 
 /// How many rows are asked for by names that aren't kept before one is. Where other events come between rows nothing is kept, as it
 /// would be forgotten before it serves.
-const FIRST_ROWS: u8 = 8;
+const FIRST_ROWS: u8 = 4;
 
 /// The names that are kept.
 #[derive(Drop)]
