@@ -13,10 +13,8 @@ mod words;
 mod workflows;
 
 pub use cut::first_line;
-pub use lines::{
-    Line, LineRefusal, MAX_LINE_LENGTH, Request, RowRequest, read_line, row_line, row_words,
-};
-pub use rows::{RowVerb, RowWords, ValueVerb, any_key, op_of, table_key, value_behind};
+pub use lines::{Line, LineRefusal, MAX_LINE_LENGTH, Request, RowRequest, read_line, row_words};
+pub use rows::{RowVerb, RowWords, ValueVerb, any_key, op_of, value_behind};
 pub use tables::TableText;
 pub use texts::{
     LineText, write_answer, write_driven, write_look_up, write_refusal, write_row,

@@ -7,9 +7,7 @@ ghost use Rattle.mt_script.specs.Requests.{meaning_from, meaning_of, row_from};
 ghost use Rattle.mt_script.specs.Rows.{IsRequest};
 
 use crate::commands::read_command;
-use crate::rows::{
-    RowVerb, RowWords, delete_of, name_in_front, number_in_front, read_of, verb_in_front, write_of,
-};
+use crate::rows::{RowWords, name_in_front, number_in_front, verb_in_front};
 use crate::tables::TableText;
 use crate::words::{is_blank, is_visible};
 use mt_model::Op;
@@ -157,18 +155,4 @@ pub fn row_words(line: &[u8]) -> Option<RowWords<'_>>
         number,
         rest,
     })
-}
-
-/// Reads a line that asks for a row where a name leads, as `read_line` reads it, if it is in the common form: one space
-/// between two words, and no other blank. `None` is any other line, and one that `read_line` refuses.
-#[inline(always)]
-pub fn row_line(line: &[u8]) -> Option<RowRequest>
-    ensures { IfSome result (λ row. Some (Ok (row_from row)) ≡ meaning_of (read_line line.now)) }
-{
-    let row = row_words(line)?;
-    match row.verb {
-        RowVerb::Change(verb) => write_of(verb, row.name, row.number, row.rest),
-        RowVerb::Delete => delete_of(row.name, row.number, row.rest),
-        RowVerb::Get => read_of(row.name, row.number, row.rest),
-    }
 }

@@ -1,16 +1,13 @@
 //! Lines that ask for a row in their common form: one space between two words, and no other blank.
-ghost use Rattle.std.specs.Prelude.{◌≡◌, ◌≤◌, ◌<◌, ◌∷◌, ◌++◌, [], length, take, IfSome, true};
+ghost use Rattle.std.specs.Prelude.{◌≡◌, ◌≤◌, ◌<◌, ◌∷◌, ◌++◌, length, take, IfSome, true};
 ghost use Rattle.std.specs.Char.{is_ascii_digit};
 ghost use Rattle.std.specs.List.{list_all};
-ghost use Rattle.mt_model.specs.declared.rows.Op.TheVariants.{Delete};
 ghost use Rattle.mt_plain.specs.Script.{is_visible, number_of_digits};
-ghost use Rattle.mt_script.specs.Rows.{BeginsWithNumber, IsReadOf, IsTextOfKey, IsTextOfTable, IsValueWrite, IsWordBehind, IsWriteOf, op_of, verb_text};
+ghost use Rattle.mt_script.specs.Rows.{BeginsWithNumber, IsTextOfKey, IsWordBehind, op_of, verb_text};
 
-use crate::lines::RowRequest;
 use crate::words::{is_visible, text_of};
 use mt_model::Op;
-use mt_names::{RuleKey, TableName, TabletType, Value};
-use std::str;
+use mt_names::{RuleKey, Value};
 
 /// A verb behind whose name stand a number and a value.
 #[derive(Clone, Copy)]
@@ -129,7 +126,7 @@ fn value_of(word: &[u8]) -> Option<Value>
     }
 }
 
-/// The value behind a space, with nothing behind it.
+/// The value behind a space, with nothing behind it: 1 to 64 visible bytes. Of other bytes there is none.
 pub fn value_behind(words: &[u8]) -> Option<Value>
     ensures { IfSome result (λ value. IsWordBehind words.now value) }
 {
@@ -139,20 +136,7 @@ pub fn value_behind(words: &[u8]) -> Option<Value>
     }
 }
 
-/// The key that a table's name is, which has no marks.
-pub fn table_key(name: &[u8]) -> Option<RuleKey>
-    ensures { IfSome result (λ key. IsTextOfTable name.now key) }
-{
-    let text = str::from_utf8(name).ok()?;
-    let table = TableName::parse(text).ok()?;
-    Some(RuleKey {
-        keyspace: None,
-        table,
-        tablet_type: None,
-    })
-}
-
-/// The operation of a verb.
+/// The operation of a verb, with the number of its row and its value.
 pub fn op_of(verb: ValueVerb, number: u64, value: Value) -> Op
     ensures { result ≡ op_of verb number value }
 {
@@ -163,29 +147,7 @@ pub fn op_of(verb: ValueVerb, number: u64, value: Value) -> Op
     }
 }
 
-/// A write of a value to the table of a name.
-#[inline(never)]
-pub fn write_of(verb: ValueVerb, name: &[u8], number: u64, words: &[u8]) -> Option<RowRequest>
-    ensures { IfSome result (λ row. IsValueWrite verb name.now number words.now row) }
-{
-    let key = table_key(name)?;
-    let value = value_behind(words)?;
-    Some(RowRequest::Write(key, op_of(verb, number, value)))
-}
-
-/// A delete in the table of a name.
-#[inline(never)]
-pub fn delete_of(name: &[u8], number: u64, words: &[u8]) -> Option<RowRequest>
-    ensures { IfSome result (λ row. (words.now ≡ []) × IsWriteOf name.now (Delete number) row) }
-{
-    if !words.is_empty() {
-        return None;
-    }
-    let key = table_key(name)?;
-    Some(RowRequest::Write(key, Op::Delete(number)))
-}
-
-/// The key that a name is, which may have a keyspace and a type.
+/// The key that a name is, which may have a keyspace and a type. Of a name in fault there is none.
 #[inline(never)]
 pub fn any_key(name: &[u8]) -> Option<RuleKey>
     ensures { IfSome result (λ key. IsTextOfKey name.now key) }
@@ -194,20 +156,4 @@ pub fn any_key(name: &[u8]) -> Option<RuleKey>
         return None;
     }
     RuleKey::parse(text_of(name)).ok()
-}
-
-/// A read of the table of a name. One without marks is read by itself, which is faster.
-#[inline(never)]
-pub fn read_of(name: &[u8], number: u64, words: &[u8]) -> Option<RowRequest>
-    ensures { IfSome result (λ row. (words.now ≡ []) × IsReadOf name.now number row) }
-{
-    if !words.is_empty() {
-        return None;
-    }
-    if let Some(key) = table_key(name) {
-        return Some(RowRequest::Read(key, number, TabletType::Primary));
-    }
-    let key = any_key(name)?;
-    let tablet_type = key.tablet_type.unwrap_or(TabletType::Primary);
-    Some(RowRequest::Read(key, number, tablet_type))
 }
