@@ -22,8 +22,9 @@ use std::alloc::Global;
 use std::marker::Model;
 use std::str;
 
-/// A core beside where names led when rows were last asked for by them. These are forgotten as soon as the core is lent to be changed,
-/// so that most rows of a script are found without a hash, where the core alone takes four and more. For its callers it is the core.
+/// A core beside where names led when rows were last asked for by them. These are forgotten as soon as the core is lent to be changed.
+/// So most rows of a script take one look-up of a name, by its bytes in the line, where the core alone takes four and more. For its
+/// callers it is the core. (Vitess: a router that keeps the plans of queries)
 #[derive(Drop)]
 pub struct CachedCore {
     core: Core,

@@ -67,6 +67,7 @@ impl Names {
             → LeadThere topology self.new.kept.entries }
     {
         name.as_str();
+        // What finds no memory is looked up again.
         match self.kept.insert(name, place) {
             Ok(_) => {}
             Err(_) => {}
