@@ -1,5 +1,5 @@
 -- What is asked for at the place where a name leads is asked for through the name.
-use Rattle.std.proofs.Common.{◌≡◌, ℕ, List, [], ◌∷◌, Option, Result, Ok, Err, sym, ap, subst}
+use Rattle.std.proofs.Common.{◌≡◌, ℕ, List, [], ◌∷◌, Option, None, Some, Result, Ok, Err, sym, ap, subst}
 use Rattle.std.specs.Prelude.{⊤}
 use Rattle.std.specs.Result.{OnErr}
 use Rattle.mt_event.specs.declared.refusal.Refusal.{Refusal}
@@ -12,9 +12,12 @@ use Rattle.mt_names.specs.declared.keys.RuleKey.{RuleKey}
 use Rattle.mt_names.specs.declared.keys.RuleTarget.{RuleTarget}
 use Rattle.mt_names.specs.declared.types.TabletType.{TabletType}
 use Rattle.mt_names.specs.declared.types.TabletType.TheVariants.{Primary}
-use Rattle.mt_plain.specs.Events.{read, write}
+use Rattle.mt_plain.specs.Events.{Answer, StreamName, read, write}
+use Rattle.mt_workflow.specs.Workflows.{WorkflowState, slot_of}
+use Rattle.mt_stream.specs.Streams.{StreamValue}
+use Rattle.mt_site_state.specs.Workflows.{AdvancesAt, AdvancesStream, AdvancesWorkflow}
 use Rattle.mt_site_state.specs.ByHand.{ReadsRow, WritesRow}
-use Rattle.mt_site_state.specs.Core.{CoreState, primary_at}
+use Rattle.mt_site_state.specs.Core.{CoreState, primary_at, workflow_at}
 use Rattle.mt_site_state.specs.Ways.{SiteState, SiteSteps}
 use Rattle.mt_site.specs.ByHand.{read_from, written_from}
 use Rattle.mt_site.specs.Headline.{KeepsTheHeadline}
@@ -66,3 +69,19 @@ written_leaves_topology old new op (Ok target) (Ok told) is = row_leaves_topolog
 written_leaves_topology old new op (Ok target) (Err fault) is = absurd is
 written_leaves_topology old new op (Err fault) (Ok told) is = absurd is
 written_leaves_topology old new op (Err fault) (Err told) is = let topology_of : CoreState → TopologyState = λ core. core.topology in ap topology_of is.1
+
+-- and so does an advance
+pub advance_leaves_topology : (old new : CoreState) (workflow : List ℕ) (name : StreamName) (at at_most : ℕ) (answer : Answer) → AdvancesWorkflow old workflow name at at_most answer new
+    → new.topology ≡ old.topology
+advance_leaves_topology old new workflow name at at_most answer = of_workflow (workflow_at old.workflows workflow)
+  where
+    topology_of : CoreState → TopologyState
+    topology_of core = core.topology
+
+    of_stream : (w : WorkflowState) (stream : Option StreamValue) → AdvancesStream stream old w name at at_most answer new → new.topology ≡ old.topology
+    of_stream w None is = ap topology_of is.1
+    of_stream w (Some stream) (result, after, sink, advances, told, same) = ap topology_of same
+
+    of_workflow : (w : Option WorkflowState) → AdvancesAt w old name at at_most answer new → new.topology ≡ old.topology
+    of_workflow None is = ap topology_of is.1
+    of_workflow (Some w) is = of_stream w (slot_of w name) is

@@ -1,23 +1,29 @@
 //! A core that is asked for rows by the names of their tables.
-ghost use Rattle.std.specs.Prelude.{◌≡◌, List, IfSome, IfNone, is_ok, is_some};
+ghost use Rattle.std.specs.Prelude.{◌≡◌, List, [], ◌∷◌, IfSome, IfNone, OnErr, is_ok, is_some};
 ghost use Rattle.std.specs.Borrow.{Lends, sem};
 ghost use Rattle.mt_cache.specs.contracts.cached.CachedCore.{the_row};
 ghost use Rattle.mt_site.specs.contracts.controller.Core.{the_row as core_row};
 ghost use Rattle.mt_cache.specs.Rows.{ReadThrough, WrittenThrough};
 ghost use Rattle.mt_model.specs.declared.entries.Scope.{Scope};
 ghost use Rattle.mt_model.specs.Topology.{resolution};
+ghost use Rattle.mt_event.specs.Events.{answer_from};
+ghost use Rattle.mt_plain.specs.Events as plain;
 ghost use Rattle.mt_plain.specs.Plain.{Plain, opening};
+ghost use Rattle.mt_site.specs.Headline.{KeepsTheHeadline};
+ghost use Rattle.mt_workflow.specs.Workflows.{stream_name};
 ghost use Rattle.mt_plain.specs.Serve.{served};
-ghost use Rattle.mt_site_state.specs.Ways.{SiteStands, empty_site};
+ghost use Rattle.mt_site_state.specs.Ways.{SiteStands, SiteSteps, empty_site};
 ghost use Rattle.mt_names.specs.Names.{read_table};
 ghost use Rattle.mt_cache.specs.Names.{plain_key};
 
 use crate::names::Names;
-use mt_event::Refusal;
+use mt_event::{Event, Refusal, Reply};
 use mt_model::{Op, TopologyFault};
-use mt_names::{RuleKey, TableName, TabletType, Value};
+use mt_names::{Position, RuleKey, TableName, TabletType, Value, WorkflowName};
 use mt_site::Core;
 use mt_site_events::a_core_tells_what_its_state_serves;
+use mt_watch::Asks;
+use mt_workflow::Slot;
 use std::alloc::Global;
 use std::marker::Model;
 use std::str;
@@ -68,6 +74,30 @@ impl CachedCore {
     {
         self.names.forget();
         &mut self.core
+    }
+
+    /// Advances a stream of a workflow: the event Advance, as `Core::apply` applies it. What is kept stays, since an advance leads no
+    /// name elsewhere. `F7 NoWorkflow`, `F26 Stopped`, `F25 Stale`, `F27 Full`, `F0 Memory`; each leaves the core as it was. (Vitess:
+    /// VReplication, the copy phase and the catchup)
+    pub fn advance<W: Asks>(
+        &mut self,
+        watchers: &W,
+        workflow: WorkflowName,
+        stream: Slot,
+        at: Position,
+        max: u16,
+    ) -> Result<Reply, Refusal>
+        ensures steps { SiteSteps (W.scopes watchers.now) self.old (plain.advance workflow (stream_name stream) at max) (answer_from result) self.new }
+        ensures unchanged { OnErr result (self.new ≡ self.old) }
+        ensures headline { KeepsTheHeadline (W.scopes watchers.now) self.old (plain.advance workflow (stream_name stream) at max ∷ []) (answer_from result ∷ []) self.new }
+    {
+        let event = Event::Advance {
+            workflow,
+            stream,
+            at,
+            max,
+        };
+        self.core.apply(watchers, &event)
     }
 
     /// Keeps where a name by which a row was asked for leads for the primary, if it is to be kept.

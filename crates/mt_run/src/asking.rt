@@ -148,7 +148,7 @@ pub fn create<A: Asks>(
     )
 }
 
-/// Advances a stream of a workflow.
+/// Advances a stream of a workflow, which leaves where names lead.
 #[inline(never)]
 pub fn advance<A: Asks>(
     core: &mut CachedCore,
@@ -161,17 +161,8 @@ pub fn advance<A: Asks>(
 ) -> LineOutput
     ensures { IsRequestOutput (A.scopes watchers.now) core.old (event (plain.advance workflow (stream_name stream) at max)) text.new.items result core.new }
 {
-    ask(
-        core,
-        watchers,
-        &Event::Advance {
-            workflow,
-            stream,
-            at,
-            max,
-        },
-        text,
-    )
+    write_answer(text, &core.advance(watchers, workflow, stream, at, max));
+    LineOutput::Line
 }
 
 /// Begins to switch traffic to the target of a workflow.
