@@ -12,6 +12,8 @@ mod primary;
 #[cfg(test)]
 mod rules;
 #[cfg(test)]
+mod shared;
+#[cfg(test)]
 mod topology;
 #[cfg(test)]
 mod watch;

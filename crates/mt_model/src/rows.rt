@@ -2,7 +2,8 @@
 ghost use Rattle.std.specs.Prelude.{◌≡◌};
 ghost use Rattle.mt_model.specs.Rows.{op_key};
 
-use mt_names::{TableName, Value, copied_value};
+use mt_names::{Value, copied_value};
+use mt_shared::{SharedName, SharedValue};
 
 /// A client's write to one row of a table.
 #[derive(Debug, Drop, Eq, PartialEq)]
@@ -40,29 +41,16 @@ impl Op {
     }
 }
 
-/// An entry of a primary's log: the row before a change, and after it.
-#[derive(Debug, Drop, Eq, PartialEq)]
+/// An entry of a primary's log: the row before a change, and after it. Its values it shares with the row and with other
+/// entries, its name with the table.
+#[derive(Drop)]
 pub struct RowChange {
     /// The table.
-    pub table: TableName,
+    pub table: SharedName,
     /// The key of the row.
     pub key: u64,
     /// The row before, if there was one.
-    pub before: Option<Value>,
+    pub before: Option<SharedValue>,
     /// The row after, if there is one.
-    pub after: Option<Value>,
-}
-
-impl RowChange {
-    /// The same entry. It takes no memory.
-    pub fn copied(&self) -> Self
-        ensures { result ≡ self.now }
-    {
-        RowChange {
-            table: self.table.copied(),
-            key: self.key,
-            before: self.before.as_ref().map(|value| copied_value(value)),
-            after: self.after.as_ref().map(|value| copied_value(value)),
-        }
-    }
+    pub after: Option<SharedValue>,
 }

@@ -1,7 +1,6 @@
 -- What an edit of a row does, by what its map, the log's room and memory answer.
 use Rattle.std.proofs.Common.{◌≡◌, ◌≢◌, ℕ, Bool, true, false, cond, List, [], ◌∷◌, ◌++◌, length, Some, Result, Ok, Err, refl, sym, ap, subst, ◌∙◌, nat_lt}
 use Rattle.std.proofs.lemmas.Map.Steps.{set_value_same}
-use Rattle.std.specs.Bool.{⊤}
 use Rattle.std.specs.BTreeMap.{is_at}
 use Rattle.std.specs.Map.{lookup, set_value}
 use Rattle.std.specs.Ordering.{nat_cmp}
@@ -16,7 +15,7 @@ use Rattle.mt_primary.specs.Writes.{has_room}
 use Rattle.mt_primary.proofs.TableLemmas.{lookup-nat_cmp, row_put}
 
 -- room that was made is there
-told_ok : (log : List RowChange) (room : Result ⊤ PrimaryFault) (done : ⊤) → room ≡ Ok done → TellsRoom log room → has_room log ≡ true
+told_ok : {A : Type 0} (log : List RowChange) (room : Result A PrimaryFault) (done : A) → room ≡ Ok done → TellsRoom log room → has_room log ≡ true
 told_ok log (Ok done) any is tells = tells
 told_ok log (Err fault) any is tells = absurd cc
 
@@ -45,7 +44,7 @@ module _ (old new : TableState) (log new_log : List RowChange) (name : List ℕ)
       by Memory e apart = absurd (apart refl)
       by f e apart = (e, unchanged same same_log)
 
-  module _ (left : Row) (allowed : edited_row edit stood ≡ Ok left) (room : Result ⊤ PrimaryFault) (tells : TellsRoom log room) where
+  module _ (left : Row) (allowed : edited_row edit stood ≡ Ok left) {A : Type 0} (room : Result A PrimaryFault) (tells : TellsRoom log room) where
     left_is : edited_row edit (row_in old (edit_key edit)) ≡ Ok left
     left_is = rw row_is allowed
 
@@ -53,19 +52,19 @@ module _ (old new : TableState) (log new_log : List RowChange) (name : List ℕ)
     pub refused_room : (fault : PrimaryFault) → room ≡ Err fault → result ≡ Err fault → new ≡ old → new_log ≡ log → ChangesRow before name edit result behind
     refused_room fault full is same same_log = rw is (by (nat_lt (length log) longest_log) refl)
       where
-        told : TellsRoom log (Err fault)
-        told = subst (TellsRoom log) full tells
+        told : TellsRoom {A = A} log (Err fault)
+        told = subst (TellsRoom {A = A} log) full tells
 
         by : (b : Bool) → nat_lt (length log) longest_log ≡ b → ChangesRow before name edit (Err fault) behind
         by true below = let t = rw below at told in let of : fault ≡ Memory = cc in rw of ((left, rw (left_is, below) refl), unchanged same same_log)
         by false above = let t = rw above at told in let of : fault ≡ LogFull = cc in rw of (rw (left_is, above) refl, unchanged same same_log)
 
     -- there is no memory for the row
-    pub refused_memory : (done : ⊤) → room ≡ Ok done → result ≡ Err Memory → new ≡ old → new_log ≡ log → ChangesRow before name edit result behind
+    pub refused_memory : (done : A) → room ≡ Ok done → result ≡ Err Memory → new ≡ old → new_log ≡ log → ChangesRow before name edit result behind
     refused_memory done made is same same_log = rw is ((left, rw (left_is, told_ok log room done made tells) refl), unchanged same same_log)
 
     -- the row is put, and its entry stands in the log
-    pub entered : (done : ⊤) → room ≡ Ok done → ((q : ℕ) → lookup (is_at (nat_cmp q)) new.rows ≡ cond (is_at (nat_cmp (edit_key edit)) q) left (lookup (is_at (nat_cmp q)) old.rows))
+    pub entered : (done : A) → room ≡ Ok done → ((q : ℕ) → lookup (is_at (nat_cmp q)) new.rows ≡ cond (is_at (nat_cmp (edit_key edit)) q) left (lookup (is_at (nat_cmp q)) old.rows))
         → new.made ≡ old.made → new.denied ≡ old.denied → IsInKeyOrder new
         → new_log ≡ log ++ record { table = name; key = edit_key edit; before = stood; after = left } ∷ [] → (answer : ℕ) → result ≡ Ok answer → answer ≡ length new_log → ChangesRow before name edit result behind
     entered done made updates same_made same_denied ordered pushed answer is at =

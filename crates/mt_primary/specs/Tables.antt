@@ -1,5 +1,5 @@
 -- What a change of one table is, and what becomes of the log with it.
-use Rattle.std.specs.Prelude.{◌≡◌, ◌≢◌, ℕ, true, List, [], ◌∷◌, ◌++◌, length, if◌then◌else◌, ⊤, Option, None, Some, Result, Ok, Err}
+use Rattle.std.specs.Prelude.{◌≡◌, ◌≢◌, ℕ, true, List, [], ◌∷◌, ◌++◌, length, if◌then◌else◌, Option, None, Some, Result, Ok, Err}
 use Rattle.std.specs.declared.ops.Bound.{Bound}
 use Rattle.std.specs.declared.ops.Bound.TheVariants.{Excluded, Unbounded}
 use Rattle.mt_names.specs.Results.{◌>>=◌}
@@ -59,7 +59,7 @@ ChangesRow old name edit (Err fault) new = (changed_row old edit ≡ Err fault) 
 -- ---- the room for its entry
 
 -- whether the log has room for an entry, by what making it answered
-abbrev pub TellsRoom : List RowChange → Result ⊤ PrimaryFault → Type 0
+abbrev pub TellsRoom : {A : Type 0} → List RowChange → Result A PrimaryFault → Type 0
 TellsRoom log (Ok done) = has_room log ≡ true
 TellsRoom log (Err fault) = fault ≡ (if has_room log then Memory else LogFull)
 

@@ -1,7 +1,8 @@
 //! Edits of one row of a table, each with the log's entry of it. The own list isn't asked. The tests come in this order:
 //! what refuses the edit of the row (`P3 RowExists` or `P4 NoRow`, `P5 TooLong`), `P6 LogFull`, and last `P0 Memory`. Each
 //! answers the position behind its entry.
-ghost use Rattle.std.specs.Prelude.{◌≡◌, ◌<◌, None, Some, Ok, Err, OnOk, IfErr};
+ghost use Rattle.std.specs.Prelude.{◌≡◌, ◌<◌, None, Some, Ok, Err, OnOk, IfErr, IfOk};
+ghost use Rattle.std.specs.Option.{option_copied};
 ghost use Rattle.std.specs.Vec.{vec_len, vec_capacity};
 ghost use Rattle.mt_model.specs.declared.faults.PrimaryFault.TheVariants.{TooLong};
 ghost use Rattle.mt_model.specs.Rows.{appended};
@@ -10,7 +11,8 @@ ghost use Rattle.mt_primary.specs.Tables.{ChangesRow, Put, TellsRoom, Write};
 
 use crate::table::Table;
 use mt_model::{MAX_LOG, Op, PrimaryFault, RowChange};
-use mt_names::{Position, TableName, Value, copied_value};
+use mt_names::{Position, Value};
+use mt_shared::{SharedName, SharedValue};
 use std::collections::btree_map::Entry;
 use std::mem::replace;
 
@@ -24,6 +26,56 @@ fn make_room(log: &mut Vec<RowChange>) -> Result<(), PrimaryFault>
         return Err(PrimaryFault::LogFull);
     }
     log.reserve(1).map_err(|_| PrimaryFault::Memory)
+}
+
+/// What a change shares: the name of its table, and the row's value for the row and for the log's entry.
+#[derive(Drop)]
+struct Made {
+    name: SharedName,
+    row: SharedValue,
+    after: SharedValue,
+}
+
+/// Makes room for one entry more, and its table's name. It leaves the entries.
+fn make_name(log: &mut Vec<RowChange>, name: &SharedName) -> Result<SharedName, PrimaryFault>
+    ensures entries { log.new.items ≡ log.old.items }
+    ensures room { OnOk result (vec_len log.new < vec_capacity log.new) }
+    ensures told { TellsRoom log.old.items result }
+    ensures name { IfOk result (λ made. made ≡ name.now) }
+{
+    make_room(log)?;
+    name.try_clone().map_err(|_| PrimaryFault::Memory)
+}
+
+/// Makes room for one entry more, and what it shares with a row of this value. It leaves the entries.
+fn share(
+    log: &mut Vec<RowChange>,
+    name: &SharedName,
+    value: &SharedValue,
+) -> Result<Made, PrimaryFault>
+    ensures entries { log.new.items ≡ log.old.items }
+    ensures room { OnOk result (vec_len log.new < vec_capacity log.new) }
+    ensures told { TellsRoom log.old.items result }
+    ensures made { IfOk result (λ made. made ≡ record { name = name.now; row = value.now; after = value.now }) }
+{
+    let name = make_name(log, name)?;
+    let row = value.try_clone().map_err(|_| PrimaryFault::Memory)?;
+    let after = value.try_clone().map_err(|_| PrimaryFault::Memory)?;
+    Ok(Made { name, row, after })
+}
+
+/// Makes room for one entry more, and what it shares with a row of this value, which nobody has yet. It leaves the
+/// entries.
+fn make(log: &mut Vec<RowChange>, name: &SharedName, value: Value) -> Result<Made, PrimaryFault>
+    ensures entries { log.new.items ≡ log.old.items }
+    ensures room { OnOk result (vec_len log.new < vec_capacity log.new) }
+    ensures told { TellsRoom log.old.items result }
+    ensures made { IfOk result (λ made. made ≡ record { name = name.now; row = value; after = value }) }
+{
+    let name = make_name(log, name)?;
+    let row = SharedValue::new(*log.allocator(), value).map_err(|_| PrimaryFault::Memory)?;
+    let after = row.try_clone().map_err(|_| PrimaryFault::Memory)?;
+    Ok(Made { name, row, after })
 }
 
 /// Adds bytes at the end of a value, if they fit.
@@ -41,7 +93,7 @@ fn extend(value: &mut Value, more: &Value) -> Result<(), PrimaryFault>
 fn insert_row(
     table: &mut Table,
     log: &mut Vec<RowChange>,
-    name: &TableName,
+    name: &SharedName,
     key: u64,
     value: Value,
 ) -> Result<Position, PrimaryFault>
@@ -50,13 +102,13 @@ fn insert_row(
     match table.rows.entry(key) {
         Ok(Entry::Occupied(_place)) => return Err(PrimaryFault::RowExists),
         Ok(Entry::Vacant(place)) => {
-            make_room(log)?;
-            place.insert(copied_value(&value));
+            let made = make(log, name, value)?;
+            place.insert(made.row);
             log.push_reserved(RowChange {
-                table: name.copied(),
+                table: made.name,
                 key,
                 before: None,
-                after: Some(value),
+                after: Some(made.after),
             });
             Ok(log.len() as u64)
         }
@@ -71,7 +123,7 @@ fn insert_row(
 fn update_row(
     table: &mut Table,
     log: &mut Vec<RowChange>,
-    name: &TableName,
+    name: &SharedName,
     key: u64,
     value: Value,
 ) -> Result<Position, PrimaryFault>
@@ -79,13 +131,13 @@ fn update_row(
 {
     match table.rows.get_mut(&key) {
         Some(row) => {
-            make_room(log)?;
-            let before = replace(row, copied_value(&value));
+            let made = make(log, name, value)?;
+            let before = replace(row, made.row);
             log.push_reserved(RowChange {
-                table: name.copied(),
+                table: made.name,
                 key,
                 before: Some(before),
-                after: Some(value),
+                after: Some(made.after),
             });
             Ok(log.len() as u64)
         }
@@ -97,7 +149,7 @@ fn update_row(
 fn append_row(
     table: &mut Table,
     log: &mut Vec<RowChange>,
-    name: &TableName,
+    name: &SharedName,
     key: u64,
     more: Value,
 ) -> Result<Position, PrimaryFault>
@@ -105,15 +157,15 @@ fn append_row(
 {
     match table.rows.get_mut(&key) {
         Some(row) => {
-            let mut after = copied_value(row);
-            extend(&mut after, &more)?;
-            make_room(log)?;
-            let before = replace(row, copied_value(&after));
+            let mut value = row.value();
+            extend(&mut value, &more)?;
+            let made = make(log, name, value)?;
+            let before = replace(row, made.row);
             log.push_reserved(RowChange {
-                table: name.copied(),
+                table: made.name,
                 key,
                 before: Some(before),
-                after: Some(after),
+                after: Some(made.after),
             });
             Ok(log.len() as u64)
         }
@@ -125,21 +177,20 @@ fn append_row(
 fn delete_row(
     table: &mut Table,
     log: &mut Vec<RowChange>,
-    name: &TableName,
+    name: &SharedName,
     key: u64,
 ) -> Result<Position, PrimaryFault>
     ensures { ChangesRow (record { table = table.old; log = log.old.items }) name.now (Write (Delete key)) result (record { table = table.new; log = log.new.items }) }
 {
-    if let Err(fault) = make_room(log) {
-        if table.rows.contains_key(&key) {
-            return Err(fault);
-        }
-        return Err(PrimaryFault::NoRow);
-    }
+    let name = match make_name(log, name) {
+        Ok(name) => name,
+        Err(fault) if table.rows.contains_key(&key) => return Err(fault),
+        Err(_) => return Err(PrimaryFault::NoRow),
+    };
     match table.rows.remove(&key) {
         Some(before) => {
             log.push_reserved(RowChange {
-                table: name.copied(),
+                table: name,
                 key,
                 before: Some(before),
                 after: None,
@@ -154,20 +205,20 @@ fn delete_row(
 fn set_row(
     table: &mut Table,
     log: &mut Vec<RowChange>,
-    name: &TableName,
+    name: &SharedName,
     key: u64,
-    value: &Value,
+    value: &SharedValue,
 ) -> Result<Position, PrimaryFault>
     ensures { ChangesRow (record { table = table.old; log = log.old.items }) name.now (Put key (Some value.now)) result (record { table = table.new; log = log.new.items }) }
 {
-    make_room(log)?;
-    match table.rows.insert(key, copied_value(value)) {
+    let Made { name, row, after } = share(log, name, value)?;
+    match table.rows.insert(key, row) {
         Ok(before) => {
             log.push_reserved(RowChange {
-                table: name.copied(),
+                table: name,
                 key,
                 before,
-                after: Some(copied_value(value)),
+                after: Some(after),
             });
             Ok(log.len() as u64)
         }
@@ -179,15 +230,15 @@ fn set_row(
 fn take_row(
     table: &mut Table,
     log: &mut Vec<RowChange>,
-    name: &TableName,
+    name: &SharedName,
     key: u64,
 ) -> Result<Position, PrimaryFault>
     ensures { ChangesRow (record { table = table.old; log = log.old.items }) name.now (Put key None) result (record { table = table.new; log = log.new.items }) }
 {
-    make_room(log)?;
+    let name = make_name(log, name)?;
     let before = table.rows.remove(&key);
     log.push_reserved(RowChange {
-        table: name.copied(),
+        table: name,
         key,
         before,
         after: None,
@@ -199,7 +250,7 @@ fn take_row(
 pub fn write_row(
     table: &mut Table,
     log: &mut Vec<RowChange>,
-    name: &TableName,
+    name: &SharedName,
     op: Op,
 ) -> Result<Position, PrimaryFault>
     ensures { ChangesRow (record { table = table.old; log = log.old.items }) name.now (Write op) result (record { table = table.new; log = log.new.items }) }
@@ -212,17 +263,18 @@ pub fn write_row(
     }
 }
 
-/// Sets the row of a change's table and key to the one after it, or takes it away if there is none, whatever stands there.
-/// The change's own row before counts for nothing.
+/// Sets a row, or takes it away if there is none, whatever stands there.
 pub fn put_row(
     table: &mut Table,
     log: &mut Vec<RowChange>,
-    change: &RowChange,
+    name: &SharedName,
+    key: u64,
+    after: Option<&SharedValue>,
 ) -> Result<Position, PrimaryFault>
-    ensures { ChangesRow (record { table = table.old; log = log.old.items }) change.now.table (Put change.now.key change.now.after) result (record { table = table.new; log = log.new.items }) }
+    ensures { ChangesRow (record { table = table.old; log = log.old.items }) name.now (Put key (option_copied after.entry)) result (record { table = table.new; log = log.new.items }) }
 {
-    match &change.after {
-        Some(value) => set_row(table, log, &change.table, change.key, value),
-        None => take_row(table, log, &change.table, change.key),
+    match after {
+        Some(value) => set_row(table, log, name, key, value),
+        None => take_row(table, log, name, key),
     }
 }

@@ -1,14 +1,16 @@
 //! Calls of a primary with a place at which the table is looked for first. Where it stands there, no hash is computed.
 ghost use Rattle.std.specs.Prelude.{◌≡◌, true, Some, slice_get};
 ghost use Rattle.std.specs.Map.{keys_of};
+ghost use Rattle.std.specs.Option.{option_copied};
 ghost use Rattle.mt_primary.specs.Primary.{place_at};
 ghost use Rattle.mt_primary.specs.Reads.{read_row};
-ghost use Rattle.mt_primary.specs.Writes.{Writes};
+ghost use Rattle.mt_primary.specs.Writes.{Puts, Writes};
 
-use crate::edits::write_row;
+use crate::edits::{put_row, write_row};
 use crate::primary::Primary;
 use mt_model::{Op, PrimaryFault};
 use mt_names::{Position, TableName, TabletType, Value};
+use mt_shared::SharedValue;
 
 impl Primary {
     /// The place of a table among the primary's tables, if it is there: a hint for `write_placed` and `read_placed`. It
@@ -48,7 +50,7 @@ impl Primary {
         ensures { result ≡ read_row self.now table.now key tablet_type }
     {
         match self.tables.get_index(place) {
-            Some((name, rows)) if name == table => rows.read(key, tablet_type),
+            Some((name, rows)) if name.name() == table => rows.read(key, tablet_type),
             _ => self.read(table, key, tablet_type),
         }
     }
@@ -58,13 +60,13 @@ impl Primary {
         ensures { result ≡ true → slice_get (keys_of self.now.tables) place ≡ Some table.now }
     {
         match self.tables.get_index(place) {
-            Some((name, _)) => name == table,
+            Some((name, _)) => name.name() == table,
             None => false,
         }
     }
 
     /// As `write` of the table that stands at a place.
-    fn write_at(
+    pub(crate) fn write_at(
         &mut self,
         place: usize,
         table: &TableName,
@@ -73,10 +75,25 @@ impl Primary {
         requires there { slice_get (keys_of self.old.tables) place ≡ Some table.now }
         ensures { Writes self.old table.now op result self.new }
     {
-        let rows = &mut self.tables[place];
+        let (name, rows) = self.tables.pair_mut(place);
         if rows.is_denied() {
             return Err(PrimaryFault::Denied);
         }
-        write_row(rows, &mut self.log, table, op)
+        write_row(rows, &mut self.log, name, op)
+    }
+
+    /// As `put` of the table that stands at a place.
+    pub(crate) fn put_at(
+        &mut self,
+        place: usize,
+        table: &TableName,
+        key: u64,
+        after: Option<&SharedValue>,
+    ) -> Result<(), PrimaryFault>
+        requires there { slice_get (keys_of self.old.tables) place ≡ Some table.now }
+        ensures { Puts self.old (record { table = table.now; key = key; after = option_copied after.entry }) result self.new }
+    {
+        let (name, rows) = self.tables.pair_mut(place);
+        put_row(rows, &mut self.log, name, key, after).map(|_| ())
     }
 }

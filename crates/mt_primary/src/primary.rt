@@ -1,6 +1,6 @@
 //! A primary.
 ghost use Rattle.std.specs.Prelude.{◌≡◌, ◌≤◌, true, false, None, length};
-ghost use Rattle.std.specs.Option.{option_copied};
+ghost use Rattle.std.specs.Option.{option_copied, option_map};
 ghost use Rattle.mt_names.specs.Tables.{most_tables};
 ghost use Rattle.mt_primary.specs.Denials.{AreDenialsSet, marks_of, told_by_mark, told_by_marks, told_by_refresh};
 ghost use Rattle.mt_primary.specs.Primary.{empty_primary, has_table, is_denied_at, IsPrimary};
@@ -8,12 +8,12 @@ ghost use Rattle.mt_primary.specs.Reads.{entry_at, next_row, read_row};
 ghost use Rattle.mt_primary.specs.Writes.{Creates, Puts, Writes, put_of, without_table};
 
 use crate::before::{Before, Mark};
-use crate::edits::{put_row, write_row};
 use crate::table::Table;
 use arrayvec::ArrayVec;
 use indexmap::IndexMap;
 use mt_model::{Entry, Op, PrimaryFault, RowChange};
 use mt_names::{KeyspaceName, Position, TableName, TabletType, Value};
+use mt_shared::{SharedName, SharedValue};
 use mt_watch::Notice;
 use std::alloc::Global;
 use std::marker::Model;
@@ -22,7 +22,7 @@ use std::marker::Model;
 /// denied tables that a primary tablet has in its memory, which it reads anew on RefreshState.)
 #[derive(Drop)]
 pub struct Primary {
-    pub(crate) tables: IndexMap<TableName, Table>,
+    pub(crate) tables: IndexMap<SharedName, Table>,
     pub(crate) log: Vec<RowChange>,
 }
 
@@ -81,7 +81,10 @@ impl Primary {
     {
         let alloc = *self.tables.allocator();
         let made = self.log.len() as u64;
-        match self.tables.insert(table.copied(), Table::new(alloc, made)) {
+        let Ok(name) = SharedName::new(alloc, table.copied()) else {
+            return Err(PrimaryFault::Memory);
+        };
+        match self.tables.insert(name, Table::new(alloc, made)) {
             Ok(_) => Ok(()),
             Err(_) => Err(PrimaryFault::Memory),
         }
@@ -103,13 +106,8 @@ impl Primary {
     pub fn write(&mut self, table: &TableName, op: Op) -> Result<Position, PrimaryFault>
         ensures { Writes self.old table.now op result self.new }
     {
-        match self.tables.get_mut(table) {
-            Some(rows) => {
-                if rows.is_denied() {
-                    return Err(PrimaryFault::Denied);
-                }
-                write_row(rows, &mut self.log, table, op)
-            }
+        match self.tables.get_index_of(table) {
+            Some(place) => self.write_at(place, table, op),
             None => Err(PrimaryFault::NoTable),
         }
     }
@@ -123,8 +121,22 @@ impl Primary {
         requires there { has_table self.old change.now.table ≡ true }
         ensures { Puts self.old (put_of change.now) result self.new }
     {
-        match self.tables.get_mut(&change.table) {
-            Some(rows) => put_row(rows, &mut self.log, change).map(|_| ()),
+        self.put(change.table.name(), change.key, change.after.as_ref())
+    }
+
+    /// As `apply_change` of a change of this table and key with this row after it, which is shared from here on.
+    /// (Vitess: the copy phase of a stream, which inserts the rows that it reads)
+    pub fn put(
+        &mut self,
+        table: &TableName,
+        key: u64,
+        after: Option<&SharedValue>,
+    ) -> Result<(), PrimaryFault>
+        requires there { has_table self.old table.now ≡ true }
+        ensures { Puts self.old (record { table = table.now; key = key; after = option_copied after.entry }) result self.new }
+    {
+        match self.tables.get_index_of(table) {
+            Some(place) => self.put_at(place, table, key, after),
             None => unreachable!(),
         }
     }
@@ -159,6 +171,14 @@ impl Primary {
     /// a table in primary key order, behind the last key that was copied)
     pub fn row_after(&self, table: &TableName, key: Option<u64>) -> Option<(u64, Value)>
         ensures { result ≡ next_row self.now table.now key }
+    {
+        let (key, row) = self.lent_row_after(table, key)?;
+        Some((key, row.value()))
+    }
+
+    /// As `row_after`, with the row lent, to be shared. It takes no memory. (Vitess: the copy phase of a stream)
+    pub fn lent_row_after(&self, table: &TableName, key: Option<u64>) -> Option<(u64, &SharedValue)>
+        ensures { option_map (λ row. (row.0, row.1.now)) result ≡ next_row self.now table.now key }
     {
         self.tables.get(table)?.row_after(key)
     }

@@ -1,12 +1,13 @@
 //! A table of a primary.
 ghost use Rattle.std.specs.Prelude.{◌≡◌};
-ghost use Rattle.std.specs.Option.{option_copied};
+ghost use Rattle.std.specs.Option.{option_copied, option_map};
 ghost use Rattle.mt_primary.specs.Primary.{new_table, row_in};
 ghost use Rattle.mt_primary.specs.Reads.{next_row_in, read_row_in};
 ghost use Rattle.mt_primary.specs.Tables.{start_above};
 
 use mt_model::PrimaryFault;
-use mt_names::{Position, TabletType, Value, copied_value};
+use mt_names::{Position, TabletType, Value};
+use mt_shared::SharedValue;
 use std::alloc::Global;
 use std::collections::BTreeMap;
 use std::marker::Model;
@@ -18,7 +19,7 @@ use std::ops::Bound;
 pub struct Table {
     made: Position,
     denied: bool,
-    pub(crate) rows: BTreeMap<u64, Value>,
+    pub(crate) rows: BTreeMap<u64, SharedValue>,
 }
 
 impl Model for Table {
@@ -58,7 +59,7 @@ impl Table {
     }
 
     /// The row of a key.
-    pub fn row(&self, key: u64) -> Option<&Value>
+    pub fn row(&self, key: u64) -> Option<&SharedValue>
         ensures { option_copied result ≡ row_in self.now key }
     {
         self.rows.get(&key)
@@ -71,15 +72,15 @@ impl Table {
         if tablet_type == TabletType::Primary && self.denied {
             return Err(PrimaryFault::Denied);
         }
-        Ok(self.row(key).map(|value| copied_value(value)))
+        Ok(self.row(key).map(|row| row.value()))
     }
 
     /// The first row in the order of the keys, or the first above a key.
-    pub fn row_after(&self, key: Option<u64>) -> Option<(u64, Value)>
-        ensures { result ≡ next_row_in self.now key }
+    pub fn row_after(&self, key: Option<u64>) -> Option<(u64, &SharedValue)>
+        ensures { option_map (λ row. (row.0, row.1.now)) result ≡ next_row_in self.now key }
     {
-        let (key, value) = self.rows.range((above(key), Bound::Unbounded)).next()?;
-        Some((*key, copied_value(value)))
+        let (key, row) = self.rows.range((above(key), Bound::Unbounded)).next()?;
+        Some((*key, row))
     }
 }
 

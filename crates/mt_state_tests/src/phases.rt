@@ -37,7 +37,7 @@ fn goes(primary: &mut Primary, alloc: Global, phase: Phase) -> bool {
         Phase::At(position) => primary.position() == position,
         Phase::Noticed(keyspace, said) => is_taken(primary, alloc, keyspace, said),
         Phase::Meanwhile(said, calls) => is_given_back(primary, alloc, said, calls),
-        Phase::Put(rows) => all_put(primary, rows),
+        Phase::Put(rows) => all_put(primary, alloc, rows),
         Phase::Log(entries) => has_log(primary, entries),
         Phase::Follow(wants) => all_next(primary, wants),
         Phase::Dropped(name) => drop_table(primary, name).is_ok(),

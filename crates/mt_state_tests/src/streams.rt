@@ -5,6 +5,8 @@ use crate::primary::{Answer, Call, LONGEST, value};
 use crate::refreshes::{BOTH, DENIED, ROW};
 use mt_names::{NameFault, TableName, TabletType};
 use mt_primary::{Primary, PrimaryFault, RowChange};
+use mt_shared::{SharedName, SharedValue};
+use std::alloc::{AllocError, Global};
 
 /// A row of a table and a key, or none.
 pub type Row<'a> = (&'a str, u64, Option<&'a [u8]>);
@@ -15,41 +17,72 @@ pub type Entry<'a> = (Row<'a>, Option<&'a [u8]>);
 /// A table, a key or none, and the row that follows.
 pub type Next<'a> = (&'a str, Option<u64>, Option<(u64, &'a [u8])>);
 
+/// A value to be shared, or none.
+fn shared(alloc: Global, bytes: Option<&[u8]>) -> Result<Option<SharedValue>, AllocError> {
+    Ok(match bytes {
+        Some(bytes) => Some(SharedValue::new(alloc, value(bytes))?),
+        None => None,
+    })
+}
+
 /// The change of a row, with this row before it.
-fn change_of(row: Row<'_>, before: Option<&[u8]>) -> Result<RowChange, NameFault> {
-    let (table, key, after) = row;
+fn change_of(
+    alloc: Global,
+    table: &TableName,
+    key: u64,
+    before: Option<&[u8]>,
+    after: Option<&[u8]>,
+) -> Result<RowChange, AllocError> {
     Ok(RowChange {
-        table: TableName::parse(table)?,
+        table: SharedName::new(alloc, table.copied())?,
         key,
-        before: before.map(|bytes| value(bytes)),
-        after: after.map(|bytes| value(bytes)),
+        before: shared(alloc, before)?,
+        after: shared(alloc, after)?,
     })
 }
 
 /// Whether a row is put, at the next position. The row before that the change tells of counts for nothing.
-fn is_put(primary: &mut Primary, row: Row<'_>) -> Result<bool, NameFault> {
-    let change = change_of(row, Some(&LONGEST))?;
+fn is_put(primary: &mut Primary, alloc: Global, row: Row<'_>) -> Result<bool, NameFault> {
+    let (table, key, after) = row;
+    let table = TableName::parse(table)?;
+    let Ok(change) = change_of(alloc, &table, key, Some(&LONGEST), after) else {
+        return Ok(false);
+    };
     let position = primary.position();
-    if !primary.has_table(&change.table) || primary.apply_change(&change).is_err() {
+    if !primary.has_table(change.table.name()) || primary.apply_change(&change).is_err() {
         return Ok(false);
     }
     Ok(primary.position() > position && primary.position() - position == 1)
 }
 
 /// Whether rows are put, one after the other.
-pub fn all_put(primary: &mut Primary, rows: &[Row<'_>]) -> bool {
+pub fn all_put(primary: &mut Primary, alloc: Global, rows: &[Row<'_>]) -> bool {
     for row in rows {
-        if !is_put(primary, *row).unwrap_or(false) {
+        if !is_put(primary, alloc, *row).unwrap_or(false) {
             return false;
         }
     }
     true
 }
 
+/// Whether a row is of these bytes, or there is none.
+fn is_row(row: &Option<SharedValue>, want: Option<&[u8]>) -> bool {
+    row.as_ref().map(|row| row.as_slice()) == want
+}
+
 /// Whether the log has this entry at a position.
 fn has_entry(primary: &Primary, position: u64, entry: Entry<'_>) -> Result<bool, NameFault> {
-    let change = change_of(entry.0, entry.1)?;
-    Ok(primary.entry(position) == Some(&change))
+    let ((table, key, after), before) = entry;
+    let table = TableName::parse(table)?;
+    Ok(match primary.entry(position) {
+        Some(change) => {
+            change.table.name() == &table
+                && change.key == key
+                && is_row(&change.before, before)
+                && is_row(&change.after, after)
+        }
+        None => false,
+    })
 }
 
 /// Whether the log has these entries, and no others.
@@ -117,31 +150,41 @@ fn a_stream_writes_behind_a_client(rt: HostRuntime) {
     assert_eq!(rt; first_wrong(rt.alloc(), &BEHIND_A_CLIENT), None);
 }
 
+/// The shortest value that takes memory of its own.
+const LONGER: [u8; 23] = [b'y'; 23];
+
 /// Rows set, overwritten and taken away, one of them where none stands.
-const PUTS: [Row<'static>; 5] = [
+const PUTS: [Row<'static>; 8] = [
     ("t", 5, Some(b"a")),
     ("t", 5, Some(b"b")),
     ("t", 5, None),
     ("t", 5, None),
     ("u", 5, Some(&LONGEST)),
+    ("u", 6, Some(&LONGER)),
+    ("u", 6, Some(&LONGEST)),
+    ("u", 6, None),
 ];
 
 /// The log of these, each with the row that stood here before it.
-const LOG: [Entry<'static>; 5] = [
+const LOG: [Entry<'static>; 8] = [
     (("t", 5, Some(b"a")), None),
     (("t", 5, Some(b"b")), Some(b"a")),
     (("t", 5, None), Some(b"b")),
     (("t", 5, None), None),
     (("u", 5, Some(&LONGEST)), None),
+    (("u", 6, Some(&LONGER)), None),
+    (("u", 6, Some(&LONGEST)), Some(&LONGER)),
+    (("u", 6, None), Some(&LONGEST)),
 ];
 
 /// The rows that are left.
-const LEFT: [(Call<'static>, Answer<'static>); 2] = [
+const LEFT: [(Call<'static>, Answer<'static>); 3] = [
     (Call::Read("t", 5, TabletType::Primary), Answer::NoRow),
     (
         Call::Read("u", 5, TabletType::Primary),
         Answer::Row(&LONGEST),
     ),
+    (Call::Read("u", 6, TabletType::Primary), Answer::NoRow),
 ];
 
 /// The rows are put at two tables whose log is empty.

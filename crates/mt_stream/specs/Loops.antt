@@ -65,12 +65,19 @@ first_behind tables NotBegun = (0, None)
 first_behind tables (UpTo place key) = (place, Some key)
 first_behind tables Ended = (length tables, None)
 
+-- the table of a row that is left
+abbrev pub table_left : List (List ℕ) → LeftRow → List ℕ
+table_left tables row = slice_index_or tables row.place []
+
+-- what is put of a row that is left
+abbrev pub put_left : List (List ℕ) → LeftRow → RowPut
+put_left tables row = record { table = table_left tables row; key = row.key; after = Some row.value.now }
+
 -- the first of the rows left, with the place of its table, behind which the other rows left come
 abbrev pub IsFirstLeft : PrimaryState → List (List ℕ) → Copied → Option LeftRow → Type 0
 IsFirstLeft source tables copied None = rows_left source tables copied ≡ []
 IsFirstLeft source tables copied (Some row) =
-    (row.place < length tables) × (slice_index_or tables row.place [] ≡ row.change.table)
-    × (rows_left source tables copied ≡ put_of row.change ∷ rows_left source tables (up_to row.change.table row.change.key))
+    (row.place < length tables) × (rows_left source tables copied ≡ put_left tables row ∷ rows_left source tables (up_to (table_left tables row) row.key))
 
 -- so many rows are copied, and the range reaches as far
 pub record AreCopied (tables : List (List ℕ)) (copied : Copied) (source sink : PrimaryState) (at_most rows : ℕ) (new_copied : Copied) (new_sink : PrimaryState) : Type 0 where

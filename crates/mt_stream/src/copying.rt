@@ -9,13 +9,18 @@ use crate::fault::StreamFault;
 use crate::following::put_row;
 use crate::stream::CopiedRange;
 use mt_names::TableName;
-use mt_primary::{Primary, RowChange};
+use mt_primary::Primary;
+use mt_shared::SharedValue;
 
-/// A row that is left to copy: the place of its table among those named, and the change that puts it.
-#[derive(Drop)]
-pub struct LeftRow {
+/// A row that is left to copy, which the source lends.
+#[derive(Clone, Copy)]
+pub struct LeftRow<'a> {
+    /// The place of its table among those named.
     pub place: usize,
-    pub change: RowChange,
+    /// Its key.
+    pub key: u64,
+    /// Its value.
+    pub value: &'a SharedValue,
 }
 
 /// Where the rows left begin: the place of a table, and the key that was copied last in it.
@@ -30,7 +35,11 @@ fn first_behind(tables: &[TableName], range: CopiedRange) -> (usize, Option<u64>
 }
 
 /// The first row that is left to copy, if there is one.
-fn first_left(tables: &[TableName], range: CopiedRange, source: &Primary) -> Option<LeftRow>
+fn first_left<'a>(
+    tables: &[TableName],
+    range: CopiedRange,
+    source: &'a Primary,
+) -> Option<LeftRow<'a>>
     requires distinct { AllPairs ◌≢◌ tables.now }
     requires placed { IsPlaced tables.now range }
     ensures { IsFirstLeft source.now tables.now (copied_from tables.now range) result }
@@ -38,15 +47,8 @@ fn first_left(tables: &[TableName], range: CopiedRange, source: &Primary) -> Opt
     source.what_holds();
     let (start, mut behind) = first_behind(tables, range);
     for place in start..tables.len() {
-        if let Some((key, value)) = source.row_after(&tables[place], behind) {
-            let table = tables[place].copied();
-            let change = RowChange {
-                table,
-                key,
-                before: None,
-                after: Some(value),
-            };
-            return Some(LeftRow { place, change });
+        if let Some((key, value)) = source.lent_row_after(&tables[place], behind) {
+            return Some(LeftRow { place, key, value });
         }
         behind = None;
     }
@@ -73,8 +75,8 @@ pub fn copy_rows(
             *range = CopiedRange::Ended;
             return Ok(copied);
         };
-        match put_row(sink, &row.change) {
-            Ok(()) => *range = CopiedRange::UpTo(row.place, row.change.key),
+        match put_row(sink, &tables[row.place], row.key, Some(row.value)) {
+            Ok(()) => *range = CopiedRange::UpTo(row.place, row.key),
             Err(_) if copied > 0 => return Ok(copied),
             Err(fault) => return Err(fault),
         }

@@ -1,11 +1,11 @@
 //! Reading the source's log: the entries past a position are written at the sink, or passed over.
 ghost use Rattle.std.specs.Prelude.{◌≡◌, ◌≢◌, ℕ, ◌≤◌, true, List, AllPairs, length};
 ghost use Rattle.std.specs.List.{list_any};
+ghost use Rattle.std.specs.Option.{option_copied};
 ghost use Rattle.mt_plain.specs.Plain.{among};
 ghost use Rattle.mt_plain.specs.Writes.{place_of};
 ghost use Rattle.mt_primary.specs.Primary.{has_table};
 ghost use Rattle.mt_primary.specs.Reads.{entries_from};
-ghost use Rattle.mt_primary.specs.Writes.{put_of};
 ghost use Rattle.mt_stream.specs.Advance.{is_written};
 ghost use Rattle.mt_stream.specs.Loops.{FollowsEntry, PutsRow, ReadsEntries};
 ghost use Rattle.mt_stream.specs.Streams.{IsPlaced, copied_from};
@@ -14,6 +14,7 @@ use crate::fault::StreamFault;
 use crate::stream::CopiedRange;
 use mt_names::{Position, TableName};
 use mt_primary::{Primary, PrimaryFault, RowChange};
+use mt_shared::SharedValue;
 
 /// Whether an entry from a position on is about one of these tables.
 pub fn names_any(tables: &[TableName], position: Position, source: &Primary) -> bool
@@ -21,7 +22,7 @@ pub fn names_any(tables: &[TableName], position: Position, source: &Primary) -> 
 {
     for at in position..source.position() {
         if let Some(change) = source.entry(at) {
-            if tables.contains(&change.table) {
+            if tables.contains(change.table.name()) {
                 return true;
             }
         }
@@ -47,7 +48,7 @@ fn is_written(tables: &[TableName], range: CopiedRange, change: &RowChange) -> b
     requires placed { IsPlaced tables.now range }
     ensures { result ≡ is_written tables.now (copied_from tables.now range) change.now }
 {
-    let place = place_of(tables, &change.table);
+    let place = place_of(tables, change.table.name());
     match range {
         CopiedRange::NotBegun => false,
         CopiedRange::UpTo(last, key) => place < last || place == last && change.key <= key,
@@ -55,12 +56,17 @@ fn is_written(tables: &[TableName], range: CopiedRange, change: &RowChange) -> b
     }
 }
 
-/// Puts a change's row at the sink: `S4 LogFull`, then `S0 Memory`, and then nothing changed.
-pub fn put_row(sink: &mut Primary, change: &RowChange) -> Result<(), StreamFault>
-    requires there { has_table sink.old change.now.table ≡ true }
-    ensures { PutsRow sink.old (put_of change.now) result sink.new }
+/// Puts a row at the sink, or takes it away if there is none: `S4 LogFull`, then `S0 Memory`, and then nothing changed.
+pub fn put_row(
+    sink: &mut Primary,
+    table: &TableName,
+    key: u64,
+    after: Option<&SharedValue>,
+) -> Result<(), StreamFault>
+    requires there { has_table sink.old table.now ≡ true }
+    ensures { PutsRow sink.old (record { table = table.now; key = key; after = option_copied after.entry }) result sink.new }
 {
-    match sink.apply_change(change) {
+    match sink.put(table, key, after) {
         Ok(()) => Ok(()),
         Err(PrimaryFault::LogFull) => Err(StreamFault::LogFull),
         Err(_) => Err(StreamFault::Memory),
@@ -82,7 +88,7 @@ fn follow_entry(
     if !is_written(tables, range, change) {
         return Ok(false);
     }
-    put_row(sink, change)?;
+    put_row(sink, change.table.name(), change.key, change.after.as_ref())?;
     Ok(true)
 }
 

@@ -4,6 +4,12 @@ use crate::pair::{Pair, Step, primary_with};
 use std::alloc::Global;
 use std::test::Fail;
 
+/// The shortest value that takes memory of its own, which the sink shares with the source.
+const LONG: &[u8] = &[b'w'; 23];
+
+/// The longest value.
+const LONGEST: &[u8] = &[b'y'; 64];
+
 /// A stream of two tables, which reads their rows and then the log from position 24 on.
 fn pair_of(alloc: Global) -> Result<Pair, Fail> {
     let tables = ["a", "b"];
@@ -25,7 +31,10 @@ fn all_go_on(pair: &mut Pair, times: u8, max: u16) -> bool {
 /// Whether rows of two tables are inserted, 12 each.
 fn are_inserted(pair: &mut Pair) -> bool {
     for key in 0..12u64 {
-        if !pair.all_so(&[Step::Insert("a", key, b"x"), Step::Insert("b", key, b"y")]) {
+        if !pair.all_so(&[
+            Step::Insert("a", key, b"x"),
+            Step::Insert("b", key, LONGEST),
+        ]) {
             return false;
         }
     }
@@ -38,7 +47,7 @@ fn are_changed(pair: &mut Pair) -> bool {
         let steps = [
             Step::Update("a", key, b"z"),
             Step::Delete("b", key),
-            Step::Insert("b", key + 12, b"w"),
+            Step::Insert("b", key + 12, LONG),
         ];
         if !pair.all_so(&steps) {
             return false;
@@ -53,7 +62,7 @@ fn has_all(pair: &mut Pair) -> bool {
         let steps = [
             Step::Row("a", key, Some(b"z")),
             Step::Row("b", key, None),
-            Step::Row("b", key + 12, Some(b"w")),
+            Step::Row("b", key + 12, Some(LONG)),
         ];
         if !pair.all_so(&steps) {
             return false;

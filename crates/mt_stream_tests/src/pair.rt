@@ -161,7 +161,7 @@ impl Pair {
     fn has_logged(&self, position: Position, table: &str, key: u64) -> Result<bool, NameFault> {
         let table = TableName::parse(table)?;
         Ok(match self.sink.entry(position) {
-            Some(change) => change.table == table && change.key == key,
+            Some(change) => change.table.name() == &table && change.key == key,
             None => false,
         })
     }

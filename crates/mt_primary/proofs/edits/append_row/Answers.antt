@@ -2,7 +2,7 @@
 use Rattle.std.proofs.Common.{None, Some, refl, rules}
 use Rattle.mt_model.specs.declared.faults.PrimaryFault.TheVariants.{NoRow, TooLong}
 use Rattle.mt_primary.proofs.ChangeLemmas.{entered, refused_room, refused_row, row_same}
-use Rattle.mt_primary.proofs.edits.append_row.Goals.{in-Some+in_ok-extend-in-Some+in_ok-make_room-in-Some, in-None}
+use Rattle.mt_primary.proofs.edits.append_row.Goals.{in-Some+in_ok-extend-in-Some+in_ok-made-in-Some, in-None}
 use Rattle.mt_primary.proofs.edits.append_row.Goals as goal
 
 pub returns-in_err-extend-in-Some : goal.returns-in_err-extend-in-Some
@@ -10,14 +10,14 @@ returns-in_err-extend-in-Some c =
     let same = row_same _ c.args.key c.in-Some.row.now _ (search rules) (c.get_mut.follows.holds c.in-Some.row.now).0 in
     rw (← c.table.view_is) (refused_row _ _ _ _ _ _ (Some c.in-Some.row.now) _ (search rules) TooLong (search rules) (λ e. absurd cc) (search rules) same (search rules))
 
-pub returns-in_err-make_room-in-Some : goal.returns-in_err-make_room-in-Some
-returns-in_err-make_room-in-Some c =
+pub returns-in_err-made-in-Some : goal.returns-in_err-made-in-Some
+returns-in_err-made-in-Some c =
     let same = row_same _ c.args.key c.in-Some.row.now _ (search rules) (c.get_mut.follows.holds c.in-Some.row.now).0 in
-    rw (← c.table.view_is) (refused_room _ _ _ _ _ _ (Some c.in-Some.row.now) _ (search rules) (Some c.extend.new.value) (search rules) _ c.make_room.ensures.told _ c.in_err-make_room-in-Some.was (search rules) same (search rules))
+    rw (← c.table.view_is) (refused_room _ _ _ _ _ _ (Some c.in-Some.row.now) _ (search rules) (Some c.extend.new.value) (search rules) _ c.make.ensures.told _ c.in_err-made-in-Some.was (search rules) same (search rules))
 
 pub returns : goal.returns
 returns c =
     elim c.match-get_mut.branch [
-      | in-Some+in_ok-extend-in-Some+in_ok-make_room-in-Some w ↦ entered _ _ _ _ _ _ (Some w.in-Some.row.now) _ (search rules) (Some w.extend.new.value) (search rules) _ w.make_room.ensures.told _ w.in_ok-make_room-in-Some.was (search rules) (search rules) (search rules) (search rules) (search rules) w.len.result (search rules) (search rules)
+      | in-Some+in_ok-extend-in-Some+in_ok-made-in-Some w ↦ entered _ _ _ _ _ _ (Some w.in-Some.row.now) _ (search rules) (Some w.extend.new.value) (search rules) _ w.make.ensures.told _ w.in_ok-made-in-Some.was (search rules) (search rules) (search rules) (search rules) (search rules) w.len.result (search rules) (search rules)
       | in-None w ↦ refused_row _ _ _ _ _ _ None _ (search rules) NoRow refl (λ e. absurd cc) (search rules) (search rules) (search rules)
     ]

@@ -4,13 +4,13 @@ use Rattle.mt_primary.proofs.ChangeLemmas.{entered, refused_memory, refused_room
 use Rattle.mt_primary.proofs.edits.set_row.Goals.{in-Ok, in-Err}
 use Rattle.mt_primary.proofs.edits.set_row.Goals as goal
 
-pub returns-in_err-make_room : goal.returns-in_err-make_room
-returns-in_err-make_room c =
-    refused_room _ _ _ _ _ _ _ _ refl (Some c.args.value.now) refl _ c.make_room.ensures.told _ c.in_err-make_room.was (search rules) refl (search rules)
+pub returns-in_err-name : goal.returns-in_err-name
+returns-in_err-name c =
+    refused_room _ _ _ _ _ _ _ _ refl (Some c.args.value.now) refl _ c.share.ensures.told _ c.in_err-name.was (search rules) refl (search rules)
 
 pub returns : goal.returns
 returns c =
     elim c.match-insert.branch [
-      | in-Ok w ↦ entered _ _ _ _ _ _ w.in-Ok.before _ (search rules) (Some c.args.value.now) refl _ c.make_room.ensures.told _ c.in_ok-make_room.was (search rules) (search rules) (search rules) (search rules) (search rules) w.len.result (search rules) (search rules)
-      | in-Err w ↦ refused_memory _ _ _ _ _ _ None _ (search rules) (Some c.args.value.now) refl _ c.make_room.ensures.told _ c.in_ok-make_room.was (search rules) (search rules) (search rules)
+      | in-Ok w ↦ entered _ _ _ _ _ _ w.in-Ok.before _ (search rules) (Some c.args.value.now) refl _ c.share.ensures.told _ c.in_ok-name.was (search rules) (search rules) (search rules) (search rules) (search rules) w.len.result (search rules) (search rules)
+      | in-Err w ↦ refused_memory _ _ _ _ _ _ None _ (search rules) (Some c.args.value.now) refl _ c.share.ensures.told _ c.in_ok-name.was (search rules) (search rules) (search rules)
     ]

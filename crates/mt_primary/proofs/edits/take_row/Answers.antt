@@ -5,4 +5,4 @@ use Rattle.mt_primary.proofs.edits.take_row.Goals as goal
 
 pub returns : goal.returns
 returns c =
-    entered _ _ _ _ _ _ c.remove-before.result _ (search rules) None refl _ c.make_room.ensures.told _ c.in_ok-make_room.was (search rules) (search rules) (search rules) (search rules) (search rules) c.len.result refl (search rules)
+    entered _ _ _ _ _ _ c.remove-before.result _ (search rules) None refl _ c.make_name.ensures.told _ c.in_ok-name.was (search rules) (search rules) (search rules) (search rules) (search rules) c.len.result refl (search rules)

@@ -1,9 +1,7 @@
 -- The tables are gone over in their order.
-use Rattle.std.proofs.Common.{◌≡◌, Some, None, [], ◌∷◌, drop, get_or, sym, ap, subst, ◌∙◌}
+use Rattle.std.proofs.Common.{◌≡◌, Some, None, [], drop, get_or, sym, ap, ◌∙◌}
 use Rattle.std.proofs.lemmas.List.{get_or_read}
-use Rattle.mt_plain.specs.Plain.{up_to}
 use Rattle.mt_primary.specs.Reads.{next_row}
-use Rattle.mt_stream.specs.Advance.{row_copied, rows_left}
 use Rattle.mt_stream.specs.Streams.{copied_from}
 use Rattle.mt_stream.proofs.LeftLemmas.{begin-placed, left-found, left-from, left-passed, rows_from}
 use Rattle.mt_stream.proofs.PlaceLemmas.{distinct_from}
@@ -22,10 +20,8 @@ returns-in-Some c =
     let below = c.loop-place-test.true in
     let copied = copied_from c.args.tables.now c.args.range in
     let read = get_or_read tables place c.index-tables-place.result below c.index-tables-place.is [] in
-    let is : c.copied-table.result ≡ get_or tables place [] = c.copied-table.ensures ∙ get_or_read tables place c.index-tables-place-in-Some.result below c.index-tables-place-in-Some.is [] in
-    let next : next_row c.args.source.now (get_or tables place []) c.loop-place.behind ≡ Some (c.in-Some.key, c.in-Some.value) = ap (λ t. next_row c.args.source.now t c.loop-place.behind) (sym read) ∙ sym c.in-Some.ensures in
-    let found = left-found c.args.source.now tables copied place c.loop-place.behind below c.loop-place.invariant (c.in-Some.key, c.in-Some.value) c.what_holds.ensures (distinct_from tables c.requires.distinct) next in
-    (below, sym is, subst (λ t. rows_left c.args.source.now tables copied ≡ row_copied t (c.in-Some.key, c.in-Some.value) ∷ rows_left c.args.source.now tables (up_to t c.in-Some.key)) (sym is) found)
+    let next : next_row c.args.source.now (get_or tables place []) c.loop-place.behind ≡ Some (c.in-Some.key, c.in-Some.value.now) = ap (λ t. next_row c.args.source.now t c.loop-place.behind) (sym read) ∙ sym c.in-Some.ensures in
+    (below, left-found c.args.source.now tables copied place c.loop-place.behind below c.loop-place.invariant (c.in-Some.key, c.in-Some.value.now) c.what_holds.ensures (distinct_from tables c.requires.distinct) next)
 
 pub loop-place-preserved : goal.loop-place-preserved
 loop-place-preserved c =

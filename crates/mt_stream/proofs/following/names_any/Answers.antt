@@ -1,5 +1,6 @@
 -- The entries from the position on that are left.
-use Rattle.std.proofs.Common.{refl, sym, ◌∙◌}
+use Rattle.std.proofs.Common.{refl, sym, ap, ◌∙◌}
+use Rattle.mt_plain.specs.Plain.{among}
 use Rattle.mt_stream.proofs.ListLemmas.{drop_end, drop_from, drop_end_next}
 use Rattle.mt_stream.proofs.following.names_any.Goals.{in-Some+else-contains, in_default}
 use Rattle.mt_stream.proofs.following.names_any.Goals as goal
@@ -7,7 +8,7 @@ use Rattle.mt_stream.proofs.following.names_any.Goals as goal
 pub returns-then-contains : goal.returns-then-contains
 returns-then-contains c =
     let at = drop_from c.args.source.now.log c.loop-at.at c.in-Some.change.now (sym c.in-Some.ensures) in
-    let named = sym c.contains.ensures.value ∙ c.if-contains.true in
+    let named = ap (among c.args.tables.now) (sym c.name.ensures) ∙ sym c.contains.ensures.value ∙ c.if-contains.true in
     sym (c.loop-at.invariant ∙ rw at (rw named refl))
 
 pub loop-at-preserved : goal.loop-at-preserved
@@ -15,7 +16,7 @@ loop-at-preserved c =
     elim c.match-entry.branch [
       | in-Some+else-contains w ↦
           let at = drop_from c.args.source.now.log c.loop-at.at w.in-Some.change.now (sym w.in-Some.ensures) in
-          let named = sym w.contains.ensures.value ∙ w.if-contains.false in
+          let named = ap (among c.args.tables.now) (sym w.name.ensures) ∙ sym w.contains.ensures.value ∙ w.if-contains.false in
           c.loop-at.invariant ∙ rw at (rw named refl)
       | in_default w ↦
           let at = sym w.in_default.ensures in

@@ -13,18 +13,18 @@ before c = record { tables = c.self.inside.tables.entries; log = c.self.inside.l
 absent : (c : goal.Joined-insert-2) → table_at (before c) c.args.table.now ≡ None
 absent c = none_from (table_at (before c) c.args.table.now) (rw (← c.self.view_is) at c.requires.absent)
 
-made : (c : goal.Joined-insert-2) → c.new.result ≡ new_table (length (before c).log)
+made : (c : goal.Joined-insert-2) → c.new-2.result ≡ new_table (length (before c).log)
 made c =
     let position : c.len-made.result ≡ length (before c).log = search rules in
-    c.new.ensures ∙ ap new_table position
+    c.new-2.ensures ∙ ap new_table position
 
 added : (c : goal.Joined-insert-2) → c.insert.new.self.entries ≡ (before c).tables ++ (c.args.table.now, new_table (length (before c).log)) ∷ []
 added c =
-    c.in-Ok.ensures.entries
-    ∙ rw (c.copied.ensures, made c) (insert_entry-new same_text c.self.inside.tables c.args.table.now (new_table (length (before c).log)) (absent c))
+    c.in-Ok-insert.ensures.entries
+    ∙ rw (c.in-Ok.ensures, c.copied.ensures, made c) (insert_entry-new same_text c.self.inside.tables c.args.table.now (new_table (length (before c).log)) (absent c))
 
 pub invariant_of-self : goal.invariant_of-self
 invariant_of-self c = rw (added c) (IsPrimary-new_table (before c) c.args.table.now (absent c) c.self.invariant)
 
-pub returns-in-Ok : goal.returns-in-Ok
-returns-in-Ok c = rw (← c.self.view_is) (rw (added c) refl)
+pub returns-in-Ok-insert : goal.returns-in-Ok-insert
+returns-in-Ok-insert c = rw (← c.self.view_is) (rw (added c) refl)
