@@ -1,4 +1,5 @@
 pub mod Faults
+pub mod Hashes
 pub mod Keys
 pub mod Names
 pub mod Results

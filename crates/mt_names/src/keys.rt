@@ -5,13 +5,14 @@ ghost use Rattle.std.specs.Option.{ForSome};
 use crate::{KeyspaceName, NameFault, TableName, TabletType};
 use arrayvec::ArrayString;
 use std::fmt;
+use std::hash::{Hash, Hasher};
 
 /// The longest key in bytes: two names of 64, the dot, the `@` and a type of 7.
 const MAX_KEY_LENGTH: usize = 137;
 
 /// What a routing rule applies to, its from-table: a table by its name alone or in a keyspace, for all tablet
 /// types or for one.
-#[derive(Debug, Drop, Eq, Hash, Ord, PartialEq, PartialOrd)]
+#[derive(Debug, Drop, Eq, Ord, PartialEq, PartialOrd)]
 pub struct RuleKey {
     /// The keyspace, where the name is qualified.
     pub keyspace: Option<KeyspaceName>,
@@ -32,6 +33,9 @@ pub struct RuleTarget {
 
 ghost use Rattle.mt_names.specs.Keys.{IsRuleKey, IsRuleTarget, IsKeyText, IsTargetText, key_text, target_text, read_key, read_target, read_key_type, read_plain_key, read_target_parts, before, after, fault_behind};
 ghost use Rattle.mt_names.specs.Names.{read_table};
+ghost use Rattle.mt_names.specs.Hashes.{key_input, type_number};
+ghost use Rattle.std.specs.Cmp.Rules.{hashing};
+ghost use Rattle.std.proofs.Common.{rules};
 
 /// The text before the first mark, and what stands after it, where there is one.
 pub fn cut(text: &str, mark: char) -> (&str, Option<&str>)
@@ -143,6 +147,33 @@ impl RuleKey {
             table: self.table.copied(),
             tablet_type: self.tablet_type,
         }
+    }
+}
+
+/// A key feeds a hasher one number for its type, and its names without the marks that a text's own hash sets behind them.
+impl Hash for RuleKey {
+    ghost hash_input = { key_input };
+
+    ghost respects_eq = { Prim.search (hashing, rules) };
+
+    fn hash<H: Hasher>(&self, state: &mut H) {
+        state.write_u8(type_number(self.tablet_type));
+        state.write(self.table.as_str().as_bytes());
+        if let Some(keyspace) = &self.keyspace {
+            state.write(keyspace.as_str().as_bytes());
+        }
+    }
+}
+
+/// The number of the type that a key is for: 0 where it is for all.
+fn type_number(tablet_type: Option<TabletType>) -> u8
+    ensures { result ≡ type_number tablet_type }
+{
+    match tablet_type {
+        None => 0,
+        Some(TabletType::Primary) => 1,
+        Some(TabletType::Replica) => 2,
+        Some(TabletType::Rdonly) => 3,
     }
 }
 
