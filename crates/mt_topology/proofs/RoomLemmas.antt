@@ -248,6 +248,14 @@ places_refusal-append t (key ∷ keys) more free = by (places_refusal-append (wi
     by again None none = let h = again (rw none at free) in (rw none h.0, h.1)
     by again (Some fault) some = absurd (let h = rw some at free in cc)
 
+-- the first of some keys isn't refused a place, and those after it aren't once it has that
+pub first_free : (t : TopologyState) (key : EntryKey) (keys : List EntryKey) → places_refusal t (key ∷ keys) ≡ None → (place_refusal t key ≡ None) × ((now : TopologyState) → now ≡ with_place t key → places_refusal now keys ≡ None)
+first_free t key keys free = by (place_refusal t key) refl
+  where
+    by : (r : Option TopologyFault) → place_refusal t key ≡ r → (place_refusal t key ≡ None) × ((now : TopologyState) → now ≡ with_place t key → places_refusal now keys ≡ None)
+    by None none = (none, λ now is. ap (λ u. places_refusal u keys) is ∙ (rw none at free))
+    by (Some fault) some = absurd (let h = rw some at free in cc)
+
 -- ---- a keyspace that isn't refused is there
 
 pub is_there : (refusal : KeyspaceState → Option TopologyFault) (keyspaces : Keyspaces) (name : List ℕ) → refusal_at refusal keyspaces name ≡ None → is_some (keyspace_at keyspaces name) ≡ true

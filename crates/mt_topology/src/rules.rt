@@ -1,11 +1,13 @@
 //! What is looked up and edited at the rules.
-ghost use Rattle.std.specs.Prelude.{◌≡◌, true, Some, None, option_copied};
-ghost use Rattle.mt_model.specs.Topology.{rule_for, with_rule, with_rule_place};
+ghost use Rattle.std.specs.Prelude.{◌≡◌, true, Some, None, fold, option_copied, reverse};
+ghost use Rattle.std.specs.List.{list_any};
+ghost use Rattle.mt_model.specs.Part.{keys_of_name};
+ghost use Rattle.mt_model.specs.Topology.{rule_for, with_rule, with_rule_place, without_rule_place};
 ghost use Rattle.mt_keyspace.specs.Edits.{Edits};
 ghost use Rattle.mt_topology.specs.Edits.{edit_rule_grows, edit_rule_refusal, lacks_rule_place, rule_place_refusal};
 
 use mt_model::TopologyFault;
-use mt_names::{RuleKey, RuleTarget, TabletType};
+use mt_names::{KeyspaceName, RuleKey, RuleTarget, TableName, TabletType};
 use mt_rules::{RoutingRules, RulesFault};
 
 /// The rule that applies to a name: that for the type, else that for all types.
@@ -82,4 +84,50 @@ pub fn add_rule(rules: &mut RoutingRules, key: &RuleKey) -> Result<(), TopologyF
         Ok(()) => Ok(()),
         Err(_) => Err(TopologyFault::Memory),
     }
+}
+
+/// The key of a name for all types.
+pub fn key_of_name(keyspace: Option<&KeyspaceName>, table: &TableName) -> RuleKey
+    ensures { result ≡ record { keyspace = option_copied keyspace.entry; table = table.now; tablet_type = None } }
+{
+    RuleKey {
+        keyspace: keyspace.map(KeyspaceName::copied),
+        table: table.copied(),
+        tablet_type: None,
+    }
+}
+
+/// Whether one of a name's four keys lacks a place. One key is made, whose type then changes.
+pub fn lacks_name(rules: &RoutingRules, keyspace: Option<&KeyspaceName>, table: &TableName) -> bool
+    ensures { result ≡ list_any (lacks_rule_place rules.now) (keys_of_name (option_copied keyspace.entry) table.now) }
+{
+    let mut key = key_of_name(keyspace, table);
+    if !rules.has_place(&key) {
+        return true;
+    }
+    key.tablet_type = Some(TabletType::Primary);
+    if !rules.has_place(&key) {
+        return true;
+    }
+    key.tablet_type = Some(TabletType::Replica);
+    if !rules.has_place(&key) {
+        return true;
+    }
+    key.tablet_type = Some(TabletType::Rdonly);
+    !rules.has_place(&key)
+}
+
+/// Drops the places of a name's four keys that hold no rule, the last first. One key is made, whose type then changes.
+pub fn release_name(rules: &mut RoutingRules, keyspace: Option<&KeyspaceName>, table: &TableName)
+    ensures { rules.new ≡ fold without_rule_place rules.old (reverse (keys_of_name (option_copied keyspace.entry) table.now)) }
+{
+    let mut key = key_of_name(keyspace, table);
+    key.tablet_type = Some(TabletType::Rdonly);
+    rules.release_key(&key);
+    key.tablet_type = Some(TabletType::Replica);
+    rules.release_key(&key);
+    key.tablet_type = Some(TabletType::Primary);
+    rules.release_key(&key);
+    key.tablet_type = None;
+    rules.release_key(&key);
 }

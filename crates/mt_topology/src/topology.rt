@@ -1,29 +1,26 @@
 //! The topology as one value.
-ghost use Rattle.std.specs.Prelude.{◌≡◌, ◌<◌, ◌≤◌, true, false, All, None, Some, IfOk, IfErr, OnOk, length, reverse, slice_get, string_bytes};
+ghost use Rattle.std.specs.Prelude.{◌≡◌, ◌<◌, ◌≤◌, true, All, Some, IfOk, IfErr, length, slice_get, string_bytes};
 ghost use Rattle.mt_model.specs.Limits.{most_keyspaces};
 ghost use Rattle.mt_model.specs.Topology.{HasDistinctPlaces, empty_topology, has_place, is_denied, is_present, key_of, resolution, routes_of, rule_at, value_of, with_entry, with_keyspace, with_keyspace_state, with_rule, with_table, without_table_place};
-ghost use Rattle.mt_model.specs.Part.{befores, part_keys, with_entries, with_place, with_places, without_place, without_places};
-ghost use Rattle.mt_topology.specs.Part.{lacks_a_place, place_grows, place_refusal, places_refusal, reserve_refusal};
+ghost use Rattle.mt_model.specs.Part.{befores, with_entries};
 ghost use Rattle.mt_keyspace.specs.Load.{IsUnlessMemory};
 ghost use Rattle.mt_topology.specs.Dump.{topology_of_text};
 ghost use Rattle.mt_topology.specs.Says.{HasDeniedTables, Says};
 ghost use Rattle.mt_model.specs.Documents.{dump_text};
-ghost use Rattle.mt_keyspace.specs.Edits.{Edits, add_keyspace_refusal, add_table_grows, add_table_refusal, answer_of};
+ghost use Rattle.mt_keyspace.specs.Edits.{Edits, add_keyspace_refusal, add_table_grows, add_table_refusal};
 ghost use Rattle.mt_topology.specs.Edits.{edit_rule_grows, edit_rule_refusal};
 ghost use Rattle.mt_topology.specs.Leads.{lent_target};
 
-use crate::rules::{add_rule, put_rule, reserve_rule, rule_for, take_rule};
-use crate::{load, room, routes, write};
-use mt_denied::DeniedFault;
+mod part;
+
+use crate::rules::{put_rule, rule_for, take_rule};
+use crate::{load, routes, write};
 use mt_keyspace::Keyspaces;
-use mt_model::{Entry, EntryKey, TopologyFault, table_part_keys};
+use mt_model::{Entry, EntryKey, TopologyFault};
 use mt_names::{KeyspaceName, RuleKey, RuleTarget, TableName, TabletType};
 use mt_rules::RoutingRules;
 use std::alloc::Global;
 use std::marker::Model;
-
-/// How many keys each table adds to a part.
-const KEYS_OF_TABLE: usize = 15;
 
 /// The topology: routing rules, and keyspaces with their tables and denials. What is written has a place before, so a write takes
 /// no memory.
@@ -387,204 +384,5 @@ impl Topology {
                 Ok(())
             }
         }
-    }
-
-    /// Makes a place for every entry of a workflow's part, as MoveTables moves the tables from the source to the target:
-    /// twelve rule keys a table, its denial at both sides, its presence at the target. No value is changed. First
-    /// `T1 NoKeyspace`, where the source or the target isn't there; then `T5 Full`, where the places that the part lacks
-    /// don't all find room, a table that is named twice counted twice: 4,096 rule entries, and at each keyspace 256 tables
-    /// and 256 denials; at last `T0 Memory`, which can't come where the part lacks no place. A refusal leaves no place
-    /// behind. For the denials alone it is refused only where the places that they lack would pass 256 at the source or at
-    /// the target.
-    pub fn reserve_part(
-        &mut self,
-        source: &KeyspaceName,
-        target: &KeyspaceName,
-        tables: &[TableName],
-    ) -> Result<(), TopologyFault>
-        ensures { Edits self.old (reserve_refusal self.old source.now target.now tables.now) (lacks_a_place self.old (part_keys source.now target.now tables.now))
-            (with_places self.old (part_keys source.now target.now tables.now)) result self.new }
-    {
-        let refusal = room::refusal(&self.rules, &self.keyspaces, source, target, tables);
-        if let Some(fault) = refusal {
-            return Err(fault);
-        }
-        if !self.lacks_a_place(source, target, tables) {
-            return Ok(());
-        }
-        let most = tables.len().saturating_mul(KEYS_OF_TABLE);
-        let Ok(mut made) = Vec::with_capacity(self.alloc, most) else {
-            return Err(TopologyFault::Memory);
-        };
-        let answer = self.make_part(source, target, tables, &mut made);
-        if answer.is_err() {
-            self.take_back(&made);
-        }
-        answer
-    }
-
-    /// Drops the places of a workflow's part that hold no rule, no denial and no table. No value is changed. It takes no
-    /// memory.
-    pub fn release_part(
-        &mut self,
-        source: &KeyspaceName,
-        target: &KeyspaceName,
-        tables: &[TableName],
-    )
-        ensures { self.new ≡ without_places self.old (part_keys source.now target.now tables.now) }
-    {
-        for table in tables.iter().rev() {
-            self.take_back(&table_part_keys(source, target, table));
-        }
-    }
-
-    /// Whether an entry of a part lacks a place.
-    fn lacks_a_place(
-        &self,
-        source: &KeyspaceName,
-        target: &KeyspaceName,
-        tables: &[TableName],
-    ) -> bool
-        ensures { result ≡ lacks_a_place self.now (part_keys source.now target.now tables.now) }
-    {
-        for table in tables {
-            if self.lacks_one_of(&table_part_keys(source, target, table)) {
-                return true;
-            }
-        }
-        false
-    }
-
-    /// Whether one of some keys lacks a place.
-    fn lacks_one_of(&self, keys: &[EntryKey]) -> bool
-        ensures { result ≡ lacks_a_place self.now keys.now }
-    {
-        for key in keys {
-            if !self.has_place(key) {
-                return true;
-            }
-        }
-        false
-    }
-
-    /// Makes the places of a part, for which there is room, and notes those that it made. It stops at `T0 Memory`.
-    fn make_part(
-        &mut self,
-        source: &KeyspaceName,
-        target: &KeyspaceName,
-        tables: &[TableName],
-        made: &mut Vec<EntryKey>,
-    ) -> Result<(), TopologyFault>
-        requires { places_refusal self.old (part_keys source.now target.now tables.now) ≡ None }
-        ensures all { OnOk result (self.new ≡ with_places self.old (part_keys source.now target.now tables.now)) }
-        ensures memory { IfErr result (λ fault. fault ≡ TopologyFault.Memory) }
-        ensures back { without_places self.new (reverse made.new.items) ≡ without_places self.old (reverse made.old.items) }
-    {
-        for table in tables {
-            self.make_places(&table_part_keys(source, target, table), made)?;
-        }
-        Ok(())
-    }
-
-    /// Makes the places of some keys, for which there is room, and notes those that it made. It stops at `T0 Memory`.
-    fn make_places(
-        &mut self,
-        keys: &[EntryKey],
-        made: &mut Vec<EntryKey>,
-    ) -> Result<(), TopologyFault>
-        requires { places_refusal self.old keys.now ≡ None }
-        ensures all { OnOk result (self.new ≡ with_places self.old keys.now) }
-        ensures memory { IfErr result (λ fault. fault ≡ TopologyFault.Memory) }
-        ensures back { without_places self.new (reverse made.new.items) ≡ without_places self.old (reverse made.old.items) }
-    {
-        for key in keys {
-            self.make_noted(key, made)?;
-        }
-        Ok(())
-    }
-
-    /// Makes the place of a key that lacks it, for which there is room, and notes the key. `T0 Memory`.
-    fn make_noted(&mut self, key: &EntryKey, made: &mut Vec<EntryKey>) -> Result<(), TopologyFault>
-        requires { place_refusal self.old key.now ≡ None }
-        ensures all { OnOk result (self.new ≡ with_place self.old key.now) }
-        ensures memory { IfErr result (λ fault. fault ≡ TopologyFault.Memory) }
-        ensures back { without_places self.new (reverse made.new.items) ≡ without_places self.old (reverse made.old.items) }
-    {
-        if self.has_place(key) {
-            return Ok(());
-        }
-        if made.push(key.copied()).is_err() {
-            return Err(TopologyFault::Memory);
-        }
-        match self.make_new_place(key) {
-            Ok(()) => Ok(()),
-            Err(fault) => {
-                made.pop();
-                Err(fault)
-            }
-        }
-    }
-
-    /// Makes the place of a key that has none, for which there is room. `T0 Memory`.
-    fn make_new_place(&mut self, key: &EntryKey) -> Result<(), TopologyFault>
-        requires lacks { has_place self.old key.now ≡ false }
-        requires room { place_refusal self.old key.now ≡ None }
-        ensures { Edits self.old (place_refusal self.old key.now) (place_grows self.old key.now) (with_place self.old key.now) result self.new }
-    {
-        match key {
-            EntryKey::Rule(key) => add_rule(&mut self.rules, key),
-            _ => self.make_place(key),
-        }
-    }
-
-    /// Makes the place of a key, for which there is room. Where the key has one nothing changes. `T0 Memory`.
-    fn make_place(&mut self, key: &EntryKey) -> Result<(), TopologyFault>
-        requires { place_refusal self.old key.now ≡ None }
-        ensures { Edits self.old (place_refusal self.old key.now) (place_grows self.old key.now) (with_place self.old key.now) result self.new }
-    {
-        match key {
-            EntryKey::Rule(key) => reserve_rule(&mut self.rules, key),
-            EntryKey::Denied(keyspace, table) => {
-                topology_answer(self.keyspaces.reserve_denial(keyspace, table))
-            }
-            EntryKey::Present(keyspace, table) => {
-                topology_answer(self.keyspaces.reserve_table(keyspace, table))
-            }
-        }
-    }
-
-    /// Drops the places of keys that hold nothing, the last first.
-    fn take_back(&mut self, made: &[EntryKey])
-        ensures { self.new ≡ without_places self.old (reverse made.now) }
-    {
-        for key in made.iter().rev() {
-            self.drop_place(key);
-        }
-    }
-
-    /// Drops the place of a key that holds nothing.
-    fn drop_place(&mut self, key: &EntryKey)
-        ensures { self.new ≡ without_place self.old key.now }
-    {
-        match key {
-            EntryKey::Rule(key) => self.rules.release_key(key),
-            EntryKey::Denied(keyspace, table) => {
-                self.keyspaces.release_denial(keyspace, table);
-            }
-            EntryKey::Present(keyspace, table) => {
-                self.keyspaces.release_table(keyspace, table);
-            }
-        }
-    }
-}
-
-/// The answer of a keyspace's list of places as one of the topology.
-fn topology_answer(answer: Result<(), DeniedFault>) -> Result<(), TopologyFault>
-    ensures { result ≡ answer_of answer }
-{
-    match answer {
-        Ok(()) => Ok(()),
-        Err(DeniedFault::Memory) => Err(TopologyFault::Memory),
-        Err(DeniedFault::Full) => Err(TopologyFault::Full),
     }
 }

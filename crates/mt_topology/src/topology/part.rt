@@ -1,0 +1,305 @@
+//! The part of a workflow: its places, made and dropped together.
+ghost use Rattle.std.specs.Prelude.{◌≡◌, true, false, None, IfErr, OnOk, map, option_copied, reverse};
+ghost use Rattle.mt_model.specs.Part.{keys_of_name, part_keys, table_part_keys, with_place, with_places, without_place, without_places};
+ghost use Rattle.mt_model.specs.Topology.{has_place};
+ghost use Rattle.mt_keyspace.specs.Edits.{Edits, answer_of};
+ghost use Rattle.mt_topology.specs.Part.{lacks_a_place, place_grows, place_refusal, places_refusal, reserve_refusal};
+
+use crate::room;
+use crate::rules::{add_rule, key_of_name, lacks_name, release_name, reserve_rule};
+use crate::topology::Topology;
+use mt_denied::DeniedFault;
+use mt_model::{EntryKey, TopologyFault};
+use mt_names::{KeyspaceName, RuleKey, TableName, TabletType};
+
+/// How many keys each table adds to a part.
+const KEYS_OF_TABLE: usize = 15;
+
+impl Topology {
+    /// Makes a place for every entry of a workflow's part, as MoveTables moves the tables from the source to the target:
+    /// twelve rule keys a table, its denial at both sides, its presence at the target. No value is changed. First
+    /// `T1 NoKeyspace`, where the source or the target isn't there; then `T5 Full`, where the places that the part lacks
+    /// don't all find room, a table that is named twice counted twice: 4,096 rule entries, and at each keyspace 256 tables
+    /// and 256 denials; at last `T0 Memory`, which can't come where the part lacks no place. A refusal leaves no place
+    /// behind. For the denials alone it is refused only where the places that they lack would pass 256 at the source or at
+    /// the target.
+    pub fn reserve_part(
+        &mut self,
+        source: &KeyspaceName,
+        target: &KeyspaceName,
+        tables: &[TableName],
+    ) -> Result<(), TopologyFault>
+        ensures { Edits self.old (reserve_refusal self.old source.now target.now tables.now) (lacks_a_place self.old (part_keys source.now target.now tables.now))
+            (with_places self.old (part_keys source.now target.now tables.now)) result self.new }
+    {
+        let refusal = room::refusal(&self.rules, &self.keyspaces, source, target, tables);
+        if let Some(fault) = refusal {
+            return Err(fault);
+        }
+        if !self.lacks_a_place(source, target, tables) {
+            return Ok(());
+        }
+        let most = tables.len().saturating_mul(KEYS_OF_TABLE);
+        let Ok(mut made) = Vec::with_capacity(self.alloc, most) else {
+            return Err(TopologyFault::Memory);
+        };
+        let answer = self.make_part(source, target, tables, &mut made);
+        if answer.is_err() {
+            self.take_back(&made);
+        }
+        answer
+    }
+
+    /// Drops the places of a workflow's part that hold no rule, no denial and no table. No value is changed. It takes no
+    /// memory.
+    pub fn release_part(
+        &mut self,
+        source: &KeyspaceName,
+        target: &KeyspaceName,
+        tables: &[TableName],
+    )
+        ensures { self.new ≡ without_places self.old (part_keys source.now target.now tables.now) }
+    {
+        for table in tables.iter().rev() {
+            self.release_table_part(source, target, table);
+        }
+    }
+
+    /// Whether an entry of a part lacks a place.
+    fn lacks_a_place(
+        &self,
+        source: &KeyspaceName,
+        target: &KeyspaceName,
+        tables: &[TableName],
+    ) -> bool
+        ensures { result ≡ lacks_a_place self.now (part_keys source.now target.now tables.now) }
+    {
+        for table in tables {
+            if self.lacks_one_of(source, target, table) {
+                return true;
+            }
+        }
+        false
+    }
+
+    /// Whether one of a table's keys lacks a place.
+    fn lacks_one_of(&self, source: &KeyspaceName, target: &KeyspaceName, table: &TableName) -> bool
+        ensures { result ≡ lacks_a_place self.now (table_part_keys source.now target.now table.now) }
+    {
+        if lacks_name(&self.rules, None, table) {
+            return true;
+        }
+        if lacks_name(&self.rules, Some(source), table) {
+            return true;
+        }
+        if lacks_name(&self.rules, Some(target), table) {
+            return true;
+        }
+        if !self.keyspaces.has_denied_place(source, table) {
+            return true;
+        }
+        if !self.keyspaces.has_denied_place(target, table) {
+            return true;
+        }
+        !self.keyspaces.has_place(target, table)
+    }
+
+    /// Drops the places of a table's keys that hold nothing, the last first.
+    fn release_table_part(
+        &mut self,
+        source: &KeyspaceName,
+        target: &KeyspaceName,
+        table: &TableName,
+    )
+        ensures { self.new ≡ without_places self.old (reverse (table_part_keys source.now target.now table.now)) }
+    {
+        self.keyspaces.release_table(target, table);
+        self.keyspaces.release_denial(target, table);
+        self.keyspaces.release_denial(source, table);
+        release_name(&mut self.rules, Some(target), table);
+        release_name(&mut self.rules, Some(source), table);
+        release_name(&mut self.rules, None, table);
+    }
+
+    /// Makes the places of a part, for which there is room, and notes those that it made. It stops at `T0 Memory`.
+    fn make_part(
+        &mut self,
+        source: &KeyspaceName,
+        target: &KeyspaceName,
+        tables: &[TableName],
+        made: &mut Vec<EntryKey>,
+    ) -> Result<(), TopologyFault>
+        requires { places_refusal self.old (part_keys source.now target.now tables.now) ≡ None }
+        ensures all { OnOk result (self.new ≡ with_places self.old (part_keys source.now target.now tables.now)) }
+        ensures memory { IfErr result (λ fault. fault ≡ TopologyFault.Memory) }
+        ensures back { without_places self.new (reverse made.new.items) ≡ without_places self.old (reverse made.old.items) }
+    {
+        for table in tables {
+            self.make_table_part(source, target, table, made)?;
+        }
+        Ok(())
+    }
+
+    /// Makes the places of a table's keys, for which there is room, and notes those that it made. It stops at `T0 Memory`.
+    fn make_table_part(
+        &mut self,
+        source: &KeyspaceName,
+        target: &KeyspaceName,
+        table: &TableName,
+        made: &mut Vec<EntryKey>,
+    ) -> Result<(), TopologyFault>
+        requires { places_refusal self.old (table_part_keys source.now target.now table.now) ≡ None }
+        ensures all { OnOk result (self.new ≡ with_places self.old (table_part_keys source.now target.now table.now)) }
+        ensures memory { IfErr result (λ fault. fault ≡ TopologyFault.Memory) }
+        ensures back { without_places self.new (reverse made.new.items) ≡ without_places self.old (reverse made.old.items) }
+    {
+        self.make_name(None, table, made)?;
+        self.make_name(Some(source), table, made)?;
+        self.make_name(Some(target), table, made)?;
+        self.make_noted(&EntryKey::Denied(source.copied(), table.copied()), made)?;
+        self.make_noted(&EntryKey::Denied(target.copied(), table.copied()), made)?;
+        self.make_noted(&EntryKey::Present(target.copied(), table.copied()), made)
+    }
+
+    /// The same of a name's four rule keys. One key is made, whose type then changes.
+    fn make_name(
+        &mut self,
+        keyspace: Option<&KeyspaceName>,
+        table: &TableName,
+        made: &mut Vec<EntryKey>,
+    ) -> Result<(), TopologyFault>
+        requires { places_refusal self.old (map EntryKey.Rule (keys_of_name (option_copied keyspace) table.now)) ≡ None }
+        ensures all { OnOk result (self.new ≡ with_places self.old (map EntryKey.Rule (keys_of_name (option_copied keyspace.entry) table.now))) }
+        ensures memory { IfErr result (λ fault. fault ≡ TopologyFault.Memory) }
+        ensures back { without_places self.new (reverse made.new.items) ≡ without_places self.old (reverse made.old.items) }
+    {
+        let mut key = key_of_name(keyspace, table);
+        self.make_noted_rule(&key, made)?;
+        key.tablet_type = Some(TabletType::Primary);
+        self.make_noted_rule(&key, made)?;
+        key.tablet_type = Some(TabletType::Replica);
+        self.make_noted_rule(&key, made)?;
+        key.tablet_type = Some(TabletType::Rdonly);
+        self.make_noted_rule(&key, made)
+    }
+
+    /// Makes the place of a rule key that lacks it, for which there is room, and notes the key. `T0 Memory`.
+    fn make_noted_rule(
+        &mut self,
+        key: &RuleKey,
+        made: &mut Vec<EntryKey>,
+    ) -> Result<(), TopologyFault>
+        requires { place_refusal self.old (EntryKey.Rule key.now) ≡ None }
+        ensures all { OnOk result (self.new ≡ with_place self.old (EntryKey.Rule key.now)) }
+        ensures memory { IfErr result (λ fault. fault ≡ TopologyFault.Memory) }
+        ensures back { without_places self.new (reverse made.new.items) ≡ without_places self.old (reverse made.old.items) }
+    {
+        if self.rules.has_place(key) {
+            return Ok(());
+        }
+        if made.push(EntryKey::Rule(key.copied())).is_err() {
+            return Err(TopologyFault::Memory);
+        }
+        match self.make_new_rule(key) {
+            Ok(()) => Ok(()),
+            Err(fault) => {
+                made.pop();
+                Err(fault)
+            }
+        }
+    }
+
+    /// Makes the place of a rule key that has none, for which there is room. `T0 Memory`.
+    fn make_new_rule(&mut self, key: &RuleKey) -> Result<(), TopologyFault>
+        requires lacks { has_place self.old (EntryKey.Rule key.now) ≡ false }
+        requires room { place_refusal self.old (EntryKey.Rule key.now) ≡ None }
+        ensures { Edits self.old (place_refusal self.old (EntryKey.Rule key.now)) (place_grows self.old (EntryKey.Rule key.now)) (with_place self.old (EntryKey.Rule key.now)) result self.new }
+    {
+        add_rule(&mut self.rules, key)
+    }
+
+    /// Makes the place of a key that lacks it, for which there is room, and notes the key. `T0 Memory`.
+    fn make_noted(&mut self, key: &EntryKey, made: &mut Vec<EntryKey>) -> Result<(), TopologyFault>
+        requires { place_refusal self.old key.now ≡ None }
+        ensures all { OnOk result (self.new ≡ with_place self.old key.now) }
+        ensures memory { IfErr result (λ fault. fault ≡ TopologyFault.Memory) }
+        ensures back { without_places self.new (reverse made.new.items) ≡ without_places self.old (reverse made.old.items) }
+    {
+        if self.has_place(key) {
+            return Ok(());
+        }
+        if made.push(key.copied()).is_err() {
+            return Err(TopologyFault::Memory);
+        }
+        match self.make_new_place(key) {
+            Ok(()) => Ok(()),
+            Err(fault) => {
+                made.pop();
+                Err(fault)
+            }
+        }
+    }
+
+    /// Makes the place of a key that has none, for which there is room. `T0 Memory`.
+    fn make_new_place(&mut self, key: &EntryKey) -> Result<(), TopologyFault>
+        requires lacks { has_place self.old key.now ≡ false }
+        requires room { place_refusal self.old key.now ≡ None }
+        ensures { Edits self.old (place_refusal self.old key.now) (place_grows self.old key.now) (with_place self.old key.now) result self.new }
+    {
+        match key {
+            EntryKey::Rule(key) => self.make_new_rule(key),
+            _ => self.make_place(key),
+        }
+    }
+
+    /// Makes the place of a key, for which there is room. Where the key has one nothing changes. `T0 Memory`.
+    fn make_place(&mut self, key: &EntryKey) -> Result<(), TopologyFault>
+        requires { place_refusal self.old key.now ≡ None }
+        ensures { Edits self.old (place_refusal self.old key.now) (place_grows self.old key.now) (with_place self.old key.now) result self.new }
+    {
+        match key {
+            EntryKey::Rule(key) => reserve_rule(&mut self.rules, key),
+            EntryKey::Denied(keyspace, table) => {
+                topology_answer(self.keyspaces.reserve_denial(keyspace, table))
+            }
+            EntryKey::Present(keyspace, table) => {
+                topology_answer(self.keyspaces.reserve_table(keyspace, table))
+            }
+        }
+    }
+
+    /// Drops the places of keys that hold nothing, the last first.
+    fn take_back(&mut self, made: &[EntryKey])
+        ensures { self.new ≡ without_places self.old (reverse made.now) }
+    {
+        for key in made.iter().rev() {
+            self.drop_place(key);
+        }
+    }
+
+    /// Drops the place of a key that holds nothing.
+    fn drop_place(&mut self, key: &EntryKey)
+        ensures { self.new ≡ without_place self.old key.now }
+    {
+        match key {
+            EntryKey::Rule(key) => self.rules.release_key(key),
+            EntryKey::Denied(keyspace, table) => {
+                self.keyspaces.release_denial(keyspace, table);
+            }
+            EntryKey::Present(keyspace, table) => {
+                self.keyspaces.release_table(keyspace, table);
+            }
+        }
+    }
+}
+
+/// The answer of a keyspace's list of places as one of the topology.
+fn topology_answer(answer: Result<(), DeniedFault>) -> Result<(), TopologyFault>
+    ensures { result ≡ answer_of answer }
+{
+    match answer {
+        Ok(()) => Ok(()),
+        Err(DeniedFault::Memory) => Err(TopologyFault::Memory),
+        Err(DeniedFault::Full) => Err(TopologyFault::Full),
+    }
+}
