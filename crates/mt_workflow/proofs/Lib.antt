@@ -1,3 +1,4 @@
+pub mod AgreeLemmas
 pub mod CreateLemmas
 pub mod KeptLemmas
 pub mod MemberLemmas

@@ -24,7 +24,7 @@ use Rattle.mt_workflow.proofs.MemberLemmas.{both, all_counted, in_map, rule_in_p
 abbrev noted : Rules → List RuleKey → Rules
 noted rules keys = map (λ key. (key, rule_at rules key)) keys
 
-kept-there : (rules : Rules) (keys : List RuleKey) (key : RuleKey) (k : ℕ) → k < length keys → slice_index_or keys k key ≡ key → rule_at (noted rules keys) key ≡ rule_at rules key
+pub kept-there : (rules : Rules) (keys : List RuleKey) (key : RuleKey) (k : ℕ) → k < length keys → slice_index_or keys k key ≡ key → rule_at (noted rules keys) key ≡ rule_at rules key
 kept-there rules [] key k below is = absurd (omega (arith, below))
 kept-there rules (j ∷ js) key zero below is = let same : same_key key j ≡ true = (same_key_decides key j).1 (sym is) in rw same (ap (rule_at rules) is)
 kept-there rules (j ∷ js) key (suc k) below is = by (kept-there rules js key k (omega (arith, below)) is) (same_key key j) refl

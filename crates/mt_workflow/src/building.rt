@@ -1,8 +1,11 @@
 //! What a new workflow keeps.
-ghost use Rattle.std.specs.Prelude.{◌≡◌, ◌≢◌, ◌≤◌, AllPairs, IfOk, IfErr, OnOk, length};
+ghost use Rattle.std.specs.Prelude.{◌≡◌, ◌≢◌, ◌≤◌, AllPairs, IfOk, IfErr, OnOk, length, option_copied};
+ghost use Rattle.indexmap.specs.IndexMap.{insert_entry};
+ghost use Rattle.mt_names.specs.Same.{same_key};
 ghost use Rattle.mt_names.specs.Tables.{most_tables};
 ghost use Rattle.mt_plain.specs.Plain.{each_once};
-ghost use Rattle.mt_workflow.specs.Builds.{with_kept};
+ghost use Rattle.mt_model.specs.Topology.{Rules};
+ghost use Rattle.mt_workflow.specs.Builds.{Agrees, with_kept};
 ghost use Rattle.mt_workflow.specs.Workflows.{kept_of};
 
 use crate::fault::WorkflowFault;
@@ -12,9 +15,6 @@ use mt_model::{part_keys_are_distinct, table_rule_keys};
 use mt_names::{KeyspaceName, MAX_TABLES, RuleKey, RuleTarget, TableName};
 use mt_rules::RoutingRules;
 use std::alloc::Global;
-
-/// How many rule keys each table adds to a part.
-const RULES_OF_TABLE: usize = 12;
 
 /// Tables as a set, in the order in which they are first named. `W0 Memory`.
 pub(crate) fn each_once(
@@ -47,7 +47,8 @@ pub(crate) fn table_list(tables: &[TableName]) -> ArrayVec<TableName, MAX_TABLES
     list
 }
 
-/// The rule that stands at each rule key of some tables, or none. `W0 Memory`.
+/// Rules that say of each key what stands at the rule keys of some tables, and nothing of the others. Up to the first key that has
+/// a rule none is put there. `W0 Memory`.
 pub(crate) fn kept_rules(
     alloc: Global,
     source: &KeyspaceName,
@@ -57,14 +58,11 @@ pub(crate) fn kept_rules(
 ) -> Result<IndexMap<RuleKey, Option<RuleTarget>>, WorkflowFault>
     requires distinct { AllPairs ◌≢◌ tables.now }
     requires apart { source.now ≢ target.now }
-    ensures value { IfOk result (λ kept. kept.entries ≡ kept_of rules.now source.now target.now tables.now) }
+    ensures value { IfOk result (λ kept. Agrees kept.entries (kept_of rules.now source.now target.now tables.now)) }
     ensures memory { IfErr result (λ fault. fault ≡ WorkflowFault.Memory) }
 {
     part_keys_are_distinct();
-    let most = tables.len().saturating_mul(RULES_OF_TABLE);
-    let Ok(mut kept) = IndexMap::with_capacity(alloc, most) else {
-        return Err(WorkflowFault::Memory);
-    };
+    let mut kept = IndexMap::new(alloc);
     for table in tables {
         keep(&mut kept, &table_rule_keys(source, target, table), rules)?;
     }
@@ -77,14 +75,30 @@ fn keep(
     keys: &[RuleKey],
     rules: &RoutingRules,
 ) -> Result<(), WorkflowFault>
-    ensures value { OnOk result (kept.new.entries ≡ with_kept rules.now kept.old.entries keys.now) }
+    ensures value { OnOk result ((stood : Rules) → Agrees kept.old.entries stood → Agrees kept.new.entries (with_kept rules.now stood keys.now)) }
     ensures memory { IfErr result (λ fault. fault ≡ WorkflowFault.Memory) }
 {
     for key in keys {
-        let rule = rules.get(key).map(RuleTarget::copied);
-        if kept.insert(key.copied(), rule).is_err() {
-            return Err(WorkflowFault::Memory);
-        }
+        let rule = rules.get(key);
+        keep_rule(kept, key, rule)?;
     }
     Ok(())
+}
+
+/// Keeps the rule of a key, or that it has none, which is already so as long as nothing is kept. `W0 Memory`.
+fn keep_rule(
+    kept: &mut IndexMap<RuleKey, Option<RuleTarget>>,
+    key: &RuleKey,
+    rule: Option<&RuleTarget>,
+) -> Result<(), WorkflowFault>
+    ensures value { OnOk result ((stood : Rules) → Agrees kept.old.entries stood → Agrees kept.new.entries (insert_entry same_key stood key.now (option_copied rule.entry))) }
+    ensures memory { IfErr result (λ fault. fault ≡ WorkflowFault.Memory) }
+{
+    if rule.is_none() && kept.is_empty() {
+        return Ok(());
+    }
+    match kept.insert(key.copied(), rule.map(RuleTarget::copied)) {
+        Ok(_) => Ok(()),
+        Err(_) => Err(WorkflowFault::Memory),
+    }
 }

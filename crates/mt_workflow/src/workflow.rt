@@ -45,13 +45,14 @@ pub struct Workflow {
 
 impl Model for Workflow {
     ghost use Rattle.std.specs.Prelude.{option_map};
-    ghost use Rattle.mt_workflow.specs.Workflows.{IsWorkflow, WorkflowState, way_from};
+    ghost use Rattle.mt_workflow.specs.Builds.{Agrees};
+    ghost use Rattle.mt_workflow.specs.Workflows.{IsWorkflow, WorkflowState, kept_of, way_from};
 
     ghost Value = { WorkflowState };
 
-    ghost view = { λ w. record { name = w.name; source = w.source; target = w.target; tables = w.tables.keys; switched = w.switched; way = option_map way_from w.way; kept = w.kept.entries; forward = w.forward; back = w.back } };
+    ghost view = { λ w. record { name = w.name; source = w.source; target = w.target; tables = w.tables.keys; switched = w.switched; way = option_map way_from w.way; kept = kept_of w.kept.entries w.source w.target w.tables.keys; forward = w.forward; back = w.back } };
 
-    ghost invariant = { λ w. IsWorkflow w.source w.target w.tables.keys };
+    ghost invariant = { λ w. IsWorkflow w.source w.target w.tables.keys × Agrees w.kept.entries (kept_of w.kept.entries w.source w.target w.tables.keys) };
 }
 
 impl Workflow {
@@ -283,6 +284,9 @@ impl Workflow {
     pub fn kept(&self, key: &RuleKey) -> Option<&RuleTarget>
         ensures { option_copied result ≡ rule_at self.now.kept key.now }
     {
+        if self.kept.is_empty() {
+            return None;
+        }
         self.kept.get(key)?.as_ref()
     }
 

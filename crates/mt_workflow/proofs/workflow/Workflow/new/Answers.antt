@@ -1,7 +1,11 @@
--- The tables are distinct, and no more than are named.
-use Rattle.std.proofs.Common.{◌≢◌, AllPairs, length, ap, sym, subst, arith, ◌∙◌}
+-- The tables are distinct, and no more than are named; what is kept says of each key what stood there.
+use Rattle.std.proofs.Common.{rules, ◌≡◌, ◌≢◌, AllPairs, length, ap, sym, subst, arith, ◌∙◌}
 use Rattle.std.proofs.lemmas.Map.Made.{AllPairs-from_IsDistinct}
 use Rattle.mt_names.proofs.SameLemmas.{same_text_decides}
+use Rattle.mt_plain.specs.Plain.{each_once}
+use Rattle.mt_workflow.specs.Builds.{Agrees}
+use Rattle.mt_workflow.specs.Workflows.{IsWorkflow, kept_of}
+use Rattle.mt_workflow.proofs.AgreeLemmas.{agrees_itself, kept_same}
 use Rattle.mt_workflow.proofs.OnceLemmas.{length-once}
 use Rattle.mt_workflow.proofs.workflow.Workflow.new.Goals as goal
 
@@ -16,3 +20,28 @@ table_list-requires c =
 pub new_copy-stream-requires : goal.new_copy-stream-requires
 new_copy-stream-requires c =
     subst (AllPairs ◌≢◌) (sym (c.table_list.ensures ∙ c.as_slice-2.ensures.keys)) (AllPairs-from_IsDistinct same_text_decides c.in_ok-tables.tables.keys c.as_slice-2.ensures.unique)
+
+pub invariant_of-result : goal.invariant_of-result
+invariant_of-result c =
+    let es = c.in_ok-kept.kept.entries in
+    let named = c.as_slice.result.now in
+    let is : IsWorkflow c.copied-2.result c.copied-3.result c.in_ok-tables.tables.keys = search rules in (
+      is,
+      subst (λ tables. Agrees es (kept_of es c.copied-2.result c.copied-3.result tables)) c.as_slice.ensures.keys
+          (subst (λ target. Agrees es (kept_of es c.copied-2.result target named)) (sym c.copied-3.ensures)
+          (subst (λ source. Agrees es (kept_of es source c.args.target.now named)) (sym c.copied-2.ensures)
+          (agrees_itself es c.rules.result.now c.args.source.now c.args.target.now named c.in_ok-kept.ensures.value))),
+    )
+
+pub returns-clause-value : goal.returns-clause-value
+returns-clause-value c =
+    let es = c.in_ok-kept.kept.entries in
+    let named = c.as_slice.result.now in
+    let kept : kept_of es c.copied-2.result c.copied-3.result c.in_ok-tables.tables.keys ≡ kept_of c.args.topology.now.rules c.args.source.now c.args.target.now (each_once c.args.tables.now) =
+    ap (λ source. kept_of es source c.copied-3.result c.in_ok-tables.tables.keys) c.copied-2.ensures
+    ∙ ap (λ target. kept_of es c.args.source.now target c.in_ok-tables.tables.keys) c.copied-3.ensures
+    ∙ ap (kept_of es c.args.source.now c.args.target.now) (sym c.as_slice.ensures.keys)
+    ∙ kept_same es c.rules.result.now c.args.source.now c.args.target.now named c.in_ok-kept.ensures.value
+    ∙ ap (λ rules. kept_of rules c.args.source.now c.args.target.now named) c.rules.ensures
+    ∙ ap (kept_of c.args.topology.now.rules c.args.source.now c.args.target.now) (c.as_slice.ensures.keys ∙ c.in_ok-tables.ensures.value) in
+    search (kept, rules)

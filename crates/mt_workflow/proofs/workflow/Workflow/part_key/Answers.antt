@@ -1,7 +1,6 @@
 -- The index is that of a table, and of a key of that table.
 use Rattle.std.proofs.Common.{◌≡◌, ◌<◌, ◌*◌, ◌/◌, ◌%◌, Some, ap, sym, subst, length, slice_get, arith, ◌∙◌}
 use Rattle.std.proofs.lemmas.Option.{slice_get_read}
-use Rattle.mt_model.specs.Part.{table_part_keys}
 use Rattle.mt_workflow.specs.Workflows.{keys_of_part}
 use Rattle.mt_workflow.proofs.PartLemmas.{key_of_part, length_part}
 use Rattle.mt_workflow.proofs.workflow.Workflow.part_key.Goals as goal
@@ -11,7 +10,7 @@ offset_bounds-as_slice-index c =
     let w = c.self.inside in
     let within : c.args.index < length w.tables.keys * 15 =
     subst (λ n. c.args.index < n) (ap (λ v. length (keys_of_part v)) (sym c.self.view_is) ∙ length_part w.source w.target w.tables.keys) c.requires in
-    omega (arith, within, c.self.invariant.few)
+    omega (arith, within, c.self.invariant.0.few)
 
 pub bounds-as_slice-index : goal.bounds-as_slice-index
 bounds-as_slice-index c =
