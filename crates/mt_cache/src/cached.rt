@@ -14,13 +14,13 @@ ghost use Rattle.mt_workflow.specs.Workflows.{stream_name};
 ghost use Rattle.mt_plain.specs.Serve.{served};
 ghost use Rattle.mt_site_state.specs.Ways.{SiteStands, SiteSteps, empty_site};
 ghost use Rattle.mt_names.specs.Names.{read_table};
-ghost use Rattle.mt_cache.specs.Names.{plain_key};
+ghost use Rattle.mt_cache.specs.Names.{LeadsTo, plain_key};
 
 use crate::names::Names;
 use mt_event::{Event, Refusal, Reply};
 use mt_model::{Op, TopologyFault};
 use mt_names::{Position, RuleKey, TableName, TabletType, Value, WorkflowName};
-use mt_site::Core;
+use mt_site::{Core, Place};
 use mt_site_events::a_core_tells_what_its_state_serves;
 use mt_watch::Asks;
 use mt_workflow::Slot;
@@ -112,6 +112,16 @@ impl CachedCore {
             let place = self.core.place_of(target);
             self.names.keep(name.table, place);
         }
+    }
+
+    /// Where a table's name alone leads for the primary, if that is kept. The name is given as its bytes. It takes no memory.
+    pub fn kept(&self, name: &[u8]) -> Option<&Place>
+        ensures leads { IfSome result (λ place. LeadsTo self.now.core.topology name.now place.now) }
+        ensures served { (p : Plain) (scopes : List Scope) → SiteStands p scopes self.now
+            → resolution self.now.core.topology (plain_key name.now) TabletType.Primary ≡ resolution (served p) (plain_key name.now) TabletType.Primary }
+    {
+        a_core_tells_what_its_state_serves();
+        self.names.find(name)
     }
 
     /// Writes a row of the table that a name alone leads to for the primary, as `Core::write_through` does. The name is given as

@@ -21,6 +21,19 @@ pub(crate) struct Names {
     pub kept: IndexMap<TableName, Place>,
     /// How many rows were asked for by names that weren't kept, as far as that matters.
     pub rows: u8,
+    /// Where a name may stand among those that are kept, by its last bytes. Nothing is promised of it.
+    pub hints: [u8; 256],
+}
+
+/// Which hint serves a name. Names that differ in their last bytes mostly have others.
+fn hint_of(name: &[u8]) -> u8 {
+    match name {
+        [first, .., before, last] => first
+            .wrapping_mul(37)
+            .wrapping_add(before.wrapping_mul(10))
+            .wrapping_add(*last),
+        _ => 0,
+    }
 }
 
 impl Names {
@@ -31,6 +44,7 @@ impl Names {
         Names {
             kept: IndexMap::new(alloc),
             rows: 0,
+            hints: [0; 256],
         }
     }
 
@@ -44,6 +58,19 @@ impl Names {
 
     /// Where a name of these bytes leads for the primary, if it is kept. It takes no memory.
     pub fn find(&self, name: &[u8]) -> Option<&Place>
+        ensures { (topology : TopologyState) → LeadThere topology self.now.kept.entries
+            → IfSome result (λ place. LeadsTo topology name.now place.now) }
+    {
+        let at = usize::from(self.hints[usize::from(hint_of(name))]);
+        match self.kept.get_index(at) {
+            Some((kept, place)) if kept.as_str().as_bytes() == name => Some(place),
+            _ => self.find_anywhere(name),
+        }
+    }
+
+    /// The same, by its hash.
+    #[inline(never)]
+    fn find_anywhere(&self, name: &[u8]) -> Option<&Place>
         ensures { (topology : TopologyState) → LeadThere topology self.now.kept.entries
             → IfSome result (λ place. LeadsTo topology name.now place.now) }
     {
@@ -66,7 +93,8 @@ impl Names {
         ensures { (topology : TopologyState) → LeadThere topology self.old.kept.entries → resolution topology (plain_key name) Primary ≡ Ok place.target
             → LeadThere topology self.new.kept.entries }
     {
-        name.as_str();
+        let hint = usize::from(hint_of(name.as_str().as_bytes()));
+        self.hints[hint] = self.kept.len().min(255) as u8;
         // What finds no memory is looked up again.
         match self.kept.insert(name, place) {
             Ok(_) => {}

@@ -7,6 +7,6 @@ mod reading;
 
 pub use fault::ScriptFault;
 pub use output::{
-    LONGEST_LINE, ROOM, Waiting, flush, put_document, put_line, write_all, write_line,
+    LONGEST_LINE, ROOM, Waiting, flush, make_room, put_document, put_line, write_all, write_line,
 };
 pub use reading::{MAX_READS, MAX_SCRIPT_LENGTH, read_script};

@@ -67,8 +67,8 @@ pub fn flush<W: Write>(waiting: &mut Waiting, writer: &mut W) -> Result<(), Scri
     end
 }
 
-/// Makes room for a line: where there is none, all that waits is written.
-fn make_room<W: Write>(waiting: &mut Waiting, writer: &mut W) -> Result<(), ScriptFault>
+/// Makes room for a line: where there is none, all that waits is written. After a fault nothing waits.
+pub fn make_room<W: Write>(waiting: &mut Waiting, writer: &mut W) -> Result<(), ScriptFault>
     ensures writes { Writes (W.contents writer.old) (W.contents writer.new) waiting.old.items waiting.new.items result }
     ensures room { OnOk result (length waiting.new.items + LONGEST_LINE ≤ ROOM) }
 {

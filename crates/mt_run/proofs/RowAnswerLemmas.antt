@@ -1,5 +1,5 @@
 -- A row is answered as the words of its line ask.
-use Rattle.std.proofs.Common.{◌≡◌, ℕ, Bool, true, false, List, Result, Ok, Err, is_ok, refl, sym, ap, subst, ◌∙◌}
+use Rattle.std.proofs.Common.{◌≡◌, ℕ, Bool, true, false, List, ◌++◌, Result, Ok, Err, is_ok, refl, sym, ap, subst, ◌∙◌}
 use Rattle.std.proofs.lemmas.Bool.{true≢false}
 use Rattle.mt_names.proofs.NameLemmas.{name_from_read}
 use Rattle.mt_names.specs.declared.fault.NameFault.{NameFault}
@@ -14,12 +14,11 @@ use Rattle.mt_plain.specs.Script.{read_through, type_of, write_through}
 use Rattle.mt_script.specs.declared.lines.RowRequest.{RowRequest}
 use Rattle.mt_script.specs.declared.lines.RowRequest.TheVariants as row
 use Rattle.mt_script.specs.declared.rows.ValueVerb.{ValueVerb}
-use Rattle.mt_script.specs.Requests.{row_from}
 use Rattle.mt_script.specs.Rows.{IsReadOf, IsTextOfKey, IsTextOfTable, IsValueWrite, IsWordBehind, IsWriteOf, op_of}
 use Rattle.mt_script.proofs.RowLineLemmas.{table-key}
 use Rattle.mt_site_state.specs.Ways.{SiteState}
 use Rattle.mt_cache.specs.Names.{plain_key}
-use Rattle.mt_run.specs.Runs.{IsRowAnswered, IsRowOutput}
+use Rattle.mt_run.specs.Runs.{IsRowAnswered, IsRowOutput, IsRowTold}
 
 -- bytes that are read as a table's name are that name
 name_read : (name : List ℕ) → true ≡ is_ok (read_table name) → IsTextOfTable name (plain_key name)
@@ -31,38 +30,38 @@ name_read name reads = by (read_table name) refl
 
 module _ (old new : SiteState) (text name : List ℕ) where
   -- a row of a table's name is written
-  pub named_written : (op : Op) → true ≡ is_ok (read_table name) → IsRowOutput old (write_through (plain_key name) op) text new → IsRowAnswered old (IsWriteOf name op) text new true
+  pub named_written : (op : Op) → true ≡ is_ok (read_table name) → IsRowOutput old (write_through (plain_key name) op) text new → IsRowAnswered old (IsWriteOf name op) text new
   named_written op reads output = (row.Write (plain_key name) op, (plain_key name, name_read name reads, refl), output)
 
   -- a row is read
   pub row_read : (number : ℕ) (key : RuleKey) (tablet_type : TabletType) → IsTextOfKey name key → tablet_type ≡ type_of key → IsRowOutput old (read_through key number tablet_type) text new
-      → IsRowAnswered old (IsReadOf name number) text new true
+      → IsRowAnswered old (IsReadOf name number) text new
   row_read number key tablet_type reads same output =
       (row.Read key number (type_of key), (key, reads, refl), subst (λ (t : TabletType). IsRowOutput old (read_through key number t) text new) same output)
 
   -- a row of a table's name is read
   pub named_read : (number : ℕ) → new ≡ old → true ≡ is_ok (read_table name) → IsRowOutput old (read_through (plain_key name) number Primary) text old
-      → IsRowAnswered old (IsReadOf name number) text new true
+      → IsRowAnswered old (IsReadOf name number) text new
   named_read number same reads output =
       let table = name_read name reads in
       row_read number (plain_key name) Primary (record { reads = table.reads; visible = table.visible }) refl (subst (IsRowOutput old (read_through (plain_key name) number Primary) text) (sym same) output)
 
-module _ (old new : SiteState) (text : List ℕ) where
-  -- what is answered as one request asks is answered as another, of which this holds too
-  pub answered_as : (P Q : RowRequest → Type 0) → ((asked : RowRequest) → P asked → Q asked) → (is : Bool) → IsRowAnswered old P text new is → IsRowAnswered old Q text new is
-  answered_as P Q then true answered = (answered.0, then answered.0 answered.1, answered.2)
-  answered_as P Q then false same = same
+module _ (old new : SiteState) (waiting waiting' : List ℕ) where
+  -- what is told as one request asks is told as another, of which this holds too
+  pub told_as : (P Q : RowRequest → Type 0) → ((asked : RowRequest) → P asked → Q asked) → (is : Bool) → IsRowTold old P waiting waiting' new is → IsRowTold old Q waiting waiting' new is
+  told_as P Q then true (text, answered, added) = (text, (answered.0, then answered.0 answered.1, answered.2), added)
+  told_as P Q then false same = same
 
   -- a value is written
   pub value_written : (v : ValueVerb) (name : List ℕ) (number : ℕ) (rest : List ℕ) (value : RowValue) (op : Op) (is : Bool) → IsWordBehind rest value → op ≡ op_of v number value
-      → IsRowAnswered old (IsWriteOf name op) text new is → IsRowAnswered old (IsValueWrite v name number rest) text new is
-  value_written v name number rest value op is word same answered =
-      answered_as (IsWriteOf name op) (IsValueWrite v name number rest) (λ asked writes. (value, word, subst (λ o. IsWriteOf name o asked) same writes)) is answered
+      → IsRowTold old (IsWriteOf name op) waiting waiting' new is → IsRowTold old (IsValueWrite v name number rest) waiting waiting' new is
+  value_written v name number rest value op is word same told =
+      told_as (IsWriteOf name op) (IsValueWrite v name number rest) (λ asked writes. (value, word, subst (λ o. IsWriteOf name o asked) same writes)) is told
 
-module _ (old new : SiteState) (text : List ℕ) (IsAsked : RowRequest → Type 0) (is : Bool) where
+module _ (old new : SiteState) (waiting waiting' : List ℕ) (IsAsked : RowRequest → Type 0) (is : Bool) where
   -- a row that is answered, and one that isn't
-  pub row_answered : is ≡ true → IsRowAnswered old IsAsked text new is → (asked : RowRequest) × IsAsked asked × IsRowOutput old (row_from asked) text new
-  row_answered same answered = subst (IsRowAnswered old IsAsked text new) same answered
+  pub row_told : is ≡ true → IsRowTold old IsAsked waiting waiting' new is → (text : List ℕ) × IsRowAnswered old IsAsked text new × (waiting' ≡ waiting ++ text)
+  row_told same told = subst (IsRowTold old IsAsked waiting waiting' new) same told
 
-  pub nothing_answered : is ≡ false → IsRowAnswered old IsAsked text new is → new ≡ old
-  nothing_answered same answered = subst (IsRowAnswered old IsAsked text new) same answered
+  pub nothing_told : is ≡ false → IsRowTold old IsAsked waiting waiting' new is → (new ≡ old) × (waiting' ≡ waiting)
+  nothing_told same told = subst (IsRowTold old IsAsked waiting waiting' new) same told

@@ -150,6 +150,11 @@ pub line_tells : (scopes : List Scope) (p : Plain) (line : List ℕ) (meaning : 
     → Tells scopes p (told_by p meaning) text core → Tells scopes p (told read_line p line) text core
 line_tells scopes p line meaning text core same tells = subst (λ t. Tells scopes p t text core) (told-meant p (read_line line) meaning same) tells
 
+module _ (scopes : List Scope) (p : Plain) (line : List ℕ) (core : SiteState) (held : Known) (waiting waiting' : List ℕ) where
+  -- a text stands behind what waits, and nothing goes out
+  pub line_waits : (text : List ℕ) → Tells scopes p (told read_line p line) (Some text) core → waiting' ≡ waiting ++ text → RunsLine scopes p line core held held waiting waiting' (Ok tt)
+  line_waits text tells added = (Some text, tells, subst (λ (rest : List ℕ). GoesOut held held (waiting ++ text) rest) (sym added) (nothing_out held (waiting ++ text)))
+
 module _ (scopes : List Scope) (p : Plain) (line : List ℕ) (core : SiteState) (held held' : Known) (waiting waiting' : List ℕ) where
   -- a text goes behind what waits
   pub line_written : (text : Option (List ℕ)) (result : Result Unit ScriptFault) → Tells scopes p (told read_line p line) text core → Writes held held' (waiting ++ bytes_of text) waiting' result
@@ -177,6 +182,22 @@ SoFar scopes p script rest core held held' waiting =
 
 pub begins : (scopes : List Scope) (p : Plain) (script : List ℕ) (core : SiteState) (held : Known) → SiteStands p scopes core → SoFar scopes p script script core held held []
 begins scopes p script core held stands = (p, stands, ([], [], refl, nothing_out held [], λ more out is. is))
+
+-- some of what waited goes out
+goes_further : (a b c : Known) (all waiting left : List ℕ) → GoesOut a b all waiting → GoesOut b c waiting left → GoesOut a c all left
+goes_further a b c all waiting left went more =
+    subst (λ x. GoesOut a c x left) (append-nil all) (goes_on a b c all waiting [] left went (subst (λ x. GoesOut b c x left) (sym (append-nil waiting)) more))
+
+module _ (scopes : List Scope) (p : Plain) (script rest : List ℕ) (core : SiteState) (held held' held'' : Known) (waiting waiting' : List ℕ) where
+  -- what waited goes out before a line, or doesn't
+  pub room_made : SoFar scopes p script rest core held held' waiting → GoesOut held' held'' waiting waiting' → SoFar scopes p script rest core held held'' waiting'
+  room_made (q, stands, (before, all, done, went, completes)) more = (q, stands, (before, all, done, goes_further held held' held'' all waiting waiting' went more, completes))
+
+  pub room_failed : (f : ScriptFault) → SoFar scopes p script rest core held held' waiting → Writes held' held'' waiting waiting' (Err f) → RunsLines p script held held'' (Err f)
+  room_failed f (q, stands, (before, all, done, went, completes)) (is_write, none, (left, some, writes)) =
+      let o : List ℕ = output_from read_line q (lines rest) in
+      let here : Output Answers read_line p (lines script) (all ++ o) = subst (λ ls. Output Answers read_line p ls (all ++ o)) (sym done) (completes (lines rest) o (has_output q (lines rest))) in
+      subst (λ g. RunsLines p script held held'' (Err g)) (sym is_write) (all ++ o, here, cut_before held held'' all o (left, some, goes_further held held' held'' all waiting left went writes))
 
 module _ (scopes : List Scope) (p : Plain) (script rest line after : List ℕ) (core core' : SiteState) (held held' held'' : Known) (waiting waiting' : List ℕ) (first : lines rest ≡ line ∷ lines after) where
   pub line_done : SoFar scopes p script rest core held held' waiting → ((q : Plain) → SiteStands q scopes core → RunsLine scopes q line core' held' held'' waiting waiting' (Ok tt)) → SoFar scopes p script after core' held held'' waiting'
@@ -249,7 +270,7 @@ ends scopes p script rest core held held' held'' waiting waiting' result (q, sta
         (subst (λ o. Output Answers read_line p (before ++ []) o) (append-nil all) (completes [] [] nil))
 
     flushed : (left : List ℕ) → GoesOut held' held'' waiting left → GoesOut held held'' all left
-    flushed left more = subst (λ x. GoesOut held held'' x left) (append-nil all) (goes_on held held' held'' all waiting [] left went (subst (λ x. GoesOut held' held'' x left) (sym (append-nil waiting)) more))
+    flushed left more = goes_further held held' held'' all waiting left went more
 
     by : (result : Result Unit ScriptFault) → Writes held' held'' waiting waiting' result → waiting' ≡ [] → RunsLines p script held held'' result
     by (Ok tt) writes empty =

@@ -72,10 +72,18 @@ abbrev pub through_text : {A : Type 0} → (A → Answer) → Result A TopologyF
 through_text answer_of (Ok told) = answer_text (answer_of told) ++ line_feed
 through_text answer_of (Err fault) = refused_text (topology_fault_text fault) ++ line_feed
 
--- a row is answered as some request asks of which this holds, or nothing is done
-abbrev pub IsRowAnswered : SiteState → (RowRequest → Type 0) → (text : List ℕ) → SiteState → (is_answered : Bool) → Type 0
-IsRowAnswered old IsAsked text new true = (asked : RowRequest) × IsAsked asked × IsRowOutput old (row_from asked) text new
-IsRowAnswered old IsAsked text new false = new ≡ old
+-- a row is answered as some request asks of which this holds
+abbrev pub IsRowAnswered : SiteState → (RowRequest → Type 0) → (text : List ℕ) → SiteState → Type 0
+IsRowAnswered old IsAsked text new = (asked : RowRequest) × IsAsked asked × IsRowOutput old (row_from asked) text new
+
+-- a row is answered, and its text stands behind what waited
+abbrev pub IsRowBehind : SiteState → Request → (waiting waiting' : List ℕ) → SiteState → Type 0
+IsRowBehind old request waiting waiting' new = (text : List ℕ) × IsRowOutput old request text new × (waiting' ≡ waiting ++ text)
+
+-- a row is answered as some request asks of which this holds, and its text stands behind what waited; or nothing is done
+abbrev pub IsRowTold : SiteState → (RowRequest → Type 0) → (waiting waiting' : List ℕ) → SiteState → (is_answered : Bool) → Type 0
+IsRowTold old IsAsked waiting waiting' new true = (text : List ℕ) × IsRowAnswered old IsAsked text new × (waiting' ≡ waiting ++ text)
+IsRowTold old IsAsked waiting waiting' new false = (new ≡ old) × (waiting' ≡ waiting)
 
 -- a line is answered, and its text is written behind what waited. Where a document finds no memory, all that waited is
 -- written, and nothing more

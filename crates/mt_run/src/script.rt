@@ -1,5 +1,5 @@
 //! Running a script: a line is read, asked of the core, and its answer written, one after the other.
-ghost use Rattle.std.specs.Prelude.{ℕ, List};
+ghost use Rattle.std.specs.Prelude.{ℕ, ◌+◌, ◌≤◌, List, length};
 ghost use Rattle.mt_model.specs.declared.entries.Scope.{Scope};
 ghost use Rattle.mt_plain.specs.Output.{told};
 ghost use Rattle.mt_plain.specs.Plain.{Plain};
@@ -15,11 +15,14 @@ use crate::asking::{
 };
 use crate::rows::{row_line_output, row_output};
 use mt_cache::CachedCore;
-use mt_io::{ScriptFault, Waiting, flush, put_document, put_line, read_script};
+use mt_io::{
+    LONGEST_LINE, ROOM, ScriptFault, Waiting, flush, make_room, put_document, put_line, read_script,
+};
 use mt_script::{Line, LineText, Request, first_line, read_line, write_refusal};
 use mt_watch::Asks;
 use std::alloc::Global;
 use std::io::{Read, Write};
+use std::mem::forget;
 
 /// What a line of a script adds to the output.
 #[derive(Debug, Drop)]
@@ -150,8 +153,8 @@ fn run_other<W: Write, A: Asks>(
     }
 }
 
-/// Answers a line of a script, as `run_other` does. A line that asks for a row takes a short way: what other lines need is
-/// larger by far.
+/// Answers a line of a script, as `run_other` does, where a line of output has room. A line that asks for a row takes a short
+/// way, and its answer is written where it waits: what other lines need is larger by far.
 fn run_line<W: Write, A: Asks>(
     core: &mut CachedCore,
     watchers: &A,
@@ -160,11 +163,12 @@ fn run_line<W: Write, A: Asks>(
     line: &[u8],
     text: &mut LineText,
 ) -> Result<(), ScriptFault>
+    requires room { length waiting.old.items + LONGEST_LINE ≤ ROOM }
     ensures { (p : Plain) → SiteStands p (A.scopes watchers.now) core.old
         → RunsLine (A.scopes watchers.now) p line.now core.new (W.contents writer.old) (W.contents writer.new) waiting.old.items waiting.new.items result }
 {
-    if row_line_output(core, line, text) {
-        return put_line(waiting, writer, text);
+    if row_line_output(core, line, waiting) {
+        return Ok(());
     }
     run_other(core, watchers, waiting, writer, line, text)
 }
@@ -182,6 +186,7 @@ fn run_lines<W: Write, A: Asks>(
     let mut text = LineText::new();
     let mut rest = script;
     while let Some((line, after)) = first_line(rest) {
+        make_room(&mut waiting, writer)?;
         run_line(core, watchers, &mut waiting, writer, line, &mut text)?;
         rest = after;
     }
@@ -192,7 +197,8 @@ fn run_lines<W: Write, A: Asks>(
 /// of its lines that isn't silent. It begins with a topology without keyspaces, and ends with the last line. An event that
 /// finds no memory is answered `refused F0 Memory`; a fault ends the run, and `ScriptFault` says what each leaves written.
 /// Where a document finds no memory, the lines before it are answered and the run ends as `Memory`. An event that asks,
-/// as `create` and a step that refreshes a primary do, asks these watchers.
+/// as `create` and a step that refreshes a primary do, asks these watchers. What the run made stays in memory, for a program
+/// that ends behind it: one that runs many scripts keeps what each of them made.
 pub fn run_script<R: Read, W: Write, A: Asks>(
     alloc: Global,
     reader: &mut R,
@@ -203,5 +209,8 @@ pub fn run_script<R: Read, W: Write, A: Asks>(
 {
     let script = read_script(alloc, reader)?;
     let mut core = CachedCore::new(alloc);
-    run_lines(&mut core, watchers, &script, writer)
+    let end = run_lines(&mut core, watchers, &script, writer);
+    // The program ends behind a run: nothing is won by freeing row by row.
+    forget(core);
+    end
 }

@@ -1,3 +1,4 @@
+mod AllLemmas
 pub mod CutLemmas
 pub mod LineLemmas
 pub mod ManyWordsLemmas

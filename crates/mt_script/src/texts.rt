@@ -1,5 +1,5 @@
 //! The texts of answers.
-ghost use Rattle.std.specs.Prelude.{◌≡◌, ◌+◌, ◌<◌, ◌++◌, Ok, codes, length};
+ghost use Rattle.std.specs.Prelude.{◌≡◌, ◌+◌, ◌<◌, ◌≤◌, ◌++◌, Ok, codes, length};
 ghost use Rattle.mt_plain.specs.Numbers.{number_text};
 ghost use Rattle.mt_plain.specs.Drive.{stopped};
 ghost use Rattle.mt_plain.specs.Events.{advanced, done, refused};
@@ -22,15 +22,23 @@ use mt_stream::Advanced;
 /// The text of a line of output, with its line feed.
 pub type LineText = ArrayVec<u8, LONGEST_LINE>;
 
+/// Adds a line of the two texts, one behind the other.
+fn put_line<const N: usize>(text: &mut ArrayVec<u8, N>, first: &[u8], second: &[u8])
+    requires { length text.old.items + (length first.now + length second.now) < N }
+    ensures { text.new.items ≡ text.old.items ++ first.now ++ second.now ++ line_feed }
+{
+    let _fits = text.try_extend_from_slice(first);
+    let _fits = text.try_extend_from_slice(second);
+    text.push(b'\n');
+}
+
 /// Writes a line of the two texts, one behind the other, in place of the text that was there.
 fn write_line(text: &mut LineText, first: &[u8], second: &[u8])
     requires { length first.now + length second.now < LONGEST_LINE }
     ensures { text.new.items ≡ first.now ++ second.now ++ line_feed }
 {
     text.clear();
-    let _fits = text.try_extend_from_slice(first);
-    let _fits = text.try_extend_from_slice(second);
-    text.push(b'\n');
+    put_line(text, first, second);
 }
 
 /// How many rows an advance copied.
@@ -115,33 +123,37 @@ pub fn write_refusal(text: &mut LineText, refusal: LineRefusal)
     write_line(text, b"refused ", why.as_bytes());
 }
 
-/// Writes the line that tells that a row is written, in place of the text that was there.
-pub fn write_written(text: &mut LineText)
-    ensures { text.new.items ≡ answer_text done ++ line_feed }
+/// Adds the line that tells that a row is written.
+pub fn put_written<const N: usize>(text: &mut ArrayVec<u8, N>)
+    requires room { length text.old.items + LONGEST_LINE ≤ N }
+    ensures { text.new.items ≡ text.old.items ++ answer_text done ++ line_feed }
 {
-    write_line(text, b"ok", b"");
+    put_line(text, b"ok", b"");
 }
 
-/// Writes the line that tells of a row that was read, or that there is none, in place of the text that was there.
-pub fn write_row(text: &mut LineText, row: &Option<Value>)
-    ensures { text.new.items ≡ answer_text (answer_from (Ok (reply.Row row.now))) ++ line_feed }
+/// Adds the line that tells of a row that was read, or that there is none.
+pub fn put_row<const N: usize>(text: &mut ArrayVec<u8, N>, row: &Option<Value>)
+    requires room { length text.old.items + LONGEST_LINE ≤ N }
+    ensures { text.new.items ≡ text.old.items ++ answer_text (answer_from (Ok (reply.Row row.now))) ++ line_feed }
 {
     match row {
-        None => write_line(text, b"none", b""),
-        Some(value) => write_line(text, b"row ", value),
+        None => put_line(text, b"none", b""),
+        Some(value) => put_line(text, b"row ", value),
     }
 }
 
-/// Writes the line that tells why a row is refused, in place of the text that was there.
-pub fn write_row_refused(text: &mut LineText, refusal: &Refusal)
-    ensures { text.new.items ≡ answer_text (refused (refusal_from refusal.now)) ++ line_feed }
+/// Adds the line that tells why a row is refused.
+pub fn put_row_refused<const N: usize>(text: &mut ArrayVec<u8, N>, refusal: &Refusal)
+    requires room { length text.old.items + LONGEST_LINE ≤ N }
+    ensures { text.new.items ≡ text.old.items ++ answer_text (refused (refusal_from refusal.now)) ++ line_feed }
 {
-    write_line(text, b"refused ", refusal.as_str().as_bytes());
+    put_line(text, b"refused ", refusal.as_str().as_bytes());
 }
 
-/// Writes the line that tells why a look-up is refused, in place of the text that was there.
-pub fn write_look_up(text: &mut LineText, fault: TopologyFault)
-    ensures { text.new.items ≡ refused_text (topology_fault_text fault) ++ line_feed }
+/// Adds the line that tells why a look-up is refused.
+pub fn put_look_up<const N: usize>(text: &mut ArrayVec<u8, N>, fault: TopologyFault)
+    requires room { length text.old.items + LONGEST_LINE ≤ N }
+    ensures { text.new.items ≡ text.old.items ++ refused_text (topology_fault_text fault) ++ line_feed }
 {
-    write_line(text, b"refused ", fault.as_str().as_bytes());
+    put_line(text, b"refused ", fault.as_str().as_bytes());
 }

@@ -1,28 +1,33 @@
--- The answer is that of the core where the name leads.
-use Rattle.std.proofs.Common.{ℕ, List, Some, subst, sym}
+-- The answer is that of the core where the name is kept to lead.
+use Rattle.std.proofs.Common.{ℕ, List, ◌++◌, ◌∙◌, Some, Ok, append_assoc, refl, subst, sym}
+use Rattle.std.specs.Prelude.{⊤}
 use Rattle.mt_model.specs.Topology.{resolution}
 use Rattle.mt_names.specs.declared.types.TabletType.TheVariants.{Primary}
 use Rattle.mt_plain.specs.Events as plain
-use Rattle.mt_plain.specs.Output.{asked_there}
+use Rattle.mt_plain.specs.Output.{answer_text, asked_there, line_feed}
 use Rattle.mt_plain.specs.Script.{read_through}
-use Rattle.mt_script.specs.Rows.{IsReadOf}
-use Rattle.mt_site_state.specs.Ways.{SiteStands}
+use Rattle.mt_site_state.specs.Ways.{SiteSteps}
 use Rattle.mt_site.specs.ByHand.{read_from}
+use Rattle.mt_site.specs.Through.{IsThrough}
 use Rattle.mt_cache.specs.Names.{plain_key}
-use Rattle.mt_run.specs.Runs.{IsRowAnswered, IsRowOutput, Tells}
+use Rattle.mt_cache.proofs.NameLemmas.{is_read}
+use Rattle.mt_run.specs.Runs.{IsRowOutput, Tells}
 use Rattle.mt_run.proofs.RowAnswerLemmas.{named_read}
 use Rattle.mt_run.proofs.RunLemmas.{through_told}
 use Rattle.mt_run.proofs.rows.get_named.Goals as goal
 
 pub returns-in-Some : goal.returns-in-Some
 returns-in-Some c =
-    let key = plain_key c.args.name.now in
+    let name = c.args.name.now in
+    let key = plain_key name in
     let ask : (keyspace table : List ℕ) → plain.Event = λ keyspace table. plain.read keyspace table c.args.number Primary in
     let old = c.args.core.now in
-    let new = c.read_named.new.self in
-    let output : IsRowOutput old (read_through key c.args.number Primary) c.tell_read.new.text.items old
+    let told = c.read_placed-told.result in
+    let text = answer_text (read_from told) ++ line_feed in
+    let output : IsRowOutput old (read_through key c.args.number Primary) text old
     = λ scopes p stands.
-    subst (λ r. Tells scopes p (asked_there r ask) (Some c.tell_read.new.text.items) old) (c.read_named.ensures.served p scopes stands)
-    (through_told _ scopes p old old (resolution old.core.topology key Primary) ask read_from c.in-Some.told c.tell_read.new.text.items
-    c.tell_read.ensures (c.in-Some.ensures.told.steps scopes) (λ stays. stands) stands) in
-    named_read old new c.tell_read.new.text.items c.args.name.now c.args.number c.read_named.ensures.same c.in-Some.ensures.name output
+    let steps = subst (λ s. SiteSteps scopes s (ask c.in-Some.place.now.target.keyspace c.in-Some.place.now.target.table) (read_from told) s) c.core.ensures (c.read_placed-told.ensures.steps scopes) in
+    let through = subst (λ r. IsThrough r ⊤ (λ target answer. SiteSteps scopes old (ask target.keyspace target.table) (read_from answer) old) (Ok told)) (sym c.in-Some.ensures.leads.leads) steps in
+    subst (λ r. Tells scopes p (asked_there r ask) (Some text) old) (c.kept.ensures.served p scopes stands)
+    (through_told _ scopes p old old (resolution old.core.topology key Primary) ask read_from (Ok told) text refl through (λ stays. stands) stands) in
+    (text, named_read old old text name c.args.number refl (is_read name c.in-Some.ensures.leads.is_name) output, c.tell_row.ensures ∙ append_assoc c.args.waiting.now.items (answer_text (read_from told)) line_feed)

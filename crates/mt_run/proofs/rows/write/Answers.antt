@@ -16,4 +16,4 @@ returns c = λ scopes p stands.
     let new = c.write_through-told.new.self in
     subst (λ r. Tells scopes p (asked_there r ask) (Some c.tell_written.new.text.items) new) (c.write_through-told.ensures.served p scopes stands)
     (through_told _ scopes p c.args.core.now new (resolution c.args.core.now.core.topology c.args.name.now Primary) ask written_from c.write_through-told.result c.tell_written.new.text.items
-    c.tell_written.ensures (c.write_through-told.ensures.told.steps scopes) (λ same. subst (SiteStands p scopes) (sym same) stands) stands)
+    (rw c.clear.ensures at c.tell_written.ensures) (c.write_through-told.ensures.told.steps scopes) (λ same. subst (SiteStands p scopes) (sym same) stands) stands)

@@ -1,22 +1,23 @@
--- What a row tells goes behind what waits.
-use Rattle.std.proofs.Common.{◌++◌, Some, Ok, subst, sym}
-use Rattle.mt_io.specs.Bytes.{Writes}
+-- What a row tells stands behind what waits.
+use Rattle.std.proofs.Common.{Some, Ok, subst, sym}
 use Rattle.mt_script.specs.Requests.{row_from}
 use Rattle.mt_site_state.specs.Ways.{SiteStands}
-use Rattle.mt_run.proofs.RowAnswerLemmas.{nothing_answered, row_answered}
-use Rattle.mt_run.proofs.RunLemmas.{line_tells, line_written}
+use Rattle.mt_run.specs.Runs.{RunsLine}
+use Rattle.mt_run.proofs.RowAnswerLemmas.{nothing_told, row_told}
+use Rattle.mt_run.proofs.RunLemmas.{line_tells, line_waits}
 use Rattle.mt_run.proofs.script.run_line.Goals as goal
 
 pub returns-then-row_line_output : goal.returns-then-row_line_output
 returns-then-row_line_output g c = λ p stands.
     let scopes = g.A.Asks.scopes c.args.watchers.now in
-    let text = c.row_line_output.new.text.items in
-    let answered = row_answered _ _ _ _ c.row_line_output.result c.if-row_line_output.true c.row_line_output.ensures in
-    line_written scopes p c.args.line.now c.row_line_output.new.core _ _ c.args.waiting.now.items c.put_line.new.waiting.items (Some text) c.put_line.result
-    (line_tells scopes p c.args.line.now (Some (Ok (row_from answered.0))) (Some text) c.row_line_output.new.core answered.1 (answered.2 scopes p stands))
-    (subst (λ line. Writes (g.W.Write.contents c.args.writer.now) (g.W.Write.contents c.put_line.new.writer) (c.args.waiting.now.items ++ line) c.put_line.new.waiting.items c.put_line.result) c.deref.ensures.0 c.put_line.ensures)
+    let told = row_told _ _ _ _ _ c.row_line_output.result c.if-row_line_output.true c.row_line_output.ensures in
+    let asked = told.1.0 in
+    line_waits scopes p c.args.line.now c.row_line_output.new.core _ c.args.waiting.now.items c.row_line_output.new.waiting.items told.0
+    (line_tells scopes p c.args.line.now (Some (Ok (row_from asked))) (Some told.0) c.row_line_output.new.core told.1.1 (told.1.2 scopes p stands)) told.2
 
 pub returns : goal.returns
 returns g c = λ p stands.
-    let same = nothing_answered _ _ _ _ c.row_line_output.result c.if-row_line_output.false c.row_line_output.ensures in
-    c.run_other.ensures p (subst (SiteStands p (g.A.Asks.scopes c.args.watchers.now)) (sym same) stands)
+    let scopes = g.A.Asks.scopes c.args.watchers.now in
+    let same = nothing_told _ _ _ _ _ c.row_line_output.result c.if-row_line_output.false c.row_line_output.ensures in
+    subst (λ waiting. RunsLine scopes p c.args.line.now c.run_other.new.core (g.W.Write.contents c.args.writer.now) (g.W.Write.contents c.run_other.new.writer) waiting c.run_other.new.waiting.items c.run_other.result) same.1
+    (c.run_other.ensures p (subst (SiteStands p scopes) (sym same.0) stands))
