@@ -1,10 +1,10 @@
 #!/usr/bin/env python3
 """Measures the whole program on seven inputs of about 1 MB each, and on request beside another program that prints the same.
 
-bench/whole.py [--beside OTHER] [--instructions] [--keep FOLDER] [PROGRAM]: PROGRAM is crates/mt_program/out/mt_program where none is named.
+bench/whole.py [--beside OTHER] [--instructions | --memory | --faults] [--keep FOLDER] [PROGRAM]: PROGRAM is crates/mt_program/out/mt_program where none is named.
 
 Of each input the least processor time of five runs counts, less that of an empty script; `--instructions` counts instructions instead, by
-one run under `valgrind --tool=callgrind`. With `--beside` both outputs have to be equal, byte for byte, and the ratio is told.
+one run under `valgrind --tool=callgrind`; `--memory` tells the most memory of one run, and `--faults` its page faults. With `--beside` both outputs have to be equal, byte for byte, and the ratio is told.
 `--keep` leaves the inputs in a folder. The seeds are fixed, so that each run measures the same inputs.
 
 client operations: rows of 16 tables in two keyspaces, inserted, updated, appended to, deleted and got by names alone.
@@ -251,17 +251,47 @@ def instructions(program, words, text):
     return int(re.search(rb"Collected : (\d+)", done.stderr).group(1))
 
 
+def memory(program, words, text):
+    """The most memory of one run in kilobytes: what the kernel last says of it before it ends. Memory that is given back counts."""
+    most = 0
+    with tempfile.TemporaryFile() as given:
+        given.write(text)
+        given.seek(0)
+        run = subprocess.Popen([program, *words], stdin=given, stdout=subprocess.DEVNULL)
+        while run.poll() is None:
+            found = re.search(r"VmHWM:\s+(\d+)", pathlib.Path(f"/proc/{run.pid}/status").read_text())
+            most = max(most, int(found.group(1)) if found else 0)
+    return most
+
+
+def faults(program, words, text):
+    """The page faults of one run."""
+    before = resource.getrusage(resource.RUSAGE_CHILDREN).ru_minflt
+    subprocess.run([program, *words], input=text, stdout=subprocess.DEVNULL, check=True)
+    return resource.getrusage(resource.RUSAGE_CHILDREN).ru_minflt - before
+
+
+# How each is measured, its unit and scale, and whether that of an empty script is taken off.
+MEASURES = {
+    "instructions": (instructions, "million instructions", 1e-6, True),
+    "memory": (memory, "MB", 1e-3, False),
+    "faults": (faults, "page faults", 1, False),
+}
+
+
 def main():
     top = pathlib.Path(__file__).resolve().parent.parent
     words = argparse.ArgumentParser(description="Measures the whole program on seven inputs.")
     words.add_argument("program", nargs="?", default=str(top / "crates/mt_program/out/mt_program"))
     words.add_argument("--beside")
-    words.add_argument("--instructions", action="store_true")
+    kind = words.add_mutually_exclusive_group()
+    for name in MEASURES:
+        kind.add_argument(f"--{name}", dest="kind", action="store_const", const=name)
     words.add_argument("--keep", type=pathlib.Path)
     asked = words.parse_args()
-    measure, unit, scale = (instructions, "million instructions", 1e-6) if asked.instructions else (seconds, "ms", 1e3)
+    measure, unit, scale, is_more = MEASURES.get(asked.kind, (seconds, "ms", 1e3, True))
     programs = [asked.program] + ([asked.beside] if asked.beside else [])
-    empty = [measure(program, SCRIPT, b"") for program in programs]
+    empty = [measure(program, SCRIPT, b"") if is_more else 0 for program in programs]
     for title, command, make in INPUTS:
         text = make(random.Random(7))
         if asked.keep:
