@@ -5,8 +5,10 @@ pub mod ListLemmas
 pub mod PlacesLemmas
 pub mod PutLemmas
 pub mod ReadLemmas
+pub mod ReverseLemmas
 pub mod RouteLemmas
 pub mod RulesLemmas
 pub mod SortLemmas
+pub mod StandingLemmas
 pub mod TextLemmas
 pub mod WrittenLemmas

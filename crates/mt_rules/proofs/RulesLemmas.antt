@@ -1,6 +1,6 @@
 -- A place more, at a key that has none, and one less; how many there are.
-use Rattle.std.proofs.Common.{◌≡◌, ◌≤◌, ◌==◌, Bool, arith, true, false, length, Ok, [], ◌∷◌, ◌++◌, Option, None, Some, refl, sym, ap, ◌∙◌}
-use Rattle.std.specs.Map.{keys_of, lookup, remove_entry}
+use Rattle.std.proofs.Common.{◌≡◌, ◌≤◌, ◌==◌, Bool, arith, true, false, length, Ok, [], ◌∷◌, ◌++◌, None, Some, refl, sym, ap}
+use Rattle.std.specs.Map.{lookup, remove_entry}
 use Rattle.mt_names.specs.declared.keys.RuleKey.{RuleKey}
 use Rattle.mt_names.specs.declared.keys.RuleTarget.{RuleTarget}
 use Rattle.mt_names.specs.Same.{same_key}

@@ -6,6 +6,7 @@ mod member;
 mod places;
 mod read;
 mod rules;
+mod standing;
 mod text;
 mod write;
 

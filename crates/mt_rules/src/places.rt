@@ -1,5 +1,5 @@
 //! Places of rule keys, linked in the order in which they were made: one is dropped without moving those behind it.
-ghost use Rattle.std.specs.Prelude.{◌≡◌, ◌<◌, ◌++◌, ◌∷◌, [], ◌^◌, ◌-◌, false, true, length, is_some, option_copied, OnOk, OnErr};
+ghost use Rattle.std.specs.Prelude.{◌≡◌, ◌<◌, ◌++◌, ◌∷◌, [], ◌^◌, ◌-◌, false, true, length, reverse, is_some, option_copied, OnOk, OnErr};
 ghost use Rattle.std.specs.List.{IsDistinct};
 ghost use Rattle.std.specs.Map.{keys_of, lookup, remove_entry, set_value};
 ghost use Rattle.std.specs.Option.{option_map_or};
@@ -13,7 +13,7 @@ use std::alloc::{AllocError, Global};
 use std::marker::Model;
 use std::mem;
 
-/// The links of the places, the first made first, none of which is ever pushed out.
+/// The links of the places, the last made first, none of which is ever pushed out.
 pub type Linked = LruCache<RuleKey, Option<RuleTarget>>;
 
 /// Places of rule keys, each with a rule or without one. The first that is made takes the memory of the links.
@@ -24,13 +24,13 @@ pub struct Places {
 }
 
 impl Model for Places {
-    ghost use Rattle.std.specs.Prelude.{◌≡◌, ◌^◌, ◌-◌, [], IfSome};
+    ghost use Rattle.std.specs.Prelude.{◌≡◌, ◌^◌, ◌-◌, [], reverse, IfSome};
     ghost use Rattle.std.specs.Option.{option_map_or};
     ghost use Rattle.mt_model.specs.Topology.{Rules};
 
     ghost Value = { Rules };
 
-    ghost view = { λ places. option_map_or (λ linked. linked.entries) places.linked [] };
+    ghost view = { λ places. option_map_or (λ linked. reverse linked.entries) places.linked [] };
 
     ghost invariant = { λ places. IfSome places.linked (λ linked. linked.cap ≡ 2 ^ 64 - 1) };
 }
@@ -46,9 +46,9 @@ impl Places {
         }
     }
 
-    /// The links of the places, if one was ever made.
+    /// The links of the places, the last made first, if one was ever made.
     pub fn linked(&self) -> Option<&Linked>
-        ensures { option_map_or (λ linked. linked.now.entries) result [] ≡ self.now }
+        ensures { option_map_or (λ linked. reverse linked.now.entries) result [] ≡ self.now }
     {
         self.linked.as_ref()
     }
@@ -68,7 +68,9 @@ impl Places {
     pub fn get(&self, key: &RuleKey) -> Option<&Option<RuleTarget>>
         ensures { option_copied result ≡ lookup (same_key key.now) self.now }
     {
-        self.linked()?.peek(key)
+        let linked = self.linked()?;
+        let _distinct = linked.len();
+        linked.peek(key)
     }
 
     /// Whether a key has a place.
@@ -95,13 +97,15 @@ impl Places {
         }
     }
 
-    /// Sets what the place of a key has. It takes no memory.
-    pub fn put(&mut self, key: &RuleKey, rule: Option<RuleTarget>)
+    /// Sets what the place of a key has, and answers whether it had a rule. It takes no memory.
+    pub fn put(&mut self, key: &RuleKey, rule: Option<RuleTarget>) -> bool
         requires { has_rule_place self.old key.now ≡ true }
-        ensures { self.new ≡ set_value (same_key key.now) self.old rule }
+        ensures stood { result ≡ is_some (rule_at self.old key.now) }
+        ensures after { self.new ≡ set_value (same_key key.now) self.old rule }
     {
-        if let Some(linked) = &mut self.linked {
-            write(linked, key, rule);
+        match &mut self.linked {
+            Some(linked) => set_place(linked, key, rule),
+            None => false,
         }
     }
 
@@ -112,17 +116,19 @@ impl Places {
         ensures after { self.new ≡ set_value (same_key key.now) self.old rule }
     {
         match &mut self.linked {
-            Some(linked) => exchange(linked, key, rule),
+            Some(linked) => replace_place(linked, key, rule),
             None => None,
         }
     }
 
-    /// Drops the place of a key, if it has one. It takes no memory, and moves no other place.
-    pub fn remove(&mut self, key: &RuleKey)
-        ensures { self.new ≡ remove_entry (same_key key.now) self.old }
+    /// Drops the place of a key, if it has one, and answers whether it had a rule. It takes no memory, and moves no other place.
+    pub fn remove(&mut self, key: &RuleKey) -> bool
+        ensures stood { result ≡ is_some (rule_at self.old key.now) }
+        ensures after { self.new ≡ remove_entry (same_key key.now) self.old }
     {
-        if let Some(linked) = &mut self.linked {
-            linked.pop(key);
+        match &mut self.linked {
+            Some(linked) => drop_place(linked, key),
+            None => false,
         }
     }
 }
@@ -130,33 +136,69 @@ impl Places {
 /// Puts a key that isn't there behind the others.
 fn put_last(linked: &mut Linked, key: &RuleKey, rule: Option<RuleTarget>) -> Result<(), AllocError>
     requires cap { linked.old.cap ≡ 2 ^ 64 - 1 }
-    requires lacks { has_rule_place linked.old.entries key.now ≡ false }
-    ensures ok { OnOk result (linked.new.entries ≡ linked.old.entries ++ (key.now, rule) ∷ []) }
-    ensures err { OnErr result (linked.new.entries ≡ linked.old.entries) }
+    requires lacks { has_rule_place (reverse linked.old.entries) key.now ≡ false }
+    ensures ok { OnOk result (reverse linked.new.entries ≡ reverse linked.old.entries ++ (key.now, rule) ∷ []) }
+    ensures err { OnErr result (reverse linked.new.entries ≡ reverse linked.old.entries) }
     ensures cap { linked.new.cap ≡ 2 ^ 64 - 1 }
 {
     let _fewer_than_the_cap = linked.len();
     match linked.put(key.copied(), rule) {
-        Ok(_) => {
-            linked.demote(key);
-            Ok(())
-        }
+        Ok(_) => Ok(()),
         Err(_) => Err(AllocError),
     }
 }
 
-/// Sets what the place of a key has.
-fn write(linked: &mut Linked, key: &RuleKey, rule: Option<RuleTarget>)
-    requires { has_rule_place linked.old.entries key.now ≡ true }
-    ensures entries { linked.new.entries ≡ set_value (same_key key.now) linked.old.entries rule }
+/// Sets what the place of a key has, and answers whether it had a rule.
+fn set_place(linked: &mut Linked, key: &RuleKey, rule: Option<RuleTarget>) -> bool
+    requires { has_rule_place (reverse linked.old.entries) key.now ≡ true }
+    ensures stood { result ≡ is_some (rule_at (reverse linked.old.entries) key.now) }
+    ensures places { reverse linked.new.entries ≡ set_value (same_key key.now) (reverse linked.old.entries) rule }
     ensures cap { linked.new.cap ≡ linked.old.cap }
 {
-    if let Some(place) = linked.peek_mut(key) {
-        *place = rule;
-    }
+    let _distinct = linked.len();
+    write(linked, key, rule)
 }
 
 /// Sets what the place of a key has, and answers what it had.
+fn replace_place(linked: &mut Linked, key: &RuleKey, rule: Option<RuleTarget>) -> Option<RuleTarget>
+    requires { has_rule_place (reverse linked.old.entries) key.now ≡ true }
+    ensures before { result ≡ rule_at (reverse linked.old.entries) key.now }
+    ensures places { reverse linked.new.entries ≡ set_value (same_key key.now) (reverse linked.old.entries) rule }
+    ensures cap { linked.new.cap ≡ linked.old.cap }
+{
+    let _distinct = linked.len();
+    exchange(linked, key, rule)
+}
+
+/// Drops the place of a key, if it has one, and answers whether it had a rule.
+fn drop_place(linked: &mut Linked, key: &RuleKey) -> bool
+    ensures stood { result ≡ is_some (rule_at (reverse linked.old.entries) key.now) }
+    ensures places { reverse linked.new.entries ≡ remove_entry (same_key key.now) (reverse linked.old.entries) }
+    ensures cap { linked.new.cap ≡ linked.old.cap }
+{
+    let _distinct = linked.len();
+    let rule = linked.pop(key).unwrap_or(None);
+    rule.is_some()
+}
+
+/// Sets the value of an entry, and answers whether it had a rule.
+fn write(linked: &mut Linked, key: &RuleKey, rule: Option<RuleTarget>) -> bool
+    requires { has_rule_place linked.old.entries key.now ≡ true }
+    ensures stood { result ≡ is_some (rule_at linked.old.entries key.now) }
+    ensures entries { linked.new.entries ≡ set_value (same_key key.now) linked.old.entries rule }
+    ensures cap { linked.new.cap ≡ linked.old.cap }
+{
+    match linked.peek_mut(key) {
+        Some(place) => {
+            let stood = place.is_some();
+            *place = rule;
+            stood
+        }
+        None => false,
+    }
+}
+
+/// Sets the value of an entry, and answers the one before.
 fn exchange(linked: &mut Linked, key: &RuleKey, rule: Option<RuleTarget>) -> Option<RuleTarget>
     requires { has_rule_place linked.old.entries key.now ≡ true }
     ensures before { result ≡ rule_at linked.old.entries key.now }

@@ -1,7 +1,7 @@
 //! The table of routing rules.
-ghost use Rattle.std.specs.Prelude.{◌≡◌, ◌≤◌, ◌<◌, ◌↔◌, ◌==◌, ◌++◌, [], true, false, length, IsTrue, IfOk, IfErr, OnOk, string_bytes, option_copied, option_map, slice_get};
+ghost use Rattle.std.specs.Prelude.{◌≡◌, ◌≤◌, ◌<◌, ◌↔◌, ◌==◌, ◌++◌, ◌∷◌, [], None, true, false, length, reverse, IsTrue, IfOk, IfErr, OnOk, OnErr, string_bytes, option_copied, option_map, slice_get};
 ghost use Rattle.std.specs.List.{IsDistinct};
-ghost use Rattle.std.specs.Map.{keys_of, set_value};
+ghost use Rattle.std.specs.Map.{keys_of, remove_entry, set_value};
 ghost use Rattle.mt_names.specs.Same.{same_key};
 ghost use Rattle.mt_model.specs.Limits.{most_rules};
 ghost use Rattle.mt_model.specs.Part.{rule_routes};
@@ -14,9 +14,10 @@ ghost use Rattle.mt_model.specs.Documents.{rules_array, rules_text};
 ghost use Rattle.mt_rules.specs.Rules.{Reserves, has_rule_place};
 
 use crate::places::{Linked, Places};
+use crate::standing::Standing;
 use crate::{RulesFault, member, read, text, write};
 use mt_model::{Entry, MAX_RULES};
-use mt_names::{RuleKey, RuleTarget};
+use mt_names::{RuleKey, RuleTarget, TableName};
 use serde_json::Value;
 use std::alloc::{AllocError, Global};
 use std::marker::Model;
@@ -26,18 +27,20 @@ use std::marker::Model;
 #[derive(Drop)]
 pub struct RoutingRules {
     places: Places,
+    standing: Standing,
 }
 
 impl Model for RoutingRules {
     ghost use Rattle.std.specs.Prelude.{◌≤◌, length};
     ghost use Rattle.mt_model.specs.Limits.{most_rules};
     ghost use Rattle.mt_model.specs.Topology.{Rules};
+    ghost use Rattle.mt_rules.specs.Standing.{IsCounted};
 
     ghost Value = { Rules };
 
     ghost view = { λ rules. rules.places };
 
-    ghost invariant = { λ rules. length rules.places ≤ most_rules };
+    ghost invariant = { λ rules. (length rules.places ≤ most_rules) × IsCounted rules.standing rules.places };
 }
 
 impl RoutingRules {
@@ -47,6 +50,7 @@ impl RoutingRules {
     {
         RoutingRules {
             places: Places::new(alloc),
+            standing: Standing::new(),
         }
     }
 
@@ -71,7 +75,8 @@ impl RoutingRules {
         if places.len() > MAX_RULES {
             return Err(RulesFault::Full);
         }
-        Ok(RoutingRules { places })
+        let standing = Standing::of(&places);
+        Ok(RoutingRules { places, standing })
     }
 
     /// The document of the rules, which `from_json` reads back: compact, `from_table` before `to_tables`, sorted by the
@@ -132,7 +137,18 @@ impl RoutingRules {
     pub fn get(&self, key: &RuleKey) -> Option<&RuleTarget>
         ensures { option_copied result ≡ rule_at self.now key.now }
     {
+        if !self.may_have_rule(&key.table) {
+            return None;
+        }
         self.places.get(key)?.as_ref()
+    }
+
+    /// Whether any key of a table may have a rule: if not, none has one. Nothing is promised if it may. It takes no memory, and
+    /// looks at no place.
+    pub fn may_have_rule(&self, table: &TableName) -> bool
+        ensures { result ≡ false → (key : RuleKey) → key.table ≡ table.now → rule_at self.now key ≡ None }
+    {
+        self.standing.may_have(table)
     }
 
     /// How many keys have a rule. It takes no memory; it looks at each place.
@@ -182,10 +198,23 @@ impl RoutingRules {
         requires room { length self.old < most_rules }
         ensures { Reserves self.old key.now result self.new }
     {
-        match self.places.add(key, None) {
+        match self.add_place(key, None) {
             Ok(()) => Ok(()),
             Err(_) => Err(RulesFault::Memory),
         }
+    }
+
+    /// Makes a place behind the others, for a key that has none. Without memory nothing changes.
+    fn add_place(&mut self, key: &RuleKey, rule: Option<RuleTarget>) -> Result<(), AllocError>
+        requires lacks { has_rule_place self.old key.now ≡ false }
+        requires room { length self.old < most_rules }
+        ensures ok { OnOk result (self.new ≡ self.old ++ (key.now, rule) ∷ []) }
+        ensures err { OnErr result (self.new ≡ self.old) }
+    {
+        let stands = rule.is_some();
+        self.places.add(key, rule)?;
+        self.standing.count(&key.table, false, stands);
+        Ok(())
     }
 
     /// Adds the rule of a document, whose key must be new. `R6 RepeatedKey`, then `R1 Full`, then `R0 Memory`.
@@ -198,7 +227,7 @@ impl RoutingRules {
         if self.is_full() {
             return Err(RulesFault::Full);
         }
-        match self.places.add(&key, Some(target)) {
+        match self.add_place(&key, Some(target)) {
             Ok(()) => Ok(()),
             Err(_) => Err(RulesFault::Memory),
         }
@@ -210,7 +239,10 @@ impl RoutingRules {
         ensures before { result ≡ rule_at self.old key.now }
         ensures after { self.new ≡ set_value (same_key key.now) self.old target }
     {
-        self.places.replace(key, target)
+        let stands = target.is_some();
+        let before = self.places.replace(key, target);
+        self.standing.count(&key.table, before.is_some(), stands);
+        before
     }
 
     /// Sets the rule of a reserved key, or takes it away. It takes no memory.
@@ -218,7 +250,9 @@ impl RoutingRules {
         requires { has_rule_place self.old key.now ≡ true }
         ensures { self.new ≡ set_value (same_key key.now) self.old target }
     {
-        self.places.put(key, target);
+        let stands = target.is_some();
+        let stood = self.places.put(key, target);
+        self.standing.count(&key.table, stood, stands);
     }
 
     /// Drops the place of a key that has no rule. Where the key has a rule nothing changes. It takes no memory.
@@ -229,19 +263,27 @@ impl RoutingRules {
             return;
         };
         if rule.is_none() {
-            self.places.remove(key);
+            self.drop_key(key);
         }
+    }
+
+    /// Drops the place of a key, with its rule if it has one. It takes no memory.
+    pub fn drop_key(&mut self, key: &RuleKey)
+        ensures { self.new ≡ remove_entry (same_key key.now) self.old }
+    {
+        let stood = self.places.remove(key);
+        self.standing.count(&key.table, stood, false);
     }
 }
 
 /// How many keys have a rule.
 fn rule_count(linked: &Linked) -> usize
     requires { length linked.now.entries ≤ most_rules }
-    ensures value { result ≡ length (rule_routes linked.now.entries) }
+    ensures value { result ≡ length (rule_routes (reverse linked.now.entries)) }
     ensures within { result ≤ most_rules }
 {
     let mut count = 0;
-    for (_, rule) in linked.iter() {
+    for (_, rule) in linked.iter().rev() {
         if rule.is_some() {
             count += 1;
         }
@@ -251,10 +293,10 @@ fn rule_count(linked: &Linked) -> usize
 
 /// The entry of a rule, by its index among the keys that have one.
 fn rule_entry(linked: &Linked, index: usize) -> Option<Entry>
-    ensures { result ≡ slice_get (rule_routes linked.now.entries) index }
+    ensures { result ≡ slice_get (rule_routes (reverse linked.now.entries)) index }
 {
     let mut before = index;
-    for (key, rule) in linked.iter() {
+    for (key, rule) in linked.iter().rev() {
         if let Some(target) = rule {
             if before == 0 {
                 return Some(Entry::Rule(key.copied(), Some(target.copied())));

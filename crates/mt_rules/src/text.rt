@@ -132,7 +132,7 @@ pub fn written_rules(alloc: Global, places: &Places) -> Result<Vec<WrittenItem>,
     let Some(linked) = places.linked() else {
         return Ok(rules);
     };
-    'places: for (key, target) in linked.iter() {
+    'places: for (key, target) in linked.iter().rev() {
         if let Some(target) = target {
             let rule = written_rule(alloc, key, target)?;
             rules.push(rule)?;

@@ -1,10 +1,15 @@
 -- There are no more than places.
-use Rattle.std.proofs.Common.{arith}
+use Rattle.std.proofs.Common.{arith, reverse}
+use Rattle.std.proofs.lemmas.List.{length-reverse}
 use Rattle.mt_rules.proofs.RouteLemmas.{routes_few}
 use Rattle.mt_rules.proofs.rules.rule_count.Goals as goal
 
 pub returns-clause-within : goal.returns-clause-within
-returns-clause-within c = omega (arith, c.loop-rule.invariant, routes_few c.args.linked.now.entries, c.requires)
+returns-clause-within c =
+    let entries = c.args.linked.now.entries in
+    omega (arith, c.loop-rule.invariant, routes_few (reverse entries), length-reverse entries, c.requires)
 
 pub overflow_add-count : goal.overflow_add-count
-overflow_add-count c = omega (arith, c.loop-rule.invariant, routes_few c.args.linked.now.entries, c.requires)
+overflow_add-count c =
+    let entries = c.args.linked.now.entries in
+    omega (arith, c.loop-rule.invariant, routes_few (reverse entries), length-reverse entries, c.requires)

@@ -1,16 +1,11 @@
 -- The key has no place; else there is one place less.
-use Rattle.std.proofs.Common.{rules, ◌≡◌, ◌≤◌, None, ap, length, arith, ◌∙◌}
+use Rattle.std.proofs.Common.{rules, ◌≡◌, None}
 use Rattle.std.specs.Map.{lookup}
 use Rattle.mt_names.specs.Same.{same_key}
-use Rattle.mt_model.specs.Limits.{most_rules}
-use Rattle.mt_rules.proofs.RulesLemmas.{length-remove_entry, released-none}
+use Rattle.mt_rules.proofs.RulesLemmas.{released-none}
 use Rattle.mt_rules.proofs.rules.RoutingRules.release_key.Goals as goal
 
 pub returns-in_default : goal.returns-in_default
 returns-in_default c =
     let none : lookup (same_key c.args.key.now) c.args.self.now ≡ None = search rules in
     released-none c.args.self.now c.args.key.now none
-
-pub invariant_of-self : goal.invariant_of-self
-invariant_of-self c =
-    omega (arith, ap length c.remove.ensures, length-remove_entry (same_key c.args.key.now) c.self.inside.places, c.self.invariant)

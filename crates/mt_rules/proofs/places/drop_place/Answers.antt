@@ -1,0 +1,16 @@
+-- What is dropped from the links is dropped from the places.
+use Rattle.std.proofs.Common.{None, is_some, reverse, sym, ap, ◌∙◌}
+use Rattle.std.specs.Option.{unwrap_or}
+use Rattle.mt_names.specs.Same.{same_key}
+use Rattle.mt_names.proofs.SameLemmas.{same_key_decides}
+use Rattle.mt_rules.proofs.ReverseLemmas.{lookup-reverse, remove_entry-reverse}
+use Rattle.mt_rules.proofs.places.drop_place.Goals as goal
+
+pub returns-clause-places : goal.returns-clause-places
+returns-clause-places c =
+    ap (λ l. reverse l.entries) c.pop.ensures.entries ∙ sym (remove_entry-reverse same_key same_key_decides c.args.linked.now.entries c.args.key.now c.len-distinct.ensures.valid.0)
+
+pub returns-clause-stood : goal.returns-clause-stood
+returns-clause-stood c =
+    c.is_some.ensures
+    ∙ ap is_some (c.unwrap_or-rule.ensures ∙ ap (λ found. unwrap_or found None) (c.pop.ensures.value ∙ sym (lookup-reverse same_key same_key_decides c.args.linked.now.entries c.args.key.now c.len-distinct.ensures.valid.0)))

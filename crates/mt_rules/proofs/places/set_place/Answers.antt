@@ -1,0 +1,18 @@
+-- What is set among the links is set among the places.
+use Rattle.std.proofs.Common.{None, is_some, reverse, sym, ap, ◌∙◌}
+use Rattle.std.specs.Option.{unwrap_or}
+use Rattle.mt_names.specs.Same.{same_key}
+use Rattle.mt_names.proofs.SameLemmas.{same_key_decides}
+use Rattle.mt_rules.proofs.ReverseLemmas.{lookup-reverse, set_value-reverse}
+use Rattle.mt_rules.proofs.places.set_place.Goals as goal
+
+pub write-requires : goal.write-requires
+write-requires c = ap is_some (sym (lookup-reverse same_key same_key_decides c.args.linked.now.entries c.args.key.now c.len-distinct.ensures.valid.0)) ∙ c.requires
+
+pub returns-clause-places : goal.returns-clause-places
+returns-clause-places c =
+    ap reverse c.write.ensures.entries ∙ sym (set_value-reverse same_key same_key_decides c.args.linked.now.entries c.args.key.now c.args.rule c.len-distinct.ensures.valid.0)
+
+pub returns-clause-stood : goal.returns-clause-stood
+returns-clause-stood c =
+    c.write.ensures.stood ∙ ap (λ found. is_some (unwrap_or found None)) (sym (lookup-reverse same_key same_key_decides c.args.linked.now.entries c.args.key.now c.len-distinct.ensures.valid.0))
