@@ -1,7 +1,7 @@
 //! Tables that are marked or not: the denied tables, and those that are there.
 ghost use Rattle.std.specs.Prelude.{◌≡◌, ◌≤◌, [], true, length, IfOk, IfErr};
 ghost use Rattle.std.specs.List.{IsDistinct};
-ghost use Rattle.std.specs.Map.{keys_of, set_value};
+ghost use Rattle.std.specs.Map.{keys_of, remove_entry, set_value};
 ghost use Rattle.mt_names.specs.Names.{same_text};
 ghost use Rattle.mt_model.specs.Limits.{most_tables_in_keyspace};
 ghost use Rattle.mt_model.specs.Topology.{is_marked, without_mark_place};
@@ -135,6 +135,13 @@ impl TableMarks {
         if !self.contains(table) {
             self.places.shift_remove(table);
         }
+    }
+
+    /// Drops the place of a table, with its mark. It takes no memory.
+    pub fn drop_place(&mut self, table: &TableName)
+        ensures { self.new ≡ remove_entry (same_text table.now) self.old }
+    {
+        self.places.shift_remove(table);
     }
 
     /// The marked tables in the order of their bytes, each once. `L0 Memory`.

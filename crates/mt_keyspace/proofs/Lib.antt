@@ -1,4 +1,5 @@
 pub mod DifferLemmas
+pub mod DropLemmas
 pub mod EditLemmas
 pub mod GatherLemmas
 pub mod InvariantLemmas

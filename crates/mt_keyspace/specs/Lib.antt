@@ -1,3 +1,4 @@
+pub mod Drops
 pub mod Edits
 pub mod Keyspaces
 pub mod Load

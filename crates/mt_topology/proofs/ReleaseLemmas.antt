@@ -97,11 +97,11 @@ marks_turned marks a b =
 -- ---- two keyspaces changed, or one twice
 
 -- the first of the name changed
-abbrev changed : (KeyspaceState → KeyspaceState) → Keyspaces → List ℕ → Keyspaces
+abbrev pub changed : (KeyspaceState → KeyspaceState) → Keyspaces → List ℕ → Keyspaces
 changed change [] name = []
 changed change (k ∷ ks) name = cond (same_text name k.0) ((k.0, change k.1) ∷ ks) (k ∷ changed change ks name)
 
-is_changed : (change : KeyspaceState → KeyspaceState) (ks : Keyspaces) (name : List ℕ) → with_keyspace_state change ks name ≡ changed change ks name
+pub is_changed : (change : KeyspaceState → KeyspaceState) (ks : Keyspaces) (name : List ℕ) → with_keyspace_state change ks name ≡ changed change ks name
 is_changed change [] name = refl
 is_changed change (k ∷ ks) name = by (is_changed change ks name) (same_text name k.0) refl
   where

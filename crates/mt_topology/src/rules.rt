@@ -4,6 +4,7 @@ ghost use Rattle.std.specs.List.{list_any};
 ghost use Rattle.mt_model.specs.Part.{keys_of_name};
 ghost use Rattle.mt_model.specs.Topology.{rule_for, with_rule, with_rule_place, without_rule_place};
 ghost use Rattle.mt_keyspace.specs.Edits.{Edits};
+ghost use Rattle.mt_topology.specs.Clear.{without_rule_entry};
 ghost use Rattle.mt_topology.specs.Edits.{edit_rule_grows, edit_rule_refusal, lacks_rule_place, rule_place_refusal};
 
 use mt_model::TopologyFault;
@@ -130,4 +131,18 @@ pub fn release_name(rules: &mut RoutingRules, keyspace: Option<&KeyspaceName>, t
     rules.release_key(&key);
     key.tablet_type = None;
     rules.release_key(&key);
+}
+
+/// Drops the places of a name's four keys, with their rules. One key is made, whose type then changes.
+pub fn drop_name(rules: &mut RoutingRules, keyspace: Option<&KeyspaceName>, table: &TableName)
+    ensures { rules.new ≡ fold without_rule_entry rules.old (keys_of_name (option_copied keyspace.entry) table.now) }
+{
+    let mut rule_key = key_of_name(keyspace, table);
+    rules.drop_key(&rule_key);
+    rule_key.tablet_type = Some(TabletType::Primary);
+    rules.drop_key(&rule_key);
+    rule_key.tablet_type = Some(TabletType::Replica);
+    rules.drop_key(&rule_key);
+    rule_key.tablet_type = Some(TabletType::Rdonly);
+    rules.drop_key(&rule_key);
 }

@@ -11,6 +11,7 @@ ghost use Rattle.mt_keyspace.specs.Edits.{Edits, add_keyspace_refusal, add_table
 ghost use Rattle.mt_topology.specs.Edits.{edit_rule_grows, edit_rule_refusal};
 ghost use Rattle.mt_topology.specs.Leads.{lent_target};
 
+mod clear;
 mod part;
 
 use crate::rules::{put_rule, rule_for, take_rule};

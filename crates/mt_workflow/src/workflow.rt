@@ -290,6 +290,14 @@ impl Workflow {
         self.kept.get(key)?.as_ref()
     }
 
+    /// Whether it is known to keep no rule, so that no rule key of its part had one before Create. It takes no memory, and looks at
+    /// no key.
+    pub fn keeps_nothing(&self) -> bool
+        ensures { result ≡ true → (key : RuleKey) → rule_at self.now.kept key ≡ None }
+    {
+        self.kept.is_empty()
+    }
+
     /// The number of the step of a way with which an entry of its part changes: 0 the reads, 1 the denial of the tables at
     /// the old owner, 7 their release at the new owner, 9 the plain rules. It takes no memory. (Vitess: how traffic is
     /// switched)
