@@ -1,4 +1,5 @@
 pub mod AdvanceLemmas
+pub mod CancelLemmas
 pub mod CoreLemmas
 pub mod CreateLemmas
 pub mod GivenUpLemmas

@@ -1,14 +1,9 @@
--- The keys before this one are written, and places stay.
+-- The tables before this one are written.
 use Rattle.std.proofs.Common.{◌≡◌, map, take}
 use Rattle.mt_names.specs.Types.{no_types}
-use Rattle.mt_model.specs.declared.entries.EntryKey.{EntryKey}
-use Rattle.mt_model.specs.Part.{with_entries}
-use Rattle.mt_model.specs.Topology.{has_place}
-use Rattle.mt_workflow.specs.Workflows.{keys_of_part, wanted}
+use Rattle.mt_model.specs.Part.{part_keys, with_entries}
+use Rattle.mt_workflow.specs.Workflows.{wanted}
 use Rattle.mt_site.proofs.parts.write_part.Given as goal
 
-abbrev pub invariant-loop-index : goal.invariant-loop-index
-invariant-loop-index l = record {
-  written : l.topology ≡ with_entries l.initial.topology (map (wanted l.workflow no_types) (take l.index (keys_of_part l.workflow)));
-  places : (k : EntryKey) → has_place l.topology k ≡ has_place l.initial.topology k;
-}
+abbrev pub invariant-loop-table : goal.invariant-loop-table
+invariant-loop-table l = l.topology ≡ with_entries l.initial.topology (map (wanted l.workflow no_types) (part_keys l.workflow.source l.workflow.target (take l.table-index l.workflow.tables)))
