@@ -14,8 +14,9 @@ ghost use Rattle.mt_workflow.specs.Workflows.{stream_name};
 ghost use Rattle.mt_plain.specs.Serve.{served};
 ghost use Rattle.mt_site_state.specs.Ways.{SiteStands, SiteSteps, empty_site};
 ghost use Rattle.mt_names.specs.Names.{read_table};
-ghost use Rattle.mt_cache.specs.Names.{LeadsTo, plain_key};
+ghost use Rattle.mt_cache.specs.Names.{LeadsMarked, LeadsTo, plain_key};
 
+use crate::marked::{Marked, MarkedPlace};
 use crate::names::Names;
 use mt_event::{Event, Refusal, Reply};
 use mt_model::{Op, TopologyFault};
@@ -29,23 +30,25 @@ use std::marker::Model;
 use std::str;
 
 /// A core beside where names led when rows were last asked for by them. These are forgotten as soon as the core is lent to be changed.
-/// So most rows of a script take one look-up of a name, by its bytes in the line, where the core alone takes four and more. For its
-/// callers it is the core. (Vitess: a router that keeps the plans of queries)
+/// So most rows of a script take one look-up of a name, by its bytes in the line, where the core alone takes four and more. A table's
+/// name alone serves reads and writes, and a name with a keyspace or a type reads alone. For its callers it is the core. (Vitess: a
+/// router that keeps the plans of queries)
 #[derive(Drop)]
 pub struct CachedCore {
     core: Core,
     names: Names,
+    marked: Marked,
 }
 
 impl Model for CachedCore {
     ghost use Rattle.mt_site_state.specs.Ways.{SiteState};
-    ghost use Rattle.mt_cache.specs.Names.{LeadThere};
+    ghost use Rattle.mt_cache.specs.Names.{KeptLead};
 
     ghost Value = { SiteState };
 
     ghost view = { λ cached. cached.core };
 
-    ghost invariant = { λ cached. LeadThere cached.core.core.topology cached.names.kept.entries };
+    ghost invariant = { λ cached. KeptLead cached.core.core.topology cached.names.kept.entries cached.marked.kept.items };
 }
 
 impl CachedCore {
@@ -57,10 +60,12 @@ impl CachedCore {
         CachedCore {
             core: Core::new(alloc),
             names: Names::new(alloc),
+            marked: Marked::new(alloc),
         }
     }
 
     /// The core, to read. It takes no memory.
+    #[inline(always)]
     pub fn core(&self) -> &Core
         ensures { result.now ≡ self.now }
     {
@@ -73,6 +78,7 @@ impl CachedCore {
         ensures value { result.now ≡ self.old }
     {
         self.names.forget();
+        self.marked.forget();
         &mut self.core
     }
 
@@ -114,18 +120,21 @@ impl CachedCore {
         }
     }
 
-    /// Where a table's name alone leads for the primary, if that is kept. The name is given as its bytes. It takes no memory.
+    /// Where a table's name alone leads for the primary, if that is kept and found at once. The name is given as its bytes. It takes
+    /// no memory.
+    #[inline(always)]
     pub fn kept(&self, name: &[u8]) -> Option<&Place>
         ensures leads { IfSome result (λ place. LeadsTo self.now.core.topology name.now place.now) }
         ensures served { (p : Plain) (scopes : List Scope) → SiteStands p scopes self.now
             → resolution self.now.core.topology (plain_key name.now) TabletType.Primary ≡ resolution (served p) (plain_key name.now) TabletType.Primary }
     {
         a_core_tells_what_its_state_serves();
-        self.names.find(name)
+        self.names.find_hinted(name)
     }
 
     /// Writes a row of the table that a name alone leads to for the primary, as `Core::write_through` does. The name is given as
     /// its bytes; of bytes that are no table's name nothing is done, and there is no answer. A name that is kept isn't read.
+    #[inline(always)]
     pub fn write_named(
         &mut self,
         name: &[u8],
@@ -225,6 +234,34 @@ impl CachedCore {
                 Ok(told)
             }
             Err(fault) => Err(fault),
+        }
+    }
+
+    /// Where a name with a keyspace or a type leads for the type that it is read for, if that is kept. The name is given as its
+    /// bytes. It takes no memory.
+    #[inline(always)]
+    pub fn kept_marked(&self, name: &[u8]) -> Option<&MarkedPlace>
+        ensures leads { IfSome result (λ kept. LeadsMarked self.now.core.topology name.now kept.now) }
+        ensures served { (p : Plain) (scopes : List Scope) → SiteStands p scopes self.now
+            → (key : RuleKey) (for_type : TabletType) → resolution self.now.core.topology key for_type ≡ resolution (served p) key for_type }
+    {
+        a_core_tells_what_its_state_serves();
+        self.marked.find(name)
+    }
+
+    /// Keeps where a name with a keyspace or a type, by which a row was read, leads for the type that it is read for, if it is to be
+    /// kept. The core stays as it is.
+    #[inline(never)]
+    pub fn keep_marked(&mut self, name: &RuleKey)
+        ensures { self.new ≡ self.old }
+    {
+        if !self.marked.wants_more() {
+            return;
+        }
+        let tablet_type = name.tablet_type.unwrap_or(TabletType::Primary);
+        if let Ok(target) = self.core.resolve(name, tablet_type) {
+            let place = self.core.place_of(target);
+            self.marked.keep(name, tablet_type, place);
         }
     }
 

@@ -2,7 +2,9 @@
 #![tactic(auto)]
 
 mod cached;
+mod marked;
 mod name_text;
 mod names;
 
 pub use cached::CachedCore;
+pub use marked::MarkedPlace;

@@ -26,6 +26,7 @@ pub(crate) struct Names {
 }
 
 /// Which hint serves a name. Names that differ in their last bytes mostly have others.
+#[inline(always)]
 fn hint_of(name: &[u8]) -> u8 {
     match name {
         [first, .., before, last] => first
@@ -56,15 +57,28 @@ impl Names {
         self.rows = 0;
     }
 
-    /// Where a name of these bytes leads for the primary, if it is kept. It takes no memory.
-    pub fn find(&self, name: &[u8]) -> Option<&Place>
+    /// Where a name of these bytes leads for the primary, if it is kept where its hint says. It takes no memory.
+    #[inline(always)]
+    pub fn find_hinted(&self, name: &[u8]) -> Option<&Place>
         ensures { (topology : TopologyState) → LeadThere topology self.now.kept.entries
             → IfSome result (λ place. LeadsTo topology name.now place.now) }
     {
         let at = usize::from(self.hints[usize::from(hint_of(name))]);
         match self.kept.get_index(at) {
             Some((kept, place)) if kept.as_str().as_bytes() == name => Some(place),
-            _ => self.find_anywhere(name),
+            _ => None,
+        }
+    }
+
+    /// Where a name of these bytes leads for the primary, if it is kept. It takes no memory.
+    #[inline(always)]
+    pub fn find(&self, name: &[u8]) -> Option<&Place>
+        ensures { (topology : TopologyState) → LeadThere topology self.now.kept.entries
+            → IfSome result (λ place. LeadsTo topology name.now place.now) }
+    {
+        match self.find_hinted(name) {
+            Some(place) => Some(place),
+            None => self.find_anywhere(name),
         }
     }
 

@@ -21,6 +21,7 @@ use mt_script::{
 use mt_site::Core;
 
 /// Tells of a write through a name, behind what stands.
+#[inline(always)]
 fn tell_written<const N: usize>(
     told: &Result<Result<(), Refusal>, TopologyFault>,
     text: &mut ArrayVec<u8, N>,
@@ -36,6 +37,7 @@ fn tell_written<const N: usize>(
 }
 
 /// Tells of a row that was read where a name leads, behind what stands.
+#[inline(always)]
 fn tell_row<const N: usize>(told: &Result<Option<Value>, Refusal>, text: &mut ArrayVec<u8, N>)
     requires room { length text.old.items + LONGEST_LINE ≤ N }
     ensures { text.new.items ≡ text.old.items ++ answer_text (read_from told.now) ++ line_feed }
@@ -98,6 +100,7 @@ pub fn row_output(core: &mut CachedCore, row: RowRequest, text: &mut LineText)
 }
 
 /// Does an operation on a row of the table of a name. A name that isn't a table's alone isn't answered.
+#[inline(always)]
 fn write_named(core: &mut CachedCore, name: &[u8], op: Op, waiting: &mut Waiting) -> bool
     requires room { length waiting.old.items + LONGEST_LINE ≤ ROOM }
     ensures { IsRowTold core.old (IsWriteOf name.now op) waiting.old.items waiting.new.items core.new result }
@@ -112,6 +115,7 @@ fn write_named(core: &mut CachedCore, name: &[u8], op: Op, waiting: &mut Waiting
 }
 
 /// Writes the value that is behind a number. A name or a value in another form isn't answered.
+#[inline(always)]
 fn write_value(
     core: &mut CachedCore,
     verb: ValueVerb,
@@ -130,6 +134,7 @@ fn write_value(
 }
 
 /// Takes a row away. A name in another form isn't answered.
+#[inline(never)]
 fn delete(
     core: &mut CachedCore,
     name: &[u8],
@@ -147,18 +152,24 @@ fn delete(
     }
 }
 
-/// Reads a row of a name that may have marks. A name in fault isn't answered.
+/// Reads a row of a name that may have marks, and keeps where it leads. A name in fault isn't answered.
 #[inline(never)]
-fn get_marked(core: &Core, name: &[u8], number: u64, waiting: &mut Waiting) -> bool
+fn get_marked(core: &mut CachedCore, name: &[u8], number: u64, waiting: &mut Waiting) -> bool
     requires room { length waiting.old.items + LONGEST_LINE ≤ ROOM }
-    ensures { IsRowTold core.now (IsReadOf name.now number) waiting.old.items waiting.new.items core.now result }
+    ensures { IsRowTold core.old (IsReadOf name.now number) waiting.old.items waiting.new.items core.new result }
 {
     let Some(key) = any_key(name) else {
         return false;
     };
     let tablet_type = key.tablet_type.unwrap_or(TabletType::Primary);
-    read(core, &key, number, tablet_type, waiting);
+    read(core.core(), &key, number, tablet_type, waiting);
+    core.keep_marked(&key);
     true
+}
+
+/// Whether a name has a keyspace or a type, by its marks.
+fn has_marks(name: &[u8]) -> bool {
+    name.contains(&b'@') || name.contains(&b'.')
 }
 
 /// Reads a row of the table of a name that isn't kept. A name in fault isn't answered.
@@ -167,16 +178,36 @@ fn get_found(core: &mut CachedCore, name: &[u8], number: u64, waiting: &mut Wait
     requires room { length waiting.old.items + LONGEST_LINE ≤ ROOM }
     ensures { IsRowTold core.old (IsReadOf name.now number) waiting.old.items waiting.new.items core.new result }
 {
+    if has_marks(name) {
+        return get_marked(core, name, number, waiting);
+    }
     match core.read_named(name, number) {
         Some(told) => {
             tell_read(&told, waiting);
             true
         }
-        None => get_marked(core.core(), name, number, waiting),
+        None => get_marked(core, name, number, waiting),
     }
 }
 
+/// Reads a row of the table of a name that has marks, if it is kept. A name in fault isn't answered.
+#[inline(never)]
+fn get_other(core: &mut CachedCore, name: &[u8], number: u64, waiting: &mut Waiting) -> bool
+    requires room { length waiting.old.items + LONGEST_LINE ≤ ROOM }
+    ensures { IsRowTold core.old (IsReadOf name.now number) waiting.old.items waiting.new.items core.new result }
+{
+    if let Some(kept) = core.kept_marked(name) {
+        let told = core
+            .core()
+            .read_placed(&kept.place, number, kept.tablet_type);
+        tell_row(&told, waiting);
+        return true;
+    }
+    get_found(core, name, number, waiting)
+}
+
 /// Reads a row of the table of a name, which is kept most often. A name in fault isn't answered.
+#[inline(always)]
 fn get_named(core: &mut CachedCore, name: &[u8], number: u64, waiting: &mut Waiting) -> bool
     requires room { length waiting.old.items + LONGEST_LINE ≤ ROOM }
     ensures { IsRowTold core.old (IsReadOf name.now number) waiting.old.items waiting.new.items core.new result }
@@ -186,10 +217,11 @@ fn get_named(core: &mut CachedCore, name: &[u8], number: u64, waiting: &mut Wait
         tell_row(&told, waiting);
         return true;
     }
-    get_found(core, name, number, waiting)
+    get_other(core, name, number, waiting)
 }
 
 /// Reads a row, where nothing stands behind its number.
+#[inline(always)]
 fn get(core: &mut CachedCore, name: &[u8], number: u64, rest: &[u8], waiting: &mut Waiting) -> bool
     requires room { length waiting.old.items + LONGEST_LINE ≤ ROOM }
     ensures { IsRowTold core.old (λ asked. (rest.now ≡ []) × IsReadOf name.now number asked) waiting.old.items waiting.new.items core.new result }

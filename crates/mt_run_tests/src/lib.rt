@@ -12,6 +12,8 @@ mod faults;
 #[cfg(test)]
 mod limits;
 #[cfg(test)]
+mod marked_names;
+#[cfg(test)]
 mod operations;
 #[cfg(test)]
 mod refusals;

@@ -8,7 +8,7 @@ use Rattle.mt_cache.proofs.cached.CachedCore.kept.Goals as goal
 
 pub returns-clause-leads : goal.returns-clause-leads
 returns-clause-leads c =
-    subst (λ s. IfSome c.find.result (λ place. LeadsTo s.core.topology c.args.name.now place.now)) c.self.view_is (c.find.ensures c.self.inside.core.core.topology c.self.invariant)
+    subst (λ s. IfSome c.find_hinted.result (λ place. LeadsTo s.core.topology c.args.name.now place.now)) c.self.view_is (c.find_hinted.ensures c.self.inside.core.core.topology c.self.invariant.named)
 
 pub returns-clause-served : goal.returns-clause-served
 returns-clause-served c = λ p scopes stands. c.a_core_tells_what_its_state_serves.ensures.look_up p c.args.self.now.core (stands_core p scopes c.args.self.now stands) (plain_key c.args.name.now) Primary

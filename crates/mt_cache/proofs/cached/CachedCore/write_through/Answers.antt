@@ -2,7 +2,7 @@
 use Rattle.std.proofs.Common.{subst, sym}
 use Rattle.mt_model.specs.Topology.{resolution}
 use Rattle.mt_names.specs.declared.types.TabletType.TheVariants.{Primary}
-use Rattle.mt_cache.specs.Names.{LeadThere}
+use Rattle.mt_cache.specs.Names.{KeptLead}
 use Rattle.mt_cache.specs.Rows.{WrittenThrough}
 use Rattle.mt_cache.proofs.RowLemmas.{written_leaves_topology}
 use Rattle.mt_cache.proofs.cached.CachedCore.write_through.Goals as goal
@@ -10,7 +10,7 @@ use Rattle.mt_cache.proofs.cached.CachedCore.write_through.Goals as goal
 pub invariant_of-self : goal.invariant_of-self
 invariant_of-self c =
     let old = c.self.inside.core in
-    subst (λ t. LeadThere t c.self.inside.names.kept.entries)
+    subst (λ t. KeptLead t c.self.inside.names.kept.entries c.self.inside.marked.kept.items)
     (sym (written_leaves_topology old c.write_through.new.self c.args.op (resolution old.core.topology c.args.name.now Primary) c.write_through.result c.write_through.ensures.does))
     c.self.invariant
 

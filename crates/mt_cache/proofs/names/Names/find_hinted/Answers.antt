@@ -2,7 +2,7 @@
 use Rattle.std.proofs.Common.{◌≡◌, subst, rules}
 use Rattle.std.specs.Cmp.Lexicographic.{bytes_decides}
 use Rattle.mt_cache.specs.Names.{LeadsTo}
-use Rattle.mt_cache.proofs.names.Names.find.Goals as goal
+use Rattle.mt_cache.proofs.names.Names.find_hinted.Goals as goal
 
 pub returns-in-Some : goal.returns-in-Some
 returns-in-Some c = λ t lead.
