@@ -133,7 +133,7 @@ impl TableMarks {
         ensures { self.new ≡ without_mark_place self.old table.now }
     {
         if !self.contains(table) {
-            self.places.shift_remove(table);
+            self.drop_place(table);
         }
     }
 

@@ -1,5 +1,6 @@
 pub mod AscendLemmas
 pub mod BackLemmas
+pub mod CountsLemmas
 pub mod KeysLemmas
 pub mod ListLemmas
 pub mod PlacesLemmas
@@ -9,6 +10,5 @@ pub mod ReverseLemmas
 pub mod RouteLemmas
 pub mod RulesLemmas
 pub mod SortLemmas
-pub mod StandingLemmas
 pub mod TextLemmas
 pub mod WrittenLemmas
