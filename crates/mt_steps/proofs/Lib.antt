@@ -1,3 +1,5 @@
 pub mod BackLemmas
 pub mod EntryLemmas
 pub mod StepLemmas
+mod SweepLemmas
+mod TableLemmas

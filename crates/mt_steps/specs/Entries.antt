@@ -1,5 +1,6 @@
 -- The entries of a part that a step writes, and those that its undo writes back.
-use Rattle.std.specs.Prelude.{◌≡◌, ℕ, true, ◌==◌, Bool, All, List, filter, map, if◌then◌else◌}
+use Rattle.std.specs.Prelude.{◌≡◌, ℕ, true, ◌==◌, Bool, All, List, [], ◌∷◌, filter, map, if◌then◌else◌}
+use Rattle.std.specs.List.{AllByRecursion}
 use Rattle.mt_names.specs.declared.types.TypeSet.{TypeSet}
 use Rattle.mt_model.specs.declared.entries.Entry.{Entry}
 use Rattle.mt_model.specs.declared.entries.EntryKey.{EntryKey}
@@ -44,3 +45,14 @@ with_wanted w types n t key = if is_of_step w n key then with_entry t (wanted w 
 -- an entry is written back where it changes with the step
 abbrev pub with_recorded : WorkflowState → ℕ → TopologyState → Entry → TopologyState
 with_recorded w n t e = if is_of_step w n (key_of e) then with_entry t e else t
+
+-- ---- one entry after the other
+
+-- each of some keys has a place
+abbrev pub HavePlaces : TopologyState → List EntryKey → Type 0
+HavePlaces t keys = AllByRecursion (λ key. has_place t key ≡ true) keys
+
+-- each entry as it is recorded when the topology says what was written before it (this profile's own)
+abbrev pub swept : WorkflowState → TypeSet → ℕ → TopologyState → List Entry → List Entry
+swept w types n t [] = []
+swept w types n t (e ∷ entries) = recorded_entry w n t e ∷ swept w types n (with_wanted w types n t (key_of e)) entries

@@ -1,6 +1,7 @@
 pub mod Entries
 pub mod Faults
 pub mod Plans
+pub mod Records
 pub mod Refreshes
 pub mod Steps
 pub mod Streams

@@ -2,10 +2,11 @@
 use Rattle.std.specs.Prelude.{ℕ, suc, ◌-◌, ◌||◌, ◌==◌, Bool, true, false, not, List, length, if◌then◌else◌, Option, None, Some, option_map}
 use Rattle.std.specs.Option.{option_map_or}
 use Rattle.mt_names.specs.declared.types.TypeSet.{TypeSet}
-use Rattle.mt_plain.specs.Events.{StreamName, forward, back, StreamState, running, stopped, frozen, Way}
+use Rattle.mt_plain.specs.Events.{StreamName, forward, back, running, stopped, frozen, Way}
 use Rattle.mt_plain.specs.Plain.{behind_last, ended, write_journal}
 use Rattle.mt_primary.specs.Primary.{PrimaryState}
 use Rattle.mt_stream.specs.Streams.{StreamValue, is_level}
+pub use Rattle.mt_workflow.specs.Workflows.{in_state}
 use Rattle.mt_workflow.specs.Workflows.{WorkflowState, slot_of, with_slot}
 use Rattle.mt_steps.specs.declared.step.Step.{Step}
 use Rattle.mt_steps.specs.declared.step.Step.TheVariants.{StopFeeding, CreateBack, StartBack, FreezeOld}
@@ -33,10 +34,6 @@ abbrev pub serves_other_side : Way → Bool
 serves_other_side way = if way.back then way.before.primary else not way.before.primary
 
 -- ---- steps
-
--- a stream that does something else (MoveTables: the state of a workflow's stream)
-abbrev pub in_state : StreamState → StreamValue → StreamValue
-in_state state s = record s { state = state }
 
 -- the stream the other way: it counts as copied, and waits at the end of a log (MoveTables: the reverse workflow)
 abbrev pub stopped_stream : List (List ℕ) → (position : ℕ) → StreamValue

@@ -1,36 +1,23 @@
 //! The entries that a step writes, and what stood before them.
-ghost use Rattle.std.specs.Prelude.{◌≡◌, ◌≢◌, true, false, All, AllPairs, fold};
+ghost use Rattle.std.specs.Prelude.{◌≡◌, ◌≢◌, ℕ, true, false, List, None, fold, map, option_copied};
+ghost use Rattle.mt_model.specs.declared.entries.Entry.{Entry};
 ghost use Rattle.mt_model.specs.declared.entries.EntryKey.{EntryKey};
-ghost use Rattle.mt_model.specs.Topology.{has_place, key_of, value_of, with_entry};
-ghost use Rattle.mt_plain.specs.Serve.{step_of_entry};
-ghost use Rattle.mt_workflow.specs.Workflows.{WorkflowState, live_of, wanted};
-ghost use Rattle.mt_steps.specs.Entries.{is_of_step, recorded, recorded_entry, with_recorded, with_wanted};
+ghost use Rattle.mt_model.specs.Part.{keys_of_name};
+ghost use Rattle.mt_model.specs.Topology.{has_place, key_of, rule_at, with_entry};
+ghost use Rattle.mt_workflow.specs.Workflows.{WorkflowState, wanted};
+ghost use Rattle.mt_steps.specs.Entries.{HavePlaces, is_of_step, swept, with_recorded, with_wanted};
+ghost use Rattle.mt_steps.specs.Records.{denial_step, denied_after, entries_of, name_entries, rule_record, table_entries};
 
-use mt_model::Entry;
-use mt_names::{TabletType, TypeSet};
+use crate::records::{NameRecord, RuleRecord, TableRecord};
+use mt_names::{KeyspaceName, RuleKey, TableName, TabletType, TypeSet};
 use mt_topology::Topology;
 use mt_workflow::Workflow;
 
-/// The number of the step of a way with which an entry of the part changes, as `Workflow::step_of` says it of the entry's key. It
-/// copies no key. (Vitess: how traffic is switched)
-fn step_of_entry(workflow: &Workflow, entry: &Entry) -> u8
-    ensures { result ≡ step_of_entry (live_of workflow.now) (key_of entry.now) }
+/// The number of the step with which the denial at a side changes.
+fn denial_step(workflow: &Workflow, side: &KeyspaceName) -> u8
+    ensures { result ≡ denial_step workflow.now side.now }
 {
-    match entry {
-        Entry::Rule(key, _) => match key.tablet_type {
-            None => 9,
-            Some(TabletType::Primary) => 9,
-            Some(_) => 0,
-        },
-        Entry::Denied(keyspace, _, _) => {
-            if workflow.owned_before(keyspace) {
-                1
-            } else {
-                7
-            }
-        }
-        Entry::Present(_, _, _) => 0,
-    }
+    if workflow.owned_before(side) { 1 } else { 7 }
 }
 
 /// Whether any entry may change with a step: 0 the reads, 1 the denial of the tables at the old owner, 7 their release at the new
@@ -41,88 +28,408 @@ fn writes_entries(step: u8) -> bool
     matches!(step, 0 | 1 | 7 | 9)
 }
 
-/// Writes each of these entries that changes with a step as it is to be once these types are switched, and records of it what the
-/// topology said there. No two are of the same key.
+/// Writes each entry of the records that changes with a step as it is to be once these types are switched, and records of it what the
+/// topology said there. The records are of tables between these sides.
 pub(crate) fn exchange_step(
     topology: &mut Topology,
     workflow: &Workflow,
     types: TypeSet,
     step: u8,
-    entries: &mut [Entry],
+    source: &KeyspaceName,
+    target: &KeyspaceName,
+    records: &mut [TableRecord],
 )
-    requires places { All (λ e. has_place topology.old (key_of e) ≡ true) entries.old }
-    requires distinct { AllPairs (λ a b. key_of a ≢ key_of b) entries.old }
-    ensures recorded { entries.new ≡ recorded workflow.now step topology.old entries.old }
-    ensures written { topology.new ≡ fold (λ t e. with_wanted workflow.now types step t (key_of e)) topology.old entries.old }
+    requires places { HavePlaces topology.old (map key_of (entries_of source.now target.now records.old)) }
+    ensures recorded { entries_of source.now target.now records.new ≡ swept workflow.now types step topology.old (entries_of source.now target.now records.old) }
+    ensures written { topology.new ≡ fold (with_wanted workflow.now types step) topology.old (map key_of (entries_of source.now target.now records.old)) }
 {
     if !writes_entries(step) {
         return;
     }
-    for entry in entries.iter_mut() {
-        exchange_entry(topology, workflow, types, step, entry);
+    for noted in records.iter_mut() {
+        exchange_table(topology, workflow, types, step, source, target, noted);
     }
 }
 
-/// The same of one entry.
-fn exchange_entry(
+/// The same of the entries of a table.
+fn exchange_table(
     topology: &mut Topology,
     workflow: &Workflow,
     types: TypeSet,
     step: u8,
-    entry: &mut Entry,
+    source: &KeyspaceName,
+    target: &KeyspaceName,
+    noted: &mut TableRecord,
 )
-    requires { has_place topology.old (key_of entry.old) ≡ true }
-    ensures recorded { entry.new ≡ recorded_entry workflow.now step topology.old entry.old }
-    ensures written { topology.new ≡ with_wanted workflow.now types step topology.old (key_of entry.old) }
-    ensures places { (k : EntryKey) → has_place topology.new k ≡ has_place topology.old k }
+    requires places { HavePlaces topology.old (map key_of (table_entries source.now target.now noted.old)) }
+    ensures recorded { table_entries source.now target.now noted.new ≡ swept workflow.now types step topology.old (table_entries source.now target.now noted.old) }
+    ensures written { topology.new ≡ fold (with_wanted workflow.now types step) topology.old (map key_of (table_entries source.now target.now noted.old)) }
 {
-    if step_of_entry(workflow, entry) != step {
-        return;
-    }
-    exchange_wanted(topology, workflow, types, entry);
-}
-
-/// Writes an entry as it is to be once these types are switched, and leaves what stood before in place of it. It copies no key.
-fn exchange_wanted(topology: &mut Topology, workflow: &Workflow, types: TypeSet, entry: &mut Entry)
-    requires { has_place topology.old (key_of entry.old) ≡ true }
-    ensures before { entry.new ≡ value_of topology.old (key_of entry.old) }
-    ensures after { topology.new ≡ with_entry topology.old (wanted workflow.now types (key_of entry.old)) }
-{
-    match entry {
-        Entry::Rule(key, target) => {
-            *target = topology.exchange_rule(key, workflow.wanted_rule(key, types));
-        }
-        Entry::Denied(keyspace, table, is_denied) => {
-            let wanted = workflow.is_denied_at(keyspace, types);
-            *is_denied = topology.exchange_denied(keyspace, table, wanted);
-        }
-        Entry::Present(keyspace, table, is_present) => {
-            *is_present = topology.exchange_present(keyspace, table, true);
-        }
+    match step {
+        0 => exchange_reads(topology, workflow, types, source, target, noted),
+        9 => exchange_writes(topology, workflow, types, source, target, noted),
+        _ => exchange_denials(topology, workflow, types, step, source, target, noted),
     }
 }
 
-/// Writes back each of these entries that changes with a step.
-pub(crate) fn write_back(topology: &mut Topology, workflow: &Workflow, step: u8, entries: &[Entry])
-    requires { All (λ e. has_place topology.old (key_of e) ≡ true) entries.now }
-    ensures { topology.new ≡ fold (with_recorded workflow.now step) topology.old entries.now }
+/// The same with step 0: the rules of the types replica and rdonly, and the presence.
+fn exchange_reads(
+    topology: &mut Topology,
+    workflow: &Workflow,
+    types: TypeSet,
+    source: &KeyspaceName,
+    target: &KeyspaceName,
+    noted: &mut TableRecord,
+)
+    requires places { HavePlaces topology.old (map key_of (table_entries source.now target.now noted.old)) }
+    ensures recorded { table_entries source.now target.now noted.new ≡ swept workflow.now types 0 topology.old (table_entries source.now target.now noted.old) }
+    ensures written { topology.new ≡ fold (with_wanted workflow.now types 0) topology.old (map key_of (table_entries source.now target.now noted.old)) }
+{
+    let table = &noted.table;
+    exchange_reads_of(topology, workflow, types, None, table, &mut noted.alone);
+    exchange_reads_of(
+        topology,
+        workflow,
+        types,
+        Some(source),
+        table,
+        &mut noted.at_source,
+    );
+    exchange_reads_of(
+        topology,
+        workflow,
+        types,
+        Some(target),
+        table,
+        &mut noted.at_target,
+    );
+    noted.is_present = topology.exchange_present(target, table, true);
+}
+
+/// The same of a name. One key is made, whose type then changes.
+fn exchange_reads_of(
+    topology: &mut Topology,
+    workflow: &Workflow,
+    types: TypeSet,
+    keyspace: Option<&KeyspaceName>,
+    table: &TableName,
+    noted: &mut NameRecord,
+)
+    requires { HavePlaces topology.old (map EntryKey.Rule (keys_of_name (option_copied keyspace) table.now)) }
+    ensures recorded { (source target : List ℕ) → name_entries source target (option_copied keyspace.entry) table.now noted.new ≡ swept workflow.now types 0 topology.old (name_entries source target (option_copied keyspace.entry) table.now noted.old) }
+    ensures written { topology.new ≡ fold (with_wanted workflow.now types 0) topology.old (map EntryKey.Rule (keys_of_name (option_copied keyspace.entry) table.now)) }
+{
+    let mut key = key_of_name(keyspace, table);
+    key.tablet_type = Some(TabletType::Replica);
+    exchange_rule(topology, workflow, types, &key, &mut noted.replica);
+    key.tablet_type = Some(TabletType::Rdonly);
+    exchange_rule(topology, workflow, types, &key, &mut noted.rdonly);
+}
+
+/// The same with step 9: the rules for all types, and those of primary.
+fn exchange_writes(
+    topology: &mut Topology,
+    workflow: &Workflow,
+    types: TypeSet,
+    source: &KeyspaceName,
+    target: &KeyspaceName,
+    noted: &mut TableRecord,
+)
+    requires places { HavePlaces topology.old (map key_of (table_entries source.now target.now noted.old)) }
+    ensures recorded { table_entries source.now target.now noted.new ≡ swept workflow.now types 9 topology.old (table_entries source.now target.now noted.old) }
+    ensures written { topology.new ≡ fold (with_wanted workflow.now types 9) topology.old (map key_of (table_entries source.now target.now noted.old)) }
+{
+    let table = &noted.table;
+    exchange_writes_of(topology, workflow, types, None, table, &mut noted.alone);
+    exchange_writes_of(
+        topology,
+        workflow,
+        types,
+        Some(source),
+        table,
+        &mut noted.at_source,
+    );
+    exchange_writes_of(
+        topology,
+        workflow,
+        types,
+        Some(target),
+        table,
+        &mut noted.at_target,
+    );
+}
+
+/// The same of a name. One key is made, whose type then changes.
+fn exchange_writes_of(
+    topology: &mut Topology,
+    workflow: &Workflow,
+    types: TypeSet,
+    keyspace: Option<&KeyspaceName>,
+    table: &TableName,
+    noted: &mut NameRecord,
+)
+    requires { HavePlaces topology.old (map EntryKey.Rule (keys_of_name (option_copied keyspace) table.now)) }
+    ensures recorded { (source target : List ℕ) → name_entries source target (option_copied keyspace.entry) table.now noted.new ≡ swept workflow.now types 9 topology.old (name_entries source target (option_copied keyspace.entry) table.now noted.old) }
+    ensures written { topology.new ≡ fold (with_wanted workflow.now types 9) topology.old (map EntryKey.Rule (keys_of_name (option_copied keyspace.entry) table.now)) }
+{
+    let mut key = key_of_name(keyspace, table);
+    exchange_rule(topology, workflow, types, &key, &mut noted.plain);
+    key.tablet_type = Some(TabletType::Primary);
+    exchange_rule(topology, workflow, types, &key, &mut noted.primary);
+}
+
+/// The key of a name for all types.
+fn key_of_name(keyspace: Option<&KeyspaceName>, table: &TableName) -> RuleKey
+    ensures { result ≡ record { keyspace = option_copied keyspace.entry; table = table.now; tablet_type = None } }
+{
+    RuleKey {
+        keyspace: keyspace.map(KeyspaceName::copied),
+        table: table.copied(),
+        tablet_type: None,
+    }
+}
+
+/// Writes the rule of a key as it is to be once these types are switched, and records which stood before.
+fn exchange_rule(
+    topology: &mut Topology,
+    workflow: &Workflow,
+    types: TypeSet,
+    key: &RuleKey,
+    noted: &mut RuleRecord,
+)
+    requires { has_place topology.old (EntryKey.Rule key.now) ≡ true }
+    ensures before { noted.new ≡ rule_record (rule_at topology.old.rules key.now) }
+    ensures after { topology.new ≡ with_entry topology.old (wanted workflow.now types (EntryKey.Rule key.now)) }
+{
+    let before = topology.exchange_rule(key, workflow.wanted_rule(key, types));
+    *noted = RuleRecord::of_rule(before);
+}
+
+/// The same with another step: the denials that change with it.
+fn exchange_denials(
+    topology: &mut Topology,
+    workflow: &Workflow,
+    types: TypeSet,
+    step: u8,
+    source: &KeyspaceName,
+    target: &KeyspaceName,
+    noted: &mut TableRecord,
+)
+    requires places { HavePlaces topology.old (map key_of (table_entries source.now target.now noted.old)) }
+    requires reads { step ≢ 0 }
+    requires rules { step ≢ 9 }
+    ensures recorded { table_entries source.now target.now noted.new ≡ swept workflow.now types step topology.old (table_entries source.now target.now noted.old) }
+    ensures written { topology.new ≡ fold (with_wanted workflow.now types step) topology.old (map key_of (table_entries source.now target.now noted.old)) }
+{
+    let table = &noted.table;
+    let denied = &mut noted.is_denied_at_source;
+    exchange_denial(topology, workflow, types, step, source, table, denied);
+    let denied = &mut noted.is_denied_at_target;
+    exchange_denial(topology, workflow, types, step, target, table, denied);
+}
+
+/// The same of the denial at a side.
+fn exchange_denial(
+    topology: &mut Topology,
+    workflow: &Workflow,
+    types: TypeSet,
+    step: u8,
+    side: &KeyspaceName,
+    table: &TableName,
+    denied: &mut bool,
+)
+    requires { has_place topology.old (EntryKey.Denied side.now table.now) ≡ true }
+    ensures recorded { denied.new ≡ denied_after workflow.now step topology.old side.now table.now denied.old }
+    ensures written { topology.new ≡ with_wanted workflow.now types step topology.old (EntryKey.Denied side.now table.now) }
+{
+    if denial_step(workflow, side) == step {
+        *denied = topology.exchange_denied(side, table, workflow.is_denied_at(side, types));
+    }
+}
+
+/// Writes back what is recorded of each entry that changes with a step. The records are of tables between these sides.
+pub(crate) fn write_back(
+    topology: &mut Topology,
+    workflow: &Workflow,
+    step: u8,
+    source: &KeyspaceName,
+    target: &KeyspaceName,
+    records: &[TableRecord],
+)
+    requires places { HavePlaces topology.old (map key_of (entries_of source.now target.now records.now)) }
+    ensures { topology.new ≡ fold (with_recorded workflow.now step) topology.old (entries_of source.now target.now records.now) }
 {
     if !writes_entries(step) {
         return;
     }
-    for entry in entries {
-        write_recorded(topology, workflow, step, entry);
+    for noted in records {
+        write_back_table(topology, workflow, step, source, target, noted);
     }
 }
 
-/// The same of one entry.
-fn write_recorded(topology: &mut Topology, workflow: &Workflow, step: u8, before: &Entry)
-    requires { has_place topology.old (key_of before.now) ≡ true }
-    ensures written { topology.new ≡ with_recorded workflow.now step topology.old before.now }
-    ensures places { (k : EntryKey) → has_place topology.new k ≡ has_place topology.old k }
+/// The same of the entries of a table.
+fn write_back_table(
+    topology: &mut Topology,
+    workflow: &Workflow,
+    step: u8,
+    source: &KeyspaceName,
+    target: &KeyspaceName,
+    noted: &TableRecord,
+)
+    requires places { HavePlaces topology.old (map key_of (table_entries source.now target.now noted.now)) }
+    ensures { topology.new ≡ fold (with_recorded workflow.now step) topology.old (table_entries source.now target.now noted.now) }
 {
-    if step_of_entry(workflow, before) != step {
-        return;
+    match step {
+        0 => write_back_reads(topology, source, target, noted),
+        9 => write_back_writes(topology, source, target, noted),
+        _ => write_back_denials(topology, workflow, step, source, target, noted),
     }
-    topology.put(before);
+}
+
+/// The same with step 0: the rules of the types replica and rdonly, and the presence.
+fn write_back_reads(
+    topology: &mut Topology,
+    source: &KeyspaceName,
+    target: &KeyspaceName,
+    noted: &TableRecord,
+)
+    requires places { HavePlaces topology.old (map key_of (table_entries source.now target.now noted.now)) }
+    ensures { (w : WorkflowState) → topology.new ≡ fold (with_recorded w 0) topology.old (table_entries source.now target.now noted.now) }
+{
+    let table = &noted.table;
+    write_back_reads_of(topology, source, target, None, table, &noted.alone);
+    write_back_reads_of(
+        topology,
+        source,
+        target,
+        Some(source),
+        table,
+        &noted.at_source,
+    );
+    write_back_reads_of(
+        topology,
+        source,
+        target,
+        Some(target),
+        table,
+        &noted.at_target,
+    );
+    topology.put_present(target, table, noted.is_present);
+}
+
+/// The same of a name. One key is made, whose type then changes.
+fn write_back_reads_of(
+    topology: &mut Topology,
+    source: &KeyspaceName,
+    target: &KeyspaceName,
+    keyspace: Option<&KeyspaceName>,
+    table: &TableName,
+    noted: &NameRecord,
+)
+    requires { HavePlaces topology.old (map EntryKey.Rule (keys_of_name (option_copied keyspace) table.now)) }
+    ensures { (w : WorkflowState) → topology.new ≡ fold (with_recorded w 0) topology.old (name_entries source.now target.now (option_copied keyspace.entry) table.now noted.now) }
+{
+    let mut key = key_of_name(keyspace, table);
+    key.tablet_type = Some(TabletType::Replica);
+    topology.put_rule(&key, noted.replica.rule(source, target, table));
+    key.tablet_type = Some(TabletType::Rdonly);
+    topology.put_rule(&key, noted.rdonly.rule(source, target, table));
+}
+
+/// The same with step 9: the rules for all types, and those of primary.
+fn write_back_writes(
+    topology: &mut Topology,
+    source: &KeyspaceName,
+    target: &KeyspaceName,
+    noted: &TableRecord,
+)
+    requires places { HavePlaces topology.old (map key_of (table_entries source.now target.now noted.now)) }
+    ensures { (w : WorkflowState) → topology.new ≡ fold (with_recorded w 9) topology.old (table_entries source.now target.now noted.now) }
+{
+    let table = &noted.table;
+    write_back_writes_of(topology, source, target, None, table, &noted.alone);
+    write_back_writes_of(
+        topology,
+        source,
+        target,
+        Some(source),
+        table,
+        &noted.at_source,
+    );
+    write_back_writes_of(
+        topology,
+        source,
+        target,
+        Some(target),
+        table,
+        &noted.at_target,
+    );
+}
+
+/// The same of a name. One key is made, whose type then changes.
+fn write_back_writes_of(
+    topology: &mut Topology,
+    source: &KeyspaceName,
+    target: &KeyspaceName,
+    keyspace: Option<&KeyspaceName>,
+    table: &TableName,
+    noted: &NameRecord,
+)
+    requires { HavePlaces topology.old (map EntryKey.Rule (keys_of_name (option_copied keyspace) table.now)) }
+    ensures { (w : WorkflowState) → topology.new ≡ fold (with_recorded w 9) topology.old (name_entries source.now target.now (option_copied keyspace.entry) table.now noted.now) }
+{
+    let mut key = key_of_name(keyspace, table);
+    topology.put_rule(&key, noted.plain.rule(source, target, table));
+    key.tablet_type = Some(TabletType::Primary);
+    topology.put_rule(&key, noted.primary.rule(source, target, table));
+}
+
+/// The same with another step: the denials that change with it.
+fn write_back_denials(
+    topology: &mut Topology,
+    workflow: &Workflow,
+    step: u8,
+    source: &KeyspaceName,
+    target: &KeyspaceName,
+    noted: &TableRecord,
+)
+    requires places { HavePlaces topology.old (map key_of (table_entries source.now target.now noted.now)) }
+    requires reads { step ≢ 0 }
+    requires rules { step ≢ 9 }
+    ensures { topology.new ≡ fold (with_recorded workflow.now step) topology.old (table_entries source.now target.now noted.now) }
+{
+    let table = &noted.table;
+    write_back_denial(
+        topology,
+        workflow,
+        step,
+        source,
+        table,
+        noted.is_denied_at_source,
+    );
+    write_back_denial(
+        topology,
+        workflow,
+        step,
+        target,
+        table,
+        noted.is_denied_at_target,
+    );
+}
+
+/// The same of the denial at a side.
+fn write_back_denial(
+    topology: &mut Topology,
+    workflow: &Workflow,
+    step: u8,
+    side: &KeyspaceName,
+    table: &TableName,
+    is_denied: bool,
+)
+    requires { has_place topology.old (EntryKey.Denied side.now table.now) ≡ true }
+    ensures { topology.new ≡ with_recorded workflow.now step topology.old (Entry.Denied side.now table.now is_denied) }
+{
+    if denial_step(workflow, side) == step {
+        topology.put_denied(side, table, is_denied);
+    }
 }

@@ -7,6 +7,7 @@ mod fault;
 mod laws;
 mod log;
 mod plan;
+mod records;
 mod refresh;
 mod sides;
 mod step;

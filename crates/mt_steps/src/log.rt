@@ -1,16 +1,16 @@
 //! What is kept of a way for its undo.
-ghost use Rattle.std.specs.Prelude.{◌≡◌, ◌++◌, map, IfOk, IfErr, OnOk};
-ghost use Rattle.mt_model.specs.Part.{table_part_keys, with_entries};
-ghost use Rattle.mt_workflow.specs.Workflows.{wanted};
-ghost use Rattle.mt_steps.specs.Entries.{HasPlaces, recorded, step_entries};
+ghost use Rattle.std.specs.Prelude.{◌≡◌, IfOk, IfErr};
+ghost use Rattle.mt_model.specs.Part.{with_entries};
+ghost use Rattle.mt_steps.specs.Entries.{HasPlaces, recorded, recorded_of, step_entries};
 ghost use Rattle.mt_steps.specs.Steps.{given_listed, given_slot, left_listed, left_slot};
 ghost use Rattle.mt_steps.specs.Undo.{IsLogOf, new_log};
 
-use crate::entries::exchange_step;
+use crate::entries::{exchange_step, write_back};
 use crate::fault::StepFault;
+use crate::records::{TableRecord, table_at_rest};
 use crate::step::Step;
-use mt_model::{Entry, part_keys_are_distinct, table_part_keys};
-use mt_names::{TableName, TypeSet};
+use mt_model::part_keys_are_distinct;
+use mt_names::{KeyspaceName, TypeSet};
 use mt_primary::Before;
 use mt_stream::Stream;
 use mt_topology::Topology;
@@ -21,10 +21,13 @@ use std::mem;
 
 /// What is kept of a way for its undo: an entry for each key of the workflow's part, as it stood before its step; what stood on a
 /// primary's own list before the last refresh; and the stream that a new one was put in place of. It is made before the first step,
-/// and no step and no undo takes memory for it. (this profile's own)
+/// and no step and no undo takes memory for it. The entries are recorded table by table, in the order of the part, without the names of
+/// their keys: the sides stand here once, and each table once in its record. (this profile's own)
 #[derive(Drop)]
 pub struct UndoLog {
-    pub(crate) entries: Vec<Entry>,
+    source: KeyspaceName,
+    target: KeyspaceName,
+    pub(crate) records: Vec<TableRecord>,
     pub(crate) listed: Option<Before>,
     pub(crate) slot: Option<Stream>,
 }
@@ -40,11 +43,12 @@ pub struct OpenWay {
 }
 
 impl Model for UndoLog {
+    ghost use Rattle.mt_steps.specs.Records.{entries_of};
     ghost use Rattle.mt_steps.specs.Undo.{UndoState};
 
     ghost Value = { UndoState };
 
-    ghost view = { λ log. record { entries = log.entries.items; listed = log.listed; slot = log.slot } };
+    ghost view = { λ log. record { entries = entries_of log.source log.target log.records.items; listed = log.listed; slot = log.slot } };
 }
 
 impl UndoLog {
@@ -53,24 +57,22 @@ impl UndoLog {
         ensures value { IfOk result (λ log. log ≡ new_log workflow.now) }
         ensures memory { IfErr result (λ fault. fault ≡ StepFault.Memory) }
     {
-        let Ok(mut entries) = Vec::with_capacity(alloc, workflow.part_len()) else {
+        workflow.facts();
+        let Ok(mut records) = Vec::with_capacity(alloc, workflow.tables().len()) else {
             return Err(StepFault::Memory);
         };
         for table in workflow.tables() {
-            push_table(&mut entries, workflow, table)?;
+            if records.push(table_at_rest(workflow, table)).is_err() {
+                return Err(StepFault::Memory);
+            }
         }
         Ok(UndoLog {
-            entries,
+            source: workflow.source().copied(),
+            target: workflow.target().copied(),
+            records,
             listed: None,
             slot: None,
         })
-    }
-
-    /// Its entries.
-    pub(crate) fn entries(&self) -> &[Entry]
-        ensures { result.now ≡ self.now.entries }
-    {
-        &self.entries
     }
 
     /// Writes the entries of a workflow's part that change with a step as they are to be once these types are switched, and records
@@ -89,7 +91,33 @@ impl UndoLog {
     {
         workflow.facts();
         part_keys_are_distinct();
-        exchange_step(topology, workflow, types, step, &mut self.entries);
+        let source = &self.source;
+        let target = &self.target;
+        exchange_step(
+            topology,
+            workflow,
+            types,
+            step,
+            source,
+            target,
+            &mut self.records,
+        );
+    }
+
+    /// Writes back what is recorded of each entry of a workflow's part that changes with a step. It takes no memory.
+    pub(crate) fn write_back(&self, topology: &mut Topology, workflow: &Workflow, step: u8)
+        requires places { HasPlaces topology.old workflow.now }
+        requires log { IsLogOf workflow.now self.now }
+        ensures { topology.new ≡ with_entries topology.old (recorded_of workflow.now step self.now.entries) }
+    {
+        write_back(
+            topology,
+            workflow,
+            step,
+            &self.source,
+            &self.target,
+            &self.records,
+        );
     }
 
     /// Takes what the undo of a step gives back to a primary's own list.
@@ -113,23 +141,4 @@ impl UndoLog {
         }
         mem::replace(&mut self.slot, None)
     }
-}
-
-/// Puts an entry for each key that a table adds to a workflow's part behind the others, as the part is served at rest. `F0 Memory`.
-fn push_table(
-    entries: &mut Vec<Entry>,
-    workflow: &Workflow,
-    table: &TableName,
-) -> Result<(), StepFault>
-    ensures value { OnOk result (entries.new.items ≡ entries.old.items ++ map (wanted workflow.now workflow.now.switched) (table_part_keys workflow.now.source workflow.now.target table.now)) }
-    ensures memory { IfErr result (λ fault. fault ≡ StepFault.Memory) }
-{
-    let keys = table_part_keys(workflow.source(), workflow.target(), table);
-    let types = workflow.switched();
-    for key in &keys {
-        if entries.push(workflow.wanted(key, types)).is_err() {
-            return Err(StepFault::Memory);
-        }
-    }
-    Ok(())
 }

@@ -10,7 +10,6 @@ ghost use Rattle.mt_steps.specs.Steps.{IsGivenBack, IsUndone, Steps, open_way};
 ghost use Rattle.mt_steps.specs.Undo.{IsLogOf};
 
 use crate::attempt::attempt;
-use crate::entries::write_back;
 use crate::fault::StepFault;
 use crate::log::UndoLog;
 use crate::step::Step;
@@ -177,7 +176,7 @@ fn undo_of_way(
         (record { topology = topology.old; source = source.old; target = target.old; workflow = workflow.old; journal = journal.now }) log.old
         (record { topology = topology.new; source = source.new; target = target.new; workflow = workflow.new; journal = journal.now }) log.new }
 {
-    write_back(topology, workflow, step.number(), log.entries());
+    log.write_back(topology, workflow, step.number());
     give_back(way, source, target, log.take_listed(step));
     undo_streams(workflow, way, step, log.take_slot(step));
     count_undo(workflow, way);

@@ -1,11 +1,11 @@
 //! What the steps of a way, and their undo, do with the two streams of a workflow, and with the way.
-ghost use Rattle.std.specs.Prelude.{◌≡◌, ◌<◌, ◌≤◌, false, Some, option_copied, option_map};
+ghost use Rattle.std.specs.Prelude.{◌≡◌, ◌<◌, ◌≤◌, false, Some, option_copied};
 ghost use Rattle.std.specs.Option.{option_map_or};
 ghost use Rattle.mt_plain.specs.Plain.{first_step, next_step, write_journal};
-ghost use Rattle.mt_stream.specs.Streams.{is_level, state_from};
+ghost use Rattle.mt_stream.specs.Streams.{is_level};
 ghost use Rattle.mt_workflow.specs.Workflows.{slot_of, stream_name, way_from, with_slot};
 ghost use Rattle.mt_steps.specs.Plans.{last_step, number, step_at};
-ghost use Rattle.mt_steps.specs.Streams.{feeding_name, in_state, is_fed, is_last, log_end, other_name, put_away, serves_other_side, stopped_stream, streams_undone, types_after, way_after, way_undone, with_streams};
+ghost use Rattle.mt_steps.specs.Streams.{feeding_name, is_fed, is_last, log_end, other_name, put_away, serves_other_side, stopped_stream, streams_undone, types_after, way_after, way_undone, with_streams};
 
 use crate::step::Step;
 use mt_names::Position;
@@ -68,27 +68,6 @@ pub(crate) fn log_end(way: Way, source: &Primary, target: &Primary) -> Position
     target.position()
 }
 
-/// A stream that does something else, if there is one.
-fn in_state(stream: Option<Stream>, state: StreamState) -> Option<Stream>
-    ensures { result ≡ option_map (in_state (state_from state)) stream }
-{
-    let mut stream = stream?;
-    match state {
-        StreamState::Running => stream.start(),
-        StreamState::Stopped => stream.stop(),
-        StreamState::Frozen => stream.freeze(),
-    }
-    Some(stream)
-}
-
-/// Lets a stream do something else, if there is one.
-fn set_state(workflow: &mut Workflow, slot: Slot, state: StreamState)
-    ensures { workflow.new ≡ with_slot workflow.old (stream_name slot) (option_map (in_state (state_from state)) (slot_of workflow.old (stream_name slot))) }
-{
-    let stream = workflow.put_slot(slot, None);
-    workflow.put_slot(slot, in_state(stream, state));
-}
-
 /// Puts into a slot a stream that counts as copied, and waits at a position; it answers what stood there.
 fn put_stopped(workflow: &mut Workflow, slot: Slot, position: Position) -> Option<Stream>
     ensures before { result ≡ slot_of workflow.old (stream_name slot) }
@@ -112,9 +91,9 @@ pub(crate) fn step_streams(
     ensures kept { kept.new ≡ put_away workflow.old (way_from way) step kept.old }
 {
     match step {
-        Step::StopFeeding => set_state(workflow, feeding(way), StreamState::Stopped),
+        Step::StopFeeding => workflow.set_state(feeding(way), StreamState::Stopped),
         Step::CreateBack => *kept = put_stopped(workflow, other(way), position),
-        Step::StartBack => set_state(workflow, other(way), StreamState::Running),
+        Step::StartBack => workflow.set_state(other(way), StreamState::Running),
         Step::FreezeOld => end_feeding(workflow, way),
         _ => {}
     }
@@ -128,7 +107,7 @@ fn end_feeding(workflow: &mut Workflow, way: Way)
         workflow.put_slot(Slot::Back, None);
         return;
     }
-    set_state(workflow, Slot::Forward, StreamState::Frozen);
+    workflow.set_state(Slot::Forward, StreamState::Frozen);
 }
 
 /// What the undo of a step does with the streams; `kept` is the one that was put away.
@@ -136,7 +115,7 @@ pub(crate) fn undo_streams(workflow: &mut Workflow, way: Way, step: Step, kept: 
     ensures { workflow.new ≡ streams_undone workflow.old (way_from way) step kept }
 {
     match step {
-        Step::StopFeeding => set_state(workflow, feeding(way), StreamState::Running),
+        Step::StopFeeding => workflow.set_state(feeding(way), StreamState::Running),
         Step::CreateBack => {
             workflow.put_slot(other(way), kept);
         }

@@ -1,3 +1,4 @@
+pub mod Advance
 pub mod Builds
 pub mod Creates
 pub mod Faults

@@ -10,7 +10,7 @@ use Rattle.mt_model.specs.declared.entries.Entry.{Entry}
 use Rattle.mt_model.specs.declared.entries.EntryKey.{EntryKey}
 use Rattle.mt_model.specs.Part.{part_keys, table_rule_keys}
 use Rattle.mt_model.specs.Topology.{Rules, TopologyState, rule_at, value_of}
-use Rattle.mt_plain.specs.Events.{StreamName, forward, back, running, Way}
+use Rattle.mt_plain.specs.Events.{StreamName, StreamState, forward, back, running, Way}
 use Rattle.mt_plain.specs.Plain.{Live, has_part, not_begun}
 use Rattle.mt_plain.specs.Serve.{serve}
 use Rattle.mt_stream.specs.Streams.{StreamValue}
@@ -108,6 +108,10 @@ slot_of w back = w.back
 abbrev pub with_slot : WorkflowState → StreamName → Option StreamValue → WorkflowState
 with_slot w forward stream = record w { forward = stream }
 with_slot w back stream = record w { back = stream }
+
+-- a stream that does something else (MoveTables: the state of a workflow's stream)
+abbrev pub in_state : StreamState → StreamValue → StreamValue
+in_state state s = record s { state = state }
 
 -- the stream that writes at a side: the back stream at the source, else the forward stream (MoveTables)
 abbrev pub feeding : WorkflowState → (side : List ℕ) → StreamName

@@ -4,6 +4,7 @@ ghost use Rattle.indexmap.specs.IndexMap.{insert_entry};
 ghost use Rattle.mt_names.specs.Same.{same_key};
 ghost use Rattle.mt_names.specs.Tables.{most_tables};
 ghost use Rattle.mt_plain.specs.Plain.{each_once};
+ghost use Rattle.mt_model.specs.Part.{table_rule_keys};
 ghost use Rattle.mt_model.specs.Topology.{Rules};
 ghost use Rattle.mt_workflow.specs.Builds.{Agrees, with_kept};
 ghost use Rattle.mt_workflow.specs.Workflows.{kept_of};
@@ -64,9 +65,43 @@ pub(crate) fn kept_rules(
     part_keys_are_distinct();
     let mut kept = IndexMap::new(alloc);
     for table in tables {
-        keep(&mut kept, &table_rule_keys(source, target, table), rules)?;
+        keep_table(&mut kept, source, target, table, rules)?;
     }
     Ok(kept)
+}
+
+/// Keeps the rule that stands at each of a table's rule keys, or none. They aren't made where nothing is kept yet, and none may have
+/// a rule. `W0 Memory`.
+fn keep_table(
+    kept: &mut IndexMap<RuleKey, Option<RuleTarget>>,
+    source: &KeyspaceName,
+    target: &KeyspaceName,
+    table: &TableName,
+    rules: &RoutingRules,
+) -> Result<(), WorkflowFault>
+    ensures value { OnOk result ((stood : Rules) → Agrees kept.old.entries stood
+        → Agrees kept.new.entries (with_kept rules.now stood (table_rule_keys source.now target.now table.now))) }
+    ensures memory { IfErr result (λ fault. fault ≡ WorkflowFault.Memory) }
+{
+    if kept.is_empty() && !rules.may_have_rule(table) {
+        return Ok(());
+    }
+    keep_keys(kept, source, target, table, rules)
+}
+
+/// The same, for which the keys are made.
+fn keep_keys(
+    kept: &mut IndexMap<RuleKey, Option<RuleTarget>>,
+    source: &KeyspaceName,
+    target: &KeyspaceName,
+    table: &TableName,
+    rules: &RoutingRules,
+) -> Result<(), WorkflowFault>
+    ensures value { OnOk result ((stood : Rules) → Agrees kept.old.entries stood
+        → Agrees kept.new.entries (with_kept rules.now stood (table_rule_keys source.now target.now table.now))) }
+    ensures memory { IfErr result (λ fault. fault ≡ WorkflowFault.Memory) }
+{
+    keep(kept, &table_rule_keys(source, target, table), rules)
 }
 
 /// Keeps the rule that stands at each of some keys, or none. `W0 Memory`.

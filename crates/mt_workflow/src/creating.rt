@@ -78,8 +78,7 @@ fn table_refusal(
     if topology.is_present(target, table) {
         return Some(WorkflowFault::TargetHasTable(table.copied()));
     }
-    let keys = table_rule_keys(source, target, table);
-    if let Some(key) = conflict(topology.rules(), source, table, &keys) {
+    if let Some(key) = table_conflict(topology.rules(), source, target, table) {
         return Some(WorkflowFault::RuleConflict(key));
     }
     if is_denied_by_hand(topology, source, target, table) {
@@ -98,6 +97,35 @@ fn is_denied_by_hand(
     ensures { result ≡ is_denied_by_hand topology.now source.now target.now table.now }
 {
     topology.is_denied(source, table) || topology.is_denied(target, table)
+}
+
+/// The first of a table's rule keys whose rule leads elsewhere than to the table at the source. They aren't made where none may
+/// have a rule.
+fn table_conflict(
+    rules: &RoutingRules,
+    source: &KeyspaceName,
+    target: &KeyspaceName,
+    table: &TableName,
+) -> Option<RuleKey>
+    ensures { result ≡ find (leads_elsewhere rules.now source.now table.now) (table_rule_keys source.now target.now table.now) }
+{
+    if !rules.may_have_rule(table) {
+        return None;
+    }
+    conflict_of_keys(rules, source, target, table)
+}
+
+/// The same, for which the keys are made.
+fn conflict_of_keys(
+    rules: &RoutingRules,
+    source: &KeyspaceName,
+    target: &KeyspaceName,
+    table: &TableName,
+) -> Option<RuleKey>
+    ensures { result ≡ find (leads_elsewhere rules.now source.now table.now) (table_rule_keys source.now target.now table.now) }
+{
+    let keys = table_rule_keys(source, target, table);
+    conflict(rules, source, table, &keys)
 }
 
 /// The first of some rule keys whose rule leads elsewhere than to the table at the source.

@@ -1,11 +1,14 @@
 //! A workflow.
-ghost use Rattle.std.specs.Prelude.{◌≡◌, ◌≢◌, ℕ, ◌<◌, ◌≤◌, true, false, if◌then◌else◌, None, Some, AllPairs, IfOk, IfErr, length, option_copied, option_map, slice_get};
+ghost use Rattle.std.specs.Prelude.{◌≡◌, ◌≢◌, ℕ, ◌<◌, ◌≤◌, true, false, List, if◌then◌else◌, None, Some, AllPairs, IfOk, IfErr, length, option_copied, option_map, slice_get};
 ghost use Rattle.mt_names.specs.Tables.{most_tables};
 ghost use Rattle.mt_model.specs.Topology.{rule_at};
-ghost use Rattle.mt_plain.specs.Plain.{each_once, in_keyspace, is_side};
+ghost use Rattle.mt_plain.specs.Plain.{among, each_once, in_keyspace, is_side};
 ghost use Rattle.mt_plain.specs.Serve.{is_denied_at, owned_before, serve_plain, serve_rule, step_of_entry};
 ghost use Rattle.mt_plain.specs.Slots.{written_side};
-ghost use Rattle.mt_workflow.specs.Workflows.{IsWorkflow, feeding, is_as_before, keys_of_part, live_of, new_workflow, rules_only, slot_of, stream_name, wanted, way_from, with_slot};
+ghost use Rattle.mt_primary.specs.Primary.{has_table};
+ghost use Rattle.mt_stream.specs.Streams.{StreamValue, state_from};
+ghost use Rattle.mt_workflow.specs.Advance.{AdvancesSlot};
+ghost use Rattle.mt_workflow.specs.Workflows.{IsWorkflow, feeding, in_state, is_as_before, keys_of_part, live_of, new_workflow, rules_only, slot_of, stream_name, wanted, way_from, with_slot};
 
 use crate::building::{each_once, kept_rules, table_list};
 use crate::fault::WorkflowFault;
@@ -18,7 +21,8 @@ use mt_names::{
     KeyspaceName, MAX_TABLES, Position, RuleKey, RuleTarget, TableName, TabletType, TypeSet,
     WorkflowName,
 };
-use mt_stream::Stream;
+use mt_primary::Primary;
+use mt_stream::{Advanced, Stream, StreamFault, StreamState};
 use mt_topology::Topology;
 use std::alloc::Global;
 use std::marker::Model;
@@ -364,6 +368,38 @@ impl Workflow {
         }
     }
 
+    /// Advances its forward stream or its back stream where it stands, as `Stream::advance` says; none, if it hasn't that. All else
+    /// of the workflow stays. (Vitess: a VReplication stream of the workflow, or of its reverse workflow)
+    pub fn advance(
+        &mut self,
+        slot: Slot,
+        source: &Primary,
+        sink: &mut Primary,
+        at: Position,
+        max: u16,
+    ) -> Option<Result<Advanced, StreamFault>>
+        requires within { (s : StreamValue) → slot_of self.old (stream_name slot) ≡ Some s → s.position ≤ length source.now.log }
+        requires there { (s : StreamValue) → slot_of self.old (stream_name slot) ≡ Some s → (table : List ℕ) → among s.tables table ≡ true → has_table sink.old table ≡ true }
+        ensures advances { AdvancesSlot (slot_of self.old (stream_name slot)) source.now sink.old at max result (slot_of self.new (stream_name slot)) sink.new }
+        ensures rest { self.new ≡ with_slot self.old (stream_name slot) (slot_of self.new (stream_name slot)) }
+    {
+        match slot {
+            Slot::Forward => advance_in(&mut self.forward, source, sink, at, max),
+            Slot::Back => advance_in(&mut self.back, source, sink, at, max),
+        }
+    }
+
+    /// Lets its forward stream or its back stream run, stop or freeze where it stands, if it has that. All else of the workflow stays.
+    /// It takes no memory. (Vitess: the state of a VReplication stream)
+    pub fn set_state(&mut self, slot: Slot, state: StreamState)
+        ensures { self.new ≡ with_slot self.old (stream_name slot) (option_map (in_state (state_from state)) (slot_of self.old (stream_name slot))) }
+    {
+        match slot {
+            Slot::Forward => set_state_in(&mut self.forward, state),
+            Slot::Back => set_state_in(&mut self.back, state),
+        }
+    }
+
     /// Says which types are switched, and answers which were. It takes no memory.
     pub fn set_switched(&mut self, types: TypeSet) -> TypeSet
         ensures before { result ≡ self.old.switched }
@@ -378,5 +414,37 @@ impl Workflow {
         ensures after { self.new ≡ record self.old { way = option_map way_from way } }
     {
         mem::replace(&mut self.way, way)
+    }
+}
+
+/// Advances the stream that stands there, if one does.
+fn advance_in(
+    stream: &mut Option<Stream>,
+    source: &Primary,
+    sink: &mut Primary,
+    at: Position,
+    max: u16,
+) -> Option<Result<Advanced, StreamFault>>
+    requires within { (s : StreamValue) → stream.old ≡ Some s → s.position ≤ length source.now.log }
+    requires there { (s : StreamValue) → stream.old ≡ Some s → (table : List ℕ) → among s.tables table ≡ true → has_table sink.old table ≡ true }
+    ensures { AdvancesSlot stream.old source.now sink.old at max result stream.new sink.new }
+{
+    match stream {
+        None => None,
+        Some(stream) => Some(stream.advance(source, sink, at, max)),
+    }
+}
+
+/// Lets the stream that stands there run, stop or freeze, if one does.
+fn set_state_in(stream: &mut Option<Stream>, state: StreamState)
+    ensures { stream.new ≡ option_map (in_state (state_from state)) stream.old }
+{
+    let Some(stream) = stream else {
+        return;
+    };
+    match state {
+        StreamState::Running => stream.start(),
+        StreamState::Stopped => stream.stop(),
+        StreamState::Frozen => stream.freeze(),
     }
 }

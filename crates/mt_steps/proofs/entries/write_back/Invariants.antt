@@ -1,12 +1,8 @@
--- The entries before this one are written back, and places stay.
+-- The tables before this one are written back.
 use Rattle.std.proofs.Common.{◌≡◌, fold, take}
-use Rattle.mt_model.specs.declared.entries.EntryKey.{EntryKey}
-use Rattle.mt_model.specs.Topology.{has_place}
 use Rattle.mt_steps.specs.Entries.{with_recorded}
+use Rattle.mt_steps.specs.Records.{table_entries}
 use Rattle.mt_steps.proofs.entries.write_back.Given as goal
 
-abbrev pub invariant-loop-entry : goal.invariant-loop-entry
-invariant-loop-entry l = record {
-  written : l.topology ≡ fold (with_recorded l.workflow l.step) l.initial.topology (take l.entry-index l.entries);
-  places : (k : EntryKey) → has_place l.topology k ≡ has_place l.initial.topology k;
-}
+abbrev pub invariant-loop-noted : goal.invariant-loop-noted
+invariant-loop-noted l = l.topology ≡ fold (λ u r. fold (with_recorded l.workflow l.step) u (table_entries l.source l.target r)) l.initial.topology (take l.noted-index l.records)

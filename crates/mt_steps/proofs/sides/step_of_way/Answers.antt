@@ -6,6 +6,7 @@ use Rattle.mt_model.specs.Topology.{key_of}
 use Rattle.mt_workflow.specs.Workflows.{WorkflowState, way_from}
 use Rattle.mt_steps.specs.Entries.{recorded, step_entries}
 use Rattle.mt_steps.specs.Plans.{number}
+use Rattle.mt_steps.specs.Records.{entries_of}
 use Rattle.mt_steps.specs.Steps.{Attempts}
 use Rattle.mt_steps.specs.Streams.{log_end, put_away, types_after, way_after, with_streams}
 use Rattle.mt_steps.specs.Undo.{UndoState}
@@ -42,7 +43,7 @@ returns-clause-steps g c =
 pub returns-clause-log : goal.returns-clause-log
 returns-clause-log g c =
     let done = returns-clause-steps g c in
-    stepped_log (way_from c.args.way) c.args.step c.args.topology.now c.exchange.new.topology c.args.workflow.now c.count_step.new.workflow c.args.log.now (record { entries = c.log-2.inside.entries.items; listed = c.log-2.inside.listed; slot = c.step_streams.new.kept }) (log_end (way_from c.args.way) c.args.source.now c.args.target.now) (step_entries c.args.workflow.now (way_from c.args.way).after (number c.args.step)) done.topology
+    stepped_log (way_from c.args.way) c.args.step c.args.topology.now c.exchange.new.topology c.args.workflow.now c.count_step.new.workflow c.args.log.now (record { entries = entries_of c.log-2.inside.source c.log-2.inside.target c.log-2.inside.records.items; listed = c.log-2.inside.listed; slot = c.step_streams.new.kept }) (log_end (way_from c.args.way) c.args.source.now c.args.target.now) (step_entries c.args.workflow.now (way_from c.args.way).after (number c.args.step)) done.topology
     done.workflow done.entries c.requires.log
 
 pub returns-clause-places : goal.returns-clause-places

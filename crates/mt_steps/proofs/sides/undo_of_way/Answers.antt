@@ -1,20 +1,14 @@
 -- What the calls did, one after the other.
-use Rattle.std.proofs.Common.{◌≡◌, map, refl, ap, subst, ◌∙◌}
+use Rattle.std.proofs.Common.{◌≡◌, refl, ap, subst, ◌∙◌}
 use Rattle.mt_model.specs.Part.{with_entries}
-use Rattle.mt_model.specs.Topology.{key_of}
-use Rattle.mt_workflow.specs.Workflows.{WorkflowState, keys_of_part, way_from}
+use Rattle.mt_workflow.specs.Workflows.{WorkflowState, way_from}
 use Rattle.mt_steps.specs.Entries.{recorded_of}
 use Rattle.mt_steps.specs.Plans.{number}
 use Rattle.mt_steps.specs.Steps.{IsGivenBack, given_slot, left_slot}
 use Rattle.mt_steps.specs.Streams.{streams_undone, way_undone}
 use Rattle.mt_steps.specs.Undo.{UndoState}
-use Rattle.mt_steps.proofs.EntryLemmas.{backs_are_entries, entries_have_places}
 use Rattle.mt_steps.proofs.StepLemmas.{streams-given, undone_log, undone_places}
 use Rattle.mt_steps.proofs.sides.undo_of_way.Goals as goal
-
-pub write_back-requires : goal.write_back-requires
-write_back-requires c =
-    entries_have_places c.args.topology.now (keys_of_part c.args.workflow.now) c.entries.result.now (ap (map key_of) c.entries.ensures ∙ c.requires.log) c.requires.places
 
 pub returns-clause-undone : goal.returns-clause-undone
 returns-clause-undone c =
@@ -23,12 +17,10 @@ returns-clause-undone c =
     let way = way_from c.args.way in
     let step = c.args.step in
     let log = c.args.log.now in
-    let n = c.number.result in
     let given : c.take_slot.result ≡ given_slot step log.slot = c.take_slot.ensures.taken ∙ ap (λ (l : UndoState). given_slot step l.slot) c.take_listed.ensures.left in
     record {
       topology =
-          c.write_back.ensures ∙ backs_are_entries w n t c.entries.result.now ∙ ap (λ es. with_entries t (recorded_of w n es)) c.entries.ensures
-          ∙ ap (λ k. with_entries t (recorded_of w k log.entries)) c.number.ensures.value;
+          c.write_back.ensures ∙ ap (λ k. with_entries t (recorded_of w k log.entries)) c.number.ensures.value;
       listed = subst (λ m. IsGivenBack way.before.primary m c.args.source.now c.args.target.now c.give_back.new.source c.give_back.new.target) c.take_listed.ensures.taken c.give_back.ensures;
       workflow =
           c.count_undo.ensures ∙ ap (λ (v : WorkflowState). record v { way = way_undone way }) (c.undo_streams.ensures ∙ ap (streams_undone w way step) given ∙ streams-given w way step log.slot);

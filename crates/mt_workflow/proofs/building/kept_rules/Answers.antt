@@ -1,6 +1,7 @@
 -- One table more, and all of them.
 use Rattle.std.proofs.Common.{[], ap, arith, refl, subst, take, ◌∙◌}
 use Rattle.std.proofs.lemmas.List.{take_all}
+use Rattle.mt_model.specs.Part.{table_rule_keys}
 use Rattle.mt_workflow.specs.Builds.{Agrees, with_kept}
 use Rattle.mt_workflow.specs.Workflows.{keys_of_rules}
 use Rattle.mt_workflow.proofs.KeptLemmas.{kept-all, kept-more}
@@ -10,11 +11,11 @@ pub loop-table-preserved : goal.loop-table-preserved
 loop-table-preserved c =
     let rules = c.args.rules.now in
     let now = with_kept rules [] (keys_of_rules c.args.source.now c.args.target.now (take c.loop-table.table-index c.args.tables.now)) in
-    let keys = c.table_rule_keys.result in
-    subst (Agrees c.keep.new.kept.entries)
+    let keys = table_rule_keys c.args.source.now c.args.target.now c.table-item.result in
+    subst (Agrees c.keep_table.new.kept.entries)
     (kept-more rules now (with_kept rules now keys) c.args.source.now c.args.target.now c.args.tables.now c.loop-table.table-index c.table-item.result keys
-    c.loop-table-test.true c.table-item.is c.table_rule_keys.ensures refl refl)
-    (c.in_ok-keep.ensures.value now c.loop-table.invariant)
+    c.loop-table-test.true c.table-item.is refl refl refl)
+    (c.in_ok-keep_table.ensures.value now c.loop-table.invariant)
 
 pub returns-clause-value : goal.returns-clause-value
 returns-clause-value c =

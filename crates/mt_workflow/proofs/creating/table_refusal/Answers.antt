@@ -13,7 +13,7 @@ returns-in-Some c =
     let there : is_present c.args.topology.now.keyspaces c.args.target.now c.args.table.now ≡ false = search rules in
     let found =
     ap (λ r. find (leads_elsewhere r c.args.source.now c.args.table.now) (table_rule_keys c.args.source.now c.args.target.now c.args.table.now)) (sym c.rules.ensures)
-    ∙ ap (find (leads_elsewhere c.rules.result.now c.args.source.now c.args.table.now)) (sym c.table_rule_keys-keys.ensures) ∙ sym c.conflict.ensures ∙ c.in-Some.is in
+    ∙ sym c.table_conflict.ensures ∙ c.in-Some.is in
     sym (refused-by c.args.topology.now c.args.source.now c.args.target.now c.args.table.now (Some c.in-Some.key) at there found)
 
 pub returns-then-is_denied_by_hand : goal.returns-then-is_denied_by_hand
@@ -22,7 +22,7 @@ returns-then-is_denied_by_hand c =
     let there : is_present c.args.topology.now.keyspaces c.args.target.now c.args.table.now ≡ false = search rules in
     let found =
     ap (λ r. find (leads_elsewhere r c.args.source.now c.args.table.now) (table_rule_keys c.args.source.now c.args.target.now c.args.table.now)) (sym c.rules.ensures)
-    ∙ ap (find (leads_elsewhere c.rules.result.now c.args.source.now c.args.table.now)) (sym c.table_rule_keys-keys.ensures) ∙ sym c.conflict.ensures ∙ c.in_default.is in
+    ∙ sym c.table_conflict.ensures ∙ c.in_default.is in
     ap (λ t. Some (DeniedByHand t)) c.copied-then-is_denied_by_hand.ensures
     ∙ sym (refused-by c.args.topology.now c.args.source.now c.args.target.now c.args.table.now None at there found
     ∙ ap (λ b. refuse_if b (DeniedByHand c.args.table.now)) (sym c.is_denied_by_hand.ensures ∙ c.if-is_denied_by_hand.true))
@@ -33,6 +33,6 @@ returns c =
     let there : is_present c.args.topology.now.keyspaces c.args.target.now c.args.table.now ≡ false = search rules in
     let found =
     ap (λ r. find (leads_elsewhere r c.args.source.now c.args.table.now) (table_rule_keys c.args.source.now c.args.target.now c.args.table.now)) (sym c.rules.ensures)
-    ∙ ap (find (leads_elsewhere c.rules.result.now c.args.source.now c.args.table.now)) (sym c.table_rule_keys-keys.ensures) ∙ sym c.conflict.ensures ∙ c.in_default.is in
+    ∙ sym c.table_conflict.ensures ∙ c.in_default.is in
     sym (refused-by c.args.topology.now c.args.source.now c.args.target.now c.args.table.now None at there found
     ∙ ap (λ b. refuse_if b (DeniedByHand c.args.table.now)) (sym c.is_denied_by_hand.ensures ∙ c.if-is_denied_by_hand.false))

@@ -1,31 +1,46 @@
--- Its entries are those of the part, each with a place, and of distinct keys.
-use Rattle.std.proofs.Common.{◌≡◌, map, filter, rules, ap, ◌∙◌}
-use Rattle.mt_model.specs.Part.{with_entries}
+-- The records are those of the part's keys, each with a place, and distinct.
+use Rattle.std.proofs.Common.{◌≡◌, ◌≢◌, AllPairs, fold, map, rules, ap, subst, sym, ◌∙◌}
+use Rattle.std.proofs.lemmas.List.{with_items_is}
 use Rattle.mt_model.specs.Topology.{key_of}
-use Rattle.mt_workflow.specs.Workflows.{keys_of_part, wanted}
-use Rattle.mt_steps.specs.Entries.{is_of_step}
+use Rattle.mt_workflow.specs.Workflows.{keys_of_part}
+use Rattle.mt_steps.specs.Entries.{HavePlaces, recorded, swept, with_wanted}
+use Rattle.mt_steps.specs.Records.{entries_of}
 use Rattle.mt_steps.specs.Undo.{UndoState}
-use Rattle.mt_steps.proofs.EntryLemmas.{entries_are_distinct, entries_have_places, writes_are_entries}
+use Rattle.mt_steps.proofs.EntryLemmas.{writes_are_entries}
+use Rattle.mt_steps.proofs.SweepLemmas.{have_places, swept_is_recorded}
 use Rattle.mt_steps.proofs.log.UndoLog.exchange.Goals as goal
 
-pub exchange_step-requires-clause-places : goal.exchange_step-requires-clause-places
-exchange_step-requires-clause-places c =
-    let w = c.args.workflow.now in
-    let items : c.deref_mut.result.now ≡ c.self.inside.entries.items = search rules in
-    entries_have_places c.args.topology.now (keys_of_part w) c.deref_mut.result.now (ap (map key_of) items ∙ ap (λ (l : UndoState). map key_of l.entries) c.self.view_is ∙ c.requires.log) c.requires.places
+pub exchange_step-requires : goal.exchange_step-requires
+exchange_step-requires c =
+    let log = c.self.inside in
+    let items : c.deref_mut.result.now ≡ log.records.items = search rules in
+    let is = ap (λ (l : UndoState). map key_of l.entries) c.self.view_is ∙ c.requires.log in
+    record {
+      places = subst (HavePlaces c.args.topology.now) (sym (ap (λ rs. map key_of (entries_of log.source log.target rs)) items ∙ is)) (have_places c.args.topology.now (keys_of_part c.args.workflow.now) c.requires.places);
+    }
 
-pub exchange_step-requires-clause-distinct : goal.exchange_step-requires-clause-distinct
-exchange_step-requires-clause-distinct c =
+pub returns-clause-recorded : goal.returns-clause-recorded
+returns-clause-recorded c =
     let w = c.args.workflow.now in
-    let items : c.deref_mut.result.now ≡ c.self.inside.entries.items = search rules in
-    entries_are_distinct (keys_of_part w) c.deref_mut.result.now (ap (map key_of) items ∙ ap (λ (l : UndoState). map key_of l.entries) c.self.view_is ∙ c.requires.log)
-    (c.part_keys_are_distinct.ensures w.source w.target w.tables c.facts.ensures.apart c.facts.ensures.distinct)
+    let n = c.args.step in
+    let t = c.args.topology.now in
+    let log = c.self.inside in
+    let items : c.deref_mut.result.now ≡ log.records.items = search rules in
+    let is = ap (λ (l : UndoState). map key_of l.entries) c.self.view_is ∙ c.requires.log in
+    let distinct : AllPairs (λ a b. a ≢ b) (keys_of_part w) = c.part_keys_are_distinct.ensures w.source w.target w.tables c.facts.ensures.apart c.facts.ensures.distinct in
+    ap (λ rs. record { entries = entries_of log.source log.target rs; listed = log.listed; slot = log.slot }) (with_items_is log.records c.exchange_step.new.records (search rules))
+    ∙ ap (λ es. record { entries = es; listed = log.listed; slot = log.slot })
+    (c.exchange_step.ensures.recorded ∙ ap (λ rs. swept w c.args.types n t (entries_of log.source log.target rs)) items
+    ∙ swept_is_recorded w c.args.types n t (entries_of log.source log.target log.records.items) (subst (AllPairs (λ a b. a ≢ b)) (sym is) distinct))
+    ∙ ap (λ (l : UndoState). record l { entries = recorded w n t l.entries }) c.self.view_is
 
 pub returns-clause-written : goal.returns-clause-written
 returns-clause-written c =
     let w = c.args.workflow.now in
     let n = c.args.step in
     let t = c.args.topology.now in
-    let items : c.deref_mut.result.now ≡ c.self.inside.entries.items = search rules in
-    c.exchange_step.ensures.written ∙ writes_are_entries w c.args.types n t c.deref_mut.result.now
-    ∙ ap (λ ks. with_entries t (map (wanted w c.args.types) (filter (is_of_step w n) ks))) (ap (map key_of) items ∙ ap (λ (l : UndoState). map key_of l.entries) c.self.view_is ∙ c.requires.log)
+    let log = c.self.inside in
+    let items : c.deref_mut.result.now ≡ log.records.items = search rules in
+    let is = ap (λ (l : UndoState). map key_of l.entries) c.self.view_is ∙ c.requires.log in
+    c.exchange_step.ensures.written ∙ ap (fold (with_wanted w c.args.types n) t) (ap (λ rs. map key_of (entries_of log.source log.target rs)) items ∙ is)
+    ∙ writes_are_entries w c.args.types n t (keys_of_part w)

@@ -1,8 +1,9 @@
--- The tables before this one have their entries.
+-- The tables before this one have their records.
 use Rattle.std.proofs.Common.{◌≡◌, map, take}
 use Rattle.mt_model.specs.Part.{part_keys}
 use Rattle.mt_workflow.specs.Workflows.{wanted}
+use Rattle.mt_steps.specs.Records.{entries_of}
 use Rattle.mt_steps.proofs.log.UndoLog.reserve.Given as goal
 
 abbrev pub invariant-loop-table : goal.invariant-loop-table
-invariant-loop-table l = l.entries.items ≡ map (wanted l.workflow l.workflow.switched) (part_keys l.workflow.source l.workflow.target (take l.table-index l.workflow.tables))
+invariant-loop-table l = entries_of l.workflow.source l.workflow.target l.records.items ≡ map (wanted l.workflow l.workflow.switched) (part_keys l.workflow.source l.workflow.target (take l.table-index l.workflow.tables))

@@ -1,0 +1,81 @@
+-- What is recorded of the keys of a part, and the entries that are made of it.
+use Rattle.std.specs.Prelude.{ℕ, Bool, true, false, List, [], ◌∷◌, ◌++◌, Option, None, Some, if◌then◌else◌}
+use Rattle.mt_names.specs.declared.keys.RuleKey.{RuleKey}
+use Rattle.mt_names.specs.declared.keys.RuleTarget.{RuleTarget}
+use Rattle.mt_names.specs.declared.types.TabletType.TheVariants.{Primary, Replica, Rdonly}
+use Rattle.mt_names.specs.declared.types.TypeSet.{TypeSet}
+use Rattle.mt_model.specs.declared.entries.Entry.{Entry}
+use Rattle.mt_model.specs.declared.entries.Entry.TheVariants as entry
+use Rattle.mt_model.specs.declared.entries.EntryKey.TheVariants as about
+use Rattle.mt_model.specs.Topology.{TopologyState, is_denied}
+use Rattle.mt_plain.specs.Plain.{allow_target, deny_source, in_keyspace}
+use Rattle.mt_plain.specs.Serve.{owned_before}
+use Rattle.mt_workflow.specs.Workflows.{WorkflowState, live_of}
+use Rattle.mt_steps.specs.declared.records.NameRecord.{NameRecord}
+use Rattle.mt_steps.specs.declared.records.RuleRecord.{RuleRecord}
+use Rattle.mt_steps.specs.declared.records.RuleRecord.TheVariants as was
+use Rattle.mt_steps.specs.declared.records.TableRecord.{TableRecord}
+use Rattle.mt_steps.specs.Entries.{is_of_step}
+
+-- ---- rules
+
+-- the rule that stood at a key of a table, between two sides (this profile's own)
+abbrev pub rule_recorded : (source target table : List ℕ) → RuleRecord → Option RuleTarget
+rule_recorded source target table was.NoRule = None
+rule_recorded source target table was.ToSource = Some (in_keyspace source table)
+rule_recorded source target table was.ToTarget = Some (in_keyspace target table)
+rule_recorded source target table (was.Rule rule) = Some rule
+
+-- what a rule is recorded as that a step found (this profile's own)
+abbrev pub rule_record : Option RuleTarget → RuleRecord
+rule_record (Some rule) = was.Rule rule
+rule_record None = was.NoRule
+
+-- a rule to a key's table at the target, or at the source (this profile's own)
+abbrev pub side_record : (is_target : Bool) → RuleRecord
+side_record true = was.ToTarget
+side_record false = was.ToSource
+
+-- ---- the entries that records stand for
+
+-- the entries of a name's four keys (this profile's own)
+abbrev pub name_entries : (source target : List ℕ) → Option (List ℕ) → (table : List ℕ) → NameRecord → List Entry
+name_entries source target keyspace table r =
+    entry.Rule (record { keyspace = keyspace; table = table; tablet_type = None }) (rule_recorded source target table r.plain)
+    ∷ entry.Rule (record { keyspace = keyspace; table = table; tablet_type = Some Primary }) (rule_recorded source target table r.primary)
+    ∷ entry.Rule (record { keyspace = keyspace; table = table; tablet_type = Some Replica }) (rule_recorded source target table r.replica)
+    ∷ entry.Rule (record { keyspace = keyspace; table = table; tablet_type = Some Rdonly }) (rule_recorded source target table r.rdonly)
+    ∷ []
+
+-- the entries of a table's fifteen keys (this profile's own)
+abbrev pub table_entries : (source target : List ℕ) → TableRecord → List Entry
+table_entries source target r =
+    name_entries source target None r.table r.alone
+    ++ name_entries source target (Some source) r.table r.at_source
+    ++ name_entries source target (Some target) r.table r.at_target
+    ++ entry.Denied source r.table r.is_denied_at_source ∷ entry.Denied target r.table r.is_denied_at_target ∷ entry.Present target r.table r.is_present ∷ []
+
+-- the entries of several tables, one after the other (this profile's own)
+abbrev pub entries_of : (source target : List ℕ) → List TableRecord → List Entry
+entries_of source target [] = []
+entries_of source target (r ∷ records) = table_entries source target r ++ entries_of source target records
+
+-- ---- denials
+
+-- the step with which the denial at a side changes (How traffic is switched)
+abbrev pub denial_step : WorkflowState → (side : List ℕ) → ℕ
+denial_step w side = if owned_before (live_of w) side then deny_source else allow_target
+
+-- a denial that is recorded, after a step (this profile's own)
+abbrev pub denied_after : WorkflowState → ℕ → TopologyState → (side table : List ℕ) → Bool → Bool
+denied_after w n t side table mark = if is_of_step w n (about.Denied side table) then is_denied t.keyspaces side table else mark
+
+-- ---- a part as it is served at rest
+
+-- what stands at the keys of a name with some types switched, with the rule for all types (How traffic is switched: reads)
+abbrev pub name_at_rest : TypeSet → RuleRecord → NameRecord
+name_at_rest types plain = record { plain = plain; primary = was.NoRule; replica = side_record types.replica; rdonly = side_record types.rdonly }
+
+-- the key of a table's name at the source, for all types (Routing Rules)
+abbrev pub key_at_source : WorkflowState → (table : List ℕ) → RuleKey
+key_at_source w table = record { keyspace = Some w.source; table = table; tablet_type = None }
