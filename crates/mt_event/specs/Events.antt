@@ -1,5 +1,5 @@
 -- What is asked of the controller and what it answers, in the words of the definitions.
-use Rattle.std.specs.Prelude.{option_map, Result, Ok, Err}
+use Rattle.std.specs.Prelude.{⊤, option_map, Result, Ok, Err}
 use Rattle.mt_event.specs.declared.event.Event.{Event}
 use Rattle.mt_event.specs.declared.event.Event.TheVariants as event
 use Rattle.mt_event.specs.declared.refusal.Refusal.{Refusal}
@@ -92,3 +92,8 @@ reply_from (reply.Shown shown) = plain.shown (shown_from shown)
 abbrev pub answer_from : Result Reply Refusal → plain.Answer
 answer_from (Ok reply) = reply_from reply
 answer_from (Err refusal) = plain.refused (refusal_from refusal)
+
+-- the answer to an event of which nothing is told but that it is done (this profile's own)
+abbrev pub done_from : Result ⊤ Refusal → plain.Answer
+done_from (Ok done) = plain.done
+done_from (Err refusal) = plain.refused (refusal_from refusal)

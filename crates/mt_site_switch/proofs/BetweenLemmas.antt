@@ -56,32 +56,25 @@ closed t primaries w new_w way journal o source target none is =
 -- ---- a step
 
 -- both primaries are taken out, and both are put back
-module _ (t : TopologyState) (old without_one without with_one with_both : Primaries) (w : WorkflowState) (journal : List JournalEntry) (source target a b : PrimaryState) (s k : List ℕ)
-    (at_source : s ≡ w.source) (at_target : k ≡ w.target) (apart : w.source ≢ w.target)
-    (source_is : source ≡ primary_of old s) (one : without_one ≡ set_value (same_text s) old a)
-    (target_is : target ≡ primary_of without_one k) (both : without ≡ set_value (same_text k) without_one b) where
-  differ : s ≢ k
-  differ e = apart (sym at_source ∙ e ∙ at_target)
-
+module _ (t : TopologyState) (old without_one without with_one with_both : Primaries) (w : WorkflowState) (journal : List JournalEntry) (source target a b : PrimaryState) (apart : w.source ≢ w.target)
+    (source_is : source ≡ primary_of old w.source) (one : without_one ≡ set_value (same_text w.source) old a)
+    (target_is : target ≡ primary_of without_one w.target) (both : without ≡ set_value (same_text w.target) without_one b) where
   -- what is worked on
   sides-are : record { topology = t; source = source; target = target; workflow = w; journal = journal } ≡ sides_between t old w journal
   sides-are =
-      ap (λ p. record { topology = t; source = p; target = target; workflow = w; journal = journal }) (source_is ∙ ap (primary_of old) at_source)
+      ap (λ p. record { topology = t; source = p; target = target; workflow = w; journal = journal }) source_is
       ∙ ap (λ p. record { topology = t; source = primary_of old w.source; target = p; workflow = w; journal = journal })
-      (target_is ∙ second-is old without_one s a one k differ ∙ ap (primary_of old) at_target)
+      (target_is ∙ second-is old without_one w.source a one w.target apart)
 
   -- what becomes of the primaries
-  primaries-are : (sides : SidesState) → with_one ≡ set_value (same_text s) without sides.source → with_both ≡ set_value (same_text k) with_one sides.target
+  primaries-are : (sides : SidesState) → with_one ≡ set_value (same_text w.source) without sides.source → with_both ≡ set_value (same_text w.target) with_one sides.target
       → with_both ≡ with_primaries old w sides
-  primaries-are sides one_back both_back =
-      put-back old without_one s a one without k b both with_one sides.source one_back differ with_both sides.target both_back
-      ∙ ap (λ n. set_value (same_text k) (set_value (same_text n) old sides.source) sides.target) at_source
-      ∙ ap (λ n. set_value (same_text n) (set_value (same_text w.source) old sides.source) sides.target) at_target
+  primaries-are sides one_back both_back = put-back old without_one w.source a one without w.target b both apart with_one sides.source one_back with_both sides.target both_back
 
   pub stepped : (scopes : List Scope) (may_answer : Answering) (way : Way) (o : OpenWay) (step : Step) (result : Result ⊤ StepFault) (sides : SidesState) (log : UndoState)
       (new_t : TopologyState) (new_w : WorkflowState) (new_journal : List JournalEntry)
       → w.way ≡ Some way → step ≡ step_at (next_step way)
-      → with_one ≡ set_value (same_text s) without sides.source → with_both ≡ set_value (same_text k) with_one sides.target
+      → with_one ≡ set_value (same_text w.source) without sides.source → with_both ≡ set_value (same_text w.target) with_one sides.target
       → new_t ≡ sides.topology → new_w ≡ sides.workflow → new_journal ≡ sides.journal
       → Steps scopes may_answer o.number (open_way w) step (record { topology = t; source = source; target = target; workflow = w; journal = journal }) o.log result sides log
       → StepsBetween scopes may_answer t old w way journal o result new_t with_both new_w new_journal (record { number = o.number; log = log })
@@ -100,7 +93,7 @@ module _ (t : TopologyState) (old without_one without with_one with_both : Prima
 
   pub undone : (way : Way) (o : OpenWay) (sides : SidesState) (log : UndoState) (new_t : TopologyState) (new_w : WorkflowState) (new_journal : List JournalEntry)
       → w.way ≡ Some way → (way.done == 0) ≡ false
-      → with_one ≡ set_value (same_text s) without sides.source → with_both ≡ set_value (same_text k) with_one sides.target
+      → with_one ≡ set_value (same_text w.source) without sides.source → with_both ≡ set_value (same_text w.target) with_one sides.target
       → new_t ≡ sides.topology → new_w ≡ sides.workflow → new_journal ≡ sides.journal
       → IsUndone (open_way w) (step_at (last_step (open_way w))) (record { topology = t; source = source; target = target; workflow = w; journal = journal }) o.log sides log
       → UndoesBetween t old w way journal o new_t with_both new_w new_journal (record { number = o.number; log = log })

@@ -1,11 +1,12 @@
 -- Two primaries that are taken out of their places, and put back.
-use Rattle.std.proofs.Common.{◌≡◌, ◌≢◌, ℕ, Bool, true, false, List, [], ◌∷◌, is_some, unwrap_or, refl, sym, ap, ◌∙◌}
-use Rattle.std.specs.Map.{set_value}
+use Rattle.std.proofs.Common.{◌≡◌, ◌≢◌, ℕ, Bool, true, false, List, [], ◌∷◌, slice_get, unwrap_or, refl, sym, ap, ◌∙◌}
+use Rattle.std.specs.Map.{keys_of, set_value}
 use Rattle.mt_names.specs.Names.{same_text}
-use Rattle.mt_names.proofs.EntryLemmas.{is_some-set_value, lookup-set_value_elsewhere, set_value-twice}
+use Rattle.mt_names.proofs.EntryLemmas.{lookup-set_value_elsewhere, set_value-twice}
 use Rattle.mt_names.proofs.SameLemmas.{same_text_decides}
 use Rattle.mt_primary.specs.Primary.{PrimaryState, empty_primary}
-use Rattle.mt_site_state.specs.Core.{Primaries, primary_at, primary_of}
+use Rattle.mt_site_state.specs.Core.{Primaries, primary_of}
+use Rattle.mt_site_switch.specs.Places.{IsAt}
 
 -- two primaries that are set in either order
 set_value-swap : (s t : List ℕ) → s ≢ t → (primaries : Primaries) (a b : PrimaryState)
@@ -21,28 +22,25 @@ set_value-swap s t apart (e ∷ es) a b = by (set_value-swap s t apart es a b) (
     by again false x true y = rw (x, y, x) refl
     by again false x false y = rw (x, y, x) (ap (λ l. e ∷ l) again)
 
+-- what stood at a place stands there as long as the keyspaces stay
+pub still-at : (old new : Primaries) (keyspace : List ℕ) (place : ℕ) → keys_of new ≡ keys_of old → IsAt old keyspace place → IsAt new keyspace place
+still-at old new keyspace place same at = ap (λ keyspaces. slice_get keyspaces place) same ∙ at
+
+-- what is put back is what became of the primary meanwhile
+pub given-back : (old new : Primaries) (keyspace : List ℕ) (given became : PrimaryState) → new ≡ set_value (same_text keyspace) old given → given ≡ became → new ≡ set_value (same_text keyspace) old became
+given-back old new keyspace given became put is = put ∙ ap (set_value (same_text keyspace) old) is
+
 module _ (old without_one : Primaries) (s : List ℕ) (a : PrimaryState) (one : without_one ≡ set_value (same_text s) old a) where
   -- another one stands where it stood
   pub second-is : (t : List ℕ) → s ≢ t → primary_of without_one t ≡ primary_of old t
   second-is t apart = ap (λ ps. primary_of ps t) one ∙ ap (λ o. unwrap_or o empty_primary) (lookup-set_value_elsewhere same_text same_text_decides old s t a apart)
 
-  -- all are there meanwhile
-  pub there-one : (k : List ℕ) → is_some (primary_at without_one k) ≡ is_some (primary_at old k)
-  there-one k = ap (λ ps. is_some (primary_at ps k)) one ∙ is_some-set_value same_text old s k a
-
   module _ (without : Primaries) (t : List ℕ) (b : PrimaryState) (both : without ≡ set_value (same_text t) without_one b) where
-    pub there-both : (k : List ℕ) → is_some (primary_at without k) ≡ is_some (primary_at old k)
-    there-both k = ap (λ ps. is_some (primary_at ps k)) both ∙ is_some-set_value same_text without_one t k b ∙ there-one k
-
-    module _ (with_one : Primaries) (x : PrimaryState) (one_back : with_one ≡ set_value (same_text s) without x) where
-      pub there-back : (k : List ℕ) → is_some (primary_at with_one k) ≡ is_some (primary_at old k)
-      there-back k = ap (λ ps. is_some (primary_at ps k)) one_back ∙ is_some-set_value same_text without s k x ∙ there-both k
-
-      -- both that are put back stand where they stood
-      pub put-back : s ≢ t → (with_both : Primaries) (y : PrimaryState) → with_both ≡ set_value (same_text t) with_one y → with_both ≡ set_value (same_text t) (set_value (same_text s) old x) y
-      put-back apart with_both y both_back =
-          both_back ∙ ap (λ ps. set_value (same_text t) ps y)
-          (one_back ∙ ap (λ ps. set_value (same_text s) ps x) (both ∙ ap (λ ps. set_value (same_text t) ps b) one)
-          ∙ set_value-swap s t apart (set_value (same_text s) old a) x b
-          ∙ ap (λ ps. set_value (same_text t) ps b) (set_value-twice (same_text s) old a x))
-          ∙ set_value-twice (same_text t) (set_value (same_text s) old x) b y
+    -- both that are put back stand where they stood
+    pub put-back : s ≢ t → (with_one : Primaries) (x : PrimaryState) → with_one ≡ set_value (same_text s) without x → (with_both : Primaries) (y : PrimaryState) → with_both ≡ set_value (same_text t) with_one y → with_both ≡ set_value (same_text t) (set_value (same_text s) old x) y
+    put-back apart with_one x one_back with_both y both_back =
+        both_back ∙ ap (λ ps. set_value (same_text t) ps y)
+        (one_back ∙ ap (λ ps. set_value (same_text s) ps x) (both ∙ ap (λ ps. set_value (same_text t) ps b) one)
+        ∙ set_value-swap s t apart (set_value (same_text s) old a) x b
+        ∙ ap (λ ps. set_value (same_text t) ps b) (set_value-twice (same_text s) old a x))
+        ∙ set_value-twice (same_text t) (set_value (same_text s) old x) b y

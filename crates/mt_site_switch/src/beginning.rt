@@ -1,6 +1,6 @@
 //! The begin of a way: a switch of traffic, or its reversal.
 ghost use Rattle.std.specs.Prelude.{◌≡◌, false, not, nat_le, List, None, option_map};
-ghost use Rattle.mt_event.specs.Events.{answer_from, refusal_from};
+ghost use Rattle.mt_event.specs.Events.{done_from, refusal_from};
 ghost use Rattle.mt_journal.specs.declared.entry.JournalEntry.{JournalEntry};
 ghost use Rattle.mt_model.specs.Topology.{TopologyState};
 ghost use Rattle.mt_plain.specs.Events as plain;
@@ -12,7 +12,7 @@ ghost use Rattle.mt_site_switch.specs.Ways.{CanBegin, OpensWay};
 ghost use Rattle.mt_workflow.specs.Workflows.{live_of, way_from};
 
 use crate::{OpenWays, Workflows};
-use mt_event::{Refusal, Reply};
+use mt_event::Refusal;
 use mt_names::{TypeSet, WorkflowName};
 use mt_steps::{OpenWay, UndoLog};
 use mt_workflow::{Slot, Way, Workflow};
@@ -94,10 +94,10 @@ fn open_way(
     opened: &mut OpenWays,
     begun: &mut u64,
     way: Way,
-) -> Result<Reply, Refusal>
+) -> Result<(), Refusal>
     requires absent { open_at opened.old.entries workflow.old.name ≡ None }
     requires few { nat_le most_ways begun.old ≡ false }
-    ensures { OpensWay workflow.old (way_from way) opened.old.entries begun.old (answer_from result) workflow.new opened.new.entries begun.new }
+    ensures { OpensWay workflow.old (way_from way) opened.old.entries begun.old (done_from result) workflow.new opened.new.entries begun.new }
 {
     let Ok(log) = UndoLog::reserve(alloc, workflow) else {
         return Err(Refusal::Memory);
@@ -110,7 +110,7 @@ fn open_way(
         Ok(_) => {
             workflow.set_way(Some(way));
             *begun += 1;
-            Ok(Reply::Done)
+            Ok(())
         }
         Err(_) => Err(Refusal::Memory),
     }
@@ -125,10 +125,10 @@ pub fn begin_switch(
     begun: &mut u64,
     name: &WorkflowName,
     types: TypeSet,
-) -> Result<Reply, Refusal>
+) -> Result<(), Refusal>
     requires { CanBegin workflows.old.entries opened.old.entries name.now }
     ensures { (topology : TopologyState) (primaries : Primaries) (journal : List JournalEntry)
-        → BeginsSwitch (record { core = record { topology = topology; primaries = primaries; workflows = workflows.old.entries }; ways = record { opened = opened.old.entries; journal = journal; begun = begun.old } }) name.now types (answer_from result)
+        → BeginsSwitch (record { core = record { topology = topology; primaries = primaries; workflows = workflows.old.entries }; ways = record { opened = opened.old.entries; journal = journal; begun = begun.old } }) name.now types (done_from result)
         (record { core = record { topology = topology; primaries = primaries; workflows = workflows.new.entries }; ways = record { opened = opened.new.entries; journal = journal; begun = begun.new } }) }
 {
     let Some(workflow) = workflows.get_mut(name) else {
@@ -157,10 +157,10 @@ pub fn begin_reverse(
     begun: &mut u64,
     name: &WorkflowName,
     types: TypeSet,
-) -> Result<Reply, Refusal>
+) -> Result<(), Refusal>
     requires { CanBegin workflows.old.entries opened.old.entries name.now }
     ensures { (topology : TopologyState) (primaries : Primaries) (journal : List JournalEntry)
-        → BeginsReverse (record { core = record { topology = topology; primaries = primaries; workflows = workflows.old.entries }; ways = record { opened = opened.old.entries; journal = journal; begun = begun.old } }) name.now types (answer_from result)
+        → BeginsReverse (record { core = record { topology = topology; primaries = primaries; workflows = workflows.old.entries }; ways = record { opened = opened.old.entries; journal = journal; begun = begun.old } }) name.now types (done_from result)
         (record { core = record { topology = topology; primaries = primaries; workflows = workflows.new.entries }; ways = record { opened = opened.new.entries; journal = journal; begun = begun.new } }) }
 {
     let Some(workflow) = workflows.get_mut(name) else {

@@ -1,6 +1,6 @@
 //! Complete: a workflow is finished.
 ghost use Rattle.std.specs.Prelude.{◌≡◌, ◌≢◌, true, false, All, map, is_some, option_map, fold};
-ghost use Rattle.mt_event.specs.Events.{answer_from, refusal_from};
+ghost use Rattle.mt_event.specs.Events.{done_from, refusal_from};
 ghost use Rattle.mt_model.specs.declared.entries.EntryKey.{EntryKey};
 ghost use Rattle.mt_model.specs.Part.{with_entries, without_place, without_places};
 ghost use Rattle.mt_model.specs.declared.entries.Entry.TheVariants as entry;
@@ -16,7 +16,7 @@ ghost use Rattle.mt_site_topology.specs.Keys.{end_entries, end_entry, end_keys, 
 ghost use Rattle.mt_workflow.specs.Workflows.{live_of};
 
 use crate::{Primaries, Workflows};
-use mt_event::{Refusal, Reply};
+use mt_event::Refusal;
 use mt_model::{Entry, EntryKey};
 use mt_names::{KeyspaceName, TableName, WorkflowName};
 use mt_primary::Primary;
@@ -132,9 +132,9 @@ pub fn complete(
     primaries: &mut Primaries,
     workflows: &mut Workflows,
     name: &WorkflowName,
-) -> Result<Reply, Refusal>
+) -> Result<(), Refusal>
     requires { CanComplete topology.old primaries.old.entries workflows.old.entries name.now }
-    ensures { (ways : WaysState) → Completes (record { core = record { topology = topology.old; primaries = primaries.old.entries; workflows = workflows.old.entries }; ways = ways }) name.now (answer_from result)
+    ensures { (ways : WaysState) → Completes (record { core = record { topology = topology.old; primaries = primaries.old.entries; workflows = workflows.old.entries }; ways = ways }) name.now (done_from result)
         (record { core = record { topology = topology.new; primaries = primaries.new.entries; workflows = workflows.new.entries }; ways = ways }) }
 {
     let Some(workflow) = workflows.get(name) else {
@@ -146,5 +146,5 @@ pub fn complete(
     write_end(topology, workflow);
     drop_at_source(primaries, workflow);
     workflows.shift_remove(name);
-    Ok(Reply::Done)
+    Ok(())
 }

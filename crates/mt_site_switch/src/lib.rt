@@ -15,7 +15,7 @@ use mt_names::{KeyspaceName, WorkflowName};
 use mt_primary::Primary;
 use mt_steps::OpenWay;
 use mt_workflow::Workflow;
-pub use primaries::exchange;
+pub use primaries::{exchange_at, place_of};
 pub use stepping::step;
 pub use undoing::undo;
 

@@ -1,6 +1,6 @@
 //! The next step of a way.
 ghost use Rattle.std.specs.Prelude.{◌≡◌, ◌≢◌, ℕ, ◌<◌, true, false, All, Some, is_some, option_map};
-ghost use Rattle.mt_event.specs.Events.{answer_from, refusal_from};
+ghost use Rattle.mt_event.specs.Events.{done_from, refusal_from};
 ghost use Rattle.mt_model.specs.Topology.{has_place};
 ghost use Rattle.mt_plain.specs.Plain.{next_step};
 ghost use Rattle.mt_site_state.specs.Core.{primary_at};
@@ -9,9 +9,9 @@ ghost use Rattle.mt_site_switch.specs.Ways.{CanStep, IsUnderWay, StepsBetween, l
 ghost use Rattle.mt_steps.specs.Faults.{refusal_of};
 ghost use Rattle.mt_workflow.specs.Workflows.{way_from};
 
-use crate::primaries::exchange;
+use crate::primaries::{exchange_at, place_of};
 use crate::{OpenWays, Primaries, Workflows};
-use mt_event::{Refusal, Reply};
+use mt_event::Refusal;
 use mt_journal::Journal;
 use mt_names::WorkflowName;
 use mt_primary::Primary;
@@ -35,11 +35,11 @@ fn refusal_by_step(fault: StepFault) -> Refusal
 }
 
 /// What the controller answers to a step.
-fn answer_by_step(done: Result<(), StepFault>) -> Result<Reply, Refusal>
-    ensures { answer_from result ≡ answer_by_step done }
+fn answer_by_step(done: Result<(), StepFault>) -> Result<(), Refusal>
+    ensures { done_from result ≡ answer_by_step done }
 {
     match done {
-        Ok(()) => Ok(Reply::Done),
+        Ok(()) => Ok(()),
         Err(fault) => Err(refusal_by_step(fault)),
     }
 }
@@ -87,9 +87,10 @@ fn step_between<W: Asks>(
         topology.new primaries.new.entries workflow.new journal.new kept.new }
 {
     let step = next_step(way);
-    let (at_source, at_target) = (workflow.source().copied(), workflow.target().copied());
-    let mut source = exchange(primaries, &at_source, Primary::new(alloc));
-    let mut target = exchange(primaries, &at_target, Primary::new(alloc));
+    let at_source = place_of(primaries, workflow.source());
+    let at_target = place_of(primaries, workflow.target());
+    let mut source = exchange_at(primaries, at_source, Primary::new(alloc));
+    let mut target = exchange_at(primaries, at_target, Primary::new(alloc));
     let mut sides = Sides {
         topology,
         source: &mut source,
@@ -100,8 +101,8 @@ fn step_between<W: Asks>(
         number: kept.number,
     };
     let result = do_step(alloc, &mut sides, &mut kept.log, step);
-    exchange(primaries, &at_source, source);
-    exchange(primaries, &at_target, target);
+    exchange_at(primaries, at_source, source);
+    exchange_at(primaries, at_target, target);
     result
 }
 
@@ -118,10 +119,10 @@ pub fn step<W: Asks>(
     watchers: &W,
     name: &WorkflowName,
     at: u64,
-) -> Result<Reply, Refusal>
+) -> Result<(), Refusal>
     requires { CanStep topology.old primaries.old.entries workflows.old.entries journal.old opened.old.entries name.now }
     ensures { (begun : ℕ) → StepsWorkflow (record { core = record { topology = topology.old; primaries = primaries.old.entries; workflows = workflows.old.entries }; ways = record { opened = opened.old.entries; journal = journal.old; begun = begun } })
-        (W.scopes watchers.now) (W.may_answer watchers.now) name.now at (answer_from result)
+        (W.scopes watchers.now) (W.may_answer watchers.now) name.now at (done_from result)
         (record { core = record { topology = topology.new; primaries = primaries.new.entries; workflows = workflows.new.entries }; ways = record { opened = opened.new.entries; journal = journal.new; begun = begun } }) }
 {
     let Some(workflow) = workflows.get_mut(name) else {

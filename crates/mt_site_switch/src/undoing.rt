@@ -1,15 +1,15 @@
 //! The undo of the last step of a way.
 ghost use Rattle.std.specs.Prelude.{◌≡◌, ◌==◌, ℕ, ◌<◌, false, Some, option_map};
-ghost use Rattle.mt_event.specs.Events.{answer_from, refusal_from};
+ghost use Rattle.mt_event.specs.Events.{done_from, refusal_from};
 ghost use Rattle.mt_plain.specs.Plain.{next_step, stands_done, write_journal};
 ghost use Rattle.mt_site_state.specs.Switching.{UndoesWorkflow, undo_refusal};
 ghost use Rattle.mt_site_switch.specs.Ways.{CanStep, IsUnderWay, UndoesBetween};
 ghost use Rattle.mt_workflow.specs.Workflows.{way_from};
 
-use crate::primaries::exchange;
+use crate::primaries::{exchange_at, place_of};
 use crate::stepping::close;
 use crate::{OpenWays, Primaries, Workflows};
-use mt_event::{Refusal, Reply};
+use mt_event::Refusal;
 use mt_journal::Journal;
 use mt_names::WorkflowName;
 use mt_primary::Primary;
@@ -60,9 +60,10 @@ fn undo_done<W: Asks>(
     ensures { UndoesBetween topology.old primaries.old.entries workflow.old (way_from way) journal.old kept.old
         topology.new primaries.new.entries workflow.new journal.new kept.new }
 {
-    let (at_source, at_target) = (workflow.source().copied(), workflow.target().copied());
-    let mut source = exchange(primaries, &at_source, Primary::new(alloc));
-    let mut target = exchange(primaries, &at_target, Primary::new(alloc));
+    let at_source = place_of(primaries, workflow.source());
+    let at_target = place_of(primaries, workflow.target());
+    let mut source = exchange_at(primaries, at_source, Primary::new(alloc));
+    let mut target = exchange_at(primaries, at_target, Primary::new(alloc));
     let mut sides = Sides {
         topology,
         source: &mut source,
@@ -73,8 +74,8 @@ fn undo_done<W: Asks>(
         number: kept.number,
     };
     undo_last(&mut sides, &mut kept.log);
-    exchange(primaries, &at_source, source);
-    exchange(primaries, &at_target, target);
+    exchange_at(primaries, at_source, source);
+    exchange_at(primaries, at_target, target);
 }
 
 /// The same, or closes the way, if none of its steps stands done.
@@ -116,9 +117,9 @@ pub fn undo<W: Asks>(
     watchers: &W,
     name: &WorkflowName,
     at: u64,
-) -> Result<Reply, Refusal>
+) -> Result<(), Refusal>
     requires { CanStep topology.old primaries.old.entries workflows.old.entries journal.old opened.old.entries name.now }
-    ensures { (begun : ℕ) → UndoesWorkflow (record { core = record { topology = topology.old; primaries = primaries.old.entries; workflows = workflows.old.entries }; ways = record { opened = opened.old.entries; journal = journal.old; begun = begun } }) name.now at (answer_from result)
+    ensures { (begun : ℕ) → UndoesWorkflow (record { core = record { topology = topology.old; primaries = primaries.old.entries; workflows = workflows.old.entries }; ways = record { opened = opened.old.entries; journal = journal.old; begun = begun } }) name.now at (done_from result)
         (record { core = record { topology = topology.new; primaries = primaries.new.entries; workflows = workflows.new.entries }; ways = record { opened = opened.new.entries; journal = journal.new; begun = begun } }) }
 {
     let Some(workflow) = workflows.get_mut(name) else {
@@ -137,5 +138,5 @@ pub fn undo<W: Asks>(
         alloc, topology, primaries, workflow, way, journal, kept, watchers,
     );
     close(opened, name, workflow.way());
-    Ok(Reply::Done)
+    Ok(())
 }

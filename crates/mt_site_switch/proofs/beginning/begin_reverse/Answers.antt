@@ -1,6 +1,6 @@
 -- The workflow with the way takes its place.
 use Rattle.std.proofs.Common.{true, is_some, not, nat_le, ap, subst, sym, ◌∙◌, List}
-use Rattle.mt_event.specs.Events.{answer_from, refusal_from}
+use Rattle.mt_event.specs.Events.{done_from, refusal_from}
 use Rattle.mt_journal.specs.declared.entry.JournalEntry.{JournalEntry}
 use Rattle.mt_model.specs.Topology.{TopologyState}
 use Rattle.mt_plain.specs.Events as plain
@@ -34,9 +34,9 @@ returns c = λ (topology : TopologyState). λ (primaries : Primaries). λ (journ
     let old : SiteState = record { core = record { topology = topology; primaries = primaries; workflows = c.args.workflows.now.entries }; ways = record { opened = c.args.opened.now.entries; journal = journal; begun = c.args.begun.now } } in
     let later = (c.get_mut.follows.lender after).entries in
     let new : SiteState = record { core = record { topology = topology; primaries = primaries; workflows = later }; ways = record { opened = c.open_way.new.opened.entries; journal = journal; begun = c.open_way.new.begun } } in
-    subst (λ found. BeginsReverseAt found old types (answer_from c.open_way.result) new) c.in-Some.ensures.value
+    subst (λ found. BeginsReverseAt found old types (done_from c.open_way.result) new) c.in-Some.ensures.value
     (begun-way old w after c.args.name.now true c.switched-before.result c.without.result (types_without w.switched types)
     (at_rest (live_of w) (or_else (refuse_if (not (share_type types w.switched)) plain.nothing_to_reverse) (refuse_if (nat_le most_ways c.args.begun.now) plain.full)))
-    (answer_from c.open_way.result) later c.open_way.new.opened.entries c.open_way.new.begun
+    (done_from c.open_way.result) later c.open_way.new.opened.entries c.open_way.new.begun
     (c.requires w (sym c.in-Some.ensures.value)).0 (sym c.in-Some.ensures.value) (c.get_mut.follows.holds after).0 (sym c.in_default-reverse_refusal.ensures)
     c.switched-before.ensures (without-is c.without.result c.switched-before.result types c.without.ensures ∙ ap (λ b. types_without b types) c.switched-before.ensures) c.open_way.ensures)
