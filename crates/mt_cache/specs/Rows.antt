@@ -1,5 +1,6 @@
 -- What a row costs that is asked for through a name, as the core's calls say it: each of them in one fact.
 use Rattle.std.specs.Prelude.{◌≡◌, ⊤, ℕ, IfOk, List, [], ◌∷◌, OnErr, Option, Result}
+use Rattle.mt_event.specs.Events.{done_from}
 use Rattle.mt_event.specs.declared.refusal.Refusal.{Refusal}
 use Rattle.mt_model.specs.declared.entries.Scope.{Scope}
 use Rattle.mt_model.specs.declared.faults.TopologyFault.{TopologyFault}
@@ -12,20 +13,20 @@ use Rattle.mt_names.specs.declared.types.TabletType.TheVariants.{Primary}
 use Rattle.mt_plain.specs.Events.{read, write}
 use Rattle.mt_site_state.specs.ByHand.{ReadsRow, WritesRow}
 use Rattle.mt_site_state.specs.Ways.{SiteState, SiteSteps}
-use Rattle.mt_site.specs.ByHand.{read_from, written_from}
+use Rattle.mt_site.specs.ByHand.{read_from}
 use Rattle.mt_site.specs.Headline.{KeepsTheHeadline}
 use Rattle.mt_site.specs.Through.{IsThrough}
 
 -- a row is written where a name leads
 pub record WrittenThrough (old : SiteState) (name : RuleKey) (op : Op) (result : Result (Result ⊤ Refusal) TopologyFault) (new : SiteState) : Type 0 where
   pub does : IsThrough (resolution old.core.topology name Primary) (new.core ≡ old.core)
-      (λ target told. WritesRow old.core target.keyspace target.table op (written_from told) new.core) result
+      (λ target told. WritesRow old.core target.keyspace target.table op (done_from told) new.core) result
   pub ways : new.ways ≡ old.ways
   pub steps : (scopes : List Scope) → IsThrough (resolution old.core.topology name Primary) (new ≡ old)
-      (λ target told. SiteSteps scopes old (write target.keyspace target.table op) (written_from told) new) result
+      (λ target told. SiteSteps scopes old (write target.keyspace target.table op) (done_from told) new) result
   pub unchanged : IfOk result (λ told. OnErr told (new ≡ old))
   pub headline : (scopes : List Scope) → IsThrough (resolution old.core.topology name Primary) (new ≡ old)
-      (λ target told. KeepsTheHeadline scopes old (write target.keyspace target.table op ∷ []) (written_from told ∷ []) new) result
+      (λ target told. KeepsTheHeadline scopes old (write target.keyspace target.table op ∷ []) (done_from told ∷ []) new) result
 
 -- a row is read where a name leads
 pub record ReadThrough (core : SiteState) (name : RuleKey) (key : ℕ) (tablet_type : TabletType) (result : Result (Result (Option RowValue) Refusal) TopologyFault) : Type 0 where

@@ -6,9 +6,9 @@ ghost use Rattle.mt_site.specs.contracts.controller.Core.{the_row as core_row};
 ghost use Rattle.mt_cache.specs.Rows.{ReadThrough, WrittenThrough};
 ghost use Rattle.mt_model.specs.declared.entries.Scope.{Scope};
 ghost use Rattle.mt_model.specs.Topology.{resolution};
-ghost use Rattle.mt_event.specs.Events.{answer_from};
 ghost use Rattle.mt_plain.specs.Events as plain;
 ghost use Rattle.mt_plain.specs.Plain.{Plain, opening};
+ghost use Rattle.mt_site.specs.Advance.{advanced_from};
 ghost use Rattle.mt_site.specs.Headline.{KeepsTheHeadline};
 ghost use Rattle.mt_workflow.specs.Workflows.{stream_name};
 ghost use Rattle.mt_plain.specs.Serve.{served};
@@ -18,12 +18,12 @@ ghost use Rattle.mt_cache.specs.Names.{LeadsMarked, LeadsTo, plain_key};
 
 use crate::marked::{Marked, MarkedPlace};
 use crate::names::Names;
-use mt_event::{Event, Refusal, Reply};
+use mt_event::Refusal;
 use mt_model::{Op, TopologyFault};
 use mt_names::{Position, RuleKey, TableName, TabletType, Value, WorkflowName};
 use mt_site::{Core, Place};
 use mt_site_events::a_core_tells_what_its_state_serves;
-use mt_watch::Asks;
+use mt_stream::Advanced;
 use mt_workflow::Slot;
 use std::alloc::Global;
 use std::marker::Model;
@@ -73,6 +73,7 @@ impl CachedCore {
     }
 
     /// The core, to do anything with. All names are forgotten. It takes no memory.
+    #[inline(never)]
     pub fn core_mut(&mut self) -> &mut Core
         ensures* writes_back { sem 𝓛 (Lends the_row core_row self.entry result (λ w. w)) }
         ensures value { result.now ≡ self.old }
@@ -82,28 +83,21 @@ impl CachedCore {
         &mut self.core
     }
 
-    /// Advances a stream of a workflow: the event Advance, as `Core::apply` applies it. What is kept stays, since an advance leads no
+    /// Advances a stream of a workflow: the event Advance, as `Core::advance` applies it. What is kept stays, since an advance leads no
     /// name elsewhere. `F7 NoWorkflow`, `F26 Stopped`, `F25 Stale`, `F27 Full`, `F0 Memory`; each leaves the core as it was. (Vitess:
     /// VReplication, the copy phase and the catchup)
-    pub fn advance<W: Asks>(
+    pub fn advance(
         &mut self,
-        watchers: &W,
-        workflow: WorkflowName,
+        workflow: &WorkflowName,
         stream: Slot,
         at: Position,
         max: u16,
-    ) -> Result<Reply, Refusal>
-        ensures steps { SiteSteps (W.scopes watchers.now) self.old (plain.advance workflow (stream_name stream) at max) (answer_from result) self.new }
+    ) -> Result<Advanced, Refusal>
+        ensures steps { (scopes : List Scope) → SiteSteps scopes self.old (plain.advance workflow.now (stream_name stream) at max) (advanced_from result) self.new }
         ensures unchanged { OnErr result (self.new ≡ self.old) }
-        ensures headline { KeepsTheHeadline (W.scopes watchers.now) self.old (plain.advance workflow (stream_name stream) at max ∷ []) (answer_from result ∷ []) self.new }
+        ensures headline { (scopes : List Scope) → KeepsTheHeadline scopes self.old (plain.advance workflow.now (stream_name stream) at max ∷ []) (advanced_from result ∷ []) self.new }
     {
-        let event = Event::Advance {
-            workflow,
-            stream,
-            at,
-            max,
-        };
-        self.core.apply(watchers, &event)
+        self.core.advance(workflow, stream, at, max)
     }
 
     /// Keeps where a name by which a row was asked for leads for the primary, if it is to be kept.

@@ -1,14 +1,12 @@
 -- A turn that is taken, and a drive that is on its way.
 use Rattle.std.proofs.Common.{◌≡◌, ℕ, suc, Bool, List, Option, Result, Ok, Err, refl, sym, ap, subst, ◌∙◌}
 use Rattle.mt_event.specs.declared.refusal.Refusal.{Refusal}
-use Rattle.mt_event.specs.declared.reply.Reply.{Reply}
-use Rattle.mt_event.specs.declared.reply.Reply.TheVariants as reply
-use Rattle.mt_event.specs.Events.{refusal_from, reply_from}
+use Rattle.mt_event.specs.Events.{refusal_from}
 use Rattle.mt_laws.specs.Turns.{Fits, FitsHeard}
 use Rattle.mt_model.specs.declared.entries.Scope.{Scope}
 use Rattle.mt_names.specs.declared.types.TypeSet.{TypeSet}
 use Rattle.mt_plain.specs.Answers.{Answers}
-use Rattle.mt_plain.specs.Drive.{Drives, Driving, GoesOn, Heard, abandoned, begins, done, ends, event_of, feeding_stream, feeds, gives_up, goes_on, heard, most_at_once, most_tries, most_turns, position_of, steps, unless_closed, way_of}
+use Rattle.mt_plain.specs.Drive.{Drives, Driving, GoesOn, Heard, abandoned, begins, ends, event_of, feeding_stream, feeds, gives_up, goes_on, heard, most_at_once, most_turns, position_of, unless_closed, way_of}
 use Rattle.mt_plain.specs.Events.{Answer, Event, StreamName, Way, advance}
 use Rattle.mt_plain.specs.Next.{next}
 use Rattle.mt_plain.specs.Plain.{Plain}
@@ -35,26 +33,6 @@ pub advance_due : (p : Plain) (workflow : List ℕ) (tries : ℕ) (name : Stream
     → at ≡ position_of p workflow (feeding_stream p workflow) → advance workflow name at most_at_once ≡ event_of p (feeds workflow tries)
 advance_due p workflow tries name at same there =
     ap (λ n. advance workflow n at most_at_once) same ∙ ap (λ n. advance workflow (feeding_stream p workflow) n most_at_once) there
-
--- what follows from an answer that is no refusal
-pub begun : (q : Plain) (workflow : List ℕ) (types : TypeSet) (back : Bool) (r : Reply) → heard q (begins workflow types back) (reply_from r) ≡ goes_on (steps workflow most_tries)
-begun q workflow types back reply.Done = refl
-begun q workflow types back (reply.Row row) = refl
-begun q workflow types back (reply.Advanced counts) = refl
-begun q workflow types back (reply.Shown shown) = refl
-
-pub stepped : (q : Plain) (workflow : List ℕ) (tries : ℕ) (r : Reply)
-    → heard q (steps workflow tries) (reply_from r) ≡ unless_closed (way_of q workflow) done (steps workflow most_tries)
-stepped q workflow tries reply.Done = refl
-stepped q workflow tries (reply.Row row) = refl
-stepped q workflow tries (reply.Advanced counts) = refl
-stepped q workflow tries (reply.Shown shown) = refl
-
-pub fed : (q : Plain) (workflow : List ℕ) (tries : ℕ) (r : Reply) → heard q (feeds workflow tries) (reply_from r) ≡ goes_on (steps workflow tries)
-fed q workflow tries reply.Done = refl
-fed q workflow tries (reply.Row row) = refl
-fed q workflow tries (reply.Advanced counts) = refl
-fed q workflow tries (reply.Shown shown) = refl
 
 -- what follows from any answer to an undo
 pub undone : (q : Plain) (workflow : List ℕ) (why told : Refusal) (way : Option Way) (answer : Answer) (said : Heard) → way ≡ way_of q workflow → told ≡ why

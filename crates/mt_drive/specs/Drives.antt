@@ -1,5 +1,5 @@
 -- What a drive of the controller means: a whole switch of traffic, or its reversal (MoveTables: SwitchTraffic, ReverseTraffic).
-use Rattle.std.specs.Prelude.{◌≡◌, ℕ, Bool, List, [], ◌∷◌, ◌++◌, Result, Ok, Err}
+use Rattle.std.specs.Prelude.{◌≡◌, ℕ, Bool, List, ◌++◌, Result, Ok}
 use Rattle.mt_event.specs.declared.refusal.Refusal.{Refusal}
 use Rattle.mt_event.specs.Drives.{driven_from, ended_from}
 use Rattle.mt_event.specs.Events.{refusal_from}
@@ -9,7 +9,6 @@ use Rattle.mt_plain.specs.Answers.{Answers, after}
 use Rattle.mt_plain.specs.Drive.{Drives, Driving, GoesOn, begins, Heard, event_of, heard, most_turns}
 use Rattle.mt_plain.specs.Drive as plain
 use Rattle.mt_plain.specs.Events.{Answer, Event}
-use Rattle.mt_plain.specs.Events as events
 use Rattle.mt_plain.specs.Next.{next}
 use Rattle.mt_plain.specs.Plain.{Plain}
 use Rattle.mt_laws.specs.Headline.{Headline}

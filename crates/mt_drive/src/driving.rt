@@ -1,30 +1,29 @@
 //! Whole switches and reversals of traffic.
 ghost use Rattle.std.specs.Prelude.{◌≡◌, OnErr};
-ghost use Rattle.mt_event.specs.Events.{event_of};
 ghost use Rattle.mt_plain.specs.Drive.{begins};
 ghost use Rattle.mt_plain.specs.Drive as plain;
 ghost use Rattle.mt_plain.specs.Plain.{Plain};
+ghost use Rattle.mt_site.specs.Commands.{event_of_command};
 ghost use Rattle.mt_drive.specs.Drives.{DriveKeepsTheHeadline, DrivesFrom};
 
 use crate::turn::{Heard, MOST_TRIES, Turn, take};
-use mt_event::{Driven, Event, Refusal};
+use mt_event::{Driven, Refusal};
 use mt_laws::{a_drive_fits_in_the_turns_that_are_left, every_run_keeps_the_headline};
 use mt_names::{TypeSet, WorkflowName};
-use mt_site::Core;
+use mt_site::{Command, Core};
 use mt_watch::Asks;
 
 /// More events than any drive asks for.
 const MOST_TURNS: usize = 400;
 
-/// The event that begins a switch of traffic, or its reversal.
-fn begin_of(workflow: &WorkflowName, types: TypeSet, back: bool) -> Event
-    ensures { (p : Plain) → event_of result ≡ plain.event_of p (begins workflow.now types back) }
+/// The command that begins a switch of traffic, or its reversal.
+fn begin_of(workflow: &WorkflowName, types: TypeSet, back: bool) -> Command<'_>
+    ensures { (p : Plain) → event_of_command result ≡ plain.event_of p (begins workflow.now types back) }
 {
-    let workflow = workflow.copied();
     if back {
-        Event::BeginReverse { workflow, types }
+        Command::BeginReverse(workflow, types)
     } else {
-        Event::BeginSwitch { workflow, types }
+        Command::BeginSwitch(workflow, types)
     }
 }
 
@@ -46,7 +45,7 @@ pub fn drive<W: Asks>(
 {
     every_run_keeps_the_headline();
     a_drive_fits_in_the_turns_that_are_left();
-    core.apply(watchers, &begin_of(workflow, types, back))?;
+    core.command(watchers, begin_of(workflow, types, back))?;
     let mut turn = Turn::Steps(MOST_TRIES);
     for _ in 1..MOST_TURNS {
         match take(core, watchers, workflow, turn) {

@@ -9,9 +9,9 @@ ghost use Rattle.mt_site_state.specs.Ways.{SiteStands};
 ghost use Rattle.mt_workflow.specs.Workflows.{stream_name, way_from};
 ghost use Rattle.mt_drive.specs.Drives.{Turns, heard_from, turn_from};
 
-use mt_event::{Driven, Event, Refusal};
+use mt_event::{Driven, Refusal};
 use mt_names::{Position, WorkflowName};
-use mt_site::Core;
+use mt_site::{Command, Core};
 use mt_watch::Asks;
 use mt_workflow::{Slot, Way};
 
@@ -131,35 +131,20 @@ fn step<W: Asks>(core: &mut Core, watchers: &W, workflow: &WorkflowName, tries: 
     ensures { Turns (W.scopes watchers.now) core.old (plain.steps workflow.now tries) (heard_from workflow.now result) core.new }
 {
     let at = steps_done(way_of(core, workflow));
-    let answer = core.apply(
-        watchers,
-        &Event::Step {
-            workflow: workflow.copied(),
-            at,
-        },
-    );
+    let answer = core.command(watchers, Command::Step(workflow, at));
     let way = way_of(core, workflow);
     match answer {
-        Ok(_) => unless_closed(way, Driven::Done, Turn::Steps(MOST_TRIES)),
+        Ok(()) => unless_closed(way, Driven::Done, Turn::Steps(MOST_TRIES)),
         Err(refusal) => refused_step(way, tries, refusal),
     }
 }
 
 /// Advances the feeding stream, before the step is tried again.
-fn feed<W: Asks>(core: &mut Core, watchers: &W, workflow: &WorkflowName, tries: u8) -> Heard
-    ensures { Turns (W.scopes watchers.now) core.old (plain.feeds workflow.now tries) (heard_from workflow.now result) core.new }
+fn feed(core: &mut Core, workflow: &WorkflowName, tries: u8) -> Heard
+    ensures { (scopes : List Scope) → Turns scopes core.old (plain.feeds workflow.now tries) (heard_from workflow.now result) core.new }
 {
     let (stream, at) = feeding(core, workflow);
-    let answer = core.apply(
-        watchers,
-        &Event::Advance {
-            workflow: workflow.copied(),
-            stream,
-            at,
-            max: MOST_AT_ONCE,
-        },
-    );
-    match answer {
+    match core.advance(workflow, stream, at, MOST_AT_ONCE) {
         Ok(_) => Heard::GoesOn(Turn::Steps(tries)),
         Err(refusal) => fail(way_of(core, workflow), refusal),
     }
@@ -175,13 +160,7 @@ fn give_up<W: Asks>(
     ensures { Turns (W.scopes watchers.now) core.old (plain.gives_up workflow.now (refusal_from refusal)) (heard_from workflow.now result) core.new }
 {
     let at = steps_done(way_of(core, workflow));
-    let _ = core.apply(
-        watchers,
-        &Event::Undo {
-            workflow: workflow.copied(),
-            at,
-        },
-    );
+    let _ = core.command(watchers, Command::Undo(workflow, at));
     unless_closed(
         way_of(core, workflow),
         Driven::Abandoned(refusal.copied()),
@@ -200,7 +179,7 @@ pub(crate) fn take<W: Asks>(
 {
     match turn {
         Turn::Steps(tries) => step(core, watchers, workflow, tries),
-        Turn::Feeds(tries) => feed(core, watchers, workflow, tries),
+        Turn::Feeds(tries) => feed(core, workflow, tries),
         Turn::GivesUp(refusal) => give_up(core, watchers, workflow, refusal),
     }
 }

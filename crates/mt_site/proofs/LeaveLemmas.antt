@@ -10,22 +10,22 @@ use Rattle.mt_model.specs.declared.faults.PrimaryFault.{PrimaryFault}
 use Rattle.mt_model.specs.declared.faults.PrimaryFault.TheVariants as fault
 use Rattle.mt_model.specs.declared.rows.Op.{Op}
 use Rattle.mt_event.specs.declared.refusal.Refusal as code
-use Rattle.mt_event.specs.declared.reply.Reply.{Reply}
-use Rattle.mt_event.specs.Events.{answer_from, refusal_from}
+use Rattle.mt_event.specs.Events.{done_from, refusal_from}
 use Rattle.mt_plain.specs.Events.{StreamName, forward, back, Refusal, memory, refused}
 use Rattle.mt_plain.specs.Refuse.{cancel_refusal}
 use Rattle.mt_plain.specs.Slots.{written_side}
 use Rattle.mt_primary.specs.Primary.{PrimaryState, empty_primary}
 use Rattle.mt_primary.specs.Writes.{Writes}
 use Rattle.mt_stream.specs.declared.fault.StreamFault.{StreamFault}
+use Rattle.mt_stream.specs.declared.stream.Advanced.{Advanced}
 use Rattle.mt_stream.specs.declared.fault.StreamFault.TheVariants as stream
 use Rattle.mt_stream.specs.Advance.{Advances}
 use Rattle.mt_stream.specs.Streams.{StreamValue}
 use Rattle.mt_workflow.specs.Workflows.{WorkflowState, live_of, slot_of, with_slot}
-use Rattle.mt_site.specs.ByHand.{written_from}
 use Rattle.mt_site_state.specs.ByHand.{WritesAt}
 use Rattle.mt_site_state.specs.Core.{CoreState, Does, Primaries, Workflows, primary_at, primary_of, workflow_at}
 use Rattle.mt_site_state.specs.Workflows.{AdvancesAt, AdvancesStream, CancelsAt, cancelled}
+use Rattle.mt_site.specs.Advance.{advanced_from}
 
 -- ---- what is decided by one test
 
@@ -33,7 +33,7 @@ refused_leaves : (old new : CoreState) (refusal : Option Refusal) (grows : Bool)
 refused_leaves old new refusal grows made memory is = is.2
 refused_leaves old new refusal grows made other is = is.1
 
-pub does_leave : (old new : CoreState) (refusal : Option Refusal) (grows : Bool) (made : CoreState) (result : Result Reply code.Refusal) → Does old refusal grows made (answer_from result) new → OnErr result (new ≡ old)
+pub does_leave : (old new : CoreState) (refusal : Option Refusal) (grows : Bool) (made : CoreState) (result : Result ⊤ code.Refusal) → Does old refusal grows made (done_from result) new → OnErr result (new ≡ old)
 does_leave old new refusal grows made (Ok reply) is = tt
 does_leave old new refusal grows made (Err r) is = refused_leaves old new refusal grows made (refusal_from r) is
 
@@ -44,7 +44,7 @@ write_leaves before after table op fault.Memory is = is.1
 write_leaves before after table op other is = is.1
 
 pub rows_leave : (old new : CoreState) (keyspace table : List ℕ) (op : Op) (result : Result ⊤ code.Refusal) (o : Option PrimaryState) → primary_at old.primaries keyspace ≡ o
-    → WritesAt o old keyspace table op (written_from result) new → OnErr result (new ≡ old)
+    → WritesAt o old keyspace table op (done_from result) new → OnErr result (new ≡ old)
 rows_leave old new keyspace table op (Ok is-done) o found is = tt
 rows_leave old new keyspace table op (Err r) None found is = is.1
 rows_leave old new keyspace table op (Err r) (Some before) found (Ok position, after, writes, told, made) = absurd cc
@@ -70,7 +70,7 @@ module _ (old new : CoreState) (workflow : List ℕ) (name : StreamName) (at at_
   found_again keyspace (Some state) found is = found
 
   stream_leaves : (w : WorkflowState) → workflow_at old.workflows workflow ≡ Some w → (r : code.Refusal) (o : Option StreamValue) → slot_of w name ≡ o
-      → AdvancesStream o old w name at at_most (answer_from (Err r)) new → new ≡ old
+      → AdvancesStream o old w name at at_most (refused (refusal_from r)) new → new ≡ old
   stream_leaves w found r None slot is = is.1
   stream_leaves w found r (Some s) slot (Ok counts, after, sink, advances, told, made) = absurd cc
   stream_leaves w found r (Some s) slot (Err f, after, sink, advances, told, made) =
@@ -85,14 +85,14 @@ module _ (old new : CoreState) (workflow : List ℕ) (name : StreamName) (at at_
       let with_workflows : Workflows → CoreState = λ ws. record old { workflows = ws } in
       made ∙ ap with_primaries primaries_again ∙ ap with_workflows workflows_again
 
-  pub advances_leave : (result : Result Reply code.Refusal) (o : Option WorkflowState) → workflow_at old.workflows workflow ≡ o → AdvancesAt o old name at at_most (answer_from result) new → OnErr result (new ≡ old)
+  pub advances_leave : (result : Result Advanced code.Refusal) (o : Option WorkflowState) → workflow_at old.workflows workflow ≡ o → AdvancesAt o old name at at_most (advanced_from result) new → OnErr result (new ≡ old)
   advances_leave (Ok reply) o found is = tt
   advances_leave (Err r) None found is = is.1
   advances_leave (Err r) (Some w) found is = stream_leaves w found r (slot_of w name) refl is
 
 -- ---- Cancel
 
-pub cancels_leave : (old new : CoreState) (workflow : List ℕ) (result : Result Reply code.Refusal) (o : Option WorkflowState) → workflow_at old.workflows workflow ≡ o → CancelsAt o old (answer_from result) new → OnErr result (new ≡ old)
+pub cancels_leave : (old new : CoreState) (workflow : List ℕ) (result : Result ⊤ code.Refusal) (o : Option WorkflowState) → workflow_at old.workflows workflow ≡ o → CancelsAt o old (done_from result) new → OnErr result (new ≡ old)
 cancels_leave old new workflow (Ok reply) o found is = tt
 cancels_leave old new workflow (Err r) None found is = is.1
 cancels_leave old new workflow (Err r) (Some w) found is = refused_leaves old new (cancel_refusal (live_of w)) false (cancelled old w) (refusal_from r) is

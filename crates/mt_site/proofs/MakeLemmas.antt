@@ -1,5 +1,6 @@
 -- Create: what a new workflow keeps, and what becomes of the core that it is made in.
 use Rattle.std.proofs.Common.{◌≡◌, ℕ, true, false, List, [], ◌∷◌, ◌++◌, map, Option, None, Some, is_some, Result, Ok, Err, refl, ap, sym, subst, ◌∙◌}
+use Rattle.std.specs.Prelude.{⊤}
 use Rattle.std.proofs.lemmas.Map.Steps.{set_value_same}
 use Rattle.std.specs.Map.{set_value}
 use Rattle.indexmap.proofs.CallerLemmas.{insert_entry-new}
@@ -17,9 +18,7 @@ use Rattle.mt_model.specs.Topology.{KeyspaceState, Rules, TopologyState, keyspac
 use Rattle.mt_model.proofs.TopologyLemmas.{rule_at-with_rule_place}
 use Rattle.mt_event.specs.declared.refusal.Refusal.{Refusal}
 use Rattle.mt_event.specs.declared.refusal.Refusal.TheVariants as refusal
-use Rattle.mt_event.specs.declared.reply.Reply.{Reply}
-use Rattle.mt_event.specs.declared.reply.Reply.TheVariants as reply
-use Rattle.mt_event.specs.Events.{answer_from}
+use Rattle.mt_event.specs.Events.{done_from}
 use Rattle.mt_topology.specs.Part.{reserve_refusal}
 use Rattle.mt_watch.specs.Asking.{Answering}
 use Rattle.mt_watch.specs.Scopes.{has_scope}
@@ -90,12 +89,12 @@ not-prepared scopes may_answer made old new r there watched makes = by r makes
 -- ---- the whole
 
 -- a set that no test refuses is created as its workflow is made
-pub made-set : (core : CoreState) (scopes : List Scope) (may_answer : Answering) (workflow source target : List ℕ) (tables : List (List ℕ)) (placed : TopologyState) (result : Result Reply Refusal) (new : CoreState)
+pub made-set : (core : CoreState) (scopes : List Scope) (may_answer : Answering) (workflow source target : List ℕ) (tables : List (List ℕ)) (placed : TopologyState) (result : Result ⊤ Refusal) (new : CoreState)
     → create_refusal core scopes workflow source target tables ≡ None
     → placed ≡ with_places core.topology (part_keys source target tables)
     → without_places (with_places core.topology (part_keys source target tables)) (part_keys source target tables) ≡ core.topology
     → Makes scopes may_answer (new_of core workflow source target tables) (record core { topology = placed }) result new
-    → CreatesSet core scopes may_answer workflow source target tables (answer_from result) new
+    → CreatesSet core scopes may_answer workflow source target tables (done_from result) new
 made-set core scopes may_answer workflow source target tables placed result new none is back makes = by result (subst family is makes)
   where
     over : TopologyState → CoreState
@@ -104,9 +103,9 @@ made-set core scopes may_answer workflow source target tables placed result new 
     family : TopologyState → Type 0
     family t = Makes scopes may_answer (new_of core workflow source target tables) (over t) result new
 
-    by : (result : Result Reply Refusal) → Makes scopes may_answer (new_of core workflow source target tables) (over (with_places core.topology (part_keys source target tables))) result new
-        → CreatesSet core scopes may_answer workflow source target tables (answer_from result) new
-    by (Ok reply.Done) (notice, asks, made) = (none, (notice, asks, made))
+    by : (result : Result ⊤ Refusal) → Makes scopes may_answer (new_of core workflow source target tables) (over (with_places core.topology (part_keys source target tables))) result new
+        → CreatesSet core scopes may_answer workflow source target tables (done_from result) new
+    by (Ok is-done) (notice, asks, made) = (none, (notice, asks, made))
     by (Err refusal.Memory) same = (none, same ∙ ap over back)
     by (Err (refusal.WatcherRefused index)) (asks, same) = (none, asks, same ∙ ap over back)
     by other makes = absurd makes

@@ -1,19 +1,23 @@
 -- Primaries that take each other's places.
-use Rattle.std.proofs.Common.{◌≡◌, ◌≢◌, ℕ, Bool, true, false, cond, subst, List, [], ◌∷◌, ◌++◌, Option, None, Some, Result, Ok, Err, is_some, unwrap_or, refl, sym, ap, ◌∙◌}
+use Rattle.std.proofs.Common.{◌≡◌, ◌≢◌, ℕ, Bool, true, false, cond, subst, List, [], ◌∷◌, ◌++◌, Option, None, Some, Result, Ok, Err, is_some, slice_get, unwrap_or, refl, sym, ap, ◌∙◌}
 use Rattle.std.proofs.lemmas.Bool.{true≢false}
 use Rattle.std.proofs.lemmas.Map.Steps.{set_value_same}
-use Rattle.std.specs.Map.{set_value}
+use Rattle.std.specs.List.{IsDistinct}
+use Rattle.std.specs.Map.{keys_of, set_value, values_of}
 use Rattle.std.specs.Prelude.{⊤}
 use Rattle.std.specs.Result.{is_err}
 use Rattle.indexmap.proofs.CallerLemmas.{insert_entry-new}
 use Rattle.indexmap.specs.IndexMap.{IndexMap, insert_entry}
 use Rattle.mt_names.specs.Names.{same_text}
-use Rattle.mt_names.proofs.EntryLemmas.{is_some-set_value, lookup-set_value_elsewhere, set_value-twice}
+use Rattle.mt_names.proofs.EntryLemmas.{lookup-set_value_elsewhere, set_value-twice}
 use Rattle.mt_names.proofs.SameLemmas.{same_text_decides}
 use Rattle.mt_model.specs.declared.faults.PrimaryFault.{PrimaryFault}
+use Rattle.mt_primary.proofs.PlacedLemmas.{lookup-at}
 use Rattle.mt_primary.specs.Primary.{IsPrimary, PrimaryState, empty_primary}
 use Rattle.mt_primary.specs.Writes.{Creates, with_new_table}
 use Rattle.mt_site_state.specs.Core.{Primaries, primary_at, primary_of, with_primary}
+use Rattle.mt_site_switch.proofs.PrimaryLemmas.{still-at}
+use Rattle.mt_site_switch.specs.Places.{IsAt}
 use Rattle.mt_site.specs.ByHand.{CreatesTable}
 
 -- a primary that is there is the one of its keyspace
@@ -52,14 +56,12 @@ not_created old new keyspace table (Err fault) e did = did
 -- ---- a primary out of its place
 
 module _ (old new : Primaries) (read written : List ℕ) (meanwhile : PrimaryState) (is : new ≡ set_value (same_text written) old meanwhile) where
-  -- all are there as before
-  pub still-there : (keyspace : List ℕ) → is_some (primary_at new keyspace) ≡ is_some (primary_at old keyspace)
-  still-there keyspace = ap (λ ps. is_some (primary_at ps keyspace)) is ∙ is_some-set_value same_text old written keyspace meanwhile
-
   -- the other one is in its place
-  pub other-is : read ≢ written → (state : PrimaryState) → Some state ≡ primary_at new read → primary_of old read ≡ state
-  other-is apart state found =
-      found-is old read state (sym (found ∙ ap (λ ps. primary_at ps read) is ∙ lookup-set_value_elsewhere same_text same_text_decides old written read meanwhile (λ e. apart (sym e))))
+  pub other-at : read ≢ written → (place : ℕ) (state : PrimaryState) → keys_of new ≡ keys_of old → IsDistinct same_text (keys_of old) → IsAt old read place
+      → slice_get (values_of new) place ≡ Some state → primary_of old read ≡ state
+  other-at apart place state same distinct at stood =
+      let found = lookup-at same_text same_text_decides new place read state (subst (IsDistinct same_text) (sym same) distinct) (still-at old new read place same at) stood in
+      found-is old read state (sym (sym found ∙ ap (λ ps. primary_at ps read) is ∙ lookup-set_value_elsewhere same_text same_text_decides old written read meanwhile (λ e. apart (sym e))))
 
   -- the one put back stands where it stood
   pub put-back : (back : Primaries) (sink : PrimaryState) → back ≡ set_value (same_text written) new sink → back ≡ set_value (same_text written) old sink

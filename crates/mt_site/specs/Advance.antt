@@ -1,10 +1,11 @@
 -- What becomes of two primaries as a stream is advanced between them (this profile's own).
-use Rattle.std.specs.Prelude.{◌≡◌, ◌≢◌, ◌≤◌, ℕ, true, List, Option, None, Some, is_some, length, Result}
+use Rattle.std.specs.Prelude.{◌≡◌, ◌≢◌, ◌≤◌, ℕ, true, List, Option, None, Some, is_some, length, Result, Ok, Err}
 use Rattle.std.specs.Map.{set_value}
 use Rattle.mt_names.specs.Names.{same_text}
 use Rattle.mt_event.specs.declared.refusal.Refusal.{Refusal}
 use Rattle.mt_event.specs.declared.refusal.Refusal.TheVariants as refusal
-use Rattle.mt_plain.specs.Events.{StreamName, Answer, refused, stream_stopped}
+use Rattle.mt_event.specs.Events.{refusal_from}
+use Rattle.mt_plain.specs.Events.{StreamName, Answer, advanced, refused, stream_stopped}
 use Rattle.mt_plain.specs.Plain.{among}
 use Rattle.mt_plain.specs.Slots.{read_side, written_side}
 use Rattle.mt_primary.specs.Primary.{PrimaryState, has_table}
@@ -13,6 +14,7 @@ use Rattle.mt_stream.specs.declared.fault.StreamFault.TheVariants as stream
 use Rattle.mt_stream.specs.declared.stream.Advanced.{Advanced}
 use Rattle.mt_stream.specs.Advance.{Advances}
 use Rattle.mt_stream.specs.Streams.{StreamValue}
+use Rattle.mt_workflow.specs.Advance.{AdvancesSlot}
 use Rattle.mt_workflow.specs.Workflows.{WorkflowState, live_of, slot_of, with_slot}
 use Rattle.mt_site_rows.specs.Answers.{answer_by_stream}
 use Rattle.mt_site_state.specs.Core.{Primaries, Workflows, primary_at, primary_of, workflow_at}
@@ -24,11 +26,22 @@ refusal_by_stream stream.Stopped = refusal.StreamStopped
 refusal_by_stream stream.Frozen = refusal.StreamStopped
 refusal_by_stream stream.LogFull = refusal.Full
 
--- the stream advances, and the primary that it writes takes the place of the one that stood there
-abbrev pub AdvancesBetween : Primaries → (read written : List ℕ) → StreamValue → (at at_most : ℕ) → Result Advanced StreamFault → StreamValue → Primaries → Type 0
-AdvancesBetween old read written stream at at_most result after new =
-    (sink : PrimaryState) × Advances stream (primary_of old read) (primary_of old written) at at_most result after sink
-    × (new ≡ set_value (same_text written) old sink)
+-- the answer of an advance that is done, with its counts, or refused
+abbrev pub advanced_from : Result Advanced Refusal → Answer
+advanced_from (Ok counts) = advanced counts.events counts.rows
+advanced_from (Err r) = refused (refusal_from r)
+
+-- that of a stream, if there is one
+abbrev pub answer_by_slot : Option (Result Advanced StreamFault) → Answer
+answer_by_slot None = refused stream_stopped
+answer_by_slot (Some result) = answer_by_stream result
+
+-- the stream advances, if there is one, and the primary that it writes takes the place of the one that stood there
+abbrev pub AdvancesBetween : Primaries → WorkflowState → StreamName → (at at_most : ℕ) → Option (Result Advanced StreamFault) → WorkflowState → Primaries → Type 0
+AdvancesBetween old w name at at_most answer after new =
+    (sink : PrimaryState)
+    × AdvancesSlot (slot_of w name) (primary_of old (read_side (live_of w) name)) (primary_of old (written_side (live_of w) name)) at at_most answer (slot_of after name) sink
+    × (after ≡ with_slot w name (slot_of after name)) × (new ≡ set_value (same_text (written_side (live_of w) name)) old sink)
 
 -- a stream of a workflow stands between two primaries: those of its two sides are there, its position lies in the log that it reads, and its
 -- tables are there where it writes

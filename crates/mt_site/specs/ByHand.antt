@@ -13,7 +13,6 @@ use Rattle.mt_event.specs.declared.refusal.Refusal.TheVariants as refusal
 use Rattle.mt_event.specs.Events.{refusal_from}
 use Rattle.mt_model.specs.Rows.{RowValue}
 use Rattle.mt_plain.specs.Events.{Answer, refused, row}
-use Rattle.mt_plain.specs.Events as plain
 use Rattle.mt_primary.specs.Primary.{has_table}
 use Rattle.mt_primary.specs.Writes.{with_new_table}
 use Rattle.mt_site_state.specs.Core.{Primaries, primary_at, primary_of, with_primary}
@@ -34,12 +33,7 @@ refusal_by_primary primary.NoRow = refusal.NoRow
 refusal_by_primary primary.TooLong = refusal.TooLong
 refusal_by_primary primary.LogFull = refusal.Full
 
--- the answer of a row that is written, or not
-abbrev pub written_from : Result ⊤ Refusal → Answer
-written_from (Ok done) = plain.done
-written_from (Err r) = refused (refusal_from r)
-
--- and of one that is read
+-- the answer of a row that is read, or not
 abbrev pub read_from : Result (Option RowValue) Refusal → Answer
 read_from (Ok r) = row r
 read_from (Err r) = refused (refusal_from r)

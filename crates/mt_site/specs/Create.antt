@@ -9,8 +9,6 @@ use Rattle.mt_model.specs.declared.entries.Scope.TheVariants as scope
 use Rattle.mt_model.specs.Part.{part_keys, with_entries, with_places, without_places}
 use Rattle.mt_event.specs.declared.refusal.Refusal.{Refusal}
 use Rattle.mt_event.specs.declared.refusal.Refusal.TheVariants as refusal
-use Rattle.mt_event.specs.declared.reply.Reply.{Reply}
-use Rattle.mt_event.specs.declared.reply.Reply.TheVariants as reply
 use Rattle.mt_plain.specs.Plain.{among, each_once}
 use Rattle.mt_primary.specs.Primary.{PrimaryState, has_table}
 use Rattle.mt_watch.specs.Asking.{Answering, AsksEach}
@@ -57,8 +55,8 @@ Prepares scopes may_answer made old (Err other) new = ⊥
 
 -- the part of a workflow is written over its places, its tables are at the primary of its target, and it is live; or primaries and
 -- workflows are as they were, and the part's places that hold nothing are gone
-abbrev pub Makes : List Scope → Answering → (made : WorkflowState) → CoreState → Result Reply Refusal → CoreState → Type 0
-Makes scopes may_answer made old (Ok reply.Done) new =
+abbrev pub Makes : List Scope → Answering → (made : WorkflowState) → CoreState → Result ⊤ Refusal → CoreState → Type 0
+Makes scopes may_answer made old (Ok is-done) new =
     (notice : List Entry) × AsksEach scopes may_answer (scope.Primary made.target) (change_of made) (Ok notice)
     × (new ≡ record {
       topology = with_entries old.topology (part_entries made.kept (live_of made) no_types);

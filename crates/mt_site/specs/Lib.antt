@@ -2,6 +2,7 @@ pub mod Advance
 pub mod Applies
 pub mod ByHand
 pub mod Cancel
+pub mod Commands
 pub mod Create
 pub mod GivenUp
 pub mod Headline

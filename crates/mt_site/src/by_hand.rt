@@ -6,14 +6,14 @@ ghost use Rattle.mt_names.specs.Keys.{IsRuleKey};
 ghost use Rattle.mt_plain.specs.Plain.{has_part};
 ghost use Rattle.mt_primary.specs.Primary.{has_table};
 ghost use Rattle.mt_workflow.specs.Workflows.{live_of};
-ghost use Rattle.mt_event.specs.Events.{answer_from};
+ghost use Rattle.mt_event.specs.Events.{done_from};
 ghost use Rattle.mt_site_state.specs.Core.{primary_at, primary_of};
 ghost use Rattle.mt_site_state.specs.ByHand.{AddsKeyspace, AddsTable, EditsRule, is_owned};
 ghost use Rattle.mt_site_state.specs.Core as core;
 ghost use Rattle.mt_site.specs.ByHand.{AreTables, CreatesTable, refusal_by_topology, without_table};
 
 use crate::{Primaries, Workflows};
-use mt_event::{Refusal, Reply};
+use mt_event::Refusal;
 use mt_model::{Entry, EntryKey, MAX_KEYSPACES, PrimaryFault, TopologyFault};
 use mt_names::{KeyspaceName, RuleKey, RuleTarget, TableName};
 use mt_primary::Primary;
@@ -40,9 +40,9 @@ pub(crate) fn add_keyspace(
     topology: &mut Topology,
     primaries: &mut Primaries,
     name: &KeyspaceName,
-) -> Result<Reply, Refusal>
+) -> Result<(), Refusal>
     requires { AreTables topology.old primaries.old.entries }
-    ensures { (workflows : core.Workflows) → AddsKeyspace (record { topology = topology.old; primaries = primaries.old.entries; workflows = workflows }) name.now (answer_from result)
+    ensures { (workflows : core.Workflows) → AddsKeyspace (record { topology = topology.old; primaries = primaries.old.entries; workflows = workflows }) name.now (done_from result)
         (record { topology = topology.new; primaries = primaries.new.entries; workflows = workflows }) }
 {
     if primaries.contains_key(name) {
@@ -58,7 +58,7 @@ pub(crate) fn add_keyspace(
         return Err(refusal_by_topology(fault));
     }
     match primaries.insert(name.copied(), Primary::new(alloc)) {
-        Ok(_) => Ok(Reply::Done),
+        Ok(_) => Ok(()),
         Err(_) => unreachable!(),
     }
 }
@@ -96,9 +96,9 @@ pub(crate) fn add_table(
     primaries: &mut Primaries,
     keyspace: &KeyspaceName,
     table: &TableName,
-) -> Result<Reply, Refusal>
+) -> Result<(), Refusal>
     requires { AreTables topology.old primaries.old.entries }
-    ensures { (workflows : core.Workflows) → AddsTable (record { topology = topology.old; primaries = primaries.old.entries; workflows = workflows }) keyspace.now table.now (answer_from result)
+    ensures { (workflows : core.Workflows) → AddsTable (record { topology = topology.old; primaries = primaries.old.entries; workflows = workflows }) keyspace.now table.now (done_from result)
         (record { topology = topology.new; primaries = primaries.new.entries; workflows = workflows }) }
 {
     if let Err(fault) = topology.add_table(keyspace, table) {
@@ -108,7 +108,7 @@ pub(crate) fn add_table(
         take_table(topology, keyspace, table);
         return Err(Refusal::Memory);
     }
-    Ok(Reply::Done)
+    Ok(())
 }
 
 /// A key is made of names. It does nothing but to show that.
@@ -152,8 +152,8 @@ pub(crate) fn edit_rule(
     workflows: &Workflows,
     key: &RuleKey,
     target: Option<RuleTarget>,
-) -> Result<Reply, Refusal>
-    ensures edits { (primaries : core.Primaries) → EditsRule (record { topology = topology.old; primaries = primaries; workflows = workflows.now.entries }) key.now target (answer_from result)
+) -> Result<(), Refusal>
+    ensures edits { (primaries : core.Primaries) → EditsRule (record { topology = topology.old; primaries = primaries; workflows = workflows.now.entries }) key.now target (done_from result)
         (record { topology = topology.new; primaries = primaries; workflows = workflows.now.entries }) }
     ensures named { IsRuleKey key.now }
 {
@@ -162,7 +162,7 @@ pub(crate) fn edit_rule(
         return Err(Refusal::RuleOwned);
     }
     match topology.edit_rule(key, target) {
-        Ok(()) => Ok(Reply::Done),
+        Ok(()) => Ok(()),
         Err(fault) => Err(refusal_by_topology(fault)),
     }
 }

@@ -1,6 +1,6 @@
 //! Cancel: a workflow is taken back.
 ghost use Rattle.std.specs.Prelude.{◌≡◌, true, All, Some, None, is_some, option_map};
-ghost use Rattle.mt_event.specs.Events.{answer_from, refusal_from};
+ghost use Rattle.mt_event.specs.Events.{done_from, refusal_from};
 ghost use Rattle.mt_model.specs.Topology.{has_place};
 ghost use Rattle.mt_plain.specs.Refuse.{cancel_refusal};
 ghost use Rattle.mt_primary.specs.Writes.{without_table};
@@ -15,7 +15,7 @@ ghost use Rattle.std.specs.Prelude.{fold};
 use crate::parts::write_kept;
 use crate::target::drop_tables;
 use crate::{Primaries, Workflows};
-use mt_event::{Refusal, Reply};
+use mt_event::Refusal;
 use mt_names::{TypeSet, WorkflowName};
 use mt_topology::Topology;
 use mt_workflow::Workflow;
@@ -66,9 +66,9 @@ pub(crate) fn cancel(
     primaries: &mut Primaries,
     workflows: &mut Workflows,
     name: &WorkflowName,
-) -> Result<Reply, Refusal>
+) -> Result<(), Refusal>
     requires { CanCancel topology.old primaries.old.entries workflows.old.entries name.now }
-    ensures { Cancels (record { topology = topology.old; primaries = primaries.old.entries; workflows = workflows.old.entries }) name.now (answer_from result)
+    ensures { Cancels (record { topology = topology.old; primaries = primaries.old.entries; workflows = workflows.old.entries }) name.now (done_from result)
         (record { topology = topology.new; primaries = primaries.new.entries; workflows = workflows.new.entries }) }
 {
     let Some(workflow) = workflows.get(name) else {
@@ -80,5 +80,5 @@ pub(crate) fn cancel(
     give_back_part(topology, workflow);
     drop_moved(primaries, workflow);
     workflows.shift_remove(name);
-    Ok(Reply::Done)
+    Ok(())
 }

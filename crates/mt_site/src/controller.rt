@@ -2,7 +2,7 @@
 ghost use Rattle.std.specs.Prelude.{◌≡◌, ◌≤◌, ℕ, IfErr, IfOk, List, [], ◌∷◌, OnErr, length, option_copied, string_bytes};
 ghost use Rattle.mt_names.specs.Tables.{most_tables};
 ghost use Rattle.mt_primary.specs.Primary.{IsPrimary};
-ghost use Rattle.mt_event.specs.Events.{answer_from, event_of};
+ghost use Rattle.mt_event.specs.Events.{answer_from, done_from, event_of};
 ghost use Rattle.mt_model.specs.declared.entries.Scope.{Scope};
 ghost use Rattle.mt_model.specs.Documents.{dump_text, rules_text};
 ghost use Rattle.mt_model.specs.Topology.{resolution};
@@ -12,8 +12,8 @@ ghost use Rattle.mt_plain.specs.Refuse.{owed};
 ghost use Rattle.mt_plain.specs.Serve.{served};
 ghost use Rattle.mt_site_state.specs.ByHand.{AddsKeyspace, AddsTable, EditsRule, ReadsRow, WritesRow};
 ghost use Rattle.mt_site_state.specs.Core.{primary_of, workflow_at};
+ghost use Rattle.mt_site.specs.Advance.{advanced_from};
 ghost use Rattle.mt_site.specs.Applies.{Applies};
-ghost use Rattle.mt_site.specs.ByHand.{written_from};
 ghost use Rattle.mt_site.specs.GivenUp.{CanBeGivenUp};
 ghost use Rattle.mt_site.specs.Headline.{KeepsTheHeadline};
 ghost use Rattle.mt_site.specs.Owed.{owed_to};
@@ -22,6 +22,7 @@ ghost use Rattle.mt_site_state.specs.Ways.{SiteStands, SiteSteps, empty_site};
 ghost use Rattle.mt_site_state.specs.Workflows.{AdvancesWorkflow, Cancels, Creates, ShowsWorkflow};
 ghost use Rattle.mt_workflow.specs.Workflows.{stream_name};
 
+mod commands;
 mod placed;
 mod through;
 
@@ -30,6 +31,7 @@ use crate::owed::a_core_owes_what_its_state_owes;
 use crate::primaries::each_is_a_primary;
 use crate::rows::{Hint, NOWHERE};
 use crate::{OpenWays, Primaries, Workflows, advance, by_hand, cancel, create, owed, rows, show};
+pub use commands::Command;
 use indexmap::IndexMap;
 use mt_event::{Event, Refusal, Reply};
 use mt_journal::Journal;
@@ -50,6 +52,7 @@ use mt_site_ways::{
     a_site_stays_one, a_step_steps, an_undo_steps, each_open_way_has_a_record,
     events_by_hand_step_and_leave_the_ways, events_on_workflows_step_and_leave_the_ways,
 };
+use mt_stream::Advanced;
 use mt_topology::Topology;
 use mt_watch::Asks;
 use mt_workflow::{Slot, Workflow};
@@ -166,8 +169,8 @@ impl Core {
     }
 
     /// Adds a keyspace without tables: `F30 Exists`, `F27 Full`, `F0 Memory`.
-    fn add_keyspace(&mut self, name: &KeyspaceName) -> Result<Reply, Refusal>
-        ensures does { AddsKeyspace self.old.core name.now (answer_from result) self.new.core }
+    fn add_keyspace(&mut self, name: &KeyspaceName) -> Result<(), Refusal>
+        ensures does { AddsKeyspace self.old.core name.now (done_from result) self.new.core }
         ensures ways { self.new.ways ≡ self.old.ways }
         ensures unchanged { OnErr result (self.new ≡ self.old) }
     {
@@ -179,8 +182,8 @@ impl Core {
     }
 
     /// Adds a table without rows: `F1 NoKeyspace`, `F30 Exists`, `F27 Full`, `F0 Memory`.
-    fn add_table(&mut self, keyspace: &KeyspaceName, table: &TableName) -> Result<Reply, Refusal>
-        ensures does { AddsTable self.old.core keyspace.now table.now (answer_from result) self.new.core }
+    fn add_table(&mut self, keyspace: &KeyspaceName, table: &TableName) -> Result<(), Refusal>
+        ensures does { AddsTable self.old.core keyspace.now table.now (done_from result) self.new.core }
         ensures ways { self.new.ways ≡ self.old.ways }
         ensures unchanged { OnErr result (self.new ≡ self.old) }
     {
@@ -192,8 +195,8 @@ impl Core {
     }
 
     /// Sets the rule of a key, or takes it away: `F22 RuleOwned`, `F27 Full`, `F0 Memory`.
-    fn edit_rule(&mut self, key: &RuleKey, target: Option<RuleTarget>) -> Result<Reply, Refusal>
-        ensures does { EditsRule self.old.core key.now target (answer_from result) self.new.core }
+    fn edit_rule(&mut self, key: &RuleKey, target: Option<RuleTarget>) -> Result<(), Refusal>
+        ensures does { EditsRule self.old.core key.now target (done_from result) self.new.core }
         ensures ways { self.new.ways ≡ self.old.ways }
         ensures unchanged { OnErr result (self.new ≡ self.old) }
     {
@@ -203,6 +206,7 @@ impl Core {
     }
 
     /// Writes a row of a table, for the core alone.
+    #[inline(always)]
     fn write_at(
         &mut self,
         hint: Hint,
@@ -210,7 +214,7 @@ impl Core {
         table: &TableName,
         op: Op,
     ) -> Result<(), Refusal>
-        ensures does { WritesRow self.old.core keyspace.now table.now op (written_from result) self.new.core }
+        ensures does { WritesRow self.old.core keyspace.now table.now op (done_from result) self.new.core }
         ensures ways { self.new.ways ≡ self.old.ways }
         ensures unchanged { OnErr result (self.new ≡ self.old) }
     {
@@ -260,9 +264,9 @@ impl Core {
         source: &KeyspaceName,
         target: &KeyspaceName,
         tables: &[TableName],
-    ) -> Result<Reply, Refusal>
+    ) -> Result<(), Refusal>
         requires { length tables.now ≤ most_tables }
-        ensures does { Creates self.old.core (W.scopes watchers.now) (W.may_answer watchers.now) name.now source.now target.now tables.now (answer_from result) self.new.core }
+        ensures does { Creates self.old.core (W.scopes watchers.now) (W.may_answer watchers.now) name.now source.now target.now tables.now (done_from result) self.new.core }
         ensures ways { self.new.ways ≡ self.old.ways }
         ensures unchanged { OnErr result (self.new ≡ self.old) }
     {
@@ -284,14 +288,14 @@ impl Core {
     }
 
     /// Advances a stream of a workflow: `F7 NoWorkflow`, `F26 Stopped`, `F25 Stale`, `F27 Full`, `F0 Memory`.
-    fn advance(
+    fn do_advance(
         &mut self,
         name: &WorkflowName,
         slot: Slot,
         at: Position,
         max: u16,
-    ) -> Result<Reply, Refusal>
-        ensures does { AdvancesWorkflow self.old.core name.now (stream_name slot) at max (answer_from result) self.new.core }
+    ) -> Result<Advanced, Refusal>
+        ensures does { AdvancesWorkflow self.old.core name.now (stream_name slot) at max (advanced_from result) self.new.core }
         ensures ways { self.new.ways ≡ self.old.ways }
         ensures unchanged { OnErr result (self.new ≡ self.old) }
         ensures primaries { (keyspace : List ℕ) → IsPrimary (primary_of self.old.core.primaries keyspace) }
@@ -313,8 +317,8 @@ impl Core {
     }
 
     /// Cancels a workflow: `F7 NoWorkflow`, `F13 UnderWay`, `F20 TrafficSwitched`. It takes no memory, and asks nobody.
-    fn cancel(&mut self, name: &WorkflowName) -> Result<Reply, Refusal>
-        ensures does { Cancels self.old.core name.now (answer_from result) self.new.core }
+    fn cancel(&mut self, name: &WorkflowName) -> Result<(), Refusal>
+        ensures does { Cancels self.old.core name.now (done_from result) self.new.core }
         ensures ways { self.new.ways ≡ self.old.ways }
         ensures unchanged { OnErr result (self.new ≡ self.old) }
         ensures primaries { (keyspace : List ℕ) → IsPrimary (primary_of self.old.core.primaries keyspace) }
@@ -342,8 +346,8 @@ impl Core {
 
     /// Begins a way forward on a workflow: `F7 NoWorkflow`, `F13 UnderWay`, `F15 NothingToSwitch`, `F17 Copying`, `F27 Full`,
     /// `F0 Memory`.
-    fn begin_switch(&mut self, name: &WorkflowName, types: TypeSet) -> Result<Reply, Refusal>
-        ensures does { BeginsSwitch self.old name.now types (answer_from result) self.new }
+    fn begin_switch(&mut self, name: &WorkflowName, types: TypeSet) -> Result<(), Refusal>
+        ensures does { BeginsSwitch self.old name.now types (done_from result) self.new }
         ensures unchanged { OnErr result (self.new ≡ self.old) }
     {
         a_site_stays_one();
@@ -361,8 +365,8 @@ impl Core {
     }
 
     /// Begins a way back on a workflow: `F7 NoWorkflow`, `F13 UnderWay`, `F16 NothingToReverse`, `F27 Full`, `F0 Memory`.
-    fn begin_reverse(&mut self, name: &WorkflowName, types: TypeSet) -> Result<Reply, Refusal>
-        ensures does { BeginsReverse self.old name.now types (answer_from result) self.new }
+    fn begin_reverse(&mut self, name: &WorkflowName, types: TypeSet) -> Result<(), Refusal>
+        ensures does { BeginsReverse self.old name.now types (done_from result) self.new }
         ensures unchanged { OnErr result (self.new ≡ self.old) }
     {
         a_site_stays_one();
@@ -381,13 +385,8 @@ impl Core {
 
     /// Does the next step of the way that is open on a workflow: `F7 NoWorkflow`, `F14 NothingUnderWay`, `F28 Undoing`,
     /// `F25 Stale`, and what the step itself is refused by.
-    fn step<W: Asks>(
-        &mut self,
-        watchers: &W,
-        name: &WorkflowName,
-        at: u64,
-    ) -> Result<Reply, Refusal>
-        ensures does { StepsWorkflow self.old (W.scopes watchers.now) (W.may_answer watchers.now) name.now at (answer_from result) self.new }
+    fn step<W: Asks>(&mut self, watchers: &W, name: &WorkflowName, at: u64) -> Result<(), Refusal>
+        ensures does { StepsWorkflow self.old (W.scopes watchers.now) (W.may_answer watchers.now) name.now at (done_from result) self.new }
         ensures unchanged { OnErr result (self.new ≡ self.old) }
     {
         a_site_stays_one();
@@ -409,13 +408,8 @@ impl Core {
 
     /// Undoes the last step of the way that is open on a workflow: `F7 NoWorkflow`, `F14 NothingUnderWay`, `F19 PastJournal`,
     /// `F25 Stale`. It takes no memory, and asks nobody.
-    fn undo<W: Asks>(
-        &mut self,
-        watchers: &W,
-        name: &WorkflowName,
-        at: u64,
-    ) -> Result<Reply, Refusal>
-        ensures does { UndoesWorkflow self.old name.now at (answer_from result) self.new }
+    fn undo<W: Asks>(&mut self, watchers: &W, name: &WorkflowName, at: u64) -> Result<(), Refusal>
+        ensures does { UndoesWorkflow self.old name.now at (done_from result) self.new }
         ensures unchanged { OnErr result (self.new ≡ self.old) }
     {
         a_site_stays_one();
@@ -436,8 +430,8 @@ impl Core {
     }
 
     /// Completes a workflow: `F7 NoWorkflow`, `F13 UnderWay`, `F21 NotAllSwitched`. It takes no memory, and asks nobody.
-    fn complete(&mut self, name: &WorkflowName) -> Result<Reply, Refusal>
-        ensures does { Completes self.old name.now (answer_from result) self.new }
+    fn complete(&mut self, name: &WorkflowName) -> Result<(), Refusal>
+        ensures does { Completes self.old name.now (done_from result) self.new }
         ensures unchanged { OnErr result (self.new ≡ self.old) }
         ensures primaries { (keyspace : List ℕ) → IsPrimary (primary_of self.old.core.primaries keyspace) }
     {
@@ -483,48 +477,49 @@ impl Core {
     {
         events_by_hand_step_and_leave_the_ways();
         events_on_workflows_step_and_leave_the_ways();
-        a_create_steps_and_leaves_the_ways(watchers);
-        a_begin_steps();
-        a_step_steps(watchers);
-        an_undo_steps(watchers);
-        a_complete_steps();
-        match event {
-            Event::AddKeyspace { keyspace } => self.add_keyspace(keyspace),
-            Event::AddTable { keyspace, table } => self.add_table(keyspace, table),
-            Event::EditRule { key, target } => self.edit_rule(
-                key,
-                target.as_ref().map(RuleTarget::copied),
-            ),
-            Event::Write {
-                keyspace,
-                table,
-                op,
-            } => self.write(keyspace, table, op.copied()),
-            Event::Read {
-                keyspace,
-                table,
-                key,
-                type_of,
-            } => self.read(keyspace, table, *key, *type_of),
+        let command = match event {
+            Event::AddKeyspace { keyspace } => Command::AddKeyspace(keyspace),
+            Event::AddTable { keyspace, table } => Command::AddTable(keyspace, table),
+            Event::EditRule { key, target } => {
+                Command::EditRule(key, target.as_ref().map(RuleTarget::copied))
+            }
             Event::Create {
                 workflow,
                 source,
                 target,
                 tables,
-            } => self.create(watchers, workflow, source, target, tables.as_slice()),
+            } => Command::Create(workflow, source, target, tables),
+            Event::BeginSwitch { workflow, types } => Command::BeginSwitch(workflow, *types),
+            Event::BeginReverse { workflow, types } => Command::BeginReverse(workflow, *types),
+            Event::Step { workflow, at } => Command::Step(workflow, *at),
+            Event::Undo { workflow, at } => Command::Undo(workflow, *at),
+            Event::Cancel { workflow } => Command::Cancel(workflow),
+            Event::Complete { workflow } => Command::Complete(workflow),
+            Event::Write {
+                keyspace,
+                table,
+                op,
+            } => return self.write(keyspace, table, op.copied()),
+            Event::Read {
+                keyspace,
+                table,
+                key,
+                type_of,
+            } => return self.read(keyspace, table, *key, *type_of),
             Event::Advance {
                 workflow,
                 stream,
                 at,
                 max,
-            } => self.advance(workflow, *stream, *at, *max),
-            Event::BeginSwitch { workflow, types } => self.begin_switch(workflow, *types),
-            Event::BeginReverse { workflow, types } => self.begin_reverse(workflow, *types),
-            Event::Step { workflow, at } => self.step(watchers, workflow, *at),
-            Event::Undo { workflow, at } => self.undo(watchers, workflow, *at),
-            Event::Cancel { workflow } => self.cancel(workflow),
-            Event::Complete { workflow } => self.complete(workflow),
-            Event::Show { workflow } => self.show(workflow),
+            } => match self.do_advance(workflow, *stream, *at, *max) {
+                Ok(counts) => return Ok(Reply::Advanced(counts)),
+                Err(refusal) => return Err(refusal),
+            },
+            Event::Show { workflow } => return self.show(workflow),
+        };
+        match self.do_command(watchers, command) {
+            Ok(()) => Ok(Reply::Done),
+            Err(refusal) => Err(refusal),
         }
     }
 }

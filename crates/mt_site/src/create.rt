@@ -2,7 +2,7 @@
 ghost use Rattle.std.specs.Prelude.{◌≡◌, ◌≢◌, ◌<◌, ◌≤◌, ℕ, List, true, false, All, None, OnOk, is_some, length, option_map};
 ghost use Rattle.indexmap.specs.IndexMap.{spare};
 ghost use Rattle.indexmap.specs.IndexSet.{insert_key};
-ghost use Rattle.mt_event.specs.Events.{answer_from, refusal_from};
+ghost use Rattle.mt_event.specs.Events.{done_from, refusal_from};
 ghost use Rattle.mt_model.specs.Part.{part_keys};
 ghost use Rattle.mt_model.specs.Topology.{has_place};
 ghost use Rattle.std.specs.List.{AllByRecursion};
@@ -22,7 +22,7 @@ use crate::parts::{change_of, write_part};
 use crate::target::make_target;
 use crate::{Primaries, Workflows};
 use arrayvec::ArrayVec;
-use mt_event::{Refusal, Reply};
+use mt_event::Refusal;
 use mt_model::{Scope, TopologyFault};
 use mt_names::{KeyspaceName, MAX_TABLES, Position, TableName, WorkflowName};
 use mt_topology::Topology;
@@ -229,7 +229,7 @@ fn make<W: Asks>(
     source: &KeyspaceName,
     target: &KeyspaceName,
     tables: &[TableName],
-) -> Result<Reply, Refusal>
+) -> Result<(), Refusal>
     requires few { length tables.now ≤ most_tables }
     requires ready { IsReady (W.scopes watchers.now) primaries.old.entries source.now target.now tables.now }
     requires new { is_some (workflow_at workflows.old.entries name.now) ≡ false }
@@ -247,7 +247,7 @@ fn make<W: Asks>(
         Ok(()) => {
             write_part(topology, &workflow);
             match workflows.insert(name.copied(), workflow) {
-                Ok(_) => Ok(Reply::Done),
+                Ok(_) => Ok(()),
                 Err(_) => unreachable!(),
             }
         }
@@ -269,11 +269,11 @@ fn create_set<W: Asks>(
     source: &KeyspaceName,
     target: &KeyspaceName,
     tables: &[TableName],
-) -> Result<Reply, Refusal>
+) -> Result<(), Refusal>
     requires few { length tables.now ≤ most_tables }
     requires once { each_once tables.now ≡ tables.now }
     requires can { CanCreate (record { topology = topology.old; primaries = primaries.old.entries; workflows = workflows.old.entries }) (W.scopes watchers.now) name.now source.now target.now tables.now }
-    ensures { CreatesSet (record { topology = topology.old; primaries = primaries.old.entries; workflows = workflows.old.entries }) (W.scopes watchers.now) (W.may_answer watchers.now) name.now source.now target.now tables.now (answer_from result)
+    ensures { CreatesSet (record { topology = topology.old; primaries = primaries.old.entries; workflows = workflows.old.entries }) (W.scopes watchers.now) (W.may_answer watchers.now) name.now source.now target.now tables.now (done_from result)
         (record { topology = topology.new; primaries = primaries.new.entries; workflows = workflows.new.entries }) }
 {
     if let Some(refusal) = refusal_before(
@@ -307,10 +307,10 @@ pub(crate) fn create<W: Asks>(
     source: &KeyspaceName,
     target: &KeyspaceName,
     tables: &[TableName],
-) -> Result<Reply, Refusal>
+) -> Result<(), Refusal>
     requires few { length tables.now ≤ most_tables }
     requires can { CanCreate (record { topology = topology.old; primaries = primaries.old.entries; workflows = workflows.old.entries }) (W.scopes watchers.now) name.now source.now target.now (each_once tables.now) }
-    ensures { Creates (record { topology = topology.old; primaries = primaries.old.entries; workflows = workflows.old.entries }) (W.scopes watchers.now) (W.may_answer watchers.now) name.now source.now target.now tables.now (answer_from result)
+    ensures { Creates (record { topology = topology.old; primaries = primaries.old.entries; workflows = workflows.old.entries }) (W.scopes watchers.now) (W.may_answer watchers.now) name.now source.now target.now tables.now (done_from result)
         (record { topology = topology.new; primaries = primaries.new.entries; workflows = workflows.new.entries }) }
 {
     let set = each_once(tables);

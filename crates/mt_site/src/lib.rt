@@ -16,7 +16,7 @@ mod show;
 mod site;
 mod target;
 
-pub use controller::{Core, Place};
+pub use controller::{Command, Core, Place};
 pub use given_up::a_move_can_be_given_up;
 pub(crate) use mt_site_switch::{OpenWays, Primaries, Workflows};
 pub use owed::a_core_owes_what_its_state_owes;

@@ -1,5 +1,6 @@
 //! Clients' rows: they are written and read at the primary of a keyspace.
 ghost use Rattle.std.specs.Prelude.{◌≡◌, true, None, Some, MatchOption, slice_get, option_copied};
+ghost use Rattle.mt_event.specs.Events.{done_from};
 ghost use Rattle.std.specs.List.{IsDistinct};
 ghost use Rattle.std.specs.Map.{keys_of};
 ghost use Rattle.mt_model.specs.Topology.{TopologyState};
@@ -7,7 +8,7 @@ ghost use Rattle.mt_names.specs.Names.{same_text};
 ghost use Rattle.mt_site_state.specs.ByHand.{WritesRow, read_at};
 ghost use Rattle.mt_site_state.specs.Core.{primary_at};
 ghost use Rattle.mt_site_state.specs.Core as core;
-ghost use Rattle.mt_site.specs.ByHand.{read_from, refusal_by_primary, written_from};
+ghost use Rattle.mt_site.specs.ByHand.{read_from, refusal_by_primary};
 
 use crate::Primaries;
 use mt_event::Refusal;
@@ -32,6 +33,7 @@ pub(crate) const NOWHERE: Hint = Hint {
 };
 
 /// The refusal of the core for one of a primary.
+#[inline(always)]
 fn refusal_by_primary(fault: PrimaryFault) -> Refusal
     ensures { result ≡ refusal_by_primary fault }
 {
@@ -47,6 +49,7 @@ fn refusal_by_primary(fault: PrimaryFault) -> Refusal
 }
 
 /// Whether the primary of a keyspace stands at a place among the others.
+#[inline(always)]
 fn stands_at(primaries: &Primaries, place: usize, keyspace: &KeyspaceName) -> bool
     ensures there { result ≡ true → slice_get (keys_of primaries.now.entries) place ≡ Some keyspace.now }
     ensures distinct { IsDistinct same_text (keys_of primaries.now.entries) }
@@ -58,6 +61,7 @@ fn stands_at(primaries: &Primaries, place: usize, keyspace: &KeyspaceName) -> bo
 }
 
 /// Where the primary of a keyspace stands among the others, if it is there: it is looked for at a place first.
+#[inline(always)]
 fn place_of(primaries: &Primaries, place: usize, keyspace: &KeyspaceName) -> Option<usize>
     ensures found { MatchOption result (primary_at primaries.now.entries keyspace.now ≡ None) (λ at. slice_get (keys_of primaries.now.entries) at ≡ Some keyspace.now) }
     ensures distinct { IsDistinct same_text (keys_of primaries.now.entries) }
@@ -69,6 +73,7 @@ fn place_of(primaries: &Primaries, place: usize, keyspace: &KeyspaceName) -> Opt
 }
 
 /// Writes a row at the primary of its keyspace, wherever that stands.
+#[inline(always)]
 pub(crate) fn write_row(
     primaries: &mut Primaries,
     hint: Hint,
@@ -77,7 +82,7 @@ pub(crate) fn write_row(
     op: Op,
 ) -> Result<(), Refusal>
     ensures { (topology : TopologyState) (workflows : core.Workflows)
-        → WritesRow (record { topology = topology; primaries = primaries.old.entries; workflows = workflows }) keyspace.now table.now op (written_from result)
+        → WritesRow (record { topology = topology; primaries = primaries.old.entries; workflows = workflows }) keyspace.now table.now op (done_from result)
         (record { topology = topology; primaries = primaries.new.entries; workflows = workflows }) }
 {
     let Some(place) = place_of(primaries, hint.primary, keyspace) else {
@@ -91,6 +96,7 @@ pub(crate) fn write_row(
 }
 
 /// The primary of a keyspace, which is looked for at a place among the others first.
+#[inline(always)]
 fn primary_at<'a>(
     primaries: &'a Primaries,
     place: usize,
@@ -105,6 +111,7 @@ fn primary_at<'a>(
 }
 
 /// Reads a row at the primary of its keyspace, wherever that stands, as a tablet of this type has it.
+#[inline(always)]
 pub(crate) fn read_row(
     primaries: &Primaries,
     hint: Hint,

@@ -1,10 +1,11 @@
 //! Rows of a table that a name was found to lead to: an event in one call, without a look-up.
 ghost use Rattle.std.specs.Prelude.{◌≡◌, List, [], ◌∷◌, OnErr};
+ghost use Rattle.mt_event.specs.Events.{done_from};
 ghost use Rattle.mt_model.specs.declared.entries.Scope.{Scope};
 ghost use Rattle.mt_plain.specs.Events as plain;
 ghost use Rattle.mt_site_state.specs.ByHand.{ReadsRow, WritesRow};
 ghost use Rattle.mt_site_state.specs.Ways.{SiteSteps};
-ghost use Rattle.mt_site.specs.ByHand.{read_from, written_from};
+ghost use Rattle.mt_site.specs.ByHand.{read_from};
 ghost use Rattle.mt_site.specs.Headline.{KeepsTheHeadline};
 
 use crate::controller::Core;
@@ -43,15 +44,16 @@ impl Core {
     /// Writes a row of the table of a place. It is the event Write, as `apply` applies it, without the event and without a copy of
     /// a name: `F1 NoKeyspace`, `F2 NoTable`, `F3 Denied`, `F4 RowExists` or `F5 NoRow`, `F29 TooLong`, `F27 Full`, `F0 Memory`.
     /// Each leaves the core as it was, and the topology stays whatever is answered.
+    #[inline(always)]
     pub fn write_placed(&mut self, place: &Place, op: Op) -> Result<(), Refusal>
-        ensures does { WritesRow self.old.core place.now.target.keyspace place.now.target.table op (written_from result) self.new.core }
+        ensures does { WritesRow self.old.core place.now.target.keyspace place.now.target.table op (done_from result) self.new.core }
         ensures topology { self.new.core.topology ≡ self.old.core.topology }
         ensures ways { self.new.ways ≡ self.old.ways }
         ensures steps { (scopes : List Scope)
-            → SiteSteps scopes self.old (plain.write place.now.target.keyspace place.now.target.table op) (written_from result) self.new }
+            → SiteSteps scopes self.old (plain.write place.now.target.keyspace place.now.target.table op) (done_from result) self.new }
         ensures unchanged { OnErr result (self.new ≡ self.old) }
         ensures headline { (scopes : List Scope)
-            → KeepsTheHeadline scopes self.old (plain.write place.now.target.keyspace place.now.target.table op ∷ []) (written_from result ∷ []) self.new }
+            → KeepsTheHeadline scopes self.old (plain.write place.now.target.keyspace place.now.target.table op ∷ []) (done_from result ∷ []) self.new }
     {
         events_by_hand_step_and_leave_the_ways();
         every_run_keeps_the_headline();
@@ -61,6 +63,7 @@ impl Core {
     /// Reads a row, or none, of the table of a place, as a tablet of this type has it. It is the event Read, as `apply` applies it,
     /// without the event and without a copy of a name: `F1 NoKeyspace`, `F2 NoTable`, and of type primary `F3 Denied`. It takes no
     /// memory.
+    #[inline(always)]
     pub fn read_placed(
         &self,
         place: &Place,

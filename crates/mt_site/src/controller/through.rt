@@ -1,5 +1,6 @@
 //! Rows of a table that a name leads to: a look-up and an event in one call.
 ghost use Rattle.std.specs.Prelude.{◌≡◌, ⊤, IfOk, List, [], ◌∷◌, OnErr};
+ghost use Rattle.mt_event.specs.Events.{done_from};
 ghost use Rattle.mt_model.specs.declared.entries.Scope.{Scope};
 ghost use Rattle.mt_model.specs.Topology.{resolution};
 ghost use Rattle.mt_plain.specs.Events as plain;
@@ -7,7 +8,7 @@ ghost use Rattle.mt_plain.specs.Plain.{Plain};
 ghost use Rattle.mt_plain.specs.Serve.{served};
 ghost use Rattle.mt_site_state.specs.ByHand.{ReadsRow, WritesRow};
 ghost use Rattle.mt_site_state.specs.Ways.{SiteStands, SiteSteps};
-ghost use Rattle.mt_site.specs.ByHand.{read_from, written_from};
+ghost use Rattle.mt_site.specs.ByHand.{read_from};
 ghost use Rattle.mt_site.specs.Headline.{KeepsTheHeadline};
 ghost use Rattle.mt_site.specs.Through.{IsThrough};
 
@@ -31,15 +32,15 @@ impl Core {
         op: Op,
     ) -> Result<Result<(), Refusal>, TopologyFault>
         ensures does { IsThrough (resolution self.old.core.topology name.now TabletType.Primary) (self.new.core ≡ self.old.core)
-            (λ target told. WritesRow self.old.core target.keyspace target.table op (written_from told) self.new.core) result }
+            (λ target told. WritesRow self.old.core target.keyspace target.table op (done_from told) self.new.core) result }
         ensures ways { self.new.ways ≡ self.old.ways }
         ensures served { (p : Plain) (scopes : List Scope) → SiteStands p scopes self.old
             → resolution self.old.core.topology name.now TabletType.Primary ≡ resolution (served p) name.now TabletType.Primary }
         ensures steps { (scopes : List Scope) → IsThrough (resolution self.old.core.topology name.now TabletType.Primary) (self.new ≡ self.old)
-            (λ target told. SiteSteps scopes self.old (plain.write target.keyspace target.table op) (written_from told) self.new) result }
+            (λ target told. SiteSteps scopes self.old (plain.write target.keyspace target.table op) (done_from told) self.new) result }
         ensures unchanged { IfOk result (λ told. OnErr told (self.new ≡ self.old)) }
         ensures headline { (scopes : List Scope) → IsThrough (resolution self.old.core.topology name.now TabletType.Primary) (self.new ≡ self.old)
-            (λ target told. KeepsTheHeadline scopes self.old (plain.write target.keyspace target.table op ∷ []) (written_from told ∷ []) self.new) result }
+            (λ target told. KeepsTheHeadline scopes self.old (plain.write target.keyspace target.table op ∷ []) (done_from told ∷ []) self.new) result }
     {
         events_by_hand_step_and_leave_the_ways();
         every_run_keeps_the_headline();
@@ -50,7 +51,7 @@ impl Core {
     /// The same, for the core alone.
     fn write_led(&mut self, name: &RuleKey, op: Op) -> Result<Result<(), Refusal>, TopologyFault>
         ensures does { IsThrough (resolution self.old.core.topology name.now TabletType.Primary) (self.new.core ≡ self.old.core)
-            (λ target told. WritesRow self.old.core target.keyspace target.table op (written_from told) self.new.core) result }
+            (λ target told. WritesRow self.old.core target.keyspace target.table op (done_from told) self.new.core) result }
         ensures ways { self.new.ways ≡ self.old.ways }
         ensures unchanged { IfOk result (λ told. OnErr told (self.new ≡ self.old)) }
     {

@@ -3,49 +3,50 @@ use Rattle.std.proofs.Common.{◌≡◌, ◌+◌, ◌-◌, suc, Ok, Err, Result,
 use Rattle.std.proofs.lemmas.Result.{err_from_is_err_and}
 use Rattle.mt_event.specs.declared.refusal.Refusal.{Refusal}
 use Rattle.mt_event.specs.declared.refusal.Refusal.TheVariants as refusal
-use Rattle.mt_event.specs.Events.{answer_from, event_of, refusal_from}
+use Rattle.mt_event.specs.Events.{done_from, refusal_from}
 use Rattle.mt_plain.specs.Drive as plain
 use Rattle.mt_plain.specs.Drive.{begins, most_turns}
 use Rattle.mt_event.specs.declared.driven.Driven.{Driven}
 use Rattle.mt_event.specs.declared.driven.Driven.TheVariants as driven
 use Rattle.mt_event.specs.Drives.{driven_from}
+use Rattle.mt_site.specs.Commands.{event_of_command}
 use Rattle.mt_drive.specs.Drives.{DrivesFrom, IsOnItsWay, Turns, turn_from}
 use Rattle.mt_drive.proofs.RunLemmas.{drive_keeps}
-use Rattle.mt_drive.proofs.TurnLemmas.{begun, ends_so, goes_further, never_out, refused_begin, starts, turn_taken}
+use Rattle.mt_drive.proofs.TurnLemmas.{ends_so, goes_further, never_out, refused_begin, starts, turn_taken}
 use Rattle.mt_drive.proofs.driving.drive.Goals as goal
 
-pub returns-in_err-apply-clause-drives : goal.returns-in_err-apply-clause-drives
-returns-in_err-apply-clause-drives g c =
+pub returns-in_err-command-clause-drives : goal.returns-in_err-command-clause-drives
+returns-in_err-command-clause-drives g c =
     let scopes = g.W.Asks.scopes c.args.watchers.now in
     let start = begins c.args.workflow.now c.args.types c.args.back in
     let old = c.args.core.now in
-    let new = c.apply.new.self in
+    let new = c.command.new.self in
     let e = err_from_is_err_and c.from_residual.result c.from_residual.ensures.1 in
-    let same : e.0 ≡ c.in_err-apply.field-0.0 = search (e.2) in
+    let same : e.0 ≡ c.in_err-command.field-0.0 = search (e.2) in
     let ended : Result Driven Refusal = c.from_residual.result in
-    let is : ended ≡ Err c.in_err-apply.field-0.0 = e.1 ∙ ap (λ r. Err r) same in
+    let is : ended ≡ Err c.in_err-command.field-0.0 = e.1 ∙ ap (λ r. Err r) same in
     subst (λ r. DrivesFrom scopes old c.args.workflow.now c.args.types c.args.back r new) (sym is)
-    (refused_begin scopes old new c.args.workflow.now c.args.types c.args.back c.in_err-apply.field-0.0 399
-    (turn_taken scopes old new start (plain.ends (Err (refusal_from c.in_err-apply.field-0.0))) (event_of c.begin_of.result) (answer_from c.apply.result) c.apply.ensures.steps
-    (λ p stands. c.begin_of.ensures p) (λ q stands. ap (λ r. plain.heard q start (answer_from r)) c.in_err-apply.was)))
+    (refused_begin scopes old new c.args.workflow.now c.args.types c.args.back c.in_err-command.field-0.0 399
+    (turn_taken scopes old new start (plain.ends (Err (refusal_from c.in_err-command.field-0.0))) (event_of_command c.begin_of.result) (done_from c.command.result) c.command.ensures.steps
+    (λ p stands. c.begin_of.ensures p) (λ q stands. ap (λ r. plain.heard q start (done_from r)) c.in_err-command.was)))
 
-pub returns-in_err-apply-clause-headline : goal.returns-in_err-apply-clause-headline
-returns-in_err-apply-clause-headline g c =
-    drive_keeps (g.W.Asks.scopes c.args.watchers.now) c.args.core.now c.apply.new.self c.args.workflow.now c.args.types c.args.back c.from_residual.result most_turns
-    (returns-in_err-apply-clause-drives g c) c.every_run_keeps_the_headline.ensures.with_earlier_lines
+pub returns-in_err-command-clause-headline : goal.returns-in_err-command-clause-headline
+returns-in_err-command-clause-headline g c =
+    drive_keeps (g.W.Asks.scopes c.args.watchers.now) c.args.core.now c.command.new.self c.args.workflow.now c.args.types c.args.back c.from_residual.result most_turns
+    (returns-in_err-command-clause-drives g c) c.every_run_keeps_the_headline.ensures.with_earlier_lines
 
 pub loop-init : goal.loop-init
 loop-init g c =
     let scopes = g.W.Asks.scopes c.args.watchers.now in
     let start = begins c.args.workflow.now c.args.types c.args.back in
     let old = c.args.core.now in
-    let new = c.apply.new.self in
+    let new = c.command.new.self in
     let law = c.a_drive_fits_in_the_turns_that_are_left.ensures in
     goes_further scopes old old new start start (plain.steps c.args.workflow.now 64) 399 law.goes_on
     (starts scopes old start (λ p. law.begins p c.args.workflow.now c.args.types c.args.back))
-    (turn_taken scopes old new start (plain.goes_on (plain.steps c.args.workflow.now 64)) (event_of c.begin_of.result) (answer_from c.apply.result) c.apply.ensures.steps
+    (turn_taken scopes old new start (plain.goes_on (plain.steps c.args.workflow.now 64)) (event_of_command c.begin_of.result) (done_from c.command.result) c.command.ensures.steps
     (λ p stands. c.begin_of.ensures p)
-    (λ q stands. ap (λ r. plain.heard q start (answer_from r)) c.in_ok-apply.was ∙ begun q c.args.workflow.now c.args.types c.args.back c.in_ok-apply.field-0))
+    (λ q stands. ap (λ r. plain.heard q start (done_from r)) c.in_ok-command.was))
 
 pub returns-in-Ends-clause-drives : goal.returns-in-Ends-clause-drives
 returns-in-Ends-clause-drives g c =

@@ -1,38 +1,14 @@
 -- Each event leads from each state that the controller stands for to the next one.
-use Rattle.std.proofs.Common.{◌≡◌, refl, rules, subst, sym}
-use Rattle.mt_event.specs.Events.{answer_from, event_of}
+use Rattle.std.proofs.Common.{◌≡◌, ap, refl, rules, subst, sym, ◌∙◌}
+use Rattle.mt_event.specs.Events.{answer_from, event_of, refusal_from}
 use Rattle.mt_plain.specs.Events as plain
-use Rattle.mt_site_state.specs.ByHand.{EditsRule, WritesRow}
+use Rattle.mt_site_state.specs.ByHand.{WritesRow}
 use Rattle.mt_site_state.specs.Ways.{SiteSteps}
-use Rattle.mt_site_state.specs.Workflows.{Creates}
 use Rattle.mt_workflow.specs.Workflows.{stream_name}
+use Rattle.mt_site.specs.Commands.{event_of_command}
 use Rattle.mt_site.proofs.SiteLemmas.{joined}
+use Rattle.mt_site.proofs.controller.Core.apply_event.Goals.{in-AddKeyspace, in-AddTable, in-EditRule, in-Create, in-BeginSwitch, in-BeginReverse, in-Step, in-Undo, in-Cancel, in-Complete}
 use Rattle.mt_site.proofs.controller.Core.apply_event.Goals as goal
-
-pub returns-in-AddKeyspace-clause-steps : goal.returns-in-AddKeyspace-clause-steps
-returns-in-AddKeyspace-clause-steps g c =
-    let told = answer_from c.add_keyspace.result in
-    let new = c.add_keyspace.new.self in
-    subst (λ e. SiteSteps (g.W.Asks.scopes c.args.watchers.now) c.args.self.now (event_of e) told new) (sym c.in-AddKeyspace.is)
-    (subst (λ s. SiteSteps (g.W.Asks.scopes c.args.watchers.now) c.args.self.now (plain.add_keyspace c.in-AddKeyspace.keyspace) told s) (joined c.args.self.now new c.add_keyspace.ensures.ways)
-    (c.events_by_hand_step_and_leave_the_ways.ensures.keyspace (g.W.Asks.scopes c.args.watchers.now) c.args.self.now new.core c.in-AddKeyspace.keyspace told c.add_keyspace.ensures.does))
-
-pub returns-in-AddTable-clause-steps : goal.returns-in-AddTable-clause-steps
-returns-in-AddTable-clause-steps g c =
-    let told = answer_from c.add_table.result in
-    let new = c.add_table.new.self in
-    subst (λ e. SiteSteps (g.W.Asks.scopes c.args.watchers.now) c.args.self.now (event_of e) told new) (sym c.in-AddTable.is)
-    (subst (λ s. SiteSteps (g.W.Asks.scopes c.args.watchers.now) c.args.self.now (plain.add_table c.in-AddTable.keyspace c.in-AddTable.table) told s) (joined c.args.self.now new c.add_table.ensures.ways)
-    (c.events_by_hand_step_and_leave_the_ways.ensures.table (g.W.Asks.scopes c.args.watchers.now) c.args.self.now new.core c.in-AddTable.keyspace c.in-AddTable.table told c.add_table.ensures.does))
-
-pub returns-in-EditRule-clause-steps : goal.returns-in-EditRule-clause-steps
-returns-in-EditRule-clause-steps g c =
-    let told = answer_from c.edit_rule.result in
-    let new = c.edit_rule.new.self in
-    let same : c.map.result ≡ c.in-EditRule.target = search rules in
-    subst (λ e. SiteSteps (g.W.Asks.scopes c.args.watchers.now) c.args.self.now (event_of e) told new) (sym c.in-EditRule.is)
-    (subst (λ s. SiteSteps (g.W.Asks.scopes c.args.watchers.now) c.args.self.now (plain.edit_rule c.in-EditRule.key c.in-EditRule.target) told s) (joined c.args.self.now new c.edit_rule.ensures.ways)
-    (c.events_by_hand_step_and_leave_the_ways.ensures.rule (g.W.Asks.scopes c.args.watchers.now) c.args.self.now new.core c.in-EditRule.key c.in-EditRule.target told (subst (λ t. EditsRule c.args.self.now.core c.in-EditRule.key t told new.core) same c.edit_rule.ensures.does)))
 
 pub returns-in-Write-clause-steps : goal.returns-in-Write-clause-steps
 returns-in-Write-clause-steps g c =
@@ -50,30 +26,21 @@ returns-in-Read-clause-steps g c =
     (subst (λ s. SiteSteps (g.W.Asks.scopes c.args.watchers.now) c.args.self.now (plain.read c.in-Read.keyspace c.in-Read.table c.in-Read.key c.in-Read.type_of) told s) (joined c.args.self.now new refl)
     (c.events_by_hand_step_and_leave_the_ways.ensures.read (g.W.Asks.scopes c.args.watchers.now) c.args.self.now new.core c.in-Read.keyspace c.in-Read.table c.in-Read.key c.in-Read.type_of told c.read.ensures))
 
-pub returns-in-Create-clause-steps : goal.returns-in-Create-clause-steps
-returns-in-Create-clause-steps g c =
-    let told = answer_from c.create.result in
-    let new = c.create.new.self in
-    let same : c.as_slice.result.now ≡ c.in-Create.tables.items = search rules in
-    subst (λ e. SiteSteps (g.W.Asks.scopes c.args.watchers.now) c.args.self.now (event_of e) told new) (sym c.in-Create.is)
-    (subst (λ s. SiteSteps (g.W.Asks.scopes c.args.watchers.now) c.args.self.now (plain.create c.in-Create.workflow c.in-Create.source c.in-Create.target c.in-Create.tables.items) told s) (joined c.args.self.now new c.create.ensures.ways)
-    (c.a_create_steps_and_leaves_the_ways.ensures c.args.self.now new.core c.in-Create.workflow c.in-Create.source c.in-Create.target c.in-Create.tables.items told (subst (λ ts. Creates c.args.self.now.core (g.W.Asks.scopes c.args.watchers.now) (g.W.Asks.may_answer c.args.watchers.now) c.in-Create.workflow c.in-Create.source c.in-Create.target ts told new.core) same c.create.ensures.does)))
-
-pub returns-in-Advance-clause-steps : goal.returns-in-Advance-clause-steps
-returns-in-Advance-clause-steps g c =
-    let told = answer_from c.advance.result in
-    let new = c.advance.new.self in
+pub returns-in-Ok-clause-steps : goal.returns-in-Ok-clause-steps
+returns-in-Ok-clause-steps g c =
+    let told = plain.advanced c.in-Ok.counts.events c.in-Ok.counts.rows in
+    let new = c.do_advance.new.self in
     subst (λ e. SiteSteps (g.W.Asks.scopes c.args.watchers.now) c.args.self.now (event_of e) told new) (sym c.in-Advance.is)
-    (subst (λ s. SiteSteps (g.W.Asks.scopes c.args.watchers.now) c.args.self.now (plain.advance c.in-Advance.workflow (stream_name c.in-Advance.stream) c.in-Advance.at c.in-Advance.max) told s) (joined c.args.self.now new c.advance.ensures.ways)
-    (c.events_on_workflows_step_and_leave_the_ways.ensures.advance (g.W.Asks.scopes c.args.watchers.now) c.args.self.now new.core c.in-Advance.workflow (stream_name c.in-Advance.stream) c.in-Advance.at c.in-Advance.max told c.advance.ensures.does c.advance.ensures.primaries))
+    (subst (λ s. SiteSteps (g.W.Asks.scopes c.args.watchers.now) c.args.self.now (plain.advance c.in-Advance.workflow (stream_name c.in-Advance.stream) c.in-Advance.at c.in-Advance.max) told s) (joined c.args.self.now new c.do_advance.ensures.ways)
+    (c.events_on_workflows_step_and_leave_the_ways.ensures.advance (g.W.Asks.scopes c.args.watchers.now) c.args.self.now new.core c.in-Advance.workflow (stream_name c.in-Advance.stream) c.in-Advance.at c.in-Advance.max told c.in-Ok.ensures.does c.do_advance.ensures.primaries))
 
-pub returns-in-Cancel-clause-steps : goal.returns-in-Cancel-clause-steps
-returns-in-Cancel-clause-steps g c =
-    let told = answer_from c.cancel.result in
-    let new = c.cancel.new.self in
-    subst (λ e. SiteSteps (g.W.Asks.scopes c.args.watchers.now) c.args.self.now (event_of e) told new) (sym c.in-Cancel.is)
-    (subst (λ s. SiteSteps (g.W.Asks.scopes c.args.watchers.now) c.args.self.now (plain.cancel c.in-Cancel.workflow) told s) (joined c.args.self.now new c.cancel.ensures.ways)
-    (c.events_on_workflows_step_and_leave_the_ways.ensures.cancel (g.W.Asks.scopes c.args.watchers.now) c.args.self.now new.core c.in-Cancel.workflow told c.cancel.ensures.does c.cancel.ensures.primaries))
+pub returns-in-Err-clause-steps : goal.returns-in-Err-clause-steps
+returns-in-Err-clause-steps g c =
+    let told = plain.refused (refusal_from c.in-Err.refusal) in
+    let new = c.do_advance.new.self in
+    subst (λ e. SiteSteps (g.W.Asks.scopes c.args.watchers.now) c.args.self.now (event_of e) told new) (sym c.in-Advance.is)
+    (subst (λ s. SiteSteps (g.W.Asks.scopes c.args.watchers.now) c.args.self.now (plain.advance c.in-Advance.workflow (stream_name c.in-Advance.stream) c.in-Advance.at c.in-Advance.max) told s) (joined c.args.self.now new c.do_advance.ensures.ways)
+    (c.events_on_workflows_step_and_leave_the_ways.ensures.advance (g.W.Asks.scopes c.args.watchers.now) c.args.self.now new.core c.in-Advance.workflow (stream_name c.in-Advance.stream) c.in-Advance.at c.in-Advance.max told c.in-Err.ensures.does c.do_advance.ensures.primaries))
 
 pub returns-in-Show-clause-steps : goal.returns-in-Show-clause-steps
 returns-in-Show-clause-steps g c =
@@ -83,32 +50,19 @@ returns-in-Show-clause-steps g c =
     (subst (λ s. SiteSteps (g.W.Asks.scopes c.args.watchers.now) c.args.self.now (plain.show c.in-Show.workflow) told s) (joined c.args.self.now new refl)
     (c.events_on_workflows_step_and_leave_the_ways.ensures.show (g.W.Asks.scopes c.args.watchers.now) c.args.self.now new.core c.in-Show.workflow told c.show.ensures))
 
-pub returns-in-BeginSwitch-clause-steps : goal.returns-in-BeginSwitch-clause-steps
-returns-in-BeginSwitch-clause-steps g c =
-    let told = answer_from c.begin_switch.result in
-    subst (λ e. SiteSteps (g.W.Asks.scopes c.args.watchers.now) c.args.self.now (event_of e) told c.begin_switch.new.self) (sym c.in-BeginSwitch.is)
-    (c.a_begin_steps.ensures.switch (g.W.Asks.scopes c.args.watchers.now) c.args.self.now c.begin_switch.new.self c.in-BeginSwitch.workflow c.in-BeginSwitch.types told c.begin_switch.ensures.does)
-
-pub returns-in-BeginReverse-clause-steps : goal.returns-in-BeginReverse-clause-steps
-returns-in-BeginReverse-clause-steps g c =
-    let told = answer_from c.begin_reverse.result in
-    subst (λ e. SiteSteps (g.W.Asks.scopes c.args.watchers.now) c.args.self.now (event_of e) told c.begin_reverse.new.self) (sym c.in-BeginReverse.is)
-    (c.a_begin_steps.ensures.reverse (g.W.Asks.scopes c.args.watchers.now) c.args.self.now c.begin_reverse.new.self c.in-BeginReverse.workflow c.in-BeginReverse.types told c.begin_reverse.ensures.does)
-
-pub returns-in-Step-clause-steps : goal.returns-in-Step-clause-steps
-returns-in-Step-clause-steps g c =
-    let told = answer_from c.step.result in
-    subst (λ e. SiteSteps (g.W.Asks.scopes c.args.watchers.now) c.args.self.now (event_of e) told c.step.new.self) (sym c.in-Step.is)
-    (c.a_step_steps.ensures.steps c.args.self.now c.step.new.self c.in-Step.workflow c.in-Step.at told c.step.ensures.does)
-
-pub returns-in-Undo-clause-steps : goal.returns-in-Undo-clause-steps
-returns-in-Undo-clause-steps g c =
-    let told = answer_from c.undo.result in
-    subst (λ e. SiteSteps (g.W.Asks.scopes c.args.watchers.now) c.args.self.now (event_of e) told c.undo.new.self) (sym c.in-Undo.is)
-    (c.an_undo_steps.ensures (g.W.Asks.scopes c.args.watchers.now) c.args.self.now c.undo.new.self c.in-Undo.workflow c.in-Undo.at told c.undo.ensures.does)
-
-pub returns-in-Complete-clause-steps : goal.returns-in-Complete-clause-steps
-returns-in-Complete-clause-steps g c =
-    let told = answer_from c.complete.result in
-    subst (λ e. SiteSteps (g.W.Asks.scopes c.args.watchers.now) c.args.self.now (event_of e) told c.complete.new.self) (sym c.in-Complete.is)
-    (c.a_complete_steps.ensures (g.W.Asks.scopes c.args.watchers.now) c.args.self.now c.complete.new.self c.in-Complete.workflow told c.complete.ensures.does c.complete.ensures.primaries)
+pub returns-in-Ok-do_command-clause-steps : goal.returns-in-Ok-do_command-clause-steps
+returns-in-Ok-do_command-clause-steps g c =
+    let same : event_of_command c.match-event.command ≡ event_of c.args.event.now
+    = elim c.match-event.branch [
+      | in-AddKeyspace w ↦ ap event_of_command w.command-is ∙ sym (ap event_of w.in-AddKeyspace.is)
+      | in-AddTable w ↦ ap event_of_command w.command-is ∙ sym (ap event_of w.in-AddTable.is)
+      | in-EditRule w ↦ let same : w.map.result ≡ w.in-EditRule.target = search rules in ap event_of_command w.command-is ∙ ap (plain.edit_rule w.in-EditRule.key) same ∙ sym (ap event_of w.in-EditRule.is)
+      | in-Create w ↦ ap event_of_command w.command-is ∙ sym (ap event_of w.in-Create.is)
+      | in-BeginSwitch w ↦ ap event_of_command w.command-is ∙ sym (ap event_of w.in-BeginSwitch.is)
+      | in-BeginReverse w ↦ ap event_of_command w.command-is ∙ sym (ap event_of w.in-BeginReverse.is)
+      | in-Step w ↦ ap event_of_command w.command-is ∙ sym (ap event_of w.in-Step.is)
+      | in-Undo w ↦ ap event_of_command w.command-is ∙ sym (ap event_of w.in-Undo.is)
+      | in-Cancel w ↦ ap event_of_command w.command-is ∙ sym (ap event_of w.in-Cancel.is)
+      | in-Complete w ↦ ap event_of_command w.command-is ∙ sym (ap event_of w.in-Complete.is)
+    ] in
+    subst (λ e. SiteSteps (g.W.Asks.scopes c.args.watchers.now) c.args.self.now e plain.done c.do_command.new.self) same c.in-Ok-do_command.ensures.steps

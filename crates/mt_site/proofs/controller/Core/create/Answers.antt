@@ -1,5 +1,5 @@
 -- What was made in vain can be taken back, and what is made leaves a state of the controller.
-use Rattle.mt_event.specs.Events.{answer_from}
+use Rattle.mt_event.specs.Events.{done_from}
 use Rattle.mt_site_state.specs.Core.{CoreState}
 use Rattle.mt_site_state.specs.Ways.{SiteState}
 use Rattle.mt_site.proofs.SiteLemmas.{site}
@@ -18,5 +18,5 @@ pub invariant_of-self : goal.invariant_of-self
 invariant_of-self g c =
     let old : SiteState = site c.self.inside.topology c.self.inside.primaries.entries c.self.inside.workflows.entries c.self.inside.opened.entries c.self.inside.journal c.self.inside.begun in
     let core : CoreState = record { topology = c.create.new.topology; primaries = c.create.new.primaries.entries; workflows = c.create.new.workflows.entries } in
-    c.a_create_leaves_a_site.ensures old core c.args.name.now c.args.source.now c.args.target.now c.args.tables.now (answer_from c.create.result)
+    c.a_create_leaves_a_site.ensures old core c.args.name.now c.args.source.now c.args.target.now c.args.tables.now (done_from c.create.result)
     (c.names_are_names.ensures.source, c.names_are_names.ensures.target, c.names_are_names.ensures.tables) c.create.ensures c.self.invariant

@@ -1,5 +1,6 @@
 -- The write is made where the name leads, in each state that the controller stands for.
 use Rattle.std.proofs.Common.{◌≡◌, [], Ok, refl, rules, subst}
+use Rattle.mt_event.specs.Events.{done_from}
 use Rattle.std.specs.Result.{OnErr}
 use Rattle.mt_model.specs.Topology.{resolution}
 use Rattle.mt_names.specs.declared.types.TabletType.TheVariants.{Primary}
@@ -7,7 +8,6 @@ use Rattle.mt_plain.specs.Events.{write}
 use Rattle.mt_site_state.specs.ByHand.{WritesRow}
 use Rattle.mt_site_state.specs.Core.{CoreState, primary_at}
 use Rattle.mt_site_state.specs.Ways.{SiteState, WaysState}
-use Rattle.mt_site.specs.ByHand.{written_from}
 use Rattle.mt_site.specs.Through.{IsThrough}
 use Rattle.mt_site.proofs.LeaveLemmas.{rows_leave}
 use Rattle.mt_site.proofs.SiteLemmas.{lifted, site, whole}
@@ -17,16 +17,16 @@ pub invariant_of-self : goal.invariant_of-self
 invariant_of-self c =
     let old : SiteState = site c.self.inside.topology c.self.inside.primaries.entries c.self.inside.workflows.entries c.self.inside.opened.entries c.self.inside.journal c.self.inside.begun in
     let core : CoreState = record { topology = c.self.inside.topology; primaries = c.write_row.new.primaries.entries; workflows = c.self.inside.workflows.entries } in
-    c.a_site_stays_one.ensures.stays [] old (record old { core = core }) (write c.in-Ok.keyspace.now c.in-Ok.table.now c.args.op) (written_from c.write_row.result) tt
-    (λ more. c.events_by_hand_step_and_leave_the_ways.ensures.write _ old core c.in-Ok.keyspace.now c.in-Ok.table.now c.args.op (written_from c.write_row.result) (c.write_row.ensures c.self.inside.topology c.self.inside.workflows.entries)) c.self.invariant
+    c.a_site_stays_one.ensures.stays [] old (record old { core = core }) (write c.in-Ok.keyspace.now c.in-Ok.table.now c.args.op) (done_from c.write_row.result) tt
+    (λ more. c.events_by_hand_step_and_leave_the_ways.ensures.write _ old core c.in-Ok.keyspace.now c.in-Ok.table.now c.args.op (done_from c.write_row.result) (c.write_row.ensures c.self.inside.topology c.self.inside.workflows.entries)) c.self.invariant
 
 pub returns-in-Ok-clause-does : goal.returns-in-Ok-clause-does
 returns-in-Ok-clause-does c =
     let old = c.args.self.now in
     let core : CoreState = record { topology = c.self.inside.topology; primaries = c.write_row.new.primaries.entries; workflows = c.self.inside.workflows.entries } in
     let led : Ok (record { keyspace = c.in-Ok.keyspace.now; table = c.in-Ok.table.now }) ≡ resolution old.core.topology c.args.name.now Primary = search rules in
-    subst (λ r. IsThrough r (core ≡ old.core) (λ target told. WritesRow old.core target.keyspace target.table c.args.op (written_from told) core) (Ok c.write_row.result)) led
-    (subst (λ s. WritesRow s.core c.in-Ok.keyspace.now c.in-Ok.table.now c.args.op (written_from c.write_row.result) core) c.self.view_is (c.write_row.ensures c.self.inside.topology c.self.inside.workflows.entries))
+    subst (λ r. IsThrough r (core ≡ old.core) (λ target told. WritesRow old.core target.keyspace target.table c.args.op (done_from told) core) (Ok c.write_row.result)) led
+    (subst (λ s. WritesRow s.core c.in-Ok.keyspace.now c.in-Ok.table.now c.args.op (done_from c.write_row.result) core) c.self.view_is (c.write_row.ensures c.self.inside.topology c.self.inside.workflows.entries))
 
 pub returns-in-Ok-clause-unchanged : goal.returns-in-Ok-clause-unchanged
 returns-in-Ok-clause-unchanged c =
