@@ -1,19 +1,28 @@
 //! Events of a script: the answer to one is written into a text that is kept, in place of the one before.
 ghost use Rattle.mt_plain.specs.Events as plain;
+ghost use Rattle.std.specs.Prelude.{◌≡◌, List, ◌++◌};
+ghost use Rattle.mt_model.specs.declared.entries.Scope.{Scope};
+ghost use Rattle.mt_site.specs.Advance.{advanced_from};
+ghost use Rattle.mt_plain.specs.Output.{answer_text, line_feed};
 ghost use Rattle.mt_plain.specs.Script.{drive, event};
-ghost use Rattle.mt_event.specs.Events.{event_of};
+ghost use Rattle.mt_site.specs.Commands.{event_of_command};
+ghost use Rattle.mt_event.specs.Events.{done_from, event_of};
 ghost use Rattle.mt_workflow.specs.Workflows.{stream_name};
 ghost use Rattle.mt_run.specs.Runs.{IsRequestOutput};
 
 use crate::script::LineOutput;
 use mt_cache::CachedCore;
 use mt_drive::drive;
-use mt_event::Event;
+use mt_event::{Event, Refusal};
 use mt_model::Op;
 use mt_names::{
     KeyspaceName, Position, RuleKey, RuleTarget, TableName, TabletType, TypeSet, WorkflowName,
 };
-use mt_script::{LineText, TableText, write_answer, write_driven};
+use mt_script::{
+    LineText, TableText, put_row_refused, put_written, write_advanced, write_answer, write_driven,
+};
+use mt_site::Command;
+use mt_stream::Advanced;
 use mt_watch::Asks;
 use mt_workflow::Slot;
 
@@ -31,45 +40,29 @@ fn ask<A: Asks>(
     LineOutput::Line
 }
 
-/// Makes a keyspace.
-#[inline(never)]
-pub fn add_keyspace<A: Asks>(
-    core: &mut CachedCore,
-    watchers: &A,
-    keyspace: KeyspaceName,
-    text: &mut LineText,
-) -> LineOutput
-    ensures { IsRequestOutput (A.scopes watchers.now) core.old (event (plain.add_keyspace keyspace)) text.new.items result core.new }
+/// Writes that a command is done, or why it is refused, in place of the text that was there.
+fn tell_done(told: &Result<(), Refusal>, text: &mut LineText)
+    ensures { text.new.items ≡ answer_text (done_from told.now) ++ line_feed }
 {
-    ask(core, watchers, &Event::AddKeyspace { keyspace }, text)
+    text.clear();
+    match told {
+        Ok(()) => put_written(text),
+        Err(refusal) => put_row_refused(text, refusal),
+    }
 }
 
-/// Makes a table in a keyspace.
+/// What a command adds to the output: that it is done, or why it is refused.
 #[inline(never)]
-pub fn add_table<A: Asks>(
+pub fn command<A: Asks>(
     core: &mut CachedCore,
     watchers: &A,
-    keyspace: KeyspaceName,
-    table: TableName,
+    asked: Command<'_>,
     text: &mut LineText,
 ) -> LineOutput
-    ensures { IsRequestOutput (A.scopes watchers.now) core.old (event (plain.add_table keyspace table)) text.new.items result core.new }
+    ensures { IsRequestOutput (A.scopes watchers.now) core.old (event (event_of_command asked.entry)) text.new.items result core.new }
 {
-    ask(core, watchers, &Event::AddTable { keyspace, table }, text)
-}
-
-/// Sets the routing rule of a key, or takes it away.
-#[inline(never)]
-pub fn edit_rule<A: Asks>(
-    core: &mut CachedCore,
-    watchers: &A,
-    key: RuleKey,
-    target: Option<RuleTarget>,
-    text: &mut LineText,
-) -> LineOutput
-    ensures { IsRequestOutput (A.scopes watchers.now) core.old (event (plain.edit_rule key target)) text.new.items result core.new }
-{
-    ask(core, watchers, &Event::EditRule { key, target }, text)
+    tell_done(&core.core_mut().command(watchers, asked), text);
+    LineOutput::Line
 }
 
 /// Writes to a table of a keyspace.
@@ -135,126 +128,42 @@ pub fn create<A: Asks>(
 ) -> LineOutput
     ensures { IsRequestOutput (A.scopes watchers.now) core.old (event (plain.create workflow source target tables.now)) text.new.items result core.new }
 {
-    ask(
+    let tables = tables.tables();
+    command(
         core,
         watchers,
-        &Event::Create {
-            workflow,
-            source,
-            target,
-            tables: tables.tables(),
-        },
+        Command::Create(&workflow, &source, &target, &tables),
         text,
     )
 }
 
-/// Advances a stream of a workflow, which leaves where names lead.
+/// Writes what an advance did, or why it is refused, in place of the text that was there.
+fn tell_advanced(told: &Result<Advanced, Refusal>, text: &mut LineText)
+    ensures { text.new.items ≡ answer_text (advanced_from told.now) ++ line_feed }
+{
+    match told {
+        Ok(did) => write_advanced(text, *did),
+        Err(refusal) => {
+            text.clear();
+            put_row_refused(text, refusal);
+        }
+    }
+}
+
+/// Advances a stream of a workflow, which leaves where names lead. It asks nobody.
 #[inline(never)]
-pub fn advance<A: Asks>(
+pub fn advance(
     core: &mut CachedCore,
-    watchers: &A,
-    workflow: WorkflowName,
+    workflow: &WorkflowName,
     stream: Slot,
     at: Position,
     max: u16,
     text: &mut LineText,
 ) -> LineOutput
-    ensures { IsRequestOutput (A.scopes watchers.now) core.old (event (plain.advance workflow (stream_name stream) at max)) text.new.items result core.new }
+    ensures { (scopes : List Scope) → IsRequestOutput scopes core.old (event (plain.advance workflow.now (stream_name stream) at max)) text.new.items result core.new }
 {
-    write_answer(text, &core.advance(watchers, workflow, stream, at, max));
+    tell_advanced(&core.advance(workflow, stream, at, max), text);
     LineOutput::Line
-}
-
-/// Begins to switch traffic to the target of a workflow.
-#[inline(never)]
-pub fn begin_switch<A: Asks>(
-    core: &mut CachedCore,
-    watchers: &A,
-    workflow: WorkflowName,
-    types: TypeSet,
-    text: &mut LineText,
-) -> LineOutput
-    ensures { IsRequestOutput (A.scopes watchers.now) core.old (event (plain.begin_switch workflow types)) text.new.items result core.new }
-{
-    ask(
-        core,
-        watchers,
-        &Event::BeginSwitch { workflow, types },
-        text,
-    )
-}
-
-/// Begins to send traffic back to the source of a workflow.
-#[inline(never)]
-pub fn begin_reverse<A: Asks>(
-    core: &mut CachedCore,
-    watchers: &A,
-    workflow: WorkflowName,
-    types: TypeSet,
-    text: &mut LineText,
-) -> LineOutput
-    ensures { IsRequestOutput (A.scopes watchers.now) core.old (event (plain.begin_reverse workflow types)) text.new.items result core.new }
-{
-    ask(
-        core,
-        watchers,
-        &Event::BeginReverse { workflow, types },
-        text,
-    )
-}
-
-/// Does the next step of the way that is open on a workflow.
-#[inline(never)]
-pub fn step<A: Asks>(
-    core: &mut CachedCore,
-    watchers: &A,
-    workflow: WorkflowName,
-    at: u64,
-    text: &mut LineText,
-) -> LineOutput
-    ensures { IsRequestOutput (A.scopes watchers.now) core.old (event (plain.step workflow at)) text.new.items result core.new }
-{
-    ask(core, watchers, &Event::Step { workflow, at }, text)
-}
-
-/// Undoes the last step of it.
-#[inline(never)]
-pub fn undo<A: Asks>(
-    core: &mut CachedCore,
-    watchers: &A,
-    workflow: WorkflowName,
-    at: u64,
-    text: &mut LineText,
-) -> LineOutput
-    ensures { IsRequestOutput (A.scopes watchers.now) core.old (event (plain.undo workflow at)) text.new.items result core.new }
-{
-    ask(core, watchers, &Event::Undo { workflow, at }, text)
-}
-
-/// Takes a workflow back.
-#[inline(never)]
-pub fn cancel<A: Asks>(
-    core: &mut CachedCore,
-    watchers: &A,
-    workflow: WorkflowName,
-    text: &mut LineText,
-) -> LineOutput
-    ensures { IsRequestOutput (A.scopes watchers.now) core.old (event (plain.cancel workflow)) text.new.items result core.new }
-{
-    ask(core, watchers, &Event::Cancel { workflow }, text)
-}
-
-/// Ends a workflow.
-#[inline(never)]
-pub fn complete<A: Asks>(
-    core: &mut CachedCore,
-    watchers: &A,
-    workflow: WorkflowName,
-    text: &mut LineText,
-) -> LineOutput
-    ensures { IsRequestOutput (A.scopes watchers.now) core.old (event (plain.complete workflow)) text.new.items result core.new }
-{
-    ask(core, watchers, &Event::Complete { workflow }, text)
 }
 
 /// Tells of a workflow.

@@ -1,11 +1,12 @@
 //! Rows of a script: a line that asks for one is answered without an event.
 ghost use Rattle.std.specs.Prelude.{◌≡◌, ◌+◌, ◌≤◌, ◌++◌, [], length, Some, Ok};
+ghost use Rattle.mt_event.specs.Events.{done_from};
 ghost use Rattle.mt_model.specs.declared.rows.Op.TheVariants.{Delete};
 ghost use Rattle.mt_plain.specs.Output.{answer_text, line_feed};
 ghost use Rattle.mt_plain.specs.Script.{read_line, read_through, write_through};
 ghost use Rattle.mt_script.specs.Requests.{meaning_of, row_from};
 ghost use Rattle.mt_script.specs.Rows.{IsReadOf, IsValueWrite, IsWriteOf};
-ghost use Rattle.mt_site.specs.ByHand.{read_from, written_from};
+ghost use Rattle.mt_site.specs.ByHand.{read_from};
 ghost use Rattle.mt_run.specs.Runs.{IsRowBehind, IsRowOutput, IsRowTold, through_text};
 
 use arrayvec::ArrayVec;
@@ -27,7 +28,7 @@ fn tell_written<const N: usize>(
     text: &mut ArrayVec<u8, N>,
 )
     requires room { length text.old.items + LONGEST_LINE ≤ N }
-    ensures { text.new.items ≡ text.old.items ++ through_text written_from told.now }
+    ensures { text.new.items ≡ text.old.items ++ through_text done_from told.now }
 {
     match told {
         Ok(Ok(())) => put_written(text),

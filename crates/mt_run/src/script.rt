@@ -9,16 +9,14 @@ ghost use Rattle.mt_script.specs.Requests.{request_from};
 ghost use Rattle.mt_site_state.specs.Ways.{SiteStands};
 ghost use Rattle.mt_run.specs.Runs.{AsksDocument, IsLineOutput, IsRequestOutput, Runs, RunsLine, RunsLines};
 
-use crate::asking::{
-    add_keyspace, add_table, advance, begin_reverse, begin_switch, cancel, complete, create,
-    drive_whole, edit_rule, read_at, show, step, undo, write_at,
-};
+use crate::asking::{advance, command, create, drive_whole, read_at, show, write_at};
 use crate::rows::{row_line_output, row_output};
 use mt_cache::CachedCore;
 use mt_io::{
     LONGEST_LINE, ROOM, ScriptFault, Waiting, flush, make_room, put_document, put_line, read_script,
 };
 use mt_script::{Line, LineText, Request, first_line, read_line, write_refusal};
+use mt_site::Command;
 use mt_watch::Asks;
 use std::alloc::Global;
 use std::io::{Read, Write};
@@ -67,9 +65,24 @@ fn request_output<A: Asks>(
     ensures { IsRequestOutput (A.scopes watchers.now) core.old (request_from request.entry) text.new.items result core.new }
 {
     match request {
-        Request::AddKeyspace(keyspace) => add_keyspace(core, watchers, keyspace, text),
-        Request::AddTable(keyspace, table) => add_table(core, watchers, keyspace, table, text),
-        Request::EditRule(key, target) => edit_rule(core, watchers, key, target, text),
+        Request::AddKeyspace(keyspace) => command(
+            core,
+            watchers,
+            Command::AddKeyspace(&keyspace),
+            text,
+        ),
+        Request::AddTable(keyspace, table) => command(
+            core,
+            watchers,
+            Command::AddTable(&keyspace, &table),
+            text,
+        ),
+        Request::EditRule(key, target) => command(
+            core,
+            watchers,
+            Command::EditRule(&key, target),
+            text,
+        ),
         Request::Row(row) => {
             row_output(core, row, text);
             LineOutput::Line
@@ -84,24 +97,30 @@ fn request_output<A: Asks>(
             core, watchers, workflow, source, target, &tables, text,
         ),
         Request::Advance(workflow, stream, at, max) => advance(
-            core, watchers, workflow, stream, at, max, text,
+            core, &workflow, stream, at, max, text,
         ),
-        Request::BeginSwitch(workflow, types) => begin_switch(
-            core, watchers, workflow, types, text,
+        Request::BeginSwitch(workflow, types) => command(
+            core,
+            watchers,
+            Command::BeginSwitch(&workflow, types),
+            text,
         ),
-        Request::BeginReverse(workflow, types) => begin_reverse(
-            core, watchers, workflow, types, text,
+        Request::BeginReverse(workflow, types) => command(
+            core,
+            watchers,
+            Command::BeginReverse(&workflow, types),
+            text,
         ),
-        Request::Step(workflow, at) => step(core, watchers, workflow, at, text),
-        Request::Undo(workflow, at) => undo(core, watchers, workflow, at, text),
+        Request::Step(workflow, at) => command(core, watchers, Command::Step(&workflow, at), text),
+        Request::Undo(workflow, at) => command(core, watchers, Command::Undo(&workflow, at), text),
         Request::Switch(workflow, types) => drive_whole(
             core, watchers, &workflow, types, false, text,
         ),
         Request::Reverse(workflow, types) => drive_whole(
             core, watchers, &workflow, types, true, text,
         ),
-        Request::Cancel(workflow) => cancel(core, watchers, workflow, text),
-        Request::Complete(workflow) => complete(core, watchers, workflow, text),
+        Request::Cancel(workflow) => command(core, watchers, Command::Cancel(&workflow), text),
+        Request::Complete(workflow) => command(core, watchers, Command::Complete(&workflow), text),
         Request::Show(workflow) => show(core, watchers, workflow, text),
         Request::Rules => rules(core),
         Request::Dump => dump(core),

@@ -17,6 +17,6 @@ pub use lines::{Line, LineRefusal, MAX_LINE_LENGTH, Request, RowRequest, read_li
 pub use rows::{RowVerb, RowWords, ValueVerb, any_key, op_of, value_behind};
 pub use tables::TableText;
 pub use texts::{
-    LineText, put_look_up, put_row, put_row_refused, put_written, write_answer, write_driven,
-    write_refusal,
+    LineText, put_look_up, put_row, put_row_refused, put_written, write_advanced, write_answer,
+    write_driven, write_refusal,
 };

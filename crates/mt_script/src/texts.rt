@@ -55,8 +55,8 @@ fn events_text(events: u16, rows: &ArrayVec<u8, 25>) -> ArrayVec<u8, 46>
     spaced(&number(u64::from(events)), rows)
 }
 
-/// Writes the line that tells what an advance did.
-fn write_advanced(text: &mut LineText, did: Advanced)
+/// Writes the line that tells what an advance did, in place of the text that was there.
+pub fn write_advanced(text: &mut LineText, did: Advanced)
     ensures { text.new.items ≡ answer_text (advanced did.events did.rows) ++ line_feed }
 {
     write_line(

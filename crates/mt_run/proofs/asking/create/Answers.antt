@@ -7,5 +7,5 @@ use Rattle.mt_run.proofs.asking.create.Goals as goal
 
 pub returns : goal.returns
 returns g c =
-    subst (λ tables. IsRequestOutput (g.A.Asks.scopes c.args.watchers.now) c.args.core.now (event (plain.create c.args.workflow c.args.source c.args.target tables)) c.ask.new.text.items c.ask.result c.ask.new.core)
-    c.tables.ensures c.ask.ensures
+    subst (λ tables. IsRequestOutput (g.A.Asks.scopes c.args.watchers.now) c.args.core.now (event (plain.create c.args.workflow c.args.source c.args.target tables)) c.command.new.text.items c.command.result c.command.new.core)
+    c.tables-tables.ensures c.command.ensures
