@@ -9,6 +9,8 @@ mod answers;
 #[cfg(test)]
 mod asking;
 #[cfg(test)]
+mod commands;
+#[cfg(test)]
 mod copies;
 #[cfg(test)]
 mod events;

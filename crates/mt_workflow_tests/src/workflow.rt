@@ -104,6 +104,34 @@ fn a_slot_answers_what_stood_there(rt: HostRuntime) -> Result<(), Fail> {
     Ok(())
 }
 
+/// What the stream of a slot does, if there is one.
+fn state(workflow: &Workflow, slot: Slot) -> Option<StreamState> {
+    Some(workflow.slot(slot)?.state())
+}
+
+/// Whether the forward stream stops, runs and freezes where it stands; a slot without a stream stays without one.
+fn sets_states(workflow: &mut Workflow) -> [bool; 4] {
+    workflow.set_state(Slot::Forward, StreamState::Stopped);
+    let stopped = state(workflow, Slot::Forward) == Some(StreamState::Stopped);
+    workflow.set_state(Slot::Forward, StreamState::Running);
+    let runs = state(workflow, Slot::Forward) == Some(StreamState::Running);
+    workflow.set_state(Slot::Back, StreamState::Running);
+    let none = state(workflow, Slot::Back).is_none();
+    workflow.set_state(Slot::Forward, StreamState::Frozen);
+    let frozen = state(workflow, Slot::Forward) == Some(StreamState::Frozen)
+        && position(workflow, Slot::Forward) == Some(7);
+    [stopped, runs, none, frozen]
+}
+
+#[test]
+fn a_stream_is_stopped_where_it_stands(rt: HostRuntime) -> Result<(), Fail> {
+    let mut workflow = workflow_of(rt.alloc(), "y,t")?;
+    let answer = sets_states(&mut workflow);
+    drop(workflow);
+    assert!(rt; answer == [true, true, true, true]);
+    Ok(())
+}
+
 /// Whether all types are switched where none was.
 fn sets_types(workflow: &mut Workflow) -> bool {
     workflow.set_switched(TypeSet::ALL) == TypeSet::NONE && workflow.switched() == TypeSet::ALL
