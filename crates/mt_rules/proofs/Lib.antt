@@ -1,6 +1,5 @@
 pub mod AscendLemmas
 pub mod BackLemmas
-pub mod CountsLemmas
 pub mod KeysLemmas
 pub mod ListLemmas
 pub mod PlacesLemmas
@@ -10,5 +9,6 @@ pub mod ReverseLemmas
 pub mod RouteLemmas
 pub mod RulesLemmas
 pub mod SortLemmas
+pub mod StandingLemmas
 pub mod TextLemmas
 pub mod WrittenLemmas

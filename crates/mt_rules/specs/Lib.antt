@@ -1,6 +1,6 @@
-pub mod Counts
 pub mod Member
 pub mod Read
 pub mod Rules
+pub mod Standing
 pub mod Values
 pub mod Written

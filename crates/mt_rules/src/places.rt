@@ -2,7 +2,7 @@
 ghost use Rattle.std.specs.Prelude.{◌≡◌, ◌<◌, ◌++◌, ◌∷◌, [], ◌^◌, ◌-◌, false, true, length, reverse, is_some, option_copied, OnOk, OnErr};
 ghost use Rattle.std.specs.List.{IsDistinct};
 ghost use Rattle.std.specs.Map.{keys_of, lookup, remove_entry, set_value};
-ghost use Rattle.std.specs.Option.{option_map_or, unwrap_or};
+ghost use Rattle.std.specs.Option.{option_map_or};
 ghost use Rattle.mt_names.specs.Same.{same_key};
 ghost use Rattle.mt_model.specs.Topology.{rule_at};
 ghost use Rattle.mt_rules.specs.Rules.{has_rule_place};
@@ -121,15 +121,14 @@ impl Places {
         }
     }
 
-    /// Drops the place of a key, and answers whether it had a rule, if there is one. It takes no memory, and moves no other place.
-    pub fn remove(&mut self, key: &RuleKey) -> Option<bool>
-        ensures placed { is_some result ≡ has_rule_place self.old key.now }
-        ensures stood { unwrap_or result false ≡ is_some (rule_at self.old key.now) }
+    /// Drops the place of a key, if it has one, and answers whether it had a rule. It takes no memory, and moves no other place.
+    pub fn remove(&mut self, key: &RuleKey) -> bool
+        ensures stood { result ≡ is_some (rule_at self.old key.now) }
         ensures after { self.new ≡ remove_entry (same_key key.now) self.old }
     {
         match &mut self.linked {
             Some(linked) => drop_place(linked, key),
-            None => None,
+            None => false,
         }
     }
 }
@@ -171,18 +170,15 @@ fn replace_place(linked: &mut Linked, key: &RuleKey, rule: Option<RuleTarget>) -
     exchange(linked, key, rule)
 }
 
-/// Drops the place of a key, and answers whether it had a rule, if there is one.
-fn drop_place(linked: &mut Linked, key: &RuleKey) -> Option<bool>
-    ensures placed { is_some result ≡ has_rule_place (reverse linked.old.entries) key.now }
-    ensures stood { unwrap_or result false ≡ is_some (rule_at (reverse linked.old.entries) key.now) }
+/// Drops the place of a key, if it has one, and answers whether it had a rule.
+fn drop_place(linked: &mut Linked, key: &RuleKey) -> bool
+    ensures stood { result ≡ is_some (rule_at (reverse linked.old.entries) key.now) }
     ensures places { reverse linked.new.entries ≡ remove_entry (same_key key.now) (reverse linked.old.entries) }
     ensures cap { linked.new.cap ≡ linked.old.cap }
 {
     let _distinct = linked.len();
-    match linked.pop(key) {
-        Some(rule) => Some(rule.is_some()),
-        None => None,
-    }
+    let rule = linked.pop(key).unwrap_or(None);
+    rule.is_some()
 }
 
 /// Sets the value of an entry, and answers whether it had a rule.

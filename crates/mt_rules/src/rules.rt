@@ -13,8 +13,8 @@ ghost use Rattle.mt_rules.specs.Member.{rules_within};
 ghost use Rattle.mt_model.specs.Documents.{rules_array, rules_text};
 ghost use Rattle.mt_rules.specs.Rules.{Reserves, has_rule_place};
 
-use crate::counts::Counts;
 use crate::places::{Linked, Places};
+use crate::standing::Standing;
 use crate::{RulesFault, member, read, text, write};
 use mt_model::{Entry, MAX_RULES};
 use mt_names::{RuleKey, RuleTarget, TableName};
@@ -27,21 +27,20 @@ use std::marker::Model;
 #[derive(Drop)]
 pub struct RoutingRules {
     places: Places,
-    placed: Counts,
-    standing: Counts,
+    standing: Standing,
 }
 
 impl Model for RoutingRules {
-    ghost use Rattle.std.specs.Prelude.{◌≤◌, is_some, length};
+    ghost use Rattle.std.specs.Prelude.{◌≤◌, length};
     ghost use Rattle.mt_model.specs.Limits.{most_rules};
     ghost use Rattle.mt_model.specs.Topology.{Rules};
-    ghost use Rattle.mt_rules.specs.Counts.{IsCounted, any_place};
+    ghost use Rattle.mt_rules.specs.Standing.{IsCounted};
 
     ghost Value = { Rules };
 
     ghost view = { λ rules. rules.places };
 
-    ghost invariant = { λ rules. (length rules.places ≤ most_rules) × IsCounted any_place rules.placed rules.places × IsCounted is_some rules.standing rules.places };
+    ghost invariant = { λ rules. (length rules.places ≤ most_rules) × IsCounted rules.standing rules.places };
 }
 
 impl RoutingRules {
@@ -51,8 +50,7 @@ impl RoutingRules {
     {
         RoutingRules {
             places: Places::new(alloc),
-            placed: Counts::new(),
-            standing: Counts::new(),
+            standing: Standing::new(),
         }
     }
 
@@ -77,12 +75,8 @@ impl RoutingRules {
         if places.len() > MAX_RULES {
             return Err(RulesFault::Full);
         }
-        let (placed, standing) = Counts::of(&places);
-        Ok(RoutingRules {
-            places,
-            placed,
-            standing,
-        })
+        let standing = Standing::of(&places);
+        Ok(RoutingRules { places, standing })
     }
 
     /// The document of the rules, which `from_json` reads back: compact, `from_table` before `to_tables`, sorted by the
@@ -176,18 +170,11 @@ impl RoutingRules {
         rule_entry(self.places.linked()?, index)
     }
 
-    /// Whether a key is reserved. Of most keys that aren't, that is told without a look at any place.
+    /// Whether a key is reserved.
     pub fn has_place(&self, key: &RuleKey) -> bool
         ensures { result ≡ has_rule_place self.now key.now }
     {
-        self.may_have_place(&key.table) && self.places.contains(key)
-    }
-
-    /// Whether any key of a table may have a place: if not, none has one.
-    fn may_have_place(&self, table: &TableName) -> bool
-        ensures { result ≡ false → (key : RuleKey) → key.table ≡ table.now → has_rule_place self.now key ≡ false }
-    {
-        self.placed.may_have(table)
+        self.places.contains(key)
     }
 
     /// Makes a place for a key, without a rule. Where the key has one nothing changes. `R1 Full` at a 4,097th place,
@@ -226,7 +213,6 @@ impl RoutingRules {
     {
         let stands = rule.is_some();
         self.places.add(key, rule)?;
-        self.placed.count(&key.table, false, true);
         self.standing.count(&key.table, false, stands);
         Ok(())
     }
@@ -273,9 +259,6 @@ impl RoutingRules {
     pub fn release_key(&mut self, key: &RuleKey)
         ensures { self.new ≡ without_rule_place self.old key.now }
     {
-        if !self.may_have_place(&key.table) {
-            return;
-        }
         let Some(rule) = self.places.get(key) else {
             return;
         };
@@ -288,10 +271,7 @@ impl RoutingRules {
     pub fn drop_key(&mut self, key: &RuleKey)
         ensures { self.new ≡ remove_entry (same_key key.now) self.old }
     {
-        let Some(stood) = self.places.remove(key) else {
-            return;
-        };
-        self.placed.count(&key.table, true, false);
+        let stood = self.places.remove(key);
         self.standing.count(&key.table, stood, false);
     }
 }

@@ -75,26 +75,6 @@ impl Core {
         self.do_command(watchers, command)
     }
 
-    /// Advances a stream of a workflow: what `apply` does with the event Advance, without an event and a reply by value. It asks nobody.
-    /// `F7 NoWorkflow`, `F26 Stopped`, `F25 Stale`, `F27 Full`, `F0 Memory`; each leaves the core as it was. (Vitess: VReplication, the
-    /// copy phase and the catchup)
-    pub fn advance(
-        &mut self,
-        workflow: &WorkflowName,
-        stream: Slot,
-        at: Position,
-        max: u16,
-    ) -> Result<Advanced, Refusal>
-        ensures does { AdvancesWorkflow self.old.core workflow.now (stream_name stream) at max (advanced_from result) self.new.core }
-        ensures steps { (scopes : List Scope) → SiteSteps scopes self.old (plain.advance workflow.now (stream_name stream) at max) (advanced_from result) self.new }
-        ensures unchanged { OnErr result (self.new ≡ self.old) }
-        ensures headline { (scopes : List Scope) → KeepsTheHeadline scopes self.old (plain.advance workflow.now (stream_name stream) at max ∷ []) (advanced_from result ∷ []) self.new }
-    {
-        events_on_workflows_step_and_leave_the_ways();
-        every_run_keeps_the_headline();
-        self.do_advance(workflow, stream, at, max)
-    }
-
     /// The same, command by command.
     pub(crate) fn do_command<W: Asks>(
         &mut self,
@@ -126,5 +106,25 @@ impl Core {
             Command::Cancel(workflow) => self.cancel(workflow),
             Command::Complete(workflow) => self.complete(workflow),
         }
+    }
+
+    /// Advances a stream of a workflow: what `apply` does with the event Advance, without an event and a reply by value. It asks nobody.
+    /// `F7 NoWorkflow`, `F26 Stopped`, `F25 Stale`, `F27 Full`, `F0 Memory`; each leaves the core as it was. (Vitess: VReplication, the
+    /// copy phase and the catchup)
+    pub fn advance(
+        &mut self,
+        workflow: &WorkflowName,
+        stream: Slot,
+        at: Position,
+        max: u16,
+    ) -> Result<Advanced, Refusal>
+        ensures does { AdvancesWorkflow self.old.core workflow.now (stream_name stream) at max (advanced_from result) self.new.core }
+        ensures steps { (scopes : List Scope) → SiteSteps scopes self.old (plain.advance workflow.now (stream_name stream) at max) (advanced_from result) self.new }
+        ensures unchanged { OnErr result (self.new ≡ self.old) }
+        ensures headline { (scopes : List Scope) → KeepsTheHeadline scopes self.old (plain.advance workflow.now (stream_name stream) at max ∷ []) (advanced_from result ∷ []) self.new }
+    {
+        events_on_workflows_step_and_leave_the_ways();
+        every_run_keeps_the_headline();
+        self.do_advance(workflow, stream, at, max)
     }
 }
