@@ -1,6 +1,7 @@
 pub mod AscendLemmas
 pub mod BackLemmas
 pub mod KeysLemmas
+pub mod LinksLemmas
 pub mod ListLemmas
 pub mod PlacesLemmas
 pub mod PutLemmas

@@ -1,3 +1,4 @@
+pub mod Links
 pub mod Member
 pub mod Read
 pub mod Rules

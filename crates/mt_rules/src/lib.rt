@@ -2,6 +2,7 @@
 #![tactic(auto)]
 
 mod fault;
+mod links;
 mod member;
 mod places;
 mod read;

@@ -1,5 +1,5 @@
 //! The table of routing rules.
-ghost use Rattle.std.specs.Prelude.{◌≡◌, ◌≤◌, ◌<◌, ◌↔◌, ◌==◌, ◌++◌, ◌∷◌, [], None, true, false, length, reverse, IsTrue, IfOk, IfErr, OnOk, OnErr, string_bytes, option_copied, option_map, slice_get};
+ghost use Rattle.std.specs.Prelude.{◌≡◌, ◌≤◌, ◌<◌, ◌↔◌, ◌==◌, ◌++◌, ◌∷◌, [], None, true, false, length, IsTrue, IfOk, IfErr, OnOk, OnErr, string_bytes, option_copied, option_map, slice_get};
 ghost use Rattle.std.specs.List.{IsDistinct};
 ghost use Rattle.std.specs.Map.{keys_of, remove_entry, set_value};
 ghost use Rattle.mt_names.specs.Same.{same_key};
@@ -11,9 +11,11 @@ ghost use Rattle.serde_json.specs.View.{view};
 ghost use Rattle.mt_rules.specs.Values.{IsWellSorted, Says};
 ghost use Rattle.mt_rules.specs.Member.{rules_within};
 ghost use Rattle.mt_model.specs.Documents.{rules_array, rules_text};
+ghost use Rattle.mt_rules.specs.Links.{in_order};
 ghost use Rattle.mt_rules.specs.Rules.{Reserves, has_rule_place};
 
-use crate::places::{Linked, Places};
+use crate::links::{Link, Linked};
+use crate::places::Places;
 use crate::standing::Standing;
 use crate::{RulesFault, member, read, text, write};
 use mt_model::{Entry, MAX_RULES};
@@ -278,13 +280,13 @@ impl RoutingRules {
 
 /// How many keys have a rule.
 fn rule_count(linked: &Linked) -> usize
-    requires { length linked.now.entries ≤ most_rules }
-    ensures value { result ≡ length (rule_routes (reverse linked.now.entries)) }
+    requires { length (in_order linked.now.entries) ≤ most_rules }
+    ensures value { result ≡ length (rule_routes (in_order linked.now.entries)) }
     ensures within { result ≤ most_rules }
 {
     let mut count = 0;
-    for (_, rule) in linked.iter().rev() {
-        if rule.is_some() {
+    for (_, link) in linked.iter().rev() {
+        if let Link::Place(Some(_)) = link {
             count += 1;
         }
     }
@@ -293,11 +295,11 @@ fn rule_count(linked: &Linked) -> usize
 
 /// The entry of a rule, by its index among the keys that have one.
 fn rule_entry(linked: &Linked, index: usize) -> Option<Entry>
-    ensures { result ≡ slice_get (rule_routes (reverse linked.now.entries)) index }
+    ensures { result ≡ slice_get (rule_routes (in_order linked.now.entries)) index }
 {
     let mut before = index;
-    for (key, rule) in linked.iter().rev() {
-        if let Some(target) = rule {
+    for (key, link) in linked.iter().rev() {
+        if let Link::Place(Some(target)) = link {
             if before == 0 {
                 return Some(Entry::Rule(key.copied(), Some(target.copied())));
             }

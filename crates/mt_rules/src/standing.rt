@@ -1,9 +1,11 @@
 //! How many rules stand, by the names of their tables: where there is none of a name's class, none of the name is looked for.
-ghost use Rattle.std.specs.Prelude.{◌≡◌, ◌≤◌, ◌<◌, ◌+◌, ◌-◌, ◌^◌, ℕ, true, false, length, reverse};
+ghost use Rattle.std.specs.Prelude.{◌≡◌, ◌≤◌, ◌<◌, ◌+◌, ◌-◌, ◌^◌, ℕ, true, false, length};
 ghost use Rattle.mt_model.specs.Limits.{most_rules};
+ghost use Rattle.mt_rules.specs.Links.{in_order};
 ghost use Rattle.mt_rules.specs.Standing.{IsCounted, class_of, counted, counts_in};
 
-use crate::places::{Linked, Places};
+use crate::links::{Link, Linked};
+use crate::places::Places;
 use mt_names::TableName;
 
 /// How many rules stand of each class of tables' names.
@@ -52,12 +54,14 @@ impl Standing {
 
 /// The rules of some places, counted one by one.
 fn counted(linked: &Linked) -> Standing
-    requires { length (reverse linked.now.entries) ≤ most_rules }
-    ensures { IsCounted result (reverse linked.now.entries) }
+    requires { length (in_order linked.now.entries) ≤ most_rules }
+    ensures { IsCounted result (in_order linked.now.entries) }
 {
     let mut standing = Standing::new();
-    for (key, rule) in linked.iter().rev() {
-        standing.count(&key.table, false, rule.is_some());
+    for (key, link) in linked.iter().rev() {
+        if let Link::Place(rule) = link {
+            standing.count(&key.table, false, rule.is_some());
+        }
     }
     standing
 }

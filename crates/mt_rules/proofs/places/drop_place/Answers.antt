@@ -7,10 +7,8 @@ use Rattle.mt_rules.proofs.ReverseLemmas.{lookup-reverse, remove_entry-reverse}
 use Rattle.mt_rules.proofs.places.drop_place.Goals as goal
 
 pub returns-clause-places : goal.returns-clause-places
-returns-clause-places c =
-    ap (λ l. reverse l.entries) c.pop.ensures.entries ∙ sym (remove_entry-reverse same_key same_key_decides c.args.linked.now.entries c.args.key.now c.len-distinct.ensures.valid.0)
+returns-clause-places c = ap reverse c.remove.ensures.after ∙ sym (remove_entry-reverse same_key same_key_decides c.args.links.now c.args.key.now c.len-distinct.ensures.distinct)
 
 pub returns-clause-stood : goal.returns-clause-stood
 returns-clause-stood c =
-    c.is_some.ensures
-    ∙ ap is_some (c.unwrap_or-rule.ensures ∙ ap (λ found. unwrap_or found None) (c.pop.ensures.value ∙ sym (lookup-reverse same_key same_key_decides c.args.linked.now.entries c.args.key.now c.len-distinct.ensures.valid.0)))
+    c.remove.ensures.stood ∙ ap (λ found. is_some (unwrap_or found None)) (sym (lookup-reverse same_key same_key_decides c.args.links.now c.args.key.now c.len-distinct.ensures.distinct))

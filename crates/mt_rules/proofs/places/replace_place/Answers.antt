@@ -7,12 +7,11 @@ use Rattle.mt_rules.proofs.ReverseLemmas.{lookup-reverse, set_value-reverse}
 use Rattle.mt_rules.proofs.places.replace_place.Goals as goal
 
 pub exchange-requires : goal.exchange-requires
-exchange-requires c = ap is_some (sym (lookup-reverse same_key same_key_decides c.args.linked.now.entries c.args.key.now c.len-distinct.ensures.valid.0)) ∙ c.requires
+exchange-requires c = ap is_some (sym (lookup-reverse same_key same_key_decides c.args.links.now c.args.key.now c.len-distinct.ensures.distinct)) ∙ c.requires
 
 pub returns-clause-before : goal.returns-clause-before
 returns-clause-before c =
-    c.exchange.ensures.before ∙ ap (λ found. unwrap_or found None) (sym (lookup-reverse same_key same_key_decides c.args.linked.now.entries c.args.key.now c.len-distinct.ensures.valid.0))
+    c.exchange.ensures.before ∙ ap (λ found. unwrap_or found None) (sym (lookup-reverse same_key same_key_decides c.args.links.now c.args.key.now c.len-distinct.ensures.distinct))
 
 pub returns-clause-places : goal.returns-clause-places
-returns-clause-places c =
-    ap reverse c.exchange.ensures.entries ∙ sym (set_value-reverse same_key same_key_decides c.args.linked.now.entries c.args.key.now c.args.rule c.len-distinct.ensures.valid.0)
+returns-clause-places c = ap reverse c.exchange.ensures.after ∙ sym (set_value-reverse same_key same_key_decides c.args.links.now c.args.key.now c.args.rule c.len-distinct.ensures.distinct)

@@ -7,12 +7,11 @@ use Rattle.mt_rules.proofs.ReverseLemmas.{lookup-reverse, set_value-reverse}
 use Rattle.mt_rules.proofs.places.set_place.Goals as goal
 
 pub write-requires : goal.write-requires
-write-requires c = ap is_some (sym (lookup-reverse same_key same_key_decides c.args.linked.now.entries c.args.key.now c.len-distinct.ensures.valid.0)) ∙ c.requires
+write-requires c = ap is_some (sym (lookup-reverse same_key same_key_decides c.args.links.now c.args.key.now c.len-distinct.ensures.distinct)) ∙ c.requires
 
 pub returns-clause-places : goal.returns-clause-places
-returns-clause-places c =
-    ap reverse c.write.ensures.entries ∙ sym (set_value-reverse same_key same_key_decides c.args.linked.now.entries c.args.key.now c.args.rule c.len-distinct.ensures.valid.0)
+returns-clause-places c = ap reverse c.write.ensures.after ∙ sym (set_value-reverse same_key same_key_decides c.args.links.now c.args.key.now c.args.rule c.len-distinct.ensures.distinct)
 
 pub returns-clause-stood : goal.returns-clause-stood
 returns-clause-stood c =
-    c.write.ensures.stood ∙ ap (λ found. is_some (unwrap_or found None)) (sym (lookup-reverse same_key same_key_decides c.args.linked.now.entries c.args.key.now c.len-distinct.ensures.valid.0))
+    c.write.ensures.stood ∙ ap (λ found. is_some (unwrap_or found None)) (sym (lookup-reverse same_key same_key_decides c.args.links.now c.args.key.now c.len-distinct.ensures.distinct))

@@ -10,9 +10,9 @@ use Rattle.mt_rules.proofs.places.Places.len.Goals as goal
 
 pub returns-in-Some-clause-distinct : goal.returns-in-Some-clause-distinct
 returns-in-Some-clause-distinct c =
-    let entries = c.in-Some.linked.entries in
-    let places : reverse entries ≡ c.args.self.now = search rules in
-    subst (λ l. IsDistinct same_key (keys_of l)) places (IsDistinct-reverse same_key same_key_decides entries c.len.ensures.valid.0)
+    let links = c.in-Some.links in
+    let places : reverse links ≡ c.args.self.now = search rules in
+    subst (λ l. IsDistinct same_key (keys_of l)) places (IsDistinct-reverse same_key same_key_decides links c.len.ensures.distinct)
 
 pub returns-in-None-clause-distinct : goal.returns-in-None-clause-distinct
 returns-in-None-clause-distinct c =
