@@ -1,5 +1,6 @@
 pub mod AscendLemmas
 pub mod BackLemmas
+pub mod CountsLemmas
 pub mod KeysLemmas
 pub mod LinksLemmas
 pub mod ListLemmas
@@ -10,6 +11,5 @@ pub mod ReverseLemmas
 pub mod RouteLemmas
 pub mod RulesLemmas
 pub mod SortLemmas
-pub mod StandingLemmas
 pub mod TextLemmas
 pub mod WrittenLemmas

@@ -78,6 +78,11 @@ pub stood_in : (o : Option (Option RuleTarget)) → unwrap_or (option_map is_som
 stood_in None = refl
 stood_in (Some rule) = refl
 
+-- whether there is a place, if its rule is told
+pub told_of : (o : Option (Option RuleTarget)) → is_some (option_map is_some o) ≡ is_some o
+told_of None = refl
+told_of (Some rule) = refl
+
 -- whether there is a place, by whether its rule was told
 pub no_place : (o : Option (Option RuleTarget)) → None ≡ option_map is_some o → o ≡ None
 no_place None is = refl

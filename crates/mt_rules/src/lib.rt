@@ -1,13 +1,13 @@
 //! Routing rules: a table of places for rule keys, each with a rule or none, and their JSON document.
 #![tactic(auto)]
 
+mod counts;
 mod fault;
 mod links;
 mod member;
 mod places;
 mod read;
 mod rules;
-mod standing;
 mod text;
 mod write;
 

@@ -131,10 +131,10 @@ impl Links {
         exchange(&mut self.linked, key, rule)
     }
 
-    /// Drops the place of a key, if it has one, and answers whether it had a rule. The key stays linked, if not too many do without a
+    /// Drops the place of a key, and answers whether it had a rule, if there is one. The key stays linked, if not too many do without a
     /// place. It takes no memory.
-    pub fn remove(&mut self, key: &RuleKey) -> bool
-        ensures stood { result ≡ is_some (rule_at self.old key.now) }
+    pub fn remove(&mut self, key: &RuleKey) -> Option<bool>
+        ensures stood { result ≡ option_map is_some (lookup (same_key key.now) self.old) }
         ensures after { self.new ≡ remove_entry (same_key key.now) self.old }
     {
         let dropped = self.linked.len().saturating_sub(self.len);
@@ -146,29 +146,29 @@ impl Links {
     }
 
     /// Drops the place of a key, which stays linked.
-    fn drop_place(&mut self, key: &RuleKey) -> bool
-        ensures stood { result ≡ is_some (rule_at self.old key.now) }
+    fn drop_place(&mut self, key: &RuleKey) -> Option<bool>
+        ensures stood { result ≡ option_map is_some (lookup (same_key key.now) self.old) }
         ensures after { self.new ≡ remove_entry (same_key key.now) self.old }
     {
         let _distinct = self.linked.len();
         let Some(stood) = drop_place(&mut self.linked, key) else {
-            return false;
+            return None;
         };
         self.len -= 1;
-        stood
+        Some(stood)
     }
 
     /// Drops the place of a key, and unlinks the key.
-    fn unlink(&mut self, key: &RuleKey) -> bool
-        ensures stood { result ≡ is_some (rule_at self.old key.now) }
+    fn unlink(&mut self, key: &RuleKey) -> Option<bool>
+        ensures stood { result ≡ option_map is_some (lookup (same_key key.now) self.old) }
         ensures after { self.new ≡ remove_entry (same_key key.now) self.old }
     {
         let _distinct = self.linked.len();
         let Some(stood) = unlink(&mut self.linked, key) else {
-            return false;
+            return None;
         };
         self.len -= 1;
-        stood
+        Some(stood)
     }
 }
 

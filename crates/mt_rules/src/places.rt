@@ -2,7 +2,7 @@
 ghost use Rattle.std.specs.Prelude.{◌≡◌, ◌++◌, ◌∷◌, [], false, true, length, reverse, is_some, option_copied, OnOk, OnErr};
 ghost use Rattle.std.specs.List.{IsDistinct};
 ghost use Rattle.std.specs.Map.{keys_of, lookup, remove_entry, set_value};
-ghost use Rattle.std.specs.Option.{option_map_or};
+ghost use Rattle.std.specs.Option.{option_map_or, unwrap_or};
 ghost use Rattle.mt_names.specs.Same.{same_key};
 ghost use Rattle.mt_model.specs.Topology.{rule_at};
 ghost use Rattle.mt_rules.specs.Links.{in_order};
@@ -114,14 +114,15 @@ impl Places {
         }
     }
 
-    /// Drops the place of a key, if it has one, and answers whether it had a rule. It takes no memory, and moves no other place.
-    pub fn remove(&mut self, key: &RuleKey) -> bool
-        ensures stood { result ≡ is_some (rule_at self.old key.now) }
+    /// Drops the place of a key, and answers whether it had a rule, if there is one. It takes no memory, and moves no other place.
+    pub fn remove(&mut self, key: &RuleKey) -> Option<bool>
+        ensures placed { is_some result ≡ has_rule_place self.old key.now }
+        ensures stood { unwrap_or result false ≡ is_some (rule_at self.old key.now) }
         ensures after { self.new ≡ remove_entry (same_key key.now) self.old }
     {
         match &mut self.links {
             Some(links) => drop_place(links, key),
-            None => false,
+            None => None,
         }
     }
 }
@@ -156,9 +157,10 @@ fn replace_place(links: &mut Links, key: &RuleKey, rule: Option<RuleTarget>) -> 
     links.exchange(key, rule)
 }
 
-/// Drops the place of a key, if it has one, and answers whether it had a rule.
-fn drop_place(links: &mut Links, key: &RuleKey) -> bool
-    ensures stood { result ≡ is_some (rule_at (reverse links.old) key.now) }
+/// Drops the place of a key, and answers whether it had a rule, if there is one.
+fn drop_place(links: &mut Links, key: &RuleKey) -> Option<bool>
+    ensures placed { is_some result ≡ has_rule_place (reverse links.old) key.now }
+    ensures stood { unwrap_or result false ≡ is_some (rule_at (reverse links.old) key.now) }
     ensures places { reverse links.new ≡ remove_entry (same_key key.now) (reverse links.old) }
 {
     let _distinct = links.len();

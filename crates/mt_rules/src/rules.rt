@@ -14,9 +14,9 @@ ghost use Rattle.mt_model.specs.Documents.{rules_array, rules_text};
 ghost use Rattle.mt_rules.specs.Links.{in_order};
 ghost use Rattle.mt_rules.specs.Rules.{Reserves, has_rule_place};
 
+use crate::counts::Counts;
 use crate::links::{Link, Linked};
 use crate::places::Places;
-use crate::standing::Standing;
 use crate::{RulesFault, member, read, text, write};
 use mt_model::{Entry, MAX_RULES};
 use mt_names::{RuleKey, RuleTarget, TableName};
@@ -29,20 +29,21 @@ use std::marker::Model;
 #[derive(Drop)]
 pub struct RoutingRules {
     places: Places,
-    standing: Standing,
+    placed: Counts,
+    standing: Counts,
 }
 
 impl Model for RoutingRules {
-    ghost use Rattle.std.specs.Prelude.{◌≤◌, length};
+    ghost use Rattle.std.specs.Prelude.{◌≤◌, is_some, length};
     ghost use Rattle.mt_model.specs.Limits.{most_rules};
     ghost use Rattle.mt_model.specs.Topology.{Rules};
-    ghost use Rattle.mt_rules.specs.Standing.{IsCounted};
+    ghost use Rattle.mt_rules.specs.Counts.{IsCounted, any_place};
 
     ghost Value = { Rules };
 
     ghost view = { λ rules. rules.places };
 
-    ghost invariant = { λ rules. (length rules.places ≤ most_rules) × IsCounted rules.standing rules.places };
+    ghost invariant = { λ rules. (length rules.places ≤ most_rules) × IsCounted any_place rules.placed rules.places × IsCounted is_some rules.standing rules.places };
 }
 
 impl RoutingRules {
@@ -52,7 +53,8 @@ impl RoutingRules {
     {
         RoutingRules {
             places: Places::new(alloc),
-            standing: Standing::new(),
+            placed: Counts::new(),
+            standing: Counts::new(),
         }
     }
 
@@ -77,8 +79,12 @@ impl RoutingRules {
         if places.len() > MAX_RULES {
             return Err(RulesFault::Full);
         }
-        let standing = Standing::of(&places);
-        Ok(RoutingRules { places, standing })
+        let (placed, standing) = Counts::of(&places);
+        Ok(RoutingRules {
+            places,
+            placed,
+            standing,
+        })
     }
 
     /// The document of the rules, which `from_json` reads back: compact, `from_table` before `to_tables`, sorted by the
@@ -172,11 +178,19 @@ impl RoutingRules {
         rule_entry(self.places.linked()?, index)
     }
 
-    /// Whether a key is reserved.
+    /// Whether a key is reserved. Of most keys that aren't, that is told without a look at any place.
     pub fn has_place(&self, key: &RuleKey) -> bool
         ensures { result ≡ has_rule_place self.now key.now }
     {
-        self.places.contains(key)
+        self.may_have_place(&key.table) && self.places.contains(key)
+    }
+
+    /// Whether any key of a table may have a place: if not, none has one. Nothing is promised if it may. It takes no memory, and looks
+    /// at no place.
+    pub fn may_have_place(&self, table: &TableName) -> bool
+        ensures { result ≡ false → (key : RuleKey) → key.table ≡ table.now → has_rule_place self.now key ≡ false }
+    {
+        self.placed.may_have(table)
     }
 
     /// Makes a place for a key, without a rule. Where the key has one nothing changes. `R1 Full` at a 4,097th place,
@@ -215,6 +229,7 @@ impl RoutingRules {
     {
         let stands = rule.is_some();
         self.places.add(key, rule)?;
+        self.placed.count(&key.table, false, true);
         self.standing.count(&key.table, false, stands);
         Ok(())
     }
@@ -261,6 +276,9 @@ impl RoutingRules {
     pub fn release_key(&mut self, key: &RuleKey)
         ensures { self.new ≡ without_rule_place self.old key.now }
     {
+        if !self.may_have_place(&key.table) {
+            return;
+        }
         let Some(rule) = self.places.get(key) else {
             return;
         };
@@ -273,7 +291,10 @@ impl RoutingRules {
     pub fn drop_key(&mut self, key: &RuleKey)
         ensures { self.new ≡ remove_entry (same_key key.now) self.old }
     {
-        let stood = self.places.remove(key);
+        let Some(stood) = self.places.remove(key) else {
+            return;
+        };
+        self.placed.count(&key.table, true, false);
         self.standing.count(&key.table, stood, false);
     }
 }

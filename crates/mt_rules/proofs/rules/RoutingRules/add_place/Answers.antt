@@ -1,20 +1,24 @@
--- There is one place more, whose rule is counted.
-use Rattle.std.proofs.Common.{◌≤◌, ap, length, arith, subst, sym}
+-- There is one place more, which is counted, and its rule too.
+use Rattle.std.proofs.Common.{◌≤◌, ap, is_some, length, arith, refl, subst, true, sym}
 use Rattle.std.proofs.lemmas.List.{length_push}
 use Rattle.mt_model.specs.Limits.{most_rules}
-use Rattle.mt_rules.specs.Standing.{IsCounted, class_of}
-use Rattle.mt_rules.proofs.StandingLemmas.{has_room, right_more}
+use Rattle.mt_rules.specs.Counts.{IsCounted, any_place, class_of}
+use Rattle.mt_rules.proofs.CountsLemmas.{has_room, right_more}
 use Rattle.mt_rules.proofs.rules.RoutingRules.add_place.Goals as goal
 
 pub count-requires-clause-room : goal.count-requires-clause-room
-count-requires-clause-room c = has_room c.self.inside.standing c.self.inside.places (class_of c.args.key.now.table) c.self.invariant.1 c.self.invariant.0
+count-requires-clause-room c = has_room any_place c.self.inside.placed c.self.inside.places (class_of c.args.key.now.table) c.self.invariant.1 c.self.invariant.0
+
+pub count-requires-2-clause-room : goal.count-requires-2-clause-room
+count-requires-2-clause-room c = has_room is_some c.self.inside.standing c.self.inside.places (class_of c.args.key.now.table) c.self.invariant.2 c.self.invariant.0
 
 pub invariant_of-self : goal.invariant_of-self
 invariant_of-self c =
-    subst (λ rules. (length rules ≤ most_rules) × IsCounted c.self.inside.standing rules) (sym c.in_err-add.ensures.err) c.self.invariant
+    subst (λ rules. (length rules ≤ most_rules) × IsCounted any_place c.self.inside.placed rules × IsCounted is_some c.self.inside.standing rules) (sym c.in_err-add.ensures.err) c.self.invariant
 
 pub invariant_of-self-2 : goal.invariant_of-self-2
 invariant_of-self-2 c = (
   omega (arith, ap length c.in_ok-add.ensures.ok, length_push c.self.inside.places (c.args.key.now, c.args.rule), ap length c.self.view_is, c.requires.room),
-  right_more c.self.inside.standing c.count.new.self c.self.inside.places c.add.new.self c.args.key.now c.args.rule c.is_some-stands.result c.self.invariant.1 c.is_some-stands.ensures c.count.ensures c.in_ok-add.ensures.ok,
+  right_more any_place c.self.inside.placed c.count.new.self c.self.inside.places c.add.new.self c.args.key.now c.args.rule true c.self.invariant.1 refl c.count.ensures c.in_ok-add.ensures.ok,
+  right_more is_some c.self.inside.standing c.count-2.new.self c.self.inside.places c.add.new.self c.args.key.now c.args.rule c.is_some-stands.result c.self.invariant.2 c.is_some-stands.ensures c.count-2.ensures c.in_ok-add.ensures.ok,
 )

@@ -1,7 +1,7 @@
 -- The bytes that are read are those of the name.
 use Rattle.std.proofs.Common.{rules, ◌≡◌, ◌+◌, ◌-◌, ◌*◌, ◌%◌, length, slice_index, ap, ◌∙◌}
-use Rattle.mt_rules.specs.Standing.{class_of}
-use Rattle.mt_rules.proofs.standing.class_of.Goals as goal
+use Rattle.mt_rules.specs.Counts.{class_of}
+use Rattle.mt_rules.proofs.counts.class_of.Goals as goal
 
 pub returns-clause-value : goal.returns-clause-value
 unfolding class_of
