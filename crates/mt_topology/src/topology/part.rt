@@ -1,6 +1,7 @@
 //! The part of a workflow: its places, made and dropped together.
-ghost use Rattle.std.specs.Prelude.{◌≡◌, true, false, None, IfErr, OnOk, map, option_copied, reverse};
-ghost use Rattle.mt_model.specs.Part.{keys_of_name, part_keys, table_part_keys, with_place, with_places, without_place, without_places};
+ghost use Rattle.std.specs.Prelude.{◌≡◌, ◌≢◌, true, false, None, IfErr, OnOk, map, option_copied, reverse};
+ghost use Rattle.std.specs.List.{AllByRecursion};
+ghost use Rattle.mt_model.specs.Part.{keys_of_name, part_keys, table_part_keys, table_rule_keys, with_place, with_places, without_place, without_places};
 ghost use Rattle.mt_model.specs.Topology.{has_place};
 ghost use Rattle.mt_keyspace.specs.Edits.{Edits, answer_of};
 ghost use Rattle.mt_topology.specs.Part.{lacks_a_place, place_grows, place_refusal, places_refusal, reserve_refusal};
@@ -153,12 +154,91 @@ impl Topology {
         ensures memory { IfErr result (λ fault. fault ≡ TopologyFault.Memory) }
         ensures back { without_places self.new (reverse made.new.items) ≡ without_places self.old (reverse made.old.items) }
     {
-        self.make_name(None, table, made)?;
-        self.make_name(Some(source), table, made)?;
-        self.make_name(Some(target), table, made)?;
+        self.make_rules(source, target, table, made)?;
         self.make_noted(&EntryKey::Denied(source.copied(), table.copied()), made)?;
         self.make_noted(&EntryKey::Denied(target.copied(), table.copied()), made)?;
         self.make_noted(&EntryKey::Present(target.copied(), table.copied()), made)
+    }
+
+    /// Makes the places of a table's rule keys, for which there is room, and notes those that it made. It stops at `T0 Memory`.
+    fn make_rules(
+        &mut self,
+        source: &KeyspaceName,
+        target: &KeyspaceName,
+        table: &TableName,
+        made: &mut Vec<EntryKey>,
+    ) -> Result<(), TopologyFault>
+        requires { places_refusal self.old (map EntryKey.Rule (table_rule_keys source.now target.now table.now)) ≡ None }
+        ensures all { OnOk result (self.new ≡ with_places self.old (map EntryKey.Rule (table_rule_keys source.now target.now table.now))) }
+        ensures memory { IfErr result (λ fault. fault ≡ TopologyFault.Memory) }
+        ensures back { without_places self.new (reverse made.new.items) ≡ without_places self.old (reverse made.old.items) }
+    {
+        if source != target && !self.rules.may_have_place(table) {
+            self.make_new_names(source, target, table, made)
+        } else {
+            self.make_names(source, target, table, made)
+        }
+    }
+
+    /// The same, name by name.
+    fn make_names(
+        &mut self,
+        source: &KeyspaceName,
+        target: &KeyspaceName,
+        table: &TableName,
+        made: &mut Vec<EntryKey>,
+    ) -> Result<(), TopologyFault>
+        requires { places_refusal self.old (map EntryKey.Rule (table_rule_keys source.now target.now table.now)) ≡ None }
+        ensures all { OnOk result (self.new ≡ with_places self.old (map EntryKey.Rule (table_rule_keys source.now target.now table.now))) }
+        ensures memory { IfErr result (λ fault. fault ≡ TopologyFault.Memory) }
+        ensures back { without_places self.new (reverse made.new.items) ≡ without_places self.old (reverse made.old.items) }
+    {
+        self.make_name(None, table, made)?;
+        self.make_name(Some(source), table, made)?;
+        self.make_name(Some(target), table, made)
+    }
+
+    /// The same, where no key of the table has a place: none is looked for.
+    fn make_new_names(
+        &mut self,
+        source: &KeyspaceName,
+        target: &KeyspaceName,
+        table: &TableName,
+        made: &mut Vec<EntryKey>,
+    ) -> Result<(), TopologyFault>
+        requires free { places_refusal self.old (map EntryKey.Rule (table_rule_keys source.now target.now table.now)) ≡ None }
+        requires apart { source.now ≢ target.now }
+        requires lacks { (key : RuleKey) → key.table ≡ table.now → has_place self.old (EntryKey.Rule key) ≡ false }
+        ensures all { OnOk result (self.new ≡ with_places self.old (map EntryKey.Rule (table_rule_keys source.now target.now table.now))) }
+        ensures memory { IfErr result (λ fault. fault ≡ TopologyFault.Memory) }
+        ensures back { without_places self.new (reverse made.new.items) ≡ without_places self.old (reverse made.old.items) }
+    {
+        self.make_new_name(None, table, made)?;
+        self.make_new_name(Some(source), table, made)?;
+        self.make_new_name(Some(target), table, made)
+    }
+
+    /// The same of a name's four rule keys, none of which has a place. One key is made, whose type then changes.
+    fn make_new_name(
+        &mut self,
+        keyspace: Option<&KeyspaceName>,
+        table: &TableName,
+        made: &mut Vec<EntryKey>,
+    ) -> Result<(), TopologyFault>
+        requires free { places_refusal self.old (map EntryKey.Rule (keys_of_name (option_copied keyspace) table.now)) ≡ None }
+        requires lacks { AllByRecursion (λ key. has_place self.old (EntryKey.Rule key) ≡ false) (keys_of_name (option_copied keyspace) table.now) }
+        ensures all { OnOk result (self.new ≡ with_places self.old (map EntryKey.Rule (keys_of_name (option_copied keyspace.entry) table.now))) }
+        ensures memory { IfErr result (λ fault. fault ≡ TopologyFault.Memory) }
+        ensures back { without_places self.new (reverse made.new.items) ≡ without_places self.old (reverse made.old.items) }
+    {
+        let mut key = key_of_name(keyspace, table);
+        self.make_new_noted(&key, made)?;
+        key.tablet_type = Some(TabletType::Primary);
+        self.make_new_noted(&key, made)?;
+        key.tablet_type = Some(TabletType::Replica);
+        self.make_new_noted(&key, made)?;
+        key.tablet_type = Some(TabletType::Rdonly);
+        self.make_new_noted(&key, made)
     }
 
     /// The same of a name's four rule keys. One key is made, whose type then changes.
@@ -197,6 +277,21 @@ impl Topology {
         if self.rules.has_place(key) {
             return Ok(());
         }
+        self.make_new_noted(key, made)
+    }
+
+    /// Makes the place of a rule key that has none, for which there is room, and notes the key. `T0 Memory`.
+    fn make_new_noted(
+        &mut self,
+        key: &RuleKey,
+        made: &mut Vec<EntryKey>,
+    ) -> Result<(), TopologyFault>
+        requires lacks { has_place self.old (EntryKey.Rule key.now) ≡ false }
+        requires room { place_refusal self.old (EntryKey.Rule key.now) ≡ None }
+        ensures all { OnOk result (self.new ≡ with_place self.old (EntryKey.Rule key.now)) }
+        ensures memory { IfErr result (λ fault. fault ≡ TopologyFault.Memory) }
+        ensures back { without_places self.new (reverse made.new.items) ≡ without_places self.old (reverse made.old.items) }
+    {
         if made.push(EntryKey::Rule(key.copied())).is_err() {
             return Err(TopologyFault::Memory);
         }
