@@ -180,13 +180,16 @@ fn write(linked: &mut Linked, key: &RuleKey, rule: Option<RuleTarget>) -> bool
     ensures entries { linked.new.entries ≡ set_value (same_key key.now) linked.old.entries (Link.Place rule) }
     ensures cap { linked.new.cap ≡ linked.old.cap }
 {
-    match linked.peek_mut(key) {
-        Some(link) => {
-            let stood = link.stands().unwrap_or(false);
-            *link = Link::Place(rule);
+    let Some(link) = linked.peek_mut(key) else {
+        return false;
+    };
+    match link {
+        Link::Place(place) => {
+            let stood = place.is_some();
+            *place = rule;
             stood
         }
-        None => false,
+        Link::Dropped => false,
     }
 }
 
@@ -198,9 +201,8 @@ fn exchange(linked: &mut Linked, key: &RuleKey, rule: Option<RuleTarget>) -> Opt
     ensures entries { linked.new.entries ≡ set_value (same_key key.now) linked.old.entries (Link.Place rule) }
     ensures cap { linked.new.cap ≡ linked.old.cap }
 {
-    let link = linked.peek_mut(key)?;
-    match mem::replace(link, Link::Place(rule)) {
-        Link::Place(before) => before,
+    match linked.peek_mut(key)? {
+        Link::Place(place) => mem::replace(place, rule),
         Link::Dropped => None,
     }
 }

@@ -38,8 +38,10 @@ lack_later t keys (j ∷ js) others lack = (lacks_later t keys j others.0 lack.0
 pub name_lacks : (t : TopologyState) (keyspace : Option (List ℕ)) (table : List ℕ) → ((key : RuleKey) → key.table ≡ table → has_place t (about.Rule key) ≡ false) → Lack t (keys_of_name keyspace table)
 name_lacks t keyspace table lacks = (
   lacks (record { keyspace = keyspace; table = table; tablet_type = None }) refl,
-  (lacks (record { keyspace = keyspace; table = table; tablet_type = Some Primary }) refl,
-      (lacks (record { keyspace = keyspace; table = table; tablet_type = Some Replica }) refl, (lacks (record { keyspace = keyspace; table = table; tablet_type = Some Rdonly }) refl, tt))),
+  (
+    lacks (record { keyspace = keyspace; table = table; tablet_type = Some Primary }) refl,
+    (lacks (record { keyspace = keyspace; table = table; tablet_type = Some Replica }) refl, (lacks (record { keyspace = keyspace; table = table; tablet_type = Some Rdonly }) refl, tt)),
+  ),
 )
 
 -- ---- keys of two names

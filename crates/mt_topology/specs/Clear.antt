@@ -1,6 +1,6 @@
 -- A part of which nothing is said any more: its entries, and its places with what they hold. All of this page is this
 -- profile's own.
-use Rattle.std.specs.Prelude.{Bool, false, List, None, fold}
+use Rattle.std.specs.Prelude.{false, List, None, fold}
 use Rattle.std.specs.Map.{remove_entry}
 use Rattle.mt_names.specs.declared.keys.RuleKey.{RuleKey}
 use Rattle.mt_names.specs.Same.{same_key}

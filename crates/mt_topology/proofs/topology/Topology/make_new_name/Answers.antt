@@ -1,5 +1,5 @@
 -- None of the keys has a place as its turn comes: those before it are of other types.
-use Rattle.std.proofs.Common.{◌≡◌, ◌≢◌, Some, [], ◌∷◌, map, arith, ap, subst, sym, ◌∙◌}
+use Rattle.std.proofs.Common.{◌≡◌, ◌≢◌, Some, [], ◌∷◌, map, arith, ap, ◌∙◌}
 use Rattle.mt_names.specs.declared.keys.RuleKey.{RuleKey}
 use Rattle.mt_names.specs.declared.types.TabletType.TheVariants.{Primary, Replica, Rdonly}
 use Rattle.mt_names.specs.Hashes.{type_number}

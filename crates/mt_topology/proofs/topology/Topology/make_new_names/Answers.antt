@@ -1,5 +1,5 @@
 -- None of the keys is refused a place, or has one, once those before it have theirs.
-use Rattle.std.proofs.Common.{◌≡◌, ◌≢◌, ℕ, true, false, List, ◌++◌, map, Option, None, Some, is_some, ap, subst, sym}
+use Rattle.std.proofs.Common.{◌≡◌, ◌≢◌, ℕ, List, ◌++◌, map, Option, None, Some, is_some, ap, subst, sym}
 use Rattle.std.proofs.lemmas.Bool.{true≢false}
 use Rattle.std.specs.Option.{unwrap_or}
 use Rattle.mt_model.specs.declared.entries.EntryKey.{EntryKey}
