@@ -69,14 +69,14 @@ impl Keyspaces {
     pub fn get(&self, name: &KeyspaceName) -> Option<&Keyspace>
         ensures { option_copied result ≡ keyspace_at self.now name.now }
     {
-        self.places.get(name)
+        mt_few::get(&self.places, name)
     }
 
     /// Whether a keyspace has a table.
     pub fn is_present(&self, keyspace: &KeyspaceName, table: &TableName) -> bool
         ensures { result ≡ is_present self.now keyspace.now table.now }
     {
-        match self.places.get(keyspace) {
+        match mt_few::get(&self.places, keyspace) {
             Some(keyspace) => keyspace.is_present(table),
             None => false,
         }
@@ -86,7 +86,7 @@ impl Keyspaces {
     pub fn is_denied(&self, keyspace: &KeyspaceName, table: &TableName) -> bool
         ensures { result ≡ is_denied self.now keyspace.now table.now }
     {
-        match self.places.get(keyspace) {
+        match mt_few::get(&self.places, keyspace) {
             Some(keyspace) => keyspace.is_denied(table),
             None => false,
         }
@@ -96,7 +96,7 @@ impl Keyspaces {
     pub fn has_denied_place(&self, keyspace: &KeyspaceName, table: &TableName) -> bool
         ensures { result ≡ option_map_or (λ state. is_some (lookup (same_text table.now) state.denied)) (keyspace_at self.now keyspace.now) false }
     {
-        match self.places.get(keyspace) {
+        match mt_few::get(&self.places, keyspace) {
             Some(keyspace) => keyspace.has_denied_place(table),
             None => false,
         }
@@ -106,7 +106,7 @@ impl Keyspaces {
     pub fn has_place(&self, keyspace: &KeyspaceName, table: &TableName) -> bool
         ensures { result ≡ option_map_or (λ state. is_some (lookup (same_text table.now) state.tables)) (keyspace_at self.now keyspace.now) false }
     {
-        match self.places.get(keyspace) {
+        match mt_few::get(&self.places, keyspace) {
             Some(keyspace) => keyspace.has_place(table),
             None => false,
         }
@@ -118,7 +118,7 @@ impl Keyspaces {
         ensures before { result ≡ is_present self.old keyspace.now table.now }
         ensures after { self.new ≡ with_keyspace_state (with_table_mark table.now mark) self.old keyspace.now }
     {
-        let Some(keyspace) = self.places.get_mut(keyspace) else {
+        let Some(keyspace) = mt_few::get_mut(&mut self.places, keyspace) else {
             return false;
         };
         keyspace.set_present(table, mark)
@@ -130,7 +130,7 @@ impl Keyspaces {
         ensures before { result ≡ is_denied self.old keyspace.now table.now }
         ensures after { self.new ≡ with_keyspace_state (with_denied_mark table.now mark) self.old keyspace.now }
     {
-        let Some(keyspace) = self.places.get_mut(keyspace) else {
+        let Some(keyspace) = mt_few::get_mut(&mut self.places, keyspace) else {
             return false;
         };
         keyspace.set_denied(table, mark)
@@ -179,7 +179,7 @@ impl Keyspaces {
         ensures { Edits self.old (add_table_refusal self.old keyspace.now table.now) (add_table_grows self.old keyspace.now table.now)
             (with_keyspace_state (with_new_table table.now) self.old keyspace.now) result self.new }
     {
-        let Some(keyspace) = self.places.get_mut(keyspace) else {
+        let Some(keyspace) = mt_few::get_mut(&mut self.places, keyspace) else {
             return Err(TopologyFault::NoKeyspace);
         };
         keyspace.add_table(table)
@@ -196,7 +196,7 @@ impl Keyspaces {
         ensures { Edits self.old (table_place_refusal self.old keyspace.now table.now) (table_place_grows self.old keyspace.now table.now)
             (with_keyspace_state (with_table_place table.now) self.old keyspace.now) (answer_of result) self.new }
     {
-        let Some(keyspace) = self.places.get_mut(keyspace) else {
+        let Some(keyspace) = mt_few::get_mut(&mut self.places, keyspace) else {
             unreachable!();
         };
         keyspace.reserve_table(table)
@@ -213,7 +213,7 @@ impl Keyspaces {
         ensures { Edits self.old (denied_place_refusal self.old keyspace.now table.now) (denied_place_grows self.old keyspace.now table.now)
             (with_keyspace_state (with_denied_place table.now) self.old keyspace.now) (answer_of result) self.new }
     {
-        let Some(keyspace) = self.places.get_mut(keyspace) else {
+        let Some(keyspace) = mt_few::get_mut(&mut self.places, keyspace) else {
             unreachable!();
         };
         keyspace.reserve_denial(table)
@@ -223,7 +223,7 @@ impl Keyspaces {
     pub fn release_table(&mut self, keyspace: &KeyspaceName, table: &TableName)
         ensures { self.new ≡ with_keyspace_state (without_table_place table.now) self.old keyspace.now }
     {
-        let Some(keyspace) = self.places.get_mut(keyspace) else {
+        let Some(keyspace) = mt_few::get_mut(&mut self.places, keyspace) else {
             return;
         };
         keyspace.release_table(table);
@@ -233,7 +233,7 @@ impl Keyspaces {
     pub fn release_denial(&mut self, keyspace: &KeyspaceName, table: &TableName)
         ensures { self.new ≡ with_keyspace_state (without_denied_place table.now) self.old keyspace.now }
     {
-        let Some(keyspace) = self.places.get_mut(keyspace) else {
+        let Some(keyspace) = mt_few::get_mut(&mut self.places, keyspace) else {
             return;
         };
         keyspace.release_denial(table);
@@ -243,7 +243,7 @@ impl Keyspaces {
     pub fn drop_table(&mut self, keyspace: &KeyspaceName, table: &TableName)
         ensures { self.new ≡ with_keyspace_state (without_table table.now) self.old keyspace.now }
     {
-        let Some(keyspace) = self.places.get_mut(keyspace) else {
+        let Some(keyspace) = mt_few::get_mut(&mut self.places, keyspace) else {
             return;
         };
         keyspace.drop_table(table);
@@ -253,7 +253,7 @@ impl Keyspaces {
     pub fn drop_denial(&mut self, keyspace: &KeyspaceName, table: &TableName)
         ensures { self.new ≡ with_keyspace_state (without_denial table.now) self.old keyspace.now }
     {
-        let Some(keyspace) = self.places.get_mut(keyspace) else {
+        let Some(keyspace) = mt_few::get_mut(&mut self.places, keyspace) else {
             return;
         };
         keyspace.drop_denial(table);

@@ -113,7 +113,7 @@ pub(crate) fn advance(
     ensures { (topology : TopologyState) → AdvancesWorkflow (record { topology = topology; primaries = primaries.old.entries; workflows = workflows.old.entries }) name.now (stream_name slot) at max (advanced_from result)
         (record { topology = topology; primaries = primaries.new.entries; workflows = workflows.new.entries }) }
 {
-    match workflows.get_mut(name) {
+    match mt_few::get_mut(workflows, name) {
         None => Err(Refusal::NoWorkflow),
         Some(workflow) => advance_stream(alloc, primaries, workflow, slot, at, max),
     }

@@ -53,7 +53,7 @@ fn drop_moved(primaries: &mut Primaries, workflow: &Workflow)
     requires { is_some (primary_at primaries.old.entries workflow.now.target) ≡ true }
     ensures { primaries.new.entries ≡ with_primary primaries.old.entries workflow.now.target (λ primary. fold without_table primary workflow.now.tables) }
 {
-    match primaries.get_mut(workflow.target()) {
+    match mt_few::get_mut(primaries, workflow.target()) {
         None => unreachable!(),
         Some(primary) => drop_tables(primary, workflow.tables()),
     }
@@ -71,7 +71,7 @@ pub(crate) fn cancel(
     ensures { Cancels (record { topology = topology.old; primaries = primaries.old.entries; workflows = workflows.old.entries }) name.now (done_from result)
         (record { topology = topology.new; primaries = primaries.new.entries; workflows = workflows.new.entries }) }
 {
-    let Some(workflow) = workflows.get(name) else {
+    let Some(workflow) = mt_few::get(workflows, name) else {
         return Err(Refusal::NoWorkflow);
     };
     if let Some(refusal) = cancel_refusal(workflow) {

@@ -119,7 +119,7 @@ impl Core {
     pub fn workflow(&self, name: &WorkflowName) -> Option<&Workflow>
         ensures { option_copied result ≡ workflow_at self.now.core.workflows name.now }
     {
-        self.workflows.get(name)
+        mt_few::get(&self.workflows, name)
     }
 
     /// Where a name leads for a type. It takes no memory.

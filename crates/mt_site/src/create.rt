@@ -173,7 +173,7 @@ fn position_of(primaries: &Primaries, keyspace: &KeyspaceName) -> Position
     requires { is_some (primary_at primaries.now.entries keyspace.now) ≡ true }
     ensures { result ≡ length (primary_of primaries.now.entries keyspace.now).log }
 {
-    match primaries.get(keyspace) {
+    match mt_few::get(primaries, keyspace) {
         None => unreachable!(),
         Some(primary) => primary.position(),
     }
@@ -190,7 +190,7 @@ fn make_at_target<W: Asks>(
     requires absent { (table : List ℕ) → among workflow.now.tables table ≡ true → has_table (primary_of primaries.old.entries workflow.now.target) table ≡ false }
     ensures { MakesAtTarget (W.scopes watchers.now) (W.may_answer watchers.now) workflow.now change.now primaries.old.entries result primaries.new.entries }
 {
-    match primaries.get_mut(workflow.target()) {
+    match mt_few::get_mut(primaries, workflow.target()) {
         None => unreachable!(),
         Some(primary) => make_target(primary, watchers, workflow, change),
     }

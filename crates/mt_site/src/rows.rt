@@ -69,7 +69,7 @@ fn place_of(primaries: &Primaries, place: usize, keyspace: &KeyspaceName) -> Opt
     if stands_at(primaries, place, keyspace) {
         return Some(place);
     }
-    primaries.get_index_of(keyspace)
+    mt_few::place_of(primaries, keyspace)
 }
 
 /// Writes a row at the primary of its keyspace, wherever that stands.
@@ -106,7 +106,7 @@ fn primary_at<'a>(
 {
     match primaries.get_index(place) {
         Some((name, primary)) if name == keyspace => Some(primary),
-        _ => primaries.get(keyspace),
+        _ => mt_few::get(primaries, keyspace),
     }
 }
 

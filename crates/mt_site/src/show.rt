@@ -56,7 +56,7 @@ pub(crate) fn show(workflows: &Workflows, name: &WorkflowName) -> Result<Reply, 
     requires { (w : WorkflowState) → workflow_at workflows.now.entries name.now ≡ Some w → is_some w.forward ≡ true }
     ensures { answer_from result ≡ show_at (workflow_at workflows.now.entries name.now) }
 {
-    match workflows.get(name) {
+    match mt_few::get(workflows, name) {
         None => Err(Refusal::NoWorkflow),
         Some(workflow) => Ok(Reply::Shown(shown(workflow))),
     }

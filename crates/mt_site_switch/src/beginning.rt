@@ -131,7 +131,7 @@ pub fn begin_switch(
         → BeginsSwitch (record { core = record { topology = topology; primaries = primaries; workflows = workflows.old.entries }; ways = record { opened = opened.old.entries; journal = journal; begun = begun.old } }) name.now types (done_from result)
         (record { core = record { topology = topology; primaries = primaries; workflows = workflows.new.entries }; ways = record { opened = opened.new.entries; journal = journal; begun = begun.new } }) }
 {
-    let Some(workflow) = workflows.get_mut(name) else {
+    let Some(workflow) = mt_few::get_mut(workflows, name) else {
         return Err(Refusal::NoWorkflow);
     };
     if let Some(refusal) = switch_refusal(workflow, types, *begun) {
@@ -163,7 +163,7 @@ pub fn begin_reverse(
         → BeginsReverse (record { core = record { topology = topology; primaries = primaries; workflows = workflows.old.entries }; ways = record { opened = opened.old.entries; journal = journal; begun = begun.old } }) name.now types (done_from result)
         (record { core = record { topology = topology; primaries = primaries; workflows = workflows.new.entries }; ways = record { opened = opened.new.entries; journal = journal; begun = begun.new } }) }
 {
-    let Some(workflow) = workflows.get_mut(name) else {
+    let Some(workflow) = mt_few::get_mut(workflows, name) else {
         return Err(Refusal::NoWorkflow);
     };
     if let Some(refusal) = reverse_refusal(workflow, types, *begun) {

@@ -119,7 +119,7 @@ fn drop_at_source(primaries: &mut Primaries, workflow: &Workflow)
     requires { is_some (primary_at primaries.old.entries workflow.now.source) ≡ true }
     ensures { primaries.new.entries ≡ with_primary primaries.old.entries workflow.now.source (λ primary. fold without_table primary workflow.now.tables) }
 {
-    match primaries.get_mut(workflow.source()) {
+    match mt_few::get_mut(primaries, workflow.source()) {
         None => unreachable!(),
         Some(primary) => drop_tables(primary, workflow.tables()),
     }
@@ -137,7 +137,7 @@ pub fn complete(
     ensures { (ways : WaysState) → Completes (record { core = record { topology = topology.old; primaries = primaries.old.entries; workflows = workflows.old.entries }; ways = ways }) name.now (done_from result)
         (record { core = record { topology = topology.new; primaries = primaries.new.entries; workflows = workflows.new.entries }; ways = ways }) }
 {
-    let Some(workflow) = workflows.get(name) else {
+    let Some(workflow) = mt_few::get(workflows, name) else {
         return Err(Refusal::NoWorkflow);
     };
     if let Some(refusal) = complete_refusal(workflow) {

@@ -17,7 +17,7 @@ pub fn place_of(primaries: &Primaries, keyspace: &KeyspaceName) -> usize
     ensures at { IsAt primaries.now.entries keyspace.now result }
     ensures distinct { IsDistinct same_text (keys_of primaries.now.entries) }
 {
-    match primaries.get_index_of(keyspace) {
+    match mt_few::place_of(primaries, keyspace) {
         None => unreachable!(),
         Some(place) => place,
     }

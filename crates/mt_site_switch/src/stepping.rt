@@ -125,7 +125,7 @@ pub fn step<W: Asks>(
         (W.scopes watchers.now) (W.may_answer watchers.now) name.now at (done_from result)
         (record { core = record { topology = topology.new; primaries = primaries.new.entries; workflows = workflows.new.entries }; ways = record { opened = opened.new.entries; journal = journal.new; begun = begun } }) }
 {
-    let Some(workflow) = workflows.get_mut(name) else {
+    let Some(workflow) = mt_few::get_mut(workflows, name) else {
         return Err(Refusal::NoWorkflow);
     };
     let Some(way) = workflow.way() else {
@@ -134,7 +134,7 @@ pub fn step<W: Asks>(
     if let Some(refusal) = step_refusal(way, at) {
         return Err(refusal);
     }
-    let Some(kept) = opened.get_mut(name) else {
+    let Some(kept) = mt_few::get_mut(opened, name) else {
         unreachable!()
     };
     let result = step_between(

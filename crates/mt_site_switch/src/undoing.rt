@@ -122,7 +122,7 @@ pub fn undo<W: Asks>(
     ensures { (begun : ℕ) → UndoesWorkflow (record { core = record { topology = topology.old; primaries = primaries.old.entries; workflows = workflows.old.entries }; ways = record { opened = opened.old.entries; journal = journal.old; begun = begun } }) name.now at (done_from result)
         (record { core = record { topology = topology.new; primaries = primaries.new.entries; workflows = workflows.new.entries }; ways = record { opened = opened.new.entries; journal = journal.new; begun = begun } }) }
 {
-    let Some(workflow) = workflows.get_mut(name) else {
+    let Some(workflow) = mt_few::get_mut(workflows, name) else {
         return Err(Refusal::NoWorkflow);
     };
     let Some(way) = workflow.way() else {
@@ -131,7 +131,7 @@ pub fn undo<W: Asks>(
     if let Some(refusal) = undo_refusal(way, at) {
         return Err(refusal);
     }
-    let Some(kept) = opened.get_mut(name) else {
+    let Some(kept) = mt_few::get_mut(opened, name) else {
         unreachable!()
     };
     undo_between(
