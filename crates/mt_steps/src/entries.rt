@@ -201,8 +201,10 @@ fn exchange_rule(
     ensures before { noted.new ≡ rule_record (rule_at topology.old.rules key.now) }
     ensures after { topology.new ≡ with_entry topology.old (wanted workflow.now types (EntryKey.Rule key.now)) }
 {
-    let before = topology.exchange_rule(key, workflow.wanted_rule(key, types));
-    *noted = RuleRecord::of_rule(before);
+    match topology.exchange_rule(key, workflow.wanted_rule(key, types)) {
+        Some(rule) => *noted = RuleRecord::Rule(rule),
+        None => *noted = RuleRecord::NoRule,
+    }
 }
 
 /// The same with another step: the denials that change with it.

@@ -28,8 +28,16 @@ pub struct UndoLog {
     source: KeyspaceName,
     target: KeyspaceName,
     pub(crate) records: Vec<TableRecord>,
-    pub(crate) listed: Option<Before>,
-    pub(crate) slot: Option<Stream>,
+    pub(crate) late: Box<Late>,
+}
+
+/// What a step puts aside, in memory of its own.
+#[derive(Drop)]
+pub(crate) struct Late {
+    /// What stood on a primary's own list before the last refresh.
+    pub listed: Option<Before>,
+    /// The stream that a new one was put in place of.
+    pub slot: Option<Stream>,
 }
 
 /// A way that is open: its number, by which its journal entry is told from all others, and what is kept of it for its undo.
@@ -48,7 +56,7 @@ impl Model for UndoLog {
 
     ghost Value = { UndoState };
 
-    ghost view = { λ log. record { entries = entries_of log.source log.target log.records.items; listed = log.listed; slot = log.slot } };
+    ghost view = { λ log. record { entries = entries_of log.source log.target log.records.items; listed = log.late.value.listed; slot = log.late.value.slot } };
 }
 
 impl UndoLog {
@@ -66,13 +74,19 @@ impl UndoLog {
                 return Err(StepFault::Memory);
             }
         }
-        Ok(UndoLog {
-            source: workflow.source().copied(),
-            target: workflow.target().copied(),
-            records,
+        let late = Late {
             listed: None,
             slot: None,
-        })
+        };
+        match Box::new(alloc, late) {
+            Ok(late) => Ok(UndoLog {
+                source: workflow.source().copied(),
+                target: workflow.target().copied(),
+                records,
+                late,
+            }),
+            Err(_) => Err(StepFault::Memory),
+        }
     }
 
     /// Writes the entries of a workflow's part that change with a step as they are to be once these types are switched, and records
@@ -128,7 +142,7 @@ impl UndoLog {
         if step != Step::RefreshSource {
             return None;
         }
-        mem::replace(&mut self.listed, None)
+        mem::replace(&mut self.late.listed, None)
     }
 
     /// Takes the stream that the undo of a step puts back.
@@ -139,6 +153,6 @@ impl UndoLog {
         if step != Step::CreateBack {
             return None;
         }
-        mem::replace(&mut self.slot, None)
+        mem::replace(&mut self.late.slot, None)
     }
 }

@@ -111,12 +111,12 @@ fn step_of_way<W: Asks>(
         (record { topology = topology.new; source = source.new; target = target.new; workflow = workflow.new; journal = journal.new }) log.new }
 {
     let end = log_end(way, source, target);
-    let listed = &mut log.listed;
+    let listed = &mut log.late.listed;
     attempt(
         alloc, way, step, id, topology, workflow, source, target, journal, watchers, listed,
     )?;
     log.exchange(topology, workflow, way.after, step.number());
-    step_streams(workflow, way, step, end, &mut log.slot);
+    step_streams(workflow, way, step, end, &mut log.late.slot);
     count_step(workflow, way, step);
     Ok(())
 }

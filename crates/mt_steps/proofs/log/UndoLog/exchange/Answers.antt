@@ -28,8 +28,8 @@ returns-clause-recorded c =
     let items : c.deref_mut.result.now ≡ log.records.items = search rules in
     let is = ap (λ (l : UndoState). map key_of l.entries) c.self.view_is ∙ c.requires.log in
     let distinct : AllPairs (λ a b. a ≢ b) (keys_of_part w) = c.part_keys_are_distinct.ensures w.source w.target w.tables c.facts.ensures.apart c.facts.ensures.distinct in
-    ap (λ rs. record { entries = entries_of log.source log.target rs; listed = log.listed; slot = log.slot }) (with_items_is log.records c.exchange_step.new.records (search rules))
-    ∙ ap (λ es. record { entries = es; listed = log.listed; slot = log.slot })
+    ap (λ rs. record { entries = entries_of log.source log.target rs; listed = log.late.value.listed; slot = log.late.value.slot }) (with_items_is log.records c.exchange_step.new.records (search rules))
+    ∙ ap (λ es. record { entries = es; listed = log.late.value.listed; slot = log.late.value.slot })
     (c.exchange_step.ensures.recorded ∙ ap (λ rs. swept w c.args.types n t (entries_of log.source log.target rs)) items
     ∙ swept_is_recorded w c.args.types n t (entries_of log.source log.target log.records.items) (subst (AllPairs (λ a b. a ≢ b)) (sym is) distinct))
     ∙ ap (λ (l : UndoState). record l { entries = recorded w n t l.entries }) c.self.view_is
