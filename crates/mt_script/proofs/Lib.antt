@@ -1,4 +1,5 @@
 mod AllLemmas
+pub mod CommonLemmas
 pub mod CutLemmas
 pub mod LineLemmas
 pub mod ManyWordsLemmas

@@ -18,7 +18,7 @@ own = numerals_by_fold _ (search rules) read_on (search rules)
 
 -- a number is read where its digits are, and their number fits
 module _ (most bits : ℕ) where
-  both_tests : (word : List ℕ) → length word ≤ most → list_all is_ascii_digit word ≡ true → 0 < length word → number_of_digits word < 2 ^ bits → is_number_of most (2 ^ bits) word ≡ true
+  pub both_tests : (word : List ℕ) → length word ≤ most → list_all is_ascii_digit word ≡ true → 0 < length word → number_of_digits word < 2 ^ bits → is_number_of most (2 ^ bits) word ≡ true
   both_tests word short digits some fits =
       rw (lt-ltb 0 (length word) some, le-leb (length word) most short, digits, lt-ltb (number_of_digits word) (2 ^ bits) fits) refl
 

@@ -26,12 +26,12 @@ use Rattle.mt_script.proofs.WordLemmas.{NoBlanks, words_of-alone, words_of-appen
 
 -- ---- visible words
 
-not_blank : (byte : ℕ) → is_visible byte ≡ true → is_blank byte ≡ false
+pub not_blank : (byte : ℕ) → is_visible byte ≡ true → is_blank byte ≡ false
 not_blank byte visible =
     let low = leb-true 33 byte (and_parts (leb 33 byte) (leb byte 126) visible).0 in
     rw (ne_eqb byte 32 (λ e. omega (arith, e, low)), ne_eqb byte 9 (λ e. omega (arith, e, low))) refl
 
-NoBlanks-visible : (word : List ℕ) → list_all is_visible word ≡ true → NoBlanks word
+pub NoBlanks-visible : (word : List ℕ) → list_all is_visible word ≡ true → NoBlanks word
 NoBlanks-visible [] visible = tt
 NoBlanks-visible (b ∷ bs) visible =
     let both = and_parts (is_visible b) (list_all is_visible bs) visible in
@@ -42,20 +42,20 @@ some-word [] some = absurd (omega (arith, some))
 some-word (b ∷ bs) some = refl
 
 -- a word that a space follows, and one that ends the line
-next-word : (word line : List ℕ) → 0 < length word → list_all is_visible word ≡ true → words_of (word ++ 32 ∷ line) ≡ word ∷ words_of line
+pub next-word : (word line : List ℕ) → 0 < length word → list_all is_visible word ≡ true → words_of (word ++ 32 ∷ line) ≡ word ∷ words_of line
 next-word word line some visible = words_of-append word 32 line (some-word word some) (NoBlanks-visible word visible) refl
 
-last-word : (word : List ℕ) → 0 < length word → list_all is_visible word ≡ true → words_of word ≡ word ∷ []
+pub last-word : (word : List ℕ) → 0 < length word → list_all is_visible word ≡ true → words_of word ≡ word ∷ []
 last-word word some visible = words_of-alone word (some-word word some) (NoBlanks-visible word visible)
 
 -- a word in front of what is readable
-readable-word : (word line : List ℕ) → list_all is_visible word ≡ true → is_readable line ≡ true → is_readable (word ++ line) ≡ true
+pub readable-word : (word line : List ℕ) → list_all is_visible word ≡ true → is_readable line ≡ true → is_readable (word ++ line) ≡ true
 readable-word [] line visible is = is
 readable-word (b ∷ bs) line visible is =
     let both = and_parts (is_visible b) (list_all is_visible bs) visible in
     rw (not_blank b both.0, both.0) (readable-word bs line both.1 is)
 
-all-visible : (word : List ℕ) → list_all is_visible word ≡ true → is_readable word ≡ true
+pub all-visible : (word : List ℕ) → list_all is_visible word ≡ true → is_readable word ≡ true
 all-visible [] visible = refl
 all-visible (b ∷ bs) visible =
     let both = and_parts (is_visible b) (list_all is_visible bs) visible in
@@ -104,20 +104,20 @@ digit-visible byte is =
     let high = leb-true byte 57 both.1 in
     rw (le-leb 33 byte (omega (arith, low)), le-leb byte 126 (omega (arith, high))) refl
 
-digits-visible : (digits : List ℕ) → list_all is_ascii_digit digits ≡ true → list_all is_visible digits ≡ true
+pub digits-visible : (digits : List ℕ) → list_all is_ascii_digit digits ≡ true → list_all is_visible digits ≡ true
 digits-visible [] all = refl
 digits-visible (b ∷ bs) all =
     let both = and_parts (is_ascii_digit b) (list_all is_ascii_digit bs) all in
     rw (digit-visible b both.0) (digits-visible bs both.1)
 
-is-number : (digits : List ℕ) (number : ℕ) → read_number digits ≡ Some number → is_number digits ≡ true
+pub is-number : (digits : List ℕ) (number : ℕ) → read_number digits ≡ Some number → is_number digits ≡ true
 is-number digits number reads = by (is_number digits) refl
   where
     by : (is : Bool) → is_number digits ≡ is → is_number digits ≡ true
     by true e = e
     by false e = let none : read_number digits ≡ None = rw e refl in absurd cc
 
-number-word : (digits : List ℕ) (number : ℕ) → read_number digits ≡ Some number → (0 < length digits) × (list_all is_visible digits ≡ true)
+pub number-word : (digits : List ℕ) (number : ℕ) → read_number digits ≡ Some number → (0 < length digits) × (list_all is_visible digits ≡ true)
 number-word digits number reads =
     let is = is-number digits number reads in
     let three = and_parts (ltb 0 (length digits) && leb (length digits) 20 && list_all is_ascii_digit digits) _ is in
@@ -127,7 +127,7 @@ number-word digits number reads =
 
 -- ---- names
 
-name-visible : (byte : ℕ) → allows WithDollar byte ≡ true → is_visible byte ≡ true
+pub name-visible : (byte : ℕ) → allows WithDollar byte ≡ true → is_visible byte ≡ true
 name-visible byte is = grind (arith, common_steps)
 
 -- a table's name is its key, without marks

@@ -1,3 +1,4 @@
+pub mod Common
 pub mod Requests
 pub mod Rows
 pub mod Tables

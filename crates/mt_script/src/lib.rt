@@ -2,6 +2,7 @@
 #![tactic(auto)]
 
 mod commands;
+mod common;
 mod cut;
 mod lines;
 mod numbers;

@@ -7,6 +7,7 @@ ghost use Rattle.mt_script.specs.Requests.{meaning_from, meaning_of, row_from};
 ghost use Rattle.mt_script.specs.Rows.{IsRequest};
 
 use crate::commands::read_command;
+use crate::common::common_request;
 use crate::rows::{RowWords, name_in_front, number_in_front, verb_in_front};
 use crate::tables::TableText;
 use crate::words::{is_blank, is_visible};
@@ -120,6 +121,9 @@ fn is_readable(line: &[u8]) -> bool
 pub fn read_line(line: &[u8]) -> Line<'_>
     ensures { meaning_from result ≡ meaning_of (read_line line.now) }
 {
+    if let Some(request) = common_request(line) {
+        return Line::Request(request);
+    }
     if is_silent(line) {
         return Line::Silent;
     }
