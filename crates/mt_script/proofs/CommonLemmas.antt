@@ -1,0 +1,162 @@
+-- Lines that step a workflow, undo a step or advance a stream, in their common form.
+use Rattle.std.proofs.Common.{◌≡◌, ℕ, ◌<◌, ◌≤◌, ◌^◌, ◌&&◌, Bool, true, false, ltb, leb, None, IfSome, Result, Err, subst, List, [], ◌∷◌, ◌++◌, codes, if◌then◌else◌, get_or, length, Some, Ok, option_map, refl, sym, ap, ◌∙◌, append-nil, arith}
+use Rattle.std.proofs.lemmas.Bool.{and_parts, ltb-true}
+use Rattle.std.proofs.lemmas.List.Sums.{list_all-from_AllPass}
+use Rattle.std.specs.Char.{is_ascii_digit}
+use Rattle.std.specs.List.{list_all}
+use Rattle.std.specs.Result.{IsOk, result_ok}
+use Rattle.mt_names.specs.declared.fault.NameFault.{NameFault}
+use Rattle.mt_names.specs.Names.{IsWorkflowName, read_workflow}
+use Rattle.mt_plain.specs.Events.{StreamName, forward, back}
+use Rattle.mt_plain.specs.Events as core
+use Rattle.mt_plain.specs.Script.{Command, MAX_LINE_LENGTH, Request, command_of, event, is_number_of, is_readable, is_silent, is_visible, number_of_digits, read_advance, read_line, read_number, read_small_number, read_stream, request_of, step, undo, with_number, words_of}
+use Rattle.mt_script.specs.declared.common.StepVerb.{StepVerb}
+use Rattle.mt_script.specs.declared.common.StepVerb.TheVariants as verb
+use Rattle.mt_script.specs.Common.{AsksBehind, IsTextOfWorkflow, command_behind, stream_text, verb_text}
+use Rattle.mt_script.specs.Requests.{meaning_of}
+use Rattle.mt_script.specs.Rows.{BeginsWithNumber}
+use Rattle.mt_script.proofs.LineLemmas.{means-read}
+use Rattle.mt_script.proofs.NumberLemmas.{both_tests}
+use Rattle.mt_script.proofs.RowLineLemmas.{all-visible, digits-visible, is-number, last-word, name-visible, next-word, number-word, readable-word}
+
+-- ---- the verb in front
+
+verb-not_silent : (v : StepVerb) (words : List ℕ) → is_silent (verb_text v ++ 32 ∷ words) ≡ false
+verb-not_silent verb.Advance words = refl
+verb-not_silent verb.Step words = refl
+verb-not_silent verb.Undo words = refl
+
+verb-readable : (v : StepVerb) (words : List ℕ) → is_readable (verb_text v ++ 32 ∷ words) ≡ is_readable words
+verb-readable verb.Advance words = refl
+verb-readable verb.Step words = refl
+verb-readable verb.Undo words = refl
+
+verb-words : (v : StepVerb) (words : List ℕ) → words_of (verb_text v ++ 32 ∷ words) ≡ verb_text v ∷ words_of words
+verb-words verb.Advance words = refl
+verb-words verb.Step words = refl
+verb-words verb.Undo words = refl
+
+verb-command : (v : StepVerb) (words : List (List ℕ)) → command_of (verb_text v ∷ words) ≡ command_behind v words
+verb-command verb.Advance words = refl
+verb-command verb.Step words = refl
+verb-command verb.Undo words = refl
+
+-- what stands behind the verb asks for what the line asks for
+pub asked : (v : StepVerb) (line words : List ℕ) (request : Request) → length line ≤ MAX_LINE_LENGTH → line ≡ verb_text v ++ 32 ∷ words
+    → AsksBehind v words request → Some (Ok request) ≡ meaning_of (read_line line)
+asked v line words request short is asks =
+    means-read line (ap is_silent is ∙ verb-not_silent v words) short (ap is_readable is ∙ verb-readable v words ∙ asks.readable) (Ok request)
+    (sym (ap (λ l. option_map request_of (command_of (words_of l))) is ∙ ap (λ ws. option_map request_of (command_of ws)) (verb-words v words)
+    ∙ ap (option_map request_of) (verb-command v (words_of words)) ∙ asks.asks))
+
+-- ---- the name, and one number
+
+-- a name that is read as a workflow's is visible
+workflow-text : (name workflow : List ℕ) → Ok workflow ≡ read_workflow name → IsWorkflowName name → IsTextOfWorkflow name workflow
+workflow-text name workflow reads named =
+    record { reads = sym reads; visible = list_all-from_AllPass is_visible name (λ i d h. name-visible (get_or name i d) (rw (named.name.each i d h) refl)) }
+
+pub workflow-read : (name : List ℕ) (read : Result (List ℕ) NameFault) → read ≡ read_workflow name → (IsOk read → IsWorkflowName name) → IfSome (result_ok read) (IsTextOfWorkflow name)
+workflow-read name (Ok workflow) reads named = workflow-text name workflow reads (named refl)
+workflow-read name (Err fault) reads named = tt
+
+workflow-some : (name workflow : List ℕ) → read_workflow name ≡ Ok workflow → 0 < length name
+workflow-some [] workflow reads = absurd cc
+workflow-some (b ∷ bs) workflow reads = omega arith
+
+module _ (name words workflow : List ℕ) (text : IsTextOfWorkflow name workflow) where
+  name-words : words_of (name ++ 32 ∷ words) ≡ name ∷ words_of words
+  name-words = next-word name words (workflow-some name workflow text.reads) text.visible
+
+  name-readable : is_readable words ≡ true → is_readable (name ++ 32 ∷ words) ≡ true
+  name-readable is = readable-word name (32 ∷ words) text.visible is
+
+-- a number at the end of a line
+number-last : (digits : List ℕ) (number : ℕ) → read_number digits ≡ Some number → (words_of digits ≡ digits ∷ []) × (is_readable digits ≡ true)
+number-last digits number reads =
+    let word = number-word digits number reads in
+    (last-word digits word.0 word.1, all-visible digits word.1)
+
+module _ (words name behind digits rest workflow : List ℕ) (number : ℕ) (front : words ≡ name ++ 32 ∷ behind) (text : IsTextOfWorkflow name workflow) (reads : read_number digits ≡ Some number)
+    (parts : behind ≡ digits ++ rest) (none : rest ≡ []) where
+  is : words ≡ name ++ 32 ∷ digits
+  is = front ∙ ap (λ l. name ++ 32 ∷ l) (parts ∙ ap (λ l. digits ++ l) none ∙ append-nil digits)
+
+  two-words : words_of words ≡ name ∷ digits ∷ []
+  two-words = ap words_of is ∙ name-words name digits workflow text ∙ ap (λ l. name ∷ l) (number-last digits number reads).0
+
+  two-readable : is_readable words ≡ true
+  two-readable = ap is_readable is ∙ name-readable name digits workflow text (number-last digits number reads).1
+
+  pub step-asked : AsksBehind verb.Step words (event (core.step workflow number))
+  step-asked = record { readable = two-readable; asks = ap (λ ws. option_map request_of (with_number step ws)) two-words ∙ rw (reads, text.reads) refl }
+
+  pub undo-asked : AsksBehind verb.Undo words (event (core.undo workflow number))
+  undo-asked = record { readable = two-readable; asks = ap (λ ws. option_map request_of (with_number undo ws)) two-words ∙ rw (reads, text.reads) refl }
+
+-- ---- a stream, and two numbers
+
+stream-words : (stream : StreamName) (words : List ℕ) → words_of (stream_text stream ++ 32 ∷ words) ≡ stream_text stream ∷ words_of words
+stream-words forward words = refl
+stream-words back words = refl
+
+stream-readable : (stream : StreamName) (words : List ℕ) → is_readable (stream_text stream ++ 32 ∷ words) ≡ is_readable words
+stream-readable forward words = refl
+stream-readable back words = refl
+
+stream-read : (stream : StreamName) → read_stream (stream_text stream) ≡ Some stream
+stream-read forward = refl
+stream-read back = refl
+
+-- the tests of a word that is a number
+is-small : (word : List ℕ) (number : ℕ) → read_small_number word ≡ Some number → is_number_of 5 (2 ^ 16) word ≡ true
+is-small word number reads = by (is_number_of 5 (2 ^ 16) word) refl
+  where
+    by : (is : Bool) → is_number_of 5 (2 ^ 16) word ≡ is → is_number_of 5 (2 ^ 16) word ≡ true
+    by true e = e
+    by false e = let none : read_small_number word ≡ None = rw e refl in absurd cc
+
+small-last : (word : List ℕ) (number : ℕ) → read_small_number word ≡ Some number → (words_of word ≡ word ∷ []) × (is_readable word ≡ true)
+small-last word number reads =
+    let is = is-small word number reads in
+    let three = and_parts (ltb 0 (length word) && leb (length word) 5 && list_all is_ascii_digit word) _ is in
+    let two = and_parts (ltb 0 (length word) && leb (length word) 5) (list_all is_ascii_digit word) three.0 in
+    let one = and_parts (ltb 0 (length word)) (leb (length word) 5) two.0 in
+    let visible = digits-visible word two.1 in
+    (last-word word (ltb-true 0 (length word) one.0) visible, all-visible word visible)
+
+-- a number of few digits that fits
+pub small-read : (word : List ℕ) (number : ℕ) → read_number word ≡ Some number → length word ≤ 5 → number < 2 ^ 16 → read_small_number word ≡ Some number
+small-read word number reads short fits =
+    let is = is-number word number reads in
+    let three = and_parts (ltb 0 (length word) && leb (length word) 20 && list_all is_ascii_digit word) _ is in
+    let two = and_parts (ltb 0 (length word) && leb (length word) 20) (list_all is_ascii_digit word) three.0 in
+    let one = and_parts (ltb 0 (length word)) (leb (length word) 20) two.0 in
+    let read : Some (number_of_digits word) ≡ Some number = sym (ap (λ (b : Bool). if b then Some (number_of_digits word) else None) is) ∙ reads in
+    let same : number_of_digits word ≡ number = cc in
+    ap (λ (b : Bool). if b then Some (number_of_digits word) else None) (both_tests 5 16 word short two.1 (ltb-true 0 (length word) one.0) (subst (λ n. n < 2 ^ 16) (sym same) fits)) ∙ read
+
+module _ (words name words1 words2 rest most workflow : List ℕ) (stream : StreamName) (at max : ℕ)
+    (is : words ≡ name ++ 32 ∷ words1) (text : IsTextOfWorkflow name workflow) (is1 : words1 ≡ stream_text stream ++ 32 ∷ words2)
+    (begins : BeginsWithNumber words2 at rest) (is2 : rest ≡ 32 ∷ most) (reads : read_small_number most ≡ Some max) where
+  abbrev digits : List ℕ
+  digits = begins.0
+
+  four : words_of words ≡ name ∷ stream_text stream ∷ digits ∷ most ∷ []
+  four =
+      let word = number-word digits at begins.1 in
+      ap words_of is ∙ name-words name words1 workflow text ∙ ap (λ l. name ∷ words_of l) is1
+      ∙ ap (λ l. name ∷ l) (stream-words stream words2)
+      ∙ ap (λ l. name ∷ stream_text stream ∷ words_of l) (begins.2 ∙ ap (λ l. digits ++ l) is2)
+      ∙ ap (λ l. name ∷ stream_text stream ∷ l) (next-word digits most word.0 word.1)
+      ∙ ap (λ l. name ∷ stream_text stream ∷ digits ∷ l) (small-last most max reads).0
+
+  four-readable : is_readable words ≡ true
+  four-readable =
+      ap is_readable is
+      ∙ name-readable name words1 workflow text
+      (ap is_readable is1 ∙ stream-readable stream words2 ∙ ap is_readable (begins.2 ∙ ap (λ l. digits ++ l) is2)
+      ∙ readable-word digits (32 ∷ most) (number-word digits at begins.1).1 (small-last most max reads).1)
+
+  pub advance-asked : AsksBehind verb.Advance words (event (core.advance workflow stream at max))
+  advance-asked = record { readable = four-readable; asks = ap (λ ws. option_map request_of (read_advance ws)) four ∙ rw (stream-read stream, begins.1, reads, text.reads) refl }
