@@ -1,18 +1,19 @@
--- Lines that step a workflow, undo a step or advance a stream, in their common form.
-use Rattle.std.proofs.Common.{◌≡◌, ℕ, ◌<◌, ◌≤◌, ◌^◌, ◌&&◌, Bool, true, false, ltb, leb, None, IfSome, Result, Err, subst, List, [], ◌∷◌, ◌++◌, codes, if◌then◌else◌, get_or, length, Some, Ok, option_map, refl, sym, ap, ◌∙◌, append-nil, arith}
+-- Lines that ask for something of a workflow that is there, in their common form.
+use Rattle.std.proofs.Common.{◌≡◌, ℕ, ◌<◌, ◌≤◌, ◌^◌, ◌&&◌, Bool, true, false, ltb, leb, None, IfSome, Option, Result, Err, subst, List, [], ◌∷◌, ◌++◌, codes, if◌then◌else◌, get_or, length, Some, Ok, option_map, refl, sym, ap, ◌∙◌, append-nil, arith}
 use Rattle.std.proofs.lemmas.Bool.{and_parts, ltb-true}
 use Rattle.std.proofs.lemmas.List.Sums.{list_all-from_AllPass}
 use Rattle.std.specs.Char.{is_ascii_digit}
 use Rattle.std.specs.List.{list_all}
 use Rattle.std.specs.Result.{IsOk, result_ok}
 use Rattle.mt_names.specs.declared.fault.NameFault.{NameFault}
+use Rattle.mt_names.specs.declared.types.TypeSet.{TypeSet}
 use Rattle.mt_names.specs.Names.{IsWorkflowName, read_workflow}
 use Rattle.mt_plain.specs.Events.{StreamName, forward, back}
 use Rattle.mt_plain.specs.Events as core
-use Rattle.mt_plain.specs.Script.{Command, MAX_LINE_LENGTH, Request, command_of, event, is_number_of, is_readable, is_silent, is_visible, number_of_digits, read_advance, read_line, read_number, read_small_number, read_stream, request_of, step, undo, with_number, words_of}
-use Rattle.mt_script.specs.declared.common.StepVerb.{StepVerb}
-use Rattle.mt_script.specs.declared.common.StepVerb.TheVariants as verb
-use Rattle.mt_script.specs.Common.{AsksBehind, IsTextOfWorkflow, command_behind, stream_text, verb_text}
+use Rattle.mt_plain.specs.Script.{Command, MAX_LINE_LENGTH, Request, cancel, command_of, drive, event, is_number_of, is_readable, is_silent, is_visible, number_of_digits, one_word, read_advance, read_line, read_number, read_small_number, read_stream, request_of, reverse, show, step, switch, undo, with_number, with_types, words_of}
+use Rattle.mt_script.specs.declared.common.WorkflowVerb.{WorkflowVerb}
+use Rattle.mt_script.specs.declared.common.WorkflowVerb.TheVariants as verb
+use Rattle.mt_script.specs.Common.{AsksBehind, IsTextOfTypes, IsTextOfWorkflow, command_behind, stream_text, verb_text}
 use Rattle.mt_script.specs.Requests.{meaning_of}
 use Rattle.mt_script.specs.Rows.{BeginsWithNumber}
 use Rattle.mt_script.proofs.LineLemmas.{means-read}
@@ -21,28 +22,44 @@ use Rattle.mt_script.proofs.RowLineLemmas.{all-visible, digits-visible, is-numbe
 
 -- ---- the verb in front
 
-verb-not_silent : (v : StepVerb) (words : List ℕ) → is_silent (verb_text v ++ 32 ∷ words) ≡ false
+verb-not_silent : (v : WorkflowVerb) (words : List ℕ) → is_silent (verb_text v ++ 32 ∷ words) ≡ false
 verb-not_silent verb.Advance words = refl
 verb-not_silent verb.Step words = refl
 verb-not_silent verb.Undo words = refl
+verb-not_silent verb.Switch words = refl
+verb-not_silent verb.Reverse words = refl
+verb-not_silent verb.Cancel words = refl
+verb-not_silent verb.Show words = refl
 
-verb-readable : (v : StepVerb) (words : List ℕ) → is_readable (verb_text v ++ 32 ∷ words) ≡ is_readable words
+verb-readable : (v : WorkflowVerb) (words : List ℕ) → is_readable (verb_text v ++ 32 ∷ words) ≡ is_readable words
 verb-readable verb.Advance words = refl
 verb-readable verb.Step words = refl
 verb-readable verb.Undo words = refl
+verb-readable verb.Switch words = refl
+verb-readable verb.Reverse words = refl
+verb-readable verb.Cancel words = refl
+verb-readable verb.Show words = refl
 
-verb-words : (v : StepVerb) (words : List ℕ) → words_of (verb_text v ++ 32 ∷ words) ≡ verb_text v ∷ words_of words
+verb-words : (v : WorkflowVerb) (words : List ℕ) → words_of (verb_text v ++ 32 ∷ words) ≡ verb_text v ∷ words_of words
 verb-words verb.Advance words = refl
 verb-words verb.Step words = refl
 verb-words verb.Undo words = refl
+verb-words verb.Switch words = refl
+verb-words verb.Reverse words = refl
+verb-words verb.Cancel words = refl
+verb-words verb.Show words = refl
 
-verb-command : (v : StepVerb) (words : List (List ℕ)) → command_of (verb_text v ∷ words) ≡ command_behind v words
+verb-command : (v : WorkflowVerb) (words : List (List ℕ)) → command_of (verb_text v ∷ words) ≡ command_behind v words
 verb-command verb.Advance words = refl
 verb-command verb.Step words = refl
 verb-command verb.Undo words = refl
+verb-command verb.Switch words = refl
+verb-command verb.Reverse words = refl
+verb-command verb.Cancel words = refl
+verb-command verb.Show words = refl
 
 -- what stands behind the verb asks for what the line asks for
-pub asked : (v : StepVerb) (line words : List ℕ) (request : Request) → length line ≤ MAX_LINE_LENGTH → line ≡ verb_text v ++ 32 ∷ words
+pub asked : (v : WorkflowVerb) (line words : List ℕ) (request : Request) → length line ≤ MAX_LINE_LENGTH → line ≡ verb_text v ++ 32 ∷ words
     → AsksBehind v words request → Some (Ok request) ≡ meaning_of (read_line line)
 asked v line words request short is asks =
     means-read line (ap is_silent is ∙ verb-not_silent v words) short (ap is_readable is ∙ verb-readable v words ∙ asks.readable) (Ok request)
@@ -93,6 +110,38 @@ module _ (words name behind digits rest workflow : List ℕ) (number : ℕ) (fro
 
   pub undo-asked : AsksBehind verb.Undo words (event (core.undo workflow number))
   undo-asked = record { readable = two-readable; asks = ap (λ ws. option_map request_of (with_number undo ws)) two-words ∙ rw (reads, text.reads) refl }
+
+-- ---- the name, and tablet types
+
+module _ (words name word workflow : List ℕ) (types : TypeSet) (is : words ≡ name ++ 32 ∷ word) (text : IsTextOfWorkflow name workflow) (listed : IsTextOfTypes word types) where
+  typed-words : words_of words ≡ name ∷ word ∷ []
+  typed-words = ap words_of is ∙ name-words name word workflow text ∙ ap (λ l. name ∷ l) (last-word word listed.some listed.visible)
+
+  typed-readable : is_readable words ≡ true
+  typed-readable = ap is_readable is ∙ name-readable name word workflow text (all-visible word listed.visible)
+
+  pub switch-asked : AsksBehind verb.Switch words (drive workflow types false)
+  switch-asked = record { readable = typed-readable; asks = ap (λ ws. option_map request_of (with_types switch ws)) typed-words ∙ rw (text.reads, listed.reads) refl }
+
+  pub reverse-asked : AsksBehind verb.Reverse words (drive workflow types true)
+  reverse-asked = record { readable = typed-readable; asks = ap (λ ws. option_map request_of (with_types reverse ws)) typed-words ∙ rw (text.reads, listed.reads) refl }
+
+-- ---- the name alone
+
+module _ (name workflow : List ℕ) (text : IsTextOfWorkflow name workflow) where
+  alone : words_of name ≡ name ∷ []
+  alone = last-word name (workflow-some name workflow text.reads) text.visible
+
+  pub cancel-asked : AsksBehind verb.Cancel name (event (core.cancel workflow))
+  cancel-asked = record { readable = all-visible name text.visible; asks = ap (λ ws. option_map request_of (option_map cancel (one_word ws))) alone ∙ rw text.reads refl }
+
+  pub show-asked : AsksBehind verb.Show name (event (core.show workflow))
+  show-asked = record { readable = all-visible name text.visible; asks = ap (λ ws. option_map request_of (option_map show (one_word ws))) alone ∙ rw text.reads refl }
+
+-- what holds of a name holds of the one that is found
+pub by-name : (name : List ℕ) (found : Option (List ℕ)) (P : List ℕ → Type 0) → ((workflow : List ℕ) → IsTextOfWorkflow name workflow → P workflow) → IfSome found (IsTextOfWorkflow name) → IfSome found P
+by-name name None P holds text = tt
+by-name name (Some workflow) P holds text = holds workflow text
 
 -- ---- a stream, and two numbers
 

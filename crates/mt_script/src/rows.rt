@@ -197,7 +197,7 @@ fn ends_are_visible<const N: usize>(word: &[u8]) -> bool
 }
 
 /// Whether each byte of a word is visible.
-fn is_all_visible(word: &[u8]) -> bool
+pub fn is_all_visible(word: &[u8]) -> bool
     ensures { result ≡ true → list_all is_visible word.now ≡ true }
 {
     match word.len() {

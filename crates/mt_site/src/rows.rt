@@ -69,7 +69,7 @@ fn place_of(primaries: &Primaries, place: usize, keyspace: &KeyspaceName) -> Opt
     if stands_at(primaries, place, keyspace) {
         return Some(place);
     }
-    mt_few::place_of(primaries, keyspace)
+    primaries.get_index_of(keyspace)
 }
 
 /// Writes a row at the primary of its keyspace, wherever that stands.
@@ -106,7 +106,7 @@ fn primary_at<'a>(
 {
     match primaries.get_index(place) {
         Some((name, primary)) if name == keyspace => Some(primary),
-        _ => mt_few::get(primaries, keyspace),
+        _ => primaries.get(keyspace),
     }
 }
 

@@ -1,5 +1,4 @@
 -- A workflow and a number, by themselves in a line's words.
-use Rattle.std.proofs.Common.{ap, sym, ◌++◌, ◌∙◌, append-nil, rules}
 use Rattle.mt_script.proofs.CommonLemmas.{step-asked, undo-asked}
 use Rattle.mt_script.proofs.RowLineLemmas.{nothing}
 use Rattle.mt_script.proofs.common.workflow_and_number.Goals as goal
