@@ -2,7 +2,8 @@
 
 use mt_desk::Answer;
 use mt_event::Event;
-use mt_script::{Line, LineText, Request, read_line, write_answer};
+use mt_script::{Line, Request, read_line};
+use mt_texts::{LineText, write_answer};
 
 /// The event that a line asks for; none if it asks for none, for several, or where a name leads.
 pub fn event_of(line: &str) -> Option<Event> {

@@ -18,11 +18,12 @@ use mt_model::Op;
 use mt_names::{
     KeyspaceName, Position, RuleKey, RuleTarget, TableName, TabletType, TypeSet, WorkflowName,
 };
-use mt_script::{
-    LineText, TableText, put_row_refused, put_written, write_advanced, write_answer, write_driven,
-};
+use mt_script::TableText;
 use mt_site::Command;
 use mt_stream::Advanced;
+use mt_texts::{
+    LineText, put_row_refused, put_written, write_advanced, write_answer, write_driven,
+};
 use mt_watch::Asks;
 use mt_workflow::Slot;
 

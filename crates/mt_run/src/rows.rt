@@ -15,11 +15,9 @@ use mt_event::Refusal;
 use mt_io::{LONGEST_LINE, ROOM, Waiting};
 use mt_model::{Op, TopologyFault};
 use mt_names::{RuleKey, TabletType, Value};
-use mt_script::{
-    LineText, RowRequest, RowVerb, ValueVerb, any_key, op_of, put_look_up, put_row,
-    put_row_refused, put_written, row_words, value_behind,
-};
+use mt_script::{RowRequest, RowVerb, ValueVerb, any_key, op_of, row_words, value_behind};
 use mt_site::Core;
+use mt_texts::{LineText, put_look_up, put_row, put_row_refused, put_written};
 
 /// Tells of a write through a name, behind what stands.
 #[inline(always)]

@@ -15,8 +15,9 @@ use mt_cache::CachedCore;
 use mt_io::{
     LONGEST_LINE, ROOM, ScriptFault, Waiting, flush, make_room, put_document, put_line, read_script,
 };
-use mt_script::{Line, LineText, Request, first_line, read_line, write_refusal};
+use mt_script::{Line, Request, first_line, read_line, write_refusal};
 use mt_site::Command;
+use mt_texts::LineText;
 use mt_watch::Asks;
 use std::alloc::Global;
 use std::io::{Read, Write};

@@ -6,5 +6,4 @@ pub mod ManyWordsLemmas
 pub mod NumberLemmas
 pub mod RowLemmas
 pub mod RowLineLemmas
-pub mod TextLemmas
 pub mod WordLemmas

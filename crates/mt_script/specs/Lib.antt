@@ -2,4 +2,3 @@ pub mod Common
 pub mod Requests
 pub mod Rows
 pub mod Tables
-pub mod Texts

@@ -1,7 +1,7 @@
 -- One table more.
 use Rattle.std.proofs.Common.{arith, ◌∙◌}
-use Rattle.mt_script.proofs.TextLemmas.{comma-more}
-use Rattle.mt_script.proofs.shown.comma_text.Goals as goal
+use Rattle.mt_texts.proofs.TextLemmas.{comma-more}
+use Rattle.mt_texts.proofs.shown.comma_text.Goals as goal
 
 pub loop-table-preserved : goal.loop-table-preserved
 loop-table-preserved c = (

@@ -8,9 +8,7 @@ ghost use Rattle.mt_event.specs.Drives.{ended_from};
 ghost use Rattle.mt_event.specs.declared.reply.Reply.TheVariants as reply;
 ghost use Rattle.mt_event.specs.Events.{answer_from, refusal_from, shown_from};
 ghost use Rattle.mt_model.specs.Faults.{topology_fault_text};
-ghost use Rattle.mt_script.specs.Requests.{line_refusal_text};
 
-use crate::lines::LineRefusal;
 use crate::shown::{number, shown_text, spaced};
 use arrayvec::ArrayVec;
 use mt_event::{Driven, Refusal, Reply, Shown};
@@ -33,7 +31,7 @@ fn put_line<const N: usize>(text: &mut ArrayVec<u8, N>, first: &[u8], second: &[
 }
 
 /// Writes a line of the two texts, one behind the other, in place of the text that was there.
-fn write_line(text: &mut LineText, first: &[u8], second: &[u8])
+pub fn write_line(text: &mut LineText, first: &[u8], second: &[u8])
     requires { length first.now + length second.now < LONGEST_LINE }
     ensures { text.new.items ≡ first.now ++ second.now ++ line_feed }
 {
@@ -109,18 +107,6 @@ pub fn write_driven(text: &mut LineText, end: &Result<Driven, Refusal>)
         Ok(Driven::Stopped(refusal, steps)) => write_stopped(text, refusal, *steps),
         Err(refusal) => write_line(text, b"refused ", refusal.as_str().as_bytes()),
     }
-}
-
-/// Writes the line that tells why a line is refused, in place of the text that was there.
-pub fn write_refusal(text: &mut LineText, refusal: LineRefusal)
-    ensures { text.new.items ≡ refused_text (line_refusal_text refusal) ++ line_feed }
-{
-    let why = match refusal {
-        LineRefusal::BadLine => "X1 BadLine",
-        LineRefusal::TooLong => "X2 LineTooLong",
-        LineRefusal::Name(fault) => fault.as_str(),
-    };
-    write_line(text, b"refused ", why.as_bytes());
 }
 
 /// Adds the line that tells that a row is written.

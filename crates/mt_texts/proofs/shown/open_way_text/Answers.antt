@@ -3,7 +3,7 @@ use Rattle.std.proofs.Common.{◌++◌, ap, ◌∙◌}
 use Rattle.mt_names.specs.Types.{type_set_text}
 use Rattle.mt_plain.specs.Numbers.{number_text}
 use Rattle.mt_plain.specs.Output.{spaced}
-use Rattle.mt_script.proofs.shown.open_way_text.Goals as goal
+use Rattle.mt_texts.proofs.shown.open_way_text.Goals as goal
 
 pub returns : goal.returns
 returns c =

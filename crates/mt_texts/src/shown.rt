@@ -9,7 +9,7 @@ ghost use Rattle.mt_plain.specs.Plain.{changed_types};
 ghost use Rattle.mt_stream.specs.Streams.{state_from};
 ghost use Rattle.mt_workflow.specs.Workflows.{way_from};
 ghost use Rattle.mt_event.specs.Events.{shown_from, shown_stream_from};
-ghost use Rattle.mt_script.specs.Texts.{streams_text, traffic_text};
+ghost use Rattle.mt_texts.specs.Texts.{streams_text, traffic_text};
 
 use arrayvec::ArrayVec;
 use itoa::Buffer;

@@ -2,7 +2,7 @@
 use Rattle.std.proofs.Common.{◌≡◌, ◌+◌, ◌*◌, ◌≤◌, ◌∷◌, length, take}
 use Rattle.std.specs.List.{join_with_byte}
 use Rattle.mt_names.specs.Types.{comma}
-use Rattle.mt_script.proofs.shown.comma_text.Given as goal
+use Rattle.mt_texts.proofs.shown.comma_text.Given as goal
 
 abbrev pub invariant-loop-table : goal.invariant-loop-table
 invariant-loop-table l =

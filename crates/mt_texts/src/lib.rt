@@ -1,0 +1,10 @@
+//! The texts of answers: the lines that a script's output is made of.
+#![tactic(auto)]
+
+mod shown;
+mod texts;
+
+pub use texts::{
+    LineText, put_look_up, put_row, put_row_refused, put_written, write_advanced, write_answer,
+    write_driven, write_line,
+};
