@@ -4,7 +4,8 @@
 mod shown;
 mod texts;
 
+pub use shown::LineText;
 pub use texts::{
-    LineText, put_look_up, put_row, put_row_refused, put_written, write_advanced, write_answer,
-    write_driven, write_line,
+    put_look_up, put_row, put_row_refused, put_written, write_advanced, write_answer, write_driven,
+    write_line,
 };

@@ -1,10 +1,10 @@
 //! What is told of a workflow.
-ghost use Rattle.std.specs.Prelude.{◌≡◌, ◌+◌, ◌≤◌, ◌++◌, ◌∷◌, [], length, codes, if◌then◌else◌, Some, option_map};
+ghost use Rattle.std.specs.Prelude.{◌≡◌, ◌+◌, ◌<◌, ◌≤◌, ◌++◌, ◌∷◌, [], length, codes, if◌then◌else◌, Some, option_map};
 ghost use Rattle.std.specs.List.{join_with_byte};
 ghost use Rattle.mt_names.specs.Tables.{most_tables, table_list_text};
 ghost use Rattle.mt_names.specs.Types.{comma};
 ghost use Rattle.mt_plain.specs.Numbers.{number_text};
-ghost use Rattle.mt_plain.specs.Output.{back_text, shown_text, slot_text, spaced, state_text, way_text};
+ghost use Rattle.mt_plain.specs.Output.{back_text, line_feed, shown_text, slot_text, spaced, state_text, way_text};
 ghost use Rattle.mt_plain.specs.Plain.{changed_types};
 ghost use Rattle.mt_stream.specs.Streams.{state_from};
 ghost use Rattle.mt_workflow.specs.Workflows.{way_from};
@@ -14,9 +14,13 @@ ghost use Rattle.mt_texts.specs.Texts.{streams_text, traffic_text};
 use arrayvec::ArrayVec;
 use itoa::Buffer;
 use mt_event::{Shown, ShownStream};
+use mt_io::LONGEST_LINE;
 use mt_names::{TableName, TypeSet};
 use mt_stream::StreamState;
 use mt_workflow::Way;
+
+/// The text of a line of output, with its line feed.
+pub type LineText = ArrayVec<u8, LONGEST_LINE>;
 
 /// Two texts, one behind the other.
 fn joined<const N: usize>(first: &[u8], second: &[u8]) -> ArrayVec<u8, N>
@@ -125,37 +129,59 @@ fn open_way_text(way: Way) -> ArrayVec<u8, 59>
     joined(&open, undo_text(way.undoing))
 }
 
-/// Tables, separated by commas, or `-` where there is none.
-fn tables_text(tables: &[TableName]) -> ArrayVec<u8, 1039>
-    requires { length tables.now ≤ most_tables }
-    ensures { result.items ≡ table_list_text tables.now }
+/// Adds some bytes.
+fn put(text: &mut LineText, bytes: &[u8])
+    requires { length text.old.items + length bytes.now ≤ LONGEST_LINE }
+    ensures text { text.new.items ≡ text.old.items ++ bytes.now }
+    ensures long { length text.new.items ≡ length text.old.items + length bytes.now }
+{
+    let _fits = text.try_extend_from_slice(bytes);
+}
+
+/// Adds a word and a space.
+fn put_word(text: &mut LineText, word: &[u8])
+    requires { length text.old.items + length word.now < LONGEST_LINE }
+    ensures text { text.new.items ≡ text.old.items ++ word.now ++ 32 ∷ [] }
+    ensures long { length text.new.items ≡ length text.old.items + length word.now + 1 }
+{
+    put(text, word);
+    text.push(b' ');
+}
+
+/// Adds tables, separated by commas, or `-` where there is none.
+fn put_tables(text: &mut LineText, tables: &[TableName])
+    requires few { length tables.now ≤ most_tables }
+    requires room { length text.old.items + 1039 ≤ LONGEST_LINE }
+    ensures text { text.new.items ≡ text.old.items ++ table_list_text tables.now }
+    ensures short { length text.new.items ≤ length text.old.items + 1039 }
 {
     match tables {
-        [] => joined(b"-", b""),
-        [first, others @ ..] => comma_text(first, others),
+        [] => put(text, b"-"),
+        [first, others @ ..] => put_names(text, first, others),
     }
 }
 
-/// A table and others, separated by commas.
-fn comma_text(first: &TableName, others: &[TableName]) -> ArrayVec<u8, 1039>
-    requires { 1 + length others.now ≤ most_tables }
-    ensures { result.items ≡ join_with_byte comma (first.now ∷ others.now) }
+/// Adds a table and others, separated by commas.
+fn put_names(text: &mut LineText, first: &TableName, others: &[TableName])
+    requires few { 1 + length others.now ≤ most_tables }
+    requires room { length text.old.items + 1039 ≤ LONGEST_LINE }
+    ensures text { text.new.items ≡ text.old.items ++ join_with_byte comma (first.now ∷ others.now) }
+    ensures short { length text.new.items ≤ length text.old.items + 1039 }
 {
-    let mut text = joined(first.as_str().as_bytes(), b"");
+    put(text, first.as_str().as_bytes());
     for table in others {
-        push_table(&mut text, table);
+        put_table(text, table);
     }
-    text
 }
 
 /// Adds a table behind a comma.
-fn push_table(text: &mut ArrayVec<u8, 1039>, table: &TableName)
-    requires { length text.old.items + 65 ≤ 1039 }
+fn put_table(text: &mut LineText, table: &TableName)
+    requires { length text.old.items + 65 ≤ LONGEST_LINE }
     ensures text { text.new.items ≡ text.old.items ++ comma ∷ table.now }
     ensures short { length text.new.items ≤ length text.old.items + 65 }
 {
     text.push(b',');
-    let _fits = text.try_extend_from_slice(table.as_str().as_bytes());
+    put(text, table.as_str().as_bytes());
 }
 
 /// Whether the copy has ended.
@@ -166,34 +192,44 @@ fn copied_text(is_copied: bool) -> &'static [u8]
     if is_copied { b"copied" } else { b"copying" }
 }
 
-/// The streams of a workflow.
-fn streams_text(shown: &Shown) -> ArrayVec<u8, 78>
-    ensures { result.items ≡ streams_text (shown_from shown.now) }
+/// Adds the streams of a workflow.
+fn put_streams(text: &mut LineText, shown: &Shown)
+    requires { length text.old.items + 78 ≤ LONGEST_LINE }
+    ensures text { text.new.items ≡ text.old.items ++ streams_text (shown_from shown.now) }
+    ensures short { length text.new.items ≤ length text.old.items + 78 }
 {
-    let back = spaced::<33>(b"back", &back_text(shown.back));
-    let copied = spaced::<41>(copied_text(shown.copied), &back);
-    let forward = spaced::<70>(&stream_text(shown.forward), &copied);
-    spaced(b"forward", &forward)
+    put_word(text, b"forward");
+    put_word(text, &stream_text(shown.forward));
+    put_word(text, copied_text(shown.copied));
+    put_word(text, b"back");
+    put(text, &back_text(shown.back));
 }
 
-/// The types whose traffic is switched, the open way, and the streams.
-fn traffic_text(shown: &Shown) -> ArrayVec<u8, 174>
-    ensures { result.items ≡ traffic_text (shown_from shown.now) }
+/// Adds the types whose traffic is switched, the open way, and the streams.
+fn put_traffic(text: &mut LineText, shown: &Shown)
+    requires { length text.old.items + 174 ≤ LONGEST_LINE }
+    ensures text { text.new.items ≡ text.old.items ++ traffic_text (shown_from shown.now) }
+    ensures short { length text.new.items ≤ length text.old.items + 174 }
 {
-    let way = spaced::<138>(&way_text(shown.way), &streams_text(shown));
-    let way = spaced::<142>(b"way", &way);
     let types = shown.switched.text();
-    let switched = spaced::<165>(types.as_str().as_bytes(), &way);
-    spaced(b"switched", &switched)
+    put_word(text, b"switched");
+    put_word(text, types.as_str().as_bytes());
+    put_word(text, b"way");
+    put_word(text, &way_text(shown.way));
+    put_streams(text, shown);
 }
 
-/// What is told of a workflow.
-pub fn shown_text(shown: &Shown) -> ArrayVec<u8, 1409>
-    ensures { result.items ≡ shown_text (shown_from shown.now) }
+/// Writes the line that tells of a workflow, in place of the text that was there.
+#[inline(never)]
+pub fn write_shown(text: &mut LineText, shown: &Shown)
+    ensures { text.new.items ≡ shown_text (shown_from shown.now) ++ line_feed }
 {
-    let tables = tables_text(shown.tables.as_slice());
-    let tables = spaced::<1214>(&tables, &traffic_text(shown));
-    let target = spaced::<1279>(shown.target.as_str().as_bytes(), &tables);
-    let source = spaced::<1344>(shown.source.as_str().as_bytes(), &target);
-    spaced(shown.workflow.as_str().as_bytes(), &source)
+    text.clear();
+    put_word(text, shown.workflow.as_str().as_bytes());
+    put_word(text, shown.source.as_str().as_bytes());
+    put_word(text, shown.target.as_str().as_bytes());
+    put_tables(text, shown.tables.as_slice());
+    put(text, b" ");
+    put_traffic(text, shown);
+    text.push(b'\n');
 }

@@ -3,22 +3,19 @@ ghost use Rattle.std.specs.Prelude.{◌≡◌, ◌+◌, ◌<◌, ◌≤◌, ◌+
 ghost use Rattle.mt_plain.specs.Numbers.{number_text};
 ghost use Rattle.mt_plain.specs.Drive.{stopped};
 ghost use Rattle.mt_plain.specs.Events.{advanced, done, refused};
-ghost use Rattle.mt_plain.specs.Output.{answer_text, driven_text, ended_text, line_feed, refused_text, shown_text, spaced};
+ghost use Rattle.mt_plain.specs.Output.{answer_text, driven_text, ended_text, line_feed, refused_text, spaced};
 ghost use Rattle.mt_event.specs.Drives.{ended_from};
 ghost use Rattle.mt_event.specs.declared.reply.Reply.TheVariants as reply;
-ghost use Rattle.mt_event.specs.Events.{answer_from, refusal_from, shown_from};
+ghost use Rattle.mt_event.specs.Events.{answer_from, refusal_from};
 ghost use Rattle.mt_model.specs.Faults.{topology_fault_text};
 
-use crate::shown::{number, shown_text, spaced};
+use crate::shown::{LineText, number, spaced, write_shown};
 use arrayvec::ArrayVec;
-use mt_event::{Driven, Refusal, Reply, Shown};
+use mt_event::{Driven, Refusal, Reply};
 use mt_io::LONGEST_LINE;
 use mt_model::TopologyFault;
 use mt_names::Value;
 use mt_stream::Advanced;
-
-/// The text of a line of output, with its line feed.
-pub type LineText = ArrayVec<u8, LONGEST_LINE>;
 
 /// Adds a line of the two texts, one behind the other.
 fn put_line<const N: usize>(text: &mut ArrayVec<u8, N>, first: &[u8], second: &[u8])
@@ -62,14 +59,6 @@ pub fn write_advanced(text: &mut LineText, did: Advanced)
         b"events ",
         &events_text(did.events, &rows_text(did.rows)),
     );
-}
-
-/// Writes the line that tells of a workflow.
-#[inline(never)]
-fn write_shown(text: &mut LineText, shown: &Shown)
-    ensures { text.new.items ≡ shown_text (shown_from shown.now) ++ line_feed }
-{
-    write_line(text, &shown_text(shown), b"");
 }
 
 /// Writes the line that tells the answer to an event, in place of the text that was there.
