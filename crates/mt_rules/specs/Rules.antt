@@ -1,7 +1,9 @@
 -- Places for rule keys: how one is reserved, and how a refusal is printed.
-use Rattle.std.specs.Prelude.{◌≡◌, ℕ, ◌<◌, Bool, true, false, List, length, codes, is_some, ◌⊎◌, Result, Ok, Err}
+use Rattle.std.specs.Prelude.{◌≡◌, ℕ, ◌<◌, Bool, true, false, List, length, codes, is_some, ◌⊎◌, Option, None, Some, Result, Ok, Err}
+use Rattle.std.specs.Borrow.{Bor}
 use Rattle.std.specs.Map.{lookup}
 use Rattle.mt_names.specs.declared.keys.RuleKey.{RuleKey}
+use Rattle.mt_names.specs.declared.keys.RuleTarget.{RuleTarget}
 use Rattle.mt_names.specs.Same.{same_key}
 use Rattle.mt_model.specs.Limits.{most_rules}
 use Rattle.mt_model.specs.Topology.{Rules, with_rule_place}
@@ -20,6 +22,11 @@ rules_fault_text RepeatedKey = codes "R6 RepeatedKey"
 -- the key has a place
 abbrev pub has_rule_place : Rules → RuleKey → Bool
 has_rule_place rules key = is_some (lookup (same_key key) rules)
+
+-- the rule that leads where two lent names say, those of a keyspace and of a table there
+abbrev pub lent_rule : Option (Bor (List ℕ) × Bor (List ℕ)) → Option RuleTarget
+lent_rule None = None
+lent_rule (Some names) = Some (record { keyspace = names.0.now; table = names.1.now })
 
 -- what becomes of the rules where a key is reserved: it has a place or gets one; else there were as many as there may
 -- be, or no memory for one more

@@ -48,6 +48,9 @@ impl Counts {
         requires was { was ≡ true → 0 < counted self.old (class_of table.now) }
         ensures { (class : ℕ) → counted self.new class + counts_in class table.now was ≡ counted self.old class + counts_in class table.now is }
     {
+        if was == is {
+            return;
+        }
         let class = class_of(table);
         let count = self.counts[class];
         self.counts[class] = count + u16::from(is) - u16::from(was);

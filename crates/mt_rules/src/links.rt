@@ -5,13 +5,12 @@ ghost use Rattle.std.specs.Map.{keys_of, lookup, remove_entry, set_value};
 ghost use Rattle.mt_names.specs.Same.{same_key};
 ghost use Rattle.mt_model.specs.Topology.{rule_at};
 ghost use Rattle.mt_rules.specs.Links.{kept, place_in};
-ghost use Rattle.mt_rules.specs.Rules.{has_rule_place};
+ghost use Rattle.mt_rules.specs.Rules.{has_rule_place, lent_rule};
 
 use lru::LruCache;
-use mt_names::{RuleKey, RuleTarget};
+use mt_names::{KeyspaceName, RuleKey, RuleTarget, TableName};
 use std::alloc::{AllocError, Global};
 use std::marker::Model;
-use std::mem;
 
 /// How many keys stay linked without a place, at most; one more is unlinked as its place is dropped.
 const MOST_DROPPED: usize = 256;
@@ -96,13 +95,22 @@ impl Links {
     }
 
     /// Links a place before the others, for a key that has none. Without memory nothing changes.
-    pub fn put_first(&mut self, key: &RuleKey, rule: Option<RuleTarget>) -> Result<(), AllocError>
+    pub fn put_first(
+        &mut self,
+        key: &RuleKey,
+        rule: Option<(&KeyspaceName, &TableName)>,
+    ) -> Result<(), AllocError>
         requires { has_rule_place self.old key.now ≡ false }
-        ensures ok { OnOk result (self.new ≡ (key.now, rule) ∷ self.old) }
+        ensures ok { OnOk result (self.new ≡ (key.now, lent_rule rule.entry) ∷ self.old) }
         ensures err { OnErr result (self.new ≡ self.old) }
     {
         let _fewer_than_the_cap = self.linked.len();
-        match self.linked.put(key.copied(), Link::Place(rule)) {
+        if let Some(link) = self.linked.get_mut(key) {
+            *link = Link::Place(rule_of_names(rule));
+            self.len += 1;
+            return Ok(());
+        }
+        match self.linked.put(key.copied(), Link::Place(rule_of_names(rule))) {
             Ok(_) => {
                 self.len += 1;
                 Ok(())
@@ -111,24 +119,20 @@ impl Links {
         }
     }
 
-    /// Sets what the place of a key has, and answers whether it had a rule. It takes no memory.
-    pub fn write(&mut self, key: &RuleKey, rule: Option<RuleTarget>) -> bool
+    /// Sets the rule of a key that has a place, by the names of where it leads, or takes it away, and leaves the rule before. It takes
+    /// no memory.
+    pub fn exchange(
+        &mut self,
+        key: &RuleKey,
+        rule: Option<(&KeyspaceName, &TableName)>,
+        before: &mut Option<RuleTarget>,
+    )
         requires { has_rule_place self.old key.now ≡ true }
-        ensures stood { result ≡ is_some (rule_at self.old key.now) }
-        ensures after { self.new ≡ set_value (same_key key.now) self.old rule }
+        ensures before { before.new ≡ rule_at self.old key.now }
+        ensures after { self.new ≡ set_value (same_key key.now) self.old (lent_rule rule.entry) }
     {
         let _distinct = self.linked.len();
-        write(&mut self.linked, key, rule)
-    }
-
-    /// Sets what the place of a key has, and answers what it had. It takes no memory.
-    pub fn exchange(&mut self, key: &RuleKey, rule: Option<RuleTarget>) -> Option<RuleTarget>
-        requires { has_rule_place self.old key.now ≡ true }
-        ensures before { result ≡ rule_at self.old key.now }
-        ensures after { self.new ≡ set_value (same_key key.now) self.old rule }
-    {
-        let _distinct = self.linked.len();
-        exchange(&mut self.linked, key, rule)
+        exchange(&mut self.linked, key, rule, before)
     }
 
     /// Drops the place of a key, and answers whether it had a rule, if there is one. The key stays linked, if not too many do without a
@@ -172,39 +176,56 @@ impl Links {
     }
 }
 
-/// Sets what the place of a key has, and answers whether it had a rule.
-fn write(linked: &mut Linked, key: &RuleKey, rule: Option<RuleTarget>) -> bool
+/// Sets the rule of a key that has a place, and leaves the rule before.
+fn exchange(
+    linked: &mut Linked,
+    key: &RuleKey,
+    rule: Option<(&KeyspaceName, &TableName)>,
+    before: &mut Option<RuleTarget>,
+)
     requires place { has_rule_place (kept linked.old.entries) key.now ≡ true }
     requires distinct { IsDistinct same_key (keys_of linked.old.entries) }
-    ensures stood { result ≡ is_some (rule_at (kept linked.old.entries) key.now) }
-    ensures entries { linked.new.entries ≡ set_value (same_key key.now) linked.old.entries (Link.Place rule) }
+    ensures before { before.new ≡ rule_at (kept linked.old.entries) key.now }
+    ensures entries { linked.new.entries ≡ set_value (same_key key.now) linked.old.entries (Link.Place (lent_rule rule.entry)) }
     ensures cap { linked.new.cap ≡ linked.old.cap }
 {
     let Some(link) = linked.peek_mut(key) else {
-        return false;
+        return;
     };
     match link {
-        Link::Place(place) => {
-            let stood = place.is_some();
-            *place = rule;
-            stood
-        }
-        Link::Dropped => false,
+        Link::Place(place) => exchange_place(place, rule, before),
+        Link::Dropped => {}
     }
 }
 
-/// Sets what the place of a key has, and answers what it had.
-fn exchange(linked: &mut Linked, key: &RuleKey, rule: Option<RuleTarget>) -> Option<RuleTarget>
-    requires place { has_rule_place (kept linked.old.entries) key.now ≡ true }
-    requires distinct { IsDistinct same_key (keys_of linked.old.entries) }
-    ensures before { result ≡ rule_at (kept linked.old.entries) key.now }
-    ensures entries { linked.new.entries ≡ set_value (same_key key.now) linked.old.entries (Link.Place rule) }
-    ensures cap { linked.new.cap ≡ linked.old.cap }
+/// Sets what a place has, and leaves what it had. Names are copied to where they stay.
+fn exchange_place(
+    place: &mut Option<RuleTarget>,
+    rule: Option<(&KeyspaceName, &TableName)>,
+    before: &mut Option<RuleTarget>,
+)
+    ensures before { before.new ≡ place.old }
+    ensures after { place.new ≡ lent_rule rule.entry }
 {
-    match linked.peek_mut(key)? {
-        Link::Place(place) => mem::replace(place, rule),
-        Link::Dropped => None,
+    *before = place.as_ref().map(RuleTarget::copied);
+    match (place.as_mut(), rule) {
+        (Some(stood), Some((keyspace, table))) => {
+            stood.keyspace = keyspace.copied();
+            stood.table = table.copied();
+        }
+        _ => *place = rule_of_names(rule),
     }
+}
+
+/// The rule that leads where some names say.
+fn rule_of_names(rule: Option<(&KeyspaceName, &TableName)>) -> Option<RuleTarget>
+    ensures { result ≡ lent_rule rule.entry }
+{
+    let (keyspace, table) = rule?;
+    Some(RuleTarget {
+        keyspace: keyspace.copied(),
+        table: table.copied(),
+    })
 }
 
 /// Drops the place of a key, which stays linked, and answers whether it had a rule, if there was one.

@@ -18,7 +18,7 @@ fn add(places: &mut Places, key: &RuleKey, target: RuleTarget) -> Result<(), Rul
     if places.contains(key) {
         return Err(RulesFault::Shape);
     }
-    match places.add(key, Some(target)) {
+    match places.add(key, Some((&target.keyspace, &target.table))) {
         Ok(()) => Ok(()),
         Err(_) => Err(RulesFault::Memory),
     }

@@ -6,10 +6,10 @@ ghost use Rattle.std.specs.Option.{option_map_or, unwrap_or};
 ghost use Rattle.mt_names.specs.Same.{same_key};
 ghost use Rattle.mt_model.specs.Topology.{rule_at};
 ghost use Rattle.mt_rules.specs.Links.{in_order};
-ghost use Rattle.mt_rules.specs.Rules.{has_rule_place};
+ghost use Rattle.mt_rules.specs.Rules.{has_rule_place, lent_rule};
 
 use crate::links::{Linked, Links};
-use mt_names::{RuleKey, RuleTarget};
+use mt_names::{KeyspaceName, RuleKey, RuleTarget, TableName};
 use std::alloc::{AllocError, Global};
 use std::marker::Model;
 
@@ -74,9 +74,13 @@ impl Places {
     }
 
     /// Makes a place behind the others, for a key that has none. Without memory nothing changes.
-    pub fn add(&mut self, key: &RuleKey, rule: Option<RuleTarget>) -> Result<(), AllocError>
+    pub fn add(
+        &mut self,
+        key: &RuleKey,
+        rule: Option<(&KeyspaceName, &TableName)>,
+    ) -> Result<(), AllocError>
         requires { has_rule_place self.old key.now ≡ false }
-        ensures ok { OnOk result (self.new ≡ self.old ++ (key.now, rule) ∷ []) }
+        ensures ok { OnOk result (self.new ≡ self.old ++ (key.now, lent_rule rule.entry) ∷ []) }
         ensures err { OnErr result (self.new ≡ self.old) }
     {
         match &mut self.links {
@@ -90,27 +94,21 @@ impl Places {
         }
     }
 
-    /// Sets what the place of a key has, and answers whether it had a rule. It takes no memory.
-    pub fn put(&mut self, key: &RuleKey, rule: Option<RuleTarget>) -> bool
+    /// Sets the rule of a key that has a place, by the names of where it leads, or takes it away, and leaves the rule before. It takes
+    /// no memory.
+    pub fn exchange(
+        &mut self,
+        key: &RuleKey,
+        rule: Option<(&KeyspaceName, &TableName)>,
+        before: &mut Option<RuleTarget>,
+    )
         requires { has_rule_place self.old key.now ≡ true }
-        ensures stood { result ≡ is_some (rule_at self.old key.now) }
-        ensures after { self.new ≡ set_value (same_key key.now) self.old rule }
+        ensures before { before.new ≡ rule_at self.old key.now }
+        ensures after { self.new ≡ set_value (same_key key.now) self.old (lent_rule rule.entry) }
     {
         match &mut self.links {
-            Some(links) => set_place(links, key, rule),
-            None => false,
-        }
-    }
-
-    /// Sets what the place of a key has, and answers what it had. It takes no memory.
-    pub fn replace(&mut self, key: &RuleKey, rule: Option<RuleTarget>) -> Option<RuleTarget>
-        requires { has_rule_place self.old key.now ≡ true }
-        ensures before { result ≡ rule_at self.old key.now }
-        ensures after { self.new ≡ set_value (same_key key.now) self.old rule }
-    {
-        match &mut self.links {
-            Some(links) => replace_place(links, key, rule),
-            None => None,
+            Some(links) => exchange_place(links, key, rule, before),
+            None => {}
         }
     }
 
@@ -128,33 +126,32 @@ impl Places {
 }
 
 /// Makes a place behind the others, for a key that has none.
-fn put_last(links: &mut Links, key: &RuleKey, rule: Option<RuleTarget>) -> Result<(), AllocError>
+fn put_last(
+    links: &mut Links,
+    key: &RuleKey,
+    rule: Option<(&KeyspaceName, &TableName)>,
+) -> Result<(), AllocError>
     requires { has_rule_place (reverse links.old) key.now ≡ false }
-    ensures ok { OnOk result (reverse links.new ≡ reverse links.old ++ (key.now, rule) ∷ []) }
+    ensures ok { OnOk result (reverse links.new ≡ reverse links.old ++ (key.now, lent_rule rule.entry) ∷ []) }
     ensures err { OnErr result (links.new ≡ links.old) }
 {
     let _distinct = links.len();
     links.put_first(key, rule)
 }
 
-/// Sets what the place of a key has, and answers whether it had a rule.
-fn set_place(links: &mut Links, key: &RuleKey, rule: Option<RuleTarget>) -> bool
+/// Sets the rule of a key that has a place, and leaves the rule before.
+fn exchange_place(
+    links: &mut Links,
+    key: &RuleKey,
+    rule: Option<(&KeyspaceName, &TableName)>,
+    before: &mut Option<RuleTarget>,
+)
     requires { has_rule_place (reverse links.old) key.now ≡ true }
-    ensures stood { result ≡ is_some (rule_at (reverse links.old) key.now) }
-    ensures places { reverse links.new ≡ set_value (same_key key.now) (reverse links.old) rule }
+    ensures before { before.new ≡ rule_at (reverse links.old) key.now }
+    ensures places { reverse links.new ≡ set_value (same_key key.now) (reverse links.old) (lent_rule rule.entry) }
 {
     let _distinct = links.len();
-    links.write(key, rule)
-}
-
-/// Sets what the place of a key has, and answers what it had.
-fn replace_place(links: &mut Links, key: &RuleKey, rule: Option<RuleTarget>) -> Option<RuleTarget>
-    requires { has_rule_place (reverse links.old) key.now ≡ true }
-    ensures before { result ≡ rule_at (reverse links.old) key.now }
-    ensures places { reverse links.new ≡ set_value (same_key key.now) (reverse links.old) rule }
-{
-    let _distinct = links.len();
-    links.exchange(key, rule)
+    links.exchange(key, rule, before)
 }
 
 /// Drops the place of a key, and answers whether it had a rule, if there is one.

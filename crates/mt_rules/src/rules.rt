@@ -12,14 +12,14 @@ ghost use Rattle.mt_rules.specs.Values.{IsWellSorted, Says};
 ghost use Rattle.mt_rules.specs.Member.{rules_within};
 ghost use Rattle.mt_model.specs.Documents.{rules_array, rules_text};
 ghost use Rattle.mt_rules.specs.Links.{in_order};
-ghost use Rattle.mt_rules.specs.Rules.{Reserves, has_rule_place};
+ghost use Rattle.mt_rules.specs.Rules.{Reserves, has_rule_place, lent_rule};
 
 use crate::counts::Counts;
 use crate::links::{Link, Linked};
 use crate::places::Places;
 use crate::{RulesFault, member, read, text, write};
 use mt_model::{Entry, MAX_RULES};
-use mt_names::{RuleKey, RuleTarget, TableName};
+use mt_names::{KeyspaceName, RuleKey, RuleTarget, TableName};
 use serde_json::Value;
 use std::alloc::{AllocError, Global};
 use std::marker::Model;
@@ -221,10 +221,14 @@ impl RoutingRules {
     }
 
     /// Makes a place behind the others, for a key that has none. Without memory nothing changes.
-    fn add_place(&mut self, key: &RuleKey, rule: Option<RuleTarget>) -> Result<(), AllocError>
+    fn add_place(
+        &mut self,
+        key: &RuleKey,
+        rule: Option<(&KeyspaceName, &TableName)>,
+    ) -> Result<(), AllocError>
         requires lacks { has_rule_place self.old key.now ≡ false }
         requires room { length self.old < most_rules }
-        ensures ok { OnOk result (self.new ≡ self.old ++ (key.now, rule) ∷ []) }
+        ensures ok { OnOk result (self.new ≡ self.old ++ (key.now, lent_rule rule.entry) ∷ []) }
         ensures err { OnErr result (self.new ≡ self.old) }
     {
         let stands = rule.is_some();
@@ -244,7 +248,7 @@ impl RoutingRules {
         if self.is_full() {
             return Err(RulesFault::Full);
         }
-        match self.add_place(&key, Some(target)) {
+        match self.add_place(&key, Some((&target.keyspace, &target.table))) {
             Ok(()) => Ok(()),
             Err(_) => Err(RulesFault::Memory),
         }
@@ -256,20 +260,26 @@ impl RoutingRules {
         ensures before { result ≡ rule_at self.old key.now }
         ensures after { self.new ≡ set_value (same_key key.now) self.old target }
     {
-        let stands = target.is_some();
-        let before = self.places.replace(key, target);
-        self.standing.count(&key.table, before.is_some(), stands);
+        let mut before = None;
+        let rule = target.as_ref().map(|rule| (&rule.keyspace, &rule.table));
+        self.exchange(key, rule, &mut before);
         before
     }
 
-    /// Sets the rule of a reserved key, or takes it away. It takes no memory.
-    pub fn put(&mut self, key: &RuleKey, target: Option<RuleTarget>)
+    /// Sets the rule of a reserved key, by the names of where it leads, or takes it away, and leaves the rule before. It takes no memory.
+    pub fn exchange(
+        &mut self,
+        key: &RuleKey,
+        rule: Option<(&KeyspaceName, &TableName)>,
+        before: &mut Option<RuleTarget>,
+    )
         requires { has_rule_place self.old key.now ≡ true }
-        ensures { self.new ≡ set_value (same_key key.now) self.old target }
+        ensures before { before.new ≡ rule_at self.old key.now }
+        ensures after { self.new ≡ set_value (same_key key.now) self.old (lent_rule rule.entry) }
     {
-        let stands = target.is_some();
-        let stood = self.places.put(key, target);
-        self.standing.count(&key.table, stood, stands);
+        let stands = rule.is_some();
+        self.places.exchange(key, rule, before);
+        self.standing.count(&key.table, before.is_some(), stands);
     }
 
     /// Drops the place of a key that has no rule. Where the key has a rule nothing changes. It takes no memory.

@@ -80,13 +80,14 @@ fn write_name(
     ensures { topology.new ≡ with_entries topology.old (map (wanted workflow.now no_types) (map EntryKey.Rule (keys_of_name (option_copied keyspace.entry) table.now))) }
 {
     let mut key = key_of_name(keyspace, table, None);
-    topology.put_rule(&key, workflow.wanted_rule(&key, TypeSet::NONE));
+    topology.put_rule(&key, workflow.wanted_names(&key, TypeSet::NONE));
     key.tablet_type = Some(TabletType::Primary);
     topology.put_rule(&key, None);
+    let at_source = (workflow.source(), table);
     key.tablet_type = Some(TabletType::Replica);
-    topology.put_rule(&key, Some(at_source(workflow, table)));
+    topology.put_rule(&key, Some(at_source));
     key.tablet_type = Some(TabletType::Rdonly);
-    topology.put_rule(&key, Some(at_source(workflow, table)));
+    topology.put_rule(&key, Some(at_source));
 }
 
 /// Writes the part of a workflow as it was before Create. It takes no memory.
@@ -139,7 +140,8 @@ fn write_kept_rule(topology: &mut Topology, workflow: &Workflow, key: &RuleKey)
     requires { has_place topology.old (EntryKey.Rule key.now) ≡ true }
     ensures { topology.new ≡ with_entry topology.old (value_of (rules_only workflow.now.kept) (EntryKey.Rule key.now)) }
 {
-    topology.put_rule(key, workflow.kept(key).map(RuleTarget::copied));
+    let rule = workflow.kept(key);
+    topology.put_rule(key, rule.map(|rule| (&rule.keyspace, &rule.table)));
 }
 
 /// Adds to a change the rules that a name's four keys have with nothing switched. `H0 Memory`.

@@ -201,7 +201,9 @@ fn exchange_rule(
     ensures before { noted.new ≡ rule_record (rule_at topology.old.rules key.now) }
     ensures after { topology.new ≡ with_entry topology.old (wanted workflow.now types (EntryKey.Rule key.now)) }
 {
-    match topology.exchange_rule(key, workflow.wanted_rule(key, types)) {
+    let mut before = None;
+    topology.exchange_rule(key, workflow.wanted_names(key, types), &mut before);
+    match before {
         Some(rule) => *noted = RuleRecord::Rule(rule),
         None => *noted = RuleRecord::NoRule,
     }
@@ -333,9 +335,9 @@ fn write_back_reads_of(
 {
     let mut key = key_of_name(keyspace, table);
     key.tablet_type = Some(TabletType::Replica);
-    topology.put_rule(&key, noted.replica.rule(source, target, table));
+    topology.put_rule(&key, noted.replica.names(source, target, table));
     key.tablet_type = Some(TabletType::Rdonly);
-    topology.put_rule(&key, noted.rdonly.rule(source, target, table));
+    topology.put_rule(&key, noted.rdonly.names(source, target, table));
 }
 
 /// The same with step 9: the rules for all types, and those of primary.
@@ -381,9 +383,9 @@ fn write_back_writes_of(
     ensures { (w : WorkflowState) → topology.new ≡ fold (with_recorded w 9) topology.old (name_entries source.now target.now (option_copied keyspace.entry) table.now noted.now) }
 {
     let mut key = key_of_name(keyspace, table);
-    topology.put_rule(&key, noted.plain.rule(source, target, table));
+    topology.put_rule(&key, noted.plain.names(source, target, table));
     key.tablet_type = Some(TabletType::Primary);
-    topology.put_rule(&key, noted.primary.rule(source, target, table));
+    topology.put_rule(&key, noted.primary.names(source, target, table));
 }
 
 /// The same with another step: the denials that change with it.

@@ -3,6 +3,7 @@ ghost use Rattle.std.specs.Prelude.{◌≡◌, ◌≢◌, None, map};
 ghost use Rattle.mt_model.specs.Part.{table_part_keys};
 ghost use Rattle.mt_plain.specs.Serve.{serve_rule};
 ghost use Rattle.mt_workflow.specs.Workflows.{live_of, rules_only, wanted};
+ghost use Rattle.mt_rules.specs.Rules.{lent_rule};
 ghost use Rattle.mt_steps.specs.Records.{key_at_source, name_at_rest, rule_record, rule_recorded, side_record, table_entries};
 
 use mt_names::{KeyspaceName, RuleKey, RuleTarget, TableName, TypeSet};
@@ -54,25 +55,21 @@ pub(crate) struct TableRecord {
 }
 
 impl RuleRecord {
-    /// The rule that stood at a key of a table.
-    pub(crate) fn rule(
-        &self,
-        source: &KeyspaceName,
-        target: &KeyspaceName,
-        table: &TableName,
-    ) -> Option<RuleTarget>
-        ensures { result ≡ rule_recorded source.now target.now table.now self.now }
+    /// The names of the keyspace and the table that the rule leads to which stood at a key of a table, if one stood.
+    pub(crate) fn names<'a>(
+        &'a self,
+        source: &'a KeyspaceName,
+        target: &'a KeyspaceName,
+        table: &'a TableName,
+    ) -> Option<(&'a KeyspaceName, &'a TableName)>
+        ensures { lent_rule result ≡ rule_recorded source.now target.now table.now self.now }
     {
-        let keyspace = match self {
-            RuleRecord::ToSource => source,
-            RuleRecord::ToTarget => target,
-            RuleRecord::Rule(rule) => return Some(rule.copied()),
-            RuleRecord::NoRule => return None,
-        };
-        Some(RuleTarget {
-            keyspace: keyspace.copied(),
-            table: table.copied(),
-        })
+        match self {
+            RuleRecord::ToSource => Some((source, table)),
+            RuleRecord::ToTarget => Some((target, table)),
+            RuleRecord::Rule(rule) => Some((&rule.keyspace, &rule.table)),
+            RuleRecord::NoRule => None,
+        }
     }
 
     /// What a rule is recorded as that a step found.

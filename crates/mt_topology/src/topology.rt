@@ -10,6 +10,7 @@ ghost use Rattle.mt_model.specs.Documents.{dump_text};
 ghost use Rattle.mt_keyspace.specs.Edits.{Edits, add_keyspace_refusal, add_table_grows, add_table_refusal};
 ghost use Rattle.mt_topology.specs.Edits.{edit_rule_grows, edit_rule_refusal};
 ghost use Rattle.mt_topology.specs.Leads.{lent_target};
+ghost use Rattle.mt_rules.specs.Rules.{lent_rule};
 
 mod clear;
 mod part;
@@ -188,12 +189,13 @@ impl Topology {
         }
     }
 
-    /// Writes the rule of a key that has a place, or takes it away. It takes no memory.
-    pub fn put_rule(&mut self, key: &RuleKey, target: Option<RuleTarget>)
+    /// Writes the rule of a key that has a place, by the names of where it leads, or takes it away. It takes no memory.
+    pub fn put_rule(&mut self, key: &RuleKey, rule: Option<(&KeyspaceName, &TableName)>)
         requires { has_place self.old (EntryKey.Rule key.now) ≡ true }
-        ensures { self.new ≡ with_entry self.old (Entry.Rule key.now target) }
+        ensures { self.new ≡ with_entry self.old (Entry.Rule key.now (lent_rule rule.entry)) }
     {
-        self.rules.put(key, target);
+        let mut before = None;
+        self.rules.exchange(key, rule, &mut before);
     }
 
     /// Writes whether a keyspace's primary is to refuse a table, where that has a place. It takes no memory.
@@ -212,13 +214,19 @@ impl Topology {
         self.keyspaces.set_present(keyspace, table, is_present);
     }
 
-    /// Writes the rule of a key that has a place, or takes it away, and answers which stood before. It takes no memory.
-    pub fn exchange_rule(&mut self, key: &RuleKey, target: Option<RuleTarget>) -> Option<RuleTarget>
+    /// Writes the rule of a key that has a place, by the names of where it leads, or takes it away, and leaves the rule before. It
+    /// takes no memory.
+    pub fn exchange_rule(
+        &mut self,
+        key: &RuleKey,
+        rule: Option<(&KeyspaceName, &TableName)>,
+        before: &mut Option<RuleTarget>,
+    )
         requires { has_place self.old (EntryKey.Rule key.now) ≡ true }
-        ensures before { result ≡ rule_at self.old.rules key.now }
-        ensures after { self.new ≡ with_entry self.old (Entry.Rule key.now target) }
+        ensures before { before.new ≡ rule_at self.old.rules key.now }
+        ensures after { self.new ≡ with_entry self.old (Entry.Rule key.now (lent_rule rule.entry)) }
     {
-        self.rules.set(key, target)
+        self.rules.exchange(key, rule, before);
     }
 
     /// Writes whether a keyspace's primary is to refuse a table, where that has a place, and answers what stood before. It takes no
@@ -257,7 +265,7 @@ impl Topology {
     {
         match entry {
             Entry::Rule(key, target) => {
-                self.put_rule(key, target.as_ref().map(RuleTarget::copied));
+                self.put_rule(key, target.as_ref().map(|rule| (&rule.keyspace, &rule.table)));
             }
             Entry::Denied(keyspace, table, is_denied) => {
                 self.put_denied(keyspace, table, *is_denied);

@@ -206,14 +206,27 @@ impl Workflow {
     pub fn wanted_rule(&self, key: &RuleKey, types: TypeSet) -> Option<RuleTarget>
         ensures { result ≡ serve_rule (rules_only self.now.kept) (live_of self.now) types key.now key.now.tablet_type }
     {
-        if self.is_as_before(key, types) {
-            return self.kept_rule(key);
-        }
-        let keyspace = self.leads_to(key, types)?;
+        let (keyspace, table) = self.wanted_names(key, types)?;
         Some(RuleTarget {
             keyspace: keyspace.copied(),
-            table: key.table.copied(),
+            table: table.copied(),
         })
+    }
+
+    /// The names of the keyspace and the table that the rule of a key leads to, as `wanted_rule` answers it, without a copy of either.
+    pub fn wanted_names<'a>(
+        &'a self,
+        key: &'a RuleKey,
+        types: TypeSet,
+    ) -> Option<(&'a KeyspaceName, &'a TableName)>
+        ensures { lent_rule result ≡ serve_rule (rules_only self.now.kept) (live_of self.now) types key.now key.now.tablet_type }
+    {
+        if self.is_as_before(key, types) {
+            let rule = self.kept(key)?;
+            return Some((&rule.keyspace, &rule.table));
+        }
+        let keyspace = self.leads_to(key, types)?;
+        Some((keyspace, &key.table))
     }
 
     /// Whether a key is to have the rule from before Create: that of the name at the source, as long as the source is the owner.
@@ -227,14 +240,6 @@ impl Workflow {
             None => false,
             Some(keyspace) => &self.source == keyspace,
         }
-    }
-
-    /// The rule that a key had before Create, as a value of its own.
-    #[inline(never)]
-    fn kept_rule(&self, key: &RuleKey) -> Option<RuleTarget>
-        ensures { result ≡ rule_at self.now.kept key.now }
-    {
-        self.kept(key).map(RuleTarget::copied)
     }
 
     /// The keyspace that the rule of a key leads to, if the key is to have a rule that isn't the one from before Create.
