@@ -1,9 +1,9 @@
 //! Calls of a primary with a place at which the table is looked for first. Where it stands there, no hash is computed.
 ghost use Rattle.std.specs.Prelude.{◌≡◌, true, Some, slice_get};
 ghost use Rattle.std.specs.Map.{keys_of};
-ghost use Rattle.std.specs.Option.{option_copied};
+ghost use Rattle.std.specs.Option.{option_copied, option_map};
 ghost use Rattle.mt_primary.specs.Primary.{place_at};
-ghost use Rattle.mt_primary.specs.Reads.{read_row};
+ghost use Rattle.mt_primary.specs.Reads.{next_row, read_row};
 ghost use Rattle.mt_primary.specs.Writes.{Puts, Writes};
 
 use crate::edits::{put_row, write_row};
@@ -13,7 +13,7 @@ use mt_names::{Position, TableName, TabletType, Value};
 use mt_shared::SharedValue;
 
 impl Primary {
-    /// The place of a table among the primary's tables, if it is there: a hint for `write_placed` and `read_placed`. It
+    /// The place of a table among the primary's tables, if it is there: a hint for the calls with a place. It
     /// takes no memory.
     pub fn place_of(&self, table: &TableName) -> Option<usize>
         ensures { result ≡ place_at self.now table.now }
@@ -55,8 +55,24 @@ impl Primary {
         }
     }
 
+    /// As `lent_row_after`, with a place at which the table is looked for first. Whatever place is given, the rows are those of the
+    /// table of this name. It takes no memory. (Vitess: the copy phase of a stream)
+    pub fn lent_row_after_placed(
+        &self,
+        place: usize,
+        table: &TableName,
+        key: Option<u64>,
+    ) -> Option<(u64, &SharedValue)>
+        ensures { option_map (λ row. (row.0, row.1.now)) result ≡ next_row self.now table.now key }
+    {
+        match self.tables.get_index(place) {
+            Some((name, rows)) if name.name() == table => rows.row_after(key),
+            _ => self.lent_row_after(table, key),
+        }
+    }
+
     /// Whether a table stands at a place.
-    fn stands_at(&self, place: usize, table: &TableName) -> bool
+    pub(crate) fn stands_at(&self, place: usize, table: &TableName) -> bool
         ensures { result ≡ true → slice_get (keys_of self.now.tables) place ≡ Some table.now }
     {
         match self.tables.get_index(place) {

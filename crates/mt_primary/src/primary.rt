@@ -24,6 +24,8 @@ use std::marker::Model;
 pub struct Primary {
     pub(crate) tables: IndexMap<SharedName, Table>,
     pub(crate) log: Vec<RowChange>,
+    // Where a stream's write looks for its table first.
+    streamed: usize,
 }
 
 impl Model for Primary {
@@ -44,6 +46,7 @@ impl Primary {
         Primary {
             tables: IndexMap::new(alloc),
             log: Vec::new(alloc),
+            streamed: 0,
         }
     }
 
@@ -135,8 +138,15 @@ impl Primary {
         requires there { has_table self.old table.now ≡ true }
         ensures { Puts self.old (record { table = table.now; key = key; after = option_copied after.entry }) result self.new }
     {
+        let streamed = self.streamed;
+        if self.stands_at(streamed, table) {
+            return self.put_at(streamed, table, key, after);
+        }
         match self.tables.get_index_of(table) {
-            Some(place) => self.put_at(place, table, key, after),
+            Some(place) => {
+                self.streamed = place;
+                self.put_at(place, table, key, after)
+            }
             None => unreachable!(),
         }
     }

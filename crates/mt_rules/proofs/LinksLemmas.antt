@@ -5,7 +5,8 @@ use Rattle.std.proofs.lemmas.List.{take_all}
 use Rattle.std.specs.List.{AllByRecursion, IsDistinct}
 use Rattle.std.specs.Option.{unwrap_or}
 use Rattle.std.specs.Map.{keys_of, lookup, lookup_entry, remove_entry, set_value}
-use Rattle.lru.specs.LruCache.{LruCache, put_entries}
+use Rattle.lru.proofs.Pairs.{lookup-lookup_entry}
+use Rattle.lru.specs.LruCache.{LruCache, promoted, put_entries}
 use Rattle.mt_names.specs.declared.keys.RuleKey.{RuleKey}
 use Rattle.mt_names.specs.declared.keys.RuleTarget.{RuleTarget}
 use Rattle.mt_names.specs.Same.{same_key}
@@ -195,6 +196,20 @@ entry_key (d ∷ es) key e is = by (entry_key es key e) (same_key key d.0) refl
     by again true t = (same_key_decides key d.0).0 t ∙ ap (λ (x : RuleKey × Link). x.0) (same_entry (rw t at is))
     by again false t = again (rw t at is)
 
+-- a link that is made a place again stands before the others
+pub linked_again : (es : List (RuleKey × Link)) (key : RuleKey) (rule : Option RuleTarget) (link : Link) → Some link ≡ lookup (same_key key) es → has_rule_place (kept es) key ≡ false → IsDistinct same_key (keys_of es)
+    → kept (set_value (same_key key) (promoted (same_key key) es) (Place rule)) ≡ (key, rule) ∷ kept es
+linked_again es key rule link is lacks distinct = by (lookup_entry (same_key key) es) refl
+  where
+    none : lookup (same_key key) (kept es) ≡ None
+    none = none_from (lookup (same_key key) (kept es)) lacks
+
+    by : (o : Option (RuleKey × Link)) → lookup_entry (same_key key) es ≡ o → kept (set_value (same_key key) (promoted (same_key key) es) (Place rule)) ≡ (key, rule) ∷ kept es
+    by None found = absurd (true≢false (ap is_some (is ∙ sym (lookup-lookup_entry (same_key key) es) ∙ ap (option_map (λ e. e.1)) found)))
+    by (Some e) found =
+        let here : key ≡ e.0 = entry_key es key e found in
+        rw found (rw ((same_key_decides key e.0).1 here) (ap (λ k. (k, rule) ∷ kept (remove_entry (same_key key) es)) (sym here) ∙ ap (λ l. (key, rule) ∷ l) (drop_first es key none distinct)))
+
 pub put_before : (c : LruCache RuleKey Link) (key copy : RuleKey) (rule : Option RuleTarget) → copy ≡ key → has_rule_place (kept c.entries) key ≡ false → IsDistinct same_key (keys_of c.entries)
     → c.cap ≡ 2 ^ 64 - 1 → length c.entries < 2 ^ 63 → kept (put_entries same_key c copy (Place rule)) ≡ (key, rule) ∷ kept c.entries
 put_before c key copy rule copied lacks distinct most few =
@@ -209,3 +224,11 @@ put_before c key copy rule copied lacks distinct most few =
     by : (o : Option (RuleKey × Link)) → lookup_entry (same_key key) c.entries ≡ o → kept (put_entries same_key c key (Place rule)) ≡ (key, rule) ∷ kept c.entries
     by None is = rw is (ap (λ l. (key, rule) ∷ kept l) (take_all (c.cap - 1) c.entries fits))
     by (Some e) is = rw is (ap (λ k. (k, rule) ∷ kept (remove_entry (same_key key) c.entries)) (sym (entry_key c.entries key e is)) ∙ ap (λ l. (key, rule) ∷ l) (drop_first c.entries key none distinct))
+
+-- the same of links that have been looked through before
+pub put_after : (c d : LruCache RuleKey Link) (key copy : RuleKey) (rule same : Option RuleTarget) → copy ≡ key → same ≡ rule → d.entries ≡ c.entries → d.cap ≡ c.cap → has_rule_place (kept c.entries) key ≡ false → IsDistinct same_key (keys_of c.entries)
+    → c.cap ≡ 2 ^ 64 - 1 → length c.entries < 2 ^ 63 → kept (put_entries same_key d copy (Place same)) ≡ (key, rule) ∷ kept c.entries
+put_after c d key copy rule same copied is entries cap lacks distinct most few =
+    ap (λ r. kept (put_entries same_key d copy (Place r))) is
+    ∙ put_before d key copy rule copied (ap (λ l. has_rule_place (kept l) key) entries ∙ lacks) (subst (λ l. IsDistinct same_key (keys_of l)) (sym entries) distinct) (cap ∙ most) (subst (λ l. length l < 2 ^ 63) (sym entries) few)
+    ∙ ap (λ l. (key, rule) ∷ kept l) entries

@@ -1,5 +1,6 @@
 -- A place more, at a key that has none, and one less; how many there are.
-use Rattle.std.proofs.Common.{◌≡◌, ◌≤◌, ◌==◌, Bool, arith, true, false, length, Ok, [], ◌∷◌, ◌++◌, None, Some, refl, sym, ap}
+use Rattle.std.proofs.Common.{◌≡◌, ◌≤◌, ◌==◌, ℕ, Bool, arith, true, false, length, List, Ok, [], ◌∷◌, ◌++◌, Option, None, Some, is_some, refl, sym, ap}
+use Rattle.std.specs.Borrow.{Bor}
 use Rattle.std.specs.Map.{lookup, remove_entry}
 use Rattle.mt_names.specs.declared.keys.RuleKey.{RuleKey}
 use Rattle.mt_names.specs.declared.keys.RuleTarget.{RuleTarget}
@@ -8,11 +9,16 @@ use Rattle.mt_names.proofs.EntryLemmas.{none_from}
 use Rattle.mt_model.specs.Limits.{most_rules}
 use Rattle.mt_model.specs.Topology.{Rules, with_rule_place, without_rule_place}
 use Rattle.mt_rules.specs.Read.{with_one_more}
-use Rattle.mt_rules.specs.Rules.{has_rule_place}
+use Rattle.mt_rules.specs.Rules.{has_rule_place, lent_rule}
 use Rattle.mt_rules.specs.Member.{or_shape, with_new_rule}
 
 pub with_rule_place-new : (rules : Rules) (key : RuleKey) → has_rule_place rules key ≡ false → with_rule_place rules key ≡ rules ++ (key, None) ∷ []
 with_rule_place-new rules key lacks = rw (none_from (lookup (same_key key) rules) lacks) refl
+
+-- a rule stands where names say where it leads
+pub lent_stands : (rule : Option (Bor (List ℕ) × Bor (List ℕ))) → is_some rule ≡ is_some (lent_rule rule)
+lent_stands None = refl
+lent_stands (Some names) = refl
 
 pub with_one_more-new : (rules : Rules) (r : RuleKey × RuleTarget) (new : Rules) → has_rule_place rules r.0 ≡ false → (length rules == most_rules) ≡ false → new ≡ rules ++ (r.0, Some r.1) ∷ [] → Ok new ≡ with_one_more rules r
 with_one_more-new rules r new lacks room is = rw (lacks, room) (ap Ok is)

@@ -105,12 +105,14 @@ impl Links {
         ensures err { OnErr result (self.new ≡ self.old) }
     {
         let _fewer_than_the_cap = self.linked.len();
-        if let Some(link) = self.linked.get_mut(key) {
-            *link = Link::Place(rule_of_names(rule));
+        if relink(&mut self.linked, key, rule) {
             self.len += 1;
             return Ok(());
         }
-        match self.linked.put(key.copied(), Link::Place(rule_of_names(rule))) {
+        match self
+            .linked
+            .put(key.copied(), Link::Place(rule_of_names(rule)))
+        {
             Ok(_) => {
                 self.len += 1;
                 Ok(())
@@ -176,6 +178,21 @@ impl Links {
     }
 }
 
+/// Links a place of a key without one before the others, if the key is linked, and answers whether it is.
+fn relink(linked: &mut Linked, key: &RuleKey, rule: Option<(&KeyspaceName, &TableName)>) -> bool
+    requires place { has_rule_place (kept linked.old.entries) key.now ≡ false }
+    requires distinct { IsDistinct same_key (keys_of linked.old.entries) }
+    ensures linked { result ≡ true → kept linked.new.entries ≡ (key.now, lent_rule rule.entry) ∷ kept linked.old.entries }
+    ensures other { result ≡ false → linked.new.entries ≡ linked.old.entries }
+    ensures cap { linked.new.cap ≡ linked.old.cap }
+{
+    let Some(link) = linked.get_mut(key) else {
+        return false;
+    };
+    *link = Link::Place(rule_of_names(rule));
+    true
+}
+
 /// Sets the rule of a key that has a place, and leaves the rule before.
 fn exchange(
     linked: &mut Linked,
@@ -207,7 +224,10 @@ fn exchange_place(
     ensures before { before.new ≡ place.old }
     ensures after { place.new ≡ lent_rule rule.entry }
 {
-    *before = place.as_ref().map(RuleTarget::copied);
+    match place {
+        Some(stood) => *before = Some(stood.copied()),
+        None => *before = None,
+    }
     match (place.as_mut(), rule) {
         (Some(stood), Some((keyspace, table))) => {
             stood.keyspace = keyspace.copied();

@@ -21,15 +21,9 @@ use Rattle.mt_steps.specs.Entries.{is_of_step}
 
 -- the rule that stood at a key of a table, between two sides (this profile's own)
 abbrev pub rule_recorded : (source target table : List ℕ) → RuleRecord → Option RuleTarget
-rule_recorded source target table was.NoRule = None
 rule_recorded source target table was.ToSource = Some (in_keyspace source table)
 rule_recorded source target table was.ToTarget = Some (in_keyspace target table)
-rule_recorded source target table (was.Rule rule) = Some rule
-
--- what a rule is recorded as that a step found (this profile's own)
-abbrev pub rule_record : Option RuleTarget → RuleRecord
-rule_record (Some rule) = was.Rule rule
-rule_record None = was.NoRule
+rule_recorded source target table (was.Found rule) = rule
 
 -- a rule to a key's table at the target, or at the source (this profile's own)
 abbrev pub side_record : (is_target : Bool) → RuleRecord
@@ -74,7 +68,7 @@ denied_after w n t side table mark = if is_of_step w n (about.Denied side table)
 
 -- what stands at the keys of a name with some types switched, with the rule for all types (How traffic is switched: reads)
 abbrev pub name_at_rest : TypeSet → RuleRecord → NameRecord
-name_at_rest types plain = record { plain = plain; primary = was.NoRule; replica = side_record types.replica; rdonly = side_record types.rdonly }
+name_at_rest types plain = record { plain = plain; primary = was.Found None; replica = side_record types.replica; rdonly = side_record types.rdonly }
 
 -- the key of a table's name at the source, for all types (Routing Rules)
 abbrev pub key_at_source : WorkflowState → (table : List ℕ) → RuleKey

@@ -6,7 +6,8 @@ ghost use Rattle.mt_model.specs.Part.{keys_of_name};
 ghost use Rattle.mt_model.specs.Topology.{has_place, key_of, rule_at, with_entry};
 ghost use Rattle.mt_workflow.specs.Workflows.{WorkflowState, wanted};
 ghost use Rattle.mt_steps.specs.Entries.{HavePlaces, is_of_step, swept, with_recorded, with_wanted};
-ghost use Rattle.mt_steps.specs.Records.{denial_step, denied_after, entries_of, name_entries, rule_record, table_entries};
+ghost use Rattle.mt_steps.specs.declared.records.RuleRecord.{RuleRecord};
+ghost use Rattle.mt_steps.specs.Records.{denial_step, denied_after, entries_of, name_entries, table_entries};
 
 use crate::records::{NameRecord, RuleRecord, TableRecord};
 use mt_names::{KeyspaceName, RuleKey, TableName, TabletType, TypeSet};
@@ -198,14 +199,12 @@ fn exchange_rule(
     noted: &mut RuleRecord,
 )
     requires { has_place topology.old (EntryKey.Rule key.now) ≡ true }
-    ensures before { noted.new ≡ rule_record (rule_at topology.old.rules key.now) }
+    ensures before { noted.new ≡ RuleRecord.Found (rule_at topology.old.rules key.now) }
     ensures after { topology.new ≡ with_entry topology.old (wanted workflow.now types (EntryKey.Rule key.now)) }
 {
-    let mut before = None;
-    topology.exchange_rule(key, workflow.wanted_names(key, types), &mut before);
-    match before {
-        Some(rule) => *noted = RuleRecord::Rule(rule),
-        None => *noted = RuleRecord::NoRule,
+    *noted = RuleRecord::Found(None);
+    if let RuleRecord::Found(before) = noted {
+        topology.exchange_rule(key, workflow.wanted_names(key, types), before);
     }
 }
 

@@ -4,7 +4,7 @@ ghost use Rattle.mt_model.specs.Part.{table_part_keys};
 ghost use Rattle.mt_plain.specs.Serve.{serve_rule};
 ghost use Rattle.mt_workflow.specs.Workflows.{live_of, rules_only, wanted};
 ghost use Rattle.mt_rules.specs.Rules.{lent_rule};
-ghost use Rattle.mt_steps.specs.Records.{key_at_source, name_at_rest, rule_record, rule_recorded, side_record, table_entries};
+ghost use Rattle.mt_steps.specs.Records.{key_at_source, name_at_rest, rule_recorded, side_record, table_entries};
 
 use mt_names::{KeyspaceName, RuleKey, RuleTarget, TableName, TypeSet};
 use mt_workflow::Workflow;
@@ -12,14 +12,12 @@ use mt_workflow::Workflow;
 /// The rule that stood at a key. It has no name but that of a rule that a step found there.
 #[derive(Drop)]
 pub(crate) enum RuleRecord {
-    /// No rule.
-    NoRule,
     /// A rule that leads to the key's table at the source.
     ToSource,
     /// A rule that leads to the key's table at the target.
     ToTarget,
-    /// A rule.
-    Rule(RuleTarget),
+    /// A rule as it was found, or none.
+    Found(Option<RuleTarget>),
 }
 
 /// The rules that stood at the four keys of a name.
@@ -67,18 +65,8 @@ impl RuleRecord {
         match self {
             RuleRecord::ToSource => Some((source, table)),
             RuleRecord::ToTarget => Some((target, table)),
-            RuleRecord::Rule(rule) => Some((&rule.keyspace, &rule.table)),
-            RuleRecord::NoRule => None,
-        }
-    }
-
-    /// What a rule is recorded as that a step found.
-    pub(crate) fn of_rule(rule: Option<RuleTarget>) -> Self
-        ensures { result ≡ rule_record rule }
-    {
-        match rule {
-            Some(rule) => RuleRecord::Rule(rule),
-            None => RuleRecord::NoRule,
+            RuleRecord::Found(Some(rule)) => Some((&rule.keyspace, &rule.table)),
+            RuleRecord::Found(None) => None,
         }
     }
 
@@ -101,7 +89,7 @@ pub(crate) fn table_at_rest(workflow: &Workflow, table: &TableName) -> TableReco
 {
     let types = workflow.switched();
     let at_target = if types.primary {
-        RuleRecord::NoRule
+        RuleRecord::Found(None)
     } else {
         RuleRecord::ToSource
     };
@@ -122,7 +110,7 @@ fn name_at_rest(types: TypeSet, plain: RuleRecord) -> NameRecord
 {
     NameRecord {
         plain,
-        primary: RuleRecord::NoRule,
+        primary: RuleRecord::Found(None),
         replica: RuleRecord::of_side(types.replica),
         rdonly: RuleRecord::of_side(types.rdonly),
     }
@@ -138,5 +126,5 @@ fn plain_at_source(workflow: &Workflow, types: TypeSet, table: &TableName) -> Ru
         table: table.copied(),
         tablet_type: None,
     };
-    RuleRecord::of_rule(workflow.wanted_rule(&key, types))
+    RuleRecord::Found(workflow.wanted_rule(&key, types))
 }

@@ -34,11 +34,12 @@ fn first_behind(tables: &[TableName], range: CopiedRange) -> (usize, Option<u64>
     }
 }
 
-/// The first row that is left to copy, if there is one.
+/// The first row that is left to copy, if there is one. Its table is looked for first at a place of the source.
 fn first_left<'a>(
     tables: &[TableName],
     range: CopiedRange,
     source: &'a Primary,
+    at: usize,
 ) -> Option<LeftRow<'a>>
     requires distinct { AllPairs ◌≢◌ tables.now }
     requires placed { IsPlaced tables.now range }
@@ -47,7 +48,7 @@ fn first_left<'a>(
     source.what_holds();
     let (start, mut behind) = first_behind(tables, range);
     for place in start..tables.len() {
-        if let Some((key, value)) = source.lent_row_after(&tables[place], behind) {
+        if let Some((key, value)) = source.lent_row_after_placed(at, &tables[place], behind) {
             return Some(LeftRow { place, key, value });
         }
         behind = None;
@@ -70,12 +71,19 @@ pub fn copy_rows(
     ensures placed { IsPlaced tables.now range.new }
     ensures copies { CopiesRows tables.now (copied_from tables.now range.old) source.now sink.old max result (copied_from tables.now range.new) sink.new }
 {
+    let mut copied_last = tables.len();
+    let mut at = 0;
     for copied in 0..max {
-        let Some(row) = first_left(tables, *range, source) else {
+        let Some(row) = first_left(tables, *range, source, at) else {
             *range = CopiedRange::Ended;
             return Ok(copied);
         };
-        match put_row(sink, &tables[row.place], row.key, Some(row.value)) {
+        let table = &tables[row.place];
+        if row.place != copied_last {
+            copied_last = row.place;
+            at = source.place_of(table).unwrap_or(0);
+        }
+        match put_row(sink, table, row.key, Some(row.value)) {
             Ok(()) => *range = CopiedRange::UpTo(row.place, row.key),
             Err(_) if copied > 0 => return Ok(copied),
             Err(fault) => return Err(fault),

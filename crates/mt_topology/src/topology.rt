@@ -265,7 +265,10 @@ impl Topology {
     {
         match entry {
             Entry::Rule(key, target) => {
-                self.put_rule(key, target.as_ref().map(|rule| (&rule.keyspace, &rule.table)));
+                self.put_rule(
+                    key,
+                    target.as_ref().map(|rule| (&rule.keyspace, &rule.table)),
+                );
             }
             Entry::Denied(keyspace, table, is_denied) => {
                 self.put_denied(keyspace, table, *is_denied);

@@ -4,5 +4,5 @@ use Rattle.std.specs.Map.{keys_of}
 use Rattle.mt_primary.proofs.PlacedLemmas.{found-at}
 use Rattle.mt_primary.proofs.primary.Primary.put.Goals as goal
 
-pub put_at-requires : goal.put_at-requires
-put_at-requires c = record { there = rw (← c.self.view_is) (found-at (keys_of c.self.inside.tables.entries) c.args.table.now c.in-Some.place (sym c.in-Some.ensures.index)) }
+pub put_at-requires-in-Some : goal.put_at-requires-in-Some
+put_at-requires-in-Some c = record { there = found-at (keys_of c.self.inside.tables.entries) c.args.table.now c.in-Some.place (sym c.in-Some.ensures.index) }

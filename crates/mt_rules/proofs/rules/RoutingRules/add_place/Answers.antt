@@ -1,9 +1,11 @@
 -- There is one place more, which is counted, and its rule too.
-use Rattle.std.proofs.Common.{◌≤◌, ap, is_some, length, arith, refl, subst, true, sym}
+use Rattle.std.proofs.Common.{◌≤◌, ap, is_some, length, arith, refl, subst, true, sym, ◌∙◌}
 use Rattle.std.proofs.lemmas.List.{length_push}
 use Rattle.mt_model.specs.Limits.{most_rules}
+use Rattle.mt_rules.specs.Rules.{lent_rule}
 use Rattle.mt_rules.specs.Counts.{IsCounted, any_place, class_of}
 use Rattle.mt_rules.proofs.CountsLemmas.{has_room, right_more}
+use Rattle.mt_rules.proofs.RulesLemmas.{lent_stands}
 use Rattle.mt_rules.proofs.rules.RoutingRules.add_place.Goals as goal
 
 pub count-requires-clause-room : goal.count-requires-clause-room
@@ -18,7 +20,7 @@ invariant_of-self c =
 
 pub invariant_of-self-2 : goal.invariant_of-self-2
 invariant_of-self-2 c = (
-  omega (arith, ap length c.in_ok-add.ensures.ok, length_push c.self.inside.places (c.args.key.now, c.args.rule), ap length c.self.view_is, c.requires.room),
-  right_more any_place c.self.inside.placed c.count.new.self c.self.inside.places c.add.new.self c.args.key.now c.args.rule true c.self.invariant.1 refl c.count.ensures c.in_ok-add.ensures.ok,
-  right_more is_some c.self.inside.standing c.count-2.new.self c.self.inside.places c.add.new.self c.args.key.now c.args.rule c.is_some-stands.result c.self.invariant.2 c.is_some-stands.ensures c.count-2.ensures c.in_ok-add.ensures.ok,
+  omega (arith, ap length c.in_ok-add.ensures.ok, length_push c.self.inside.places (c.args.key.now, (lent_rule c.args.rule)), ap length c.self.view_is, c.requires.room),
+  right_more any_place c.self.inside.placed c.count.new.self c.self.inside.places c.add.new.self c.args.key.now (lent_rule c.args.rule) true c.self.invariant.1 refl c.count.ensures c.in_ok-add.ensures.ok,
+  right_more is_some c.self.inside.standing c.count-2.new.self c.self.inside.places c.add.new.self c.args.key.now (lent_rule c.args.rule) c.is_some-stands.result c.self.invariant.2 (c.is_some-stands.ensures ∙ lent_stands c.args.rule) c.count-2.ensures c.in_ok-add.ensures.ok,
 )
