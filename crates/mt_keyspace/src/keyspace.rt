@@ -114,14 +114,14 @@ impl Keyspace {
     pub fn has_room_for_tables(&self, tables: &[TableName]) -> bool
         ensures { result ≡ has_mark_room self.now.tables tables.now }
     {
-        lacking(&self.tables, tables) <= MAX_TABLES_IN_KEYSPACE - self.tables.len()
+        has_room(&self.tables, tables)
     }
 
     /// Whether there is room for the places that denials of tables lack.
     pub fn has_room_for_denials(&self, tables: &[TableName]) -> bool
         ensures { result ≡ has_mark_room self.now.denied tables.now }
     {
-        lacking(&self.denied, tables) <= MAX_TABLES_IN_KEYSPACE - self.denied.len()
+        has_room(&self.denied, tables)
     }
 
     /// Makes a place for a table, which isn't there by it. Where the table has one nothing changes. `L1 Full` at a 257th
@@ -220,6 +220,14 @@ impl Keyspace {
             Err(DeniedFault::Memory) => Err(TopologyFault::Memory),
         }
     }
+}
+
+/// Whether there is room for the places that some tables lack. No table is looked for where there is room for all.
+fn has_room(places: &TableMarks, tables: &[TableName]) -> bool
+    ensures { result ≡ has_mark_room places.now tables.now }
+{
+    let room = MAX_TABLES_IN_KEYSPACE - places.len();
+    tables.len() <= room || lacking(places, tables) <= room
 }
 
 /// How many of some tables lack a place.
