@@ -5,7 +5,7 @@ ghost use Rattle.mt_journal.specs.declared.entry.JournalEntry.{JournalEntry};
 ghost use Rattle.mt_steps.specs.Refreshes.{Refreshes, RefreshesSide, denials_at};
 
 use crate::fault::StepFault;
-use mt_model::{EntryKey, Scope};
+use mt_model::{Entry, Scope};
 use mt_names::{KeyspaceName, TableName};
 use mt_primary::{Before, Primary};
 use mt_topology::Topology;
@@ -23,10 +23,13 @@ fn denials(
     ensures value { IfOk result (λ change. change ≡ denials_at topology.now side.now tables.now) }
     ensures memory { IfErr result (λ fault. fault ≡ StepFault.Memory) }
 {
-    let mut change = Change::new(alloc);
+    let Ok(mut change) = Change::with_room(alloc, tables.len()) else {
+        return Err(StepFault::Memory);
+    };
     for table in tables {
-        let key = EntryKey::Denied(side.copied(), table.copied());
-        if change.push(topology.value(&key)).is_err() {
+        let is_denied = topology.is_denied(side, table);
+        let denial = Entry::Denied(side.copied(), table.copied(), is_denied);
+        if change.push(denial).is_err() {
             return Err(StepFault::Memory);
         }
     }
