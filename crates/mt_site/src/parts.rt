@@ -83,11 +83,11 @@ fn write_name(
     topology.put_rule(&key, workflow.wanted_names(&key, TypeSet::NONE));
     key.tablet_type = Some(TabletType::Primary);
     topology.put_rule(&key, None);
-    let at_source = (workflow.source(), table);
+    let names = (workflow.source(), table);
     key.tablet_type = Some(TabletType::Replica);
-    topology.put_rule(&key, Some(at_source));
+    topology.put_rule(&key, Some(names));
     key.tablet_type = Some(TabletType::Rdonly);
-    topology.put_rule(&key, Some(at_source));
+    topology.put_rule(&key, Some(names));
 }
 
 /// Writes the part of a workflow as it was before Create. It takes no memory.
