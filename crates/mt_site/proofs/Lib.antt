@@ -1,16 +1,11 @@
 pub mod AdvanceLemmas
-pub mod CancelLemmas
 pub mod CoreLemmas
-pub mod CreateLemmas
 pub mod GivenUpLemmas
 pub mod HandLemmas
 pub mod LeaveLemmas
-pub mod MakeLemmas
 pub mod OwedLemmas
 pub mod PlacedLemmas
 pub mod PrimaryLemmas
 pub mod RunLemmas
 pub mod SiteLemmas
-pub mod TargetLemmas
 pub mod ThroughLemmas
-pub mod WriteLemmas

@@ -16,13 +16,10 @@ use Rattle.mt_primary.proofs.PlacedLemmas.{lookup-at}
 use Rattle.mt_primary.specs.Primary.{IsPrimary, PrimaryState, empty_primary}
 use Rattle.mt_primary.specs.Writes.{Creates, with_new_table}
 use Rattle.mt_site_state.specs.Core.{Primaries, primary_at, primary_of, with_primary}
+use Rattle.mt_site_parts.proofs.MakeLemmas.{found-is}
 use Rattle.mt_site_switch.proofs.PrimaryLemmas.{still-at}
 use Rattle.mt_site_switch.specs.Places.{IsAt}
 use Rattle.mt_site.specs.ByHand.{CreatesTable}
-
--- a primary that is there is the one of its keyspace
-pub found-is : (primaries : Primaries) (keyspace : List ℕ) (state : PrimaryState) → primary_at primaries keyspace ≡ Some state → primary_of primaries keyspace ≡ state
-found-is primaries keyspace state found = ap (λ o. unwrap_or o empty_primary) found
 
 -- a primary that becomes what a change makes of it
 pub changed-is : (old new : Primaries) (keyspace : List ℕ) (change : PrimaryState → PrimaryState) (before after : PrimaryState) → primary_at old keyspace ≡ Some before

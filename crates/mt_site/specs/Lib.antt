@@ -1,13 +1,9 @@
 pub mod Advance
 pub mod Applies
 pub mod ByHand
-pub mod Cancel
 pub mod Commands
-pub mod Create
 pub mod GivenUp
 pub mod Headline
 pub mod Owed
-pub mod Parts
 pub mod Runs
-pub mod Target
 pub mod Through

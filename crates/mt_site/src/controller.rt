@@ -30,7 +30,7 @@ use crate::given_up::a_move_can_be_given_up;
 use crate::owed::a_core_owes_what_its_state_owes;
 use crate::primaries::each_is_a_primary;
 use crate::rows::{Hint, NOWHERE};
-use crate::{OpenWays, Primaries, Workflows, advance, by_hand, cancel, create, owed, rows, show};
+use crate::{OpenWays, Primaries, Workflows, advance, by_hand, owed, rows, show};
 pub use commands::Command;
 use indexmap::IndexMap;
 use mt_event::{Event, Refusal, Reply};
@@ -46,6 +46,7 @@ use mt_site_events::{
     each_keyspace_of_a_core_has_a_primary, primaries_of_a_core_have_the_tables_of_its_topology,
     streams_of_a_core_lie_in_their_logs, workflows_of_a_core_stand_in_place,
 };
+use mt_site_parts::{cancel, create, names_are_names};
 use mt_site_switch::{begin_reverse, begin_switch, complete, step, undo};
 use mt_site_ways::{
     a_begin_steps, a_complete_steps, a_create_leaves_a_site, a_create_steps_and_leaves_the_ways,
@@ -256,7 +257,7 @@ impl Core {
         }
     }
 
-    /// Creates a workflow, as `create::create` tells.
+    /// Creates a workflow, as `create` of mt_site_parts tells.
     fn create<W: Asks>(
         &mut self,
         watchers: &W,
@@ -270,11 +271,11 @@ impl Core {
         ensures ways { self.new.ways ≡ self.old.ways }
         ensures unchanged { OnErr result (self.new ≡ self.old) }
     {
-        create::names_are_names(source, target, tables);
+        names_are_names(source, target, tables);
         a_site_stays_one();
         a_create_can_be_taken_back(watchers);
         a_create_leaves_a_site(watchers);
-        create::create(
+        create(
             self.alloc,
             &mut self.topology,
             &mut self.primaries,
@@ -327,7 +328,7 @@ impl Core {
         a_site_stays_one();
         events_on_workflows_step_and_leave_the_ways();
         each_is_a_primary(self.alloc, &self.primaries);
-        cancel::cancel(
+        cancel(
             &mut self.topology,
             &mut self.primaries,
             &mut self.workflows,

@@ -3,22 +3,18 @@
 
 mod advance;
 mod by_hand;
-mod cancel;
 mod controller;
-mod create;
 mod given_up;
 mod owed;
-mod parts;
 mod primaries;
 mod rows;
 mod run;
 mod show;
 mod site;
-mod target;
 
 pub use controller::{Command, Core, Place};
 pub use given_up::a_move_can_be_given_up;
-pub(crate) use mt_site_switch::{OpenWays, Primaries, Workflows};
+pub(crate) use mt_site_state::{OpenWays, Primaries, Workflows};
 pub use owed::a_core_owes_what_its_state_owes;
 pub use run::{RunStopped, run_events};
 pub use site::Site;

@@ -1,2 +1,17 @@
 //! What the controller's core is as a value, which state of the definitions it stands for, and what each event does to it.
 #![tactic(auto)]
+
+use indexmap::IndexMap;
+use mt_names::{KeyspaceName, WorkflowName};
+use mt_primary::Primary;
+use mt_steps::OpenWay;
+use mt_workflow::Workflow;
+
+/// Primaries by the names of their keyspaces.
+pub type Primaries = IndexMap<KeyspaceName, Primary>;
+
+/// The live workflows by their names, in the order in which they were created.
+pub type Workflows = IndexMap<WorkflowName, Workflow>;
+
+/// The ways that are open, by the names of their workflows.
+pub type OpenWays = IndexMap<WorkflowName, OpenWay>;

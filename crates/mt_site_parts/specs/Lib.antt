@@ -1,0 +1,4 @@
+pub mod Cancel
+pub mod Create
+pub mod Parts
+pub mod Target
