@@ -2,7 +2,7 @@
 use Rattle.std.proofs.Common.{◌≡◌, drop}
 use Rattle.mt_site_state.specs.Core as core
 use Rattle.mt_site_state.specs.Workflows.{tables_refusal}
-use Rattle.mt_site_parts.proofs.create.tables_refusal.Given as goal
+use Rattle.mt_site_parts.proofs.creating.tables_refusal.Given as goal
 
 abbrev pub invariant-loop-table : goal.invariant-loop-table
 invariant-loop-table l =

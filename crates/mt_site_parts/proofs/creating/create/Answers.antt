@@ -2,7 +2,7 @@
 use Rattle.std.proofs.Common.{◌≡◌, subst, sym, ◌∙◌}
 use Rattle.mt_plain.specs.Plain.{each_once}
 use Rattle.mt_laws.proofs.SetLemmas.{once-distinct, once-stays}
-use Rattle.mt_site_parts.proofs.create.create.Goals as goal
+use Rattle.mt_site_parts.proofs.creating.create.Goals as goal
 
 pub create_set-requires-clause-once : goal.create_set-requires-clause-once
 create_set-requires-clause-once g c =

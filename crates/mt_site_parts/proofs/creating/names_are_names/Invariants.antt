@@ -2,7 +2,7 @@
 use Rattle.std.proofs.Common.{take}
 use Rattle.std.specs.List.{AllByRecursion}
 use Rattle.mt_names.specs.Names.{IsTableName}
-use Rattle.mt_site_parts.proofs.create.names_are_names.Given as goal
+use Rattle.mt_site_parts.proofs.creating.names_are_names.Given as goal
 
 abbrev pub invariant-loop-table : goal.invariant-loop-table
 invariant-loop-table l = AllByRecursion IsTableName (take l.table-index l.tables)

@@ -6,7 +6,7 @@ use Rattle.mt_plain.specs.Events.{Refusal}
 use Rattle.mt_plain.specs.Refuse.{or_else}
 use Rattle.mt_site_state.specs.Core.{CoreState}
 use Rattle.mt_site_state.specs.Workflows.{table_refusal, tables_refusal}
-use Rattle.mt_site_parts.proofs.create.tables_refusal.Goals as goal
+use Rattle.mt_site_parts.proofs.creating.tables_refusal.Goals as goal
 
 pub returns-in-Some : goal.returns-in-Some
 returns-in-Some c = λ primaries.

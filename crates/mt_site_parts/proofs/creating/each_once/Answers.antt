@@ -4,7 +4,7 @@ use Rattle.std.proofs.lemmas.List.{length-take}
 use Rattle.indexmap.specs.IndexSet.{insert_key}
 use Rattle.mt_names.specs.Names.{same_text}
 use Rattle.mt_workflow.proofs.OnceLemmas.{length-once, once-more}
-use Rattle.mt_site_parts.proofs.create.each_once.Goals as goal
+use Rattle.mt_site_parts.proofs.creating.each_once.Goals as goal
 
 pub push_new-requires : goal.push_new-requires
 push_new-requires c =

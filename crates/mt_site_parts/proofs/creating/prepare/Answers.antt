@@ -2,7 +2,7 @@
 use Rattle.std.proofs.Common.{◌≡◌, Err, rules, subst}
 use Rattle.mt_site_parts.specs.Create.{MakesAtTarget, Prepares}
 use Rattle.mt_site_parts.proofs.MakeLemmas.{not-prepared}
-use Rattle.mt_site_parts.proofs.create.prepare.Goals as goal
+use Rattle.mt_site_parts.proofs.creating.prepare.Goals as goal
 
 pub returns-in_err-make_at_target-clause-made : goal.returns-in_err-make_at_target-clause-made
 returns-in_err-make_at_target-clause-made g c =

@@ -3,7 +3,7 @@ use Rattle.std.proofs.Common.{◌≡◌, ◌∷◌, [], None, Some, ap, sym, ◌
 use Rattle.mt_workflow.specs.Creates as create
 use Rattle.mt_site_state.specs.Workflows.{is_moved, refusal_by_table}
 use Rattle.mt_site_parts.proofs.CreateLemmas.{none-refuses, one-refuses, one-table}
-use Rattle.mt_site_parts.proofs.create.table_refusal.Goals as goal
+use Rattle.mt_site_parts.proofs.creating.table_refusal.Goals as goal
 
 pub returns-in-Ok : goal.returns-in-Ok
 returns-in-Ok c = λ primaries.

@@ -6,7 +6,7 @@ use Rattle.mt_primary.specs.Primary.{has_table}
 use Rattle.mt_site_state.specs.Core.{primary_at}
 use Rattle.mt_site_parts.specs.Target.{MakesTarget}
 use Rattle.mt_site_parts.proofs.MakeLemmas.{found-is}
-use Rattle.mt_site_parts.proofs.create.make_at_target.Goals as goal
+use Rattle.mt_site_parts.proofs.creating.make_at_target.Goals as goal
 
 pub make_target-requires : goal.make_target-requires
 make_target-requires g c =

@@ -9,7 +9,7 @@ use Rattle.mt_site_state.specs.Core.{CoreState, Primaries, Workflows, primary_of
 use Rattle.mt_site_state.specs.Workflows.{target_made}
 use Rattle.mt_site_parts.specs.Create.{Prepares}
 use Rattle.mt_site_parts.proofs.MakeLemmas.{workflow_pushed}
-use Rattle.mt_site_parts.proofs.create.make.Goals as goal
+use Rattle.mt_site_parts.proofs.creating.make.Goals as goal
 
 pub returns-in-Ok-insert : goal.returns-in-Ok-insert
 returns-in-Ok-insert g c =

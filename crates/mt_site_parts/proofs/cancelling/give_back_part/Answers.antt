@@ -1,7 +1,7 @@
 -- What is kept says nothing, so that the part is cleared.
 use Rattle.std.proofs.Common.{◌∙◌}
 use Rattle.mt_site_parts.proofs.CancelLemmas.{as_before}
-use Rattle.mt_site_parts.proofs.cancel.give_back_part.Goals as goal
+use Rattle.mt_site_parts.proofs.cancelling.give_back_part.Goals as goal
 
 pub returns-then-keeps_nothing : goal.returns-then-keeps_nothing
 returns-then-keeps_nothing c =

@@ -1,7 +1,7 @@
 -- One workflow more.
 use Rattle.std.proofs.Common.{◌||◌, ap, sym, ◌∙◌}
 use Rattle.mt_site_parts.proofs.CreateLemmas.{any_moves, moved-values}
-use Rattle.mt_site_parts.proofs.create.is_moved.Goals as goal
+use Rattle.mt_site_parts.proofs.creating.is_moved.Goals as goal
 
 pub loop-workflow-init : goal.loop-workflow-init
 loop-workflow-init c =

@@ -15,7 +15,7 @@ use Rattle.mt_site_state.specs.Workflows.{create_refusal, is_full, new_of}
 use Rattle.mt_site_parts.specs.Create.{Makes}
 use Rattle.mt_site_parts.proofs.CreateLemmas.{refused-set}
 use Rattle.mt_site_parts.proofs.MakeLemmas.{made-set, new-placed, sides-there}
-use Rattle.mt_site_parts.proofs.create.create_set.Goals as goal
+use Rattle.mt_site_parts.proofs.creating.create_set.Goals as goal
 
 pub returns-in-Some : goal.returns-in-Some
 returns-in-Some g c =
