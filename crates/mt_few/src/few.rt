@@ -1,5 +1,5 @@
 //! Look-ups in maps that mostly have a few entries: their keys are compared one by one, without a hash of any.
-ghost use Rattle.std.specs.Prelude.{◌≡◌, IfSome, is_some, option_copied, slice_get};
+ghost use Rattle.std.specs.Prelude.{◌≡◌, option_copied};
 ghost use Rattle.std.specs.Borrow.{sem};
 ghost use Rattle.std.specs.Option.{option_copied_mut};
 ghost use Rattle.indexmap.specs.IndexMap.{IsUnique, get_by, index_of_by};
@@ -12,7 +12,7 @@ use std::hash::{BuildHasher, Hash};
 /// In a map of more entries a key is looked up by its hash.
 const FEW: usize = 8;
 
-/// The place of a key among the entries of a map.
+/// The place of a key among the entries of a map. It takes no memory.
 pub fn place_of<K: Eq + Hash, V, S: BuildHasher, A: Allocator>(
     map: &IndexMap<K, V, S, A>,
     key: &K,
@@ -26,7 +26,7 @@ pub fn place_of<K: Eq + Hash, V, S: BuildHasher, A: Allocator>(
     map.keys().position(|there| key == there)
 }
 
-/// The value of a key in a map.
+/// The value of a key in a map. It takes no memory.
 pub fn get<'a, K: Eq + Hash, V, S: BuildHasher, A: Allocator>(
     map: &'a IndexMap<K, V, S, A>,
     key: &K,
@@ -39,7 +39,7 @@ pub fn get<'a, K: Eq + Hash, V, S: BuildHasher, A: Allocator>(
     }
 }
 
-/// The value of a key in a map, to write.
+/// The value of a key in a map, to write. It takes no memory.
 pub fn get_mut<'a, K: Eq + Hash, V, S: BuildHasher, A: Allocator>(
     map: &'a mut IndexMap<K, V, S, A>,
     key: &K,

@@ -18,7 +18,8 @@ pub use laws::{
 };
 pub use limits::{MAX_KEYSPACES, MAX_LOG, MAX_RULES, MAX_TABLES_IN_KEYSPACE};
 pub use part::{
-    denials_change_no_look_up, part_has_places, part_keys_are_distinct, places_say_nothing,
-    routes_are_what_stands, table_part_keys, table_rule_keys, taken_back_in_reverse,
+    denials_change_no_look_up, key_of_name, part_has_places, part_keys_are_distinct,
+    places_say_nothing, routes_are_what_stands, table_part_keys, table_rule_keys,
+    taken_back_in_reverse,
 };
 pub use rows::{Op, RowChange};

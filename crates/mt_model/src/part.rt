@@ -6,8 +6,8 @@ ghost use Rattle.mt_model.specs.Topology.{HasDistinctPlaces, TopologyState, has_
 use crate::{Entry, EntryKey};
 use mt_names::{KeyspaceName, RuleKey, TableName, TabletType};
 
-/// A name as a rule key.
-fn key_of_name(
+/// A name as a rule key, for one tablet type or for all. It takes no memory.
+pub fn key_of_name(
     keyspace: Option<&KeyspaceName>,
     table: &TableName,
     tablet_type: Option<TabletType>,

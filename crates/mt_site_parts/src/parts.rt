@@ -12,27 +12,12 @@ ghost use Rattle.mt_site_state.specs.Workflows.{change_of};
 ghost use Rattle.mt_site_parts.specs.Parts.{HasPlaces};
 
 use mt_event::Refusal;
-use mt_model::Entry;
+use mt_model::{Entry, key_of_name};
 use mt_names::{KeyspaceName, RuleKey, RuleTarget, TableName, TabletType, TypeSet};
 use mt_topology::Topology;
 use mt_watch::{Change, WatchersFault};
 use mt_workflow::Workflow;
 use std::alloc::Global;
-
-/// The key of a name.
-fn key_of_name(
-    keyspace: Option<&KeyspaceName>,
-    table: &TableName,
-    tablet_type: Option<TabletType>,
-) -> RuleKey
-    ensures { result ≡ record { keyspace = option_copied keyspace.entry; table = table.now; tablet_type = tablet_type } }
-{
-    RuleKey {
-        keyspace: keyspace.map(KeyspaceName::copied),
-        table: table.copied(),
-        tablet_type,
-    }
-}
 
 /// A table at the source of a workflow, as a rule leads to it.
 fn at_source(workflow: &Workflow, table: &TableName) -> RuleTarget

@@ -10,6 +10,7 @@ ghost use Rattle.mt_steps.specs.declared.records.RuleRecord.{RuleRecord};
 ghost use Rattle.mt_steps.specs.Records.{denial_step, denied_after, entries_of, name_entries, table_entries};
 
 use crate::records::{NameRecord, RuleRecord, TableRecord};
+use mt_model::key_of_name;
 use mt_names::{KeyspaceName, RuleKey, TableName, TabletType, TypeSet};
 use mt_topology::Topology;
 use mt_workflow::Workflow;
@@ -120,7 +121,7 @@ fn exchange_reads_of(
     ensures recorded { (source target : List ℕ) → name_entries source target (option_copied keyspace.entry) table.now noted.new ≡ swept workflow.now types 0 topology.old (name_entries source target (option_copied keyspace.entry) table.now noted.old) }
     ensures written { topology.new ≡ fold (with_wanted workflow.now types 0) topology.old (map EntryKey.Rule (keys_of_name (option_copied keyspace.entry) table.now)) }
 {
-    let mut key = key_of_name(keyspace, table);
+    let mut key = key_of_name(keyspace, table, None);
     key.tablet_type = Some(TabletType::Replica);
     exchange_rule(topology, workflow, types, &key, &mut noted.replica);
     key.tablet_type = Some(TabletType::Rdonly);
@@ -173,21 +174,10 @@ fn exchange_writes_of(
     ensures recorded { (source target : List ℕ) → name_entries source target (option_copied keyspace.entry) table.now noted.new ≡ swept workflow.now types 9 topology.old (name_entries source target (option_copied keyspace.entry) table.now noted.old) }
     ensures written { topology.new ≡ fold (with_wanted workflow.now types 9) topology.old (map EntryKey.Rule (keys_of_name (option_copied keyspace.entry) table.now)) }
 {
-    let mut key = key_of_name(keyspace, table);
+    let mut key = key_of_name(keyspace, table, None);
     exchange_rule(topology, workflow, types, &key, &mut noted.plain);
     key.tablet_type = Some(TabletType::Primary);
     exchange_rule(topology, workflow, types, &key, &mut noted.primary);
-}
-
-/// The key of a name for all types.
-fn key_of_name(keyspace: Option<&KeyspaceName>, table: &TableName) -> RuleKey
-    ensures { result ≡ record { keyspace = option_copied keyspace.entry; table = table.now; tablet_type = None } }
-{
-    RuleKey {
-        keyspace: keyspace.map(KeyspaceName::copied),
-        table: table.copied(),
-        tablet_type: None,
-    }
 }
 
 /// Writes the rule of a key as it is to be once these types are switched, and records which stood before.
@@ -332,7 +322,7 @@ fn write_back_reads_of(
     requires { HavePlaces topology.old (map EntryKey.Rule (keys_of_name (option_copied keyspace) table.now)) }
     ensures { (w : WorkflowState) → topology.new ≡ fold (with_recorded w 0) topology.old (name_entries source.now target.now (option_copied keyspace.entry) table.now noted.now) }
 {
-    let mut key = key_of_name(keyspace, table);
+    let mut key = key_of_name(keyspace, table, None);
     key.tablet_type = Some(TabletType::Replica);
     topology.put_rule(&key, noted.replica.names(source, target, table));
     key.tablet_type = Some(TabletType::Rdonly);
@@ -381,7 +371,7 @@ fn write_back_writes_of(
     requires { HavePlaces topology.old (map EntryKey.Rule (keys_of_name (option_copied keyspace) table.now)) }
     ensures { (w : WorkflowState) → topology.new ≡ fold (with_recorded w 9) topology.old (name_entries source.now target.now (option_copied keyspace.entry) table.now noted.now) }
 {
-    let mut key = key_of_name(keyspace, table);
+    let mut key = key_of_name(keyspace, table, None);
     topology.put_rule(&key, noted.plain.names(source, target, table));
     key.tablet_type = Some(TabletType::Primary);
     topology.put_rule(&key, noted.primary.names(source, target, table));

@@ -7,7 +7,7 @@ ghost use Rattle.mt_keyspace.specs.Edits.{Edits};
 ghost use Rattle.mt_topology.specs.Clear.{without_rule_entry};
 ghost use Rattle.mt_topology.specs.Edits.{edit_rule_grows, edit_rule_refusal, lacks_rule_place, rule_place_refusal};
 
-use mt_model::TopologyFault;
+use mt_model::{TopologyFault, key_of_name};
 use mt_names::{KeyspaceName, RuleKey, RuleTarget, TableName, TabletType};
 use mt_rules::{RoutingRules, RulesFault};
 
@@ -87,22 +87,11 @@ pub fn add_rule(rules: &mut RoutingRules, key: &RuleKey) -> Result<(), TopologyF
     }
 }
 
-/// The key of a name for all types.
-pub fn key_of_name(keyspace: Option<&KeyspaceName>, table: &TableName) -> RuleKey
-    ensures { result ≡ record { keyspace = option_copied keyspace.entry; table = table.now; tablet_type = None } }
-{
-    RuleKey {
-        keyspace: keyspace.map(KeyspaceName::copied),
-        table: table.copied(),
-        tablet_type: None,
-    }
-}
-
 /// Whether one of a name's four keys lacks a place. One key is made, whose type then changes.
 pub fn lacks_name(rules: &RoutingRules, keyspace: Option<&KeyspaceName>, table: &TableName) -> bool
     ensures { result ≡ list_any (lacks_rule_place rules.now) (keys_of_name (option_copied keyspace.entry) table.now) }
 {
-    let mut key = key_of_name(keyspace, table);
+    let mut key = key_of_name(keyspace, table, None);
     if !rules.has_place(&key) {
         return true;
     }
@@ -122,7 +111,7 @@ pub fn lacks_name(rules: &RoutingRules, keyspace: Option<&KeyspaceName>, table: 
 pub fn release_name(rules: &mut RoutingRules, keyspace: Option<&KeyspaceName>, table: &TableName)
     ensures { rules.new ≡ fold without_rule_place rules.old (reverse (keys_of_name (option_copied keyspace.entry) table.now)) }
 {
-    let mut key = key_of_name(keyspace, table);
+    let mut key = key_of_name(keyspace, table, None);
     key.tablet_type = Some(TabletType::Rdonly);
     rules.release_key(&key);
     key.tablet_type = Some(TabletType::Replica);
@@ -137,7 +126,7 @@ pub fn release_name(rules: &mut RoutingRules, keyspace: Option<&KeyspaceName>, t
 pub fn drop_name(rules: &mut RoutingRules, keyspace: Option<&KeyspaceName>, table: &TableName)
     ensures { rules.new ≡ fold without_rule_entry rules.old (keys_of_name (option_copied keyspace.entry) table.now) }
 {
-    let mut rule_key = key_of_name(keyspace, table);
+    let mut rule_key = key_of_name(keyspace, table, None);
     rules.drop_key(&rule_key);
     rule_key.tablet_type = Some(TabletType::Primary);
     rules.drop_key(&rule_key);

@@ -7,10 +7,10 @@ ghost use Rattle.mt_keyspace.specs.Edits.{Edits, answer_of};
 ghost use Rattle.mt_topology.specs.Part.{lacks_a_place, place_grows, place_refusal, places_refusal, reserve_refusal};
 
 use crate::room;
-use crate::rules::{add_rule, key_of_name, lacks_name, release_name, reserve_rule};
+use crate::rules::{add_rule, lacks_name, release_name, reserve_rule};
 use crate::topology::Topology;
 use mt_denied::DeniedFault;
-use mt_model::{EntryKey, TopologyFault};
+use mt_model::{EntryKey, TopologyFault, key_of_name};
 use mt_names::{KeyspaceName, RuleKey, TableName, TabletType};
 
 /// How many keys each table adds to a part.
@@ -231,7 +231,7 @@ impl Topology {
         ensures memory { IfErr result (λ fault. fault ≡ TopologyFault.Memory) }
         ensures back { without_places self.new (reverse made.new.items) ≡ without_places self.old (reverse made.old.items) }
     {
-        let mut key = key_of_name(keyspace, table);
+        let mut key = key_of_name(keyspace, table, None);
         self.make_new_noted(&key, made)?;
         key.tablet_type = Some(TabletType::Primary);
         self.make_new_noted(&key, made)?;
@@ -253,7 +253,7 @@ impl Topology {
         ensures memory { IfErr result (λ fault. fault ≡ TopologyFault.Memory) }
         ensures back { without_places self.new (reverse made.new.items) ≡ without_places self.old (reverse made.old.items) }
     {
-        let mut key = key_of_name(keyspace, table);
+        let mut key = key_of_name(keyspace, table, None);
         self.make_noted_rule(&key, made)?;
         key.tablet_type = Some(TabletType::Primary);
         self.make_noted_rule(&key, made)?;
