@@ -1,13 +1,13 @@
 pub mod AscendLemmas
 pub mod BackLemmas
+pub mod ChangeLemmas
 pub mod CountsLemmas
 pub mod KeysLemmas
-pub mod LinksLemmas
 pub mod ListLemmas
+pub mod OrderLemmas
 pub mod PlacesLemmas
 pub mod PutLemmas
 pub mod ReadLemmas
-pub mod ReverseLemmas
 pub mod RouteLemmas
 pub mod RulesLemmas
 pub mod SortLemmas

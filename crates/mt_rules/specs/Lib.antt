@@ -1,5 +1,5 @@
 pub mod Counts
-pub mod Links
+pub mod Places
 pub mod Member
 pub mod Read
 pub mod Rules

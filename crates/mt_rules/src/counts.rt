@@ -2,11 +2,10 @@
 //! none of the name is looked for.
 ghost use Rattle.std.specs.Prelude.{◌≡◌, ◌≤◌, ◌<◌, ◌+◌, ◌-◌, ◌^◌, ℕ, true, false, is_some, length};
 ghost use Rattle.mt_model.specs.Limits.{most_rules};
-ghost use Rattle.mt_rules.specs.Links.{in_order};
+ghost use Rattle.mt_rules.specs.Places.{in_order};
 ghost use Rattle.mt_rules.specs.Counts.{IsCounted, any_place, class_of, counted, counts_in};
 
-use crate::links::{Link, Linked};
-use crate::places::Places;
+use crate::places::{Linked, Places, place_at};
 use mt_names::TableName;
 
 /// How many there are of each class of tables' names: of places, or of rules that stand.
@@ -29,10 +28,8 @@ impl Counts {
         ensures placed { IsCounted any_place result.0 places.now }
         ensures standing { IsCounted is_some result.1 places.now }
     {
-        match places.linked() {
-            Some(linked) => counted(linked),
-            None => (Counts::new(), Counts::new()),
-        }
+        let (linked, order) = places.linked();
+        counted(linked, order)
     }
 
     /// Whether there may be one of a table: there is none where none is counted of its class.
@@ -58,15 +55,15 @@ impl Counts {
 }
 
 /// Some places, and the rules that stand there, counted one by one.
-fn counted(linked: &Linked) -> (Counts, Counts)
-    requires { length (in_order linked.now.entries) ≤ most_rules }
-    ensures placed { IsCounted any_place result.0 (in_order linked.now.entries) }
-    ensures standing { IsCounted is_some result.1 (in_order linked.now.entries) }
+fn counted(linked: &Linked, order: &[usize]) -> (Counts, Counts)
+    requires { length (in_order linked.now.entries 0 order.now) ≤ most_rules }
+    ensures placed { IsCounted any_place result.0 (in_order linked.now.entries 0 order.now) }
+    ensures standing { IsCounted is_some result.1 (in_order linked.now.entries 0 order.now) }
 {
     let mut placed = Counts::new();
     let mut standing = Counts::new();
-    for (key, link) in linked.iter().rev() {
-        if let Link::Place(rule) = link {
+    for (slot, place) in order.iter().enumerate() {
+        if let Some((key, rule)) = place_at(linked, slot, *place) {
             placed.count(&key.table, false, true);
             standing.count(&key.table, false, rule.is_some());
         }

@@ -3,7 +3,6 @@
 
 mod counts;
 mod fault;
-mod links;
 mod member;
 mod places;
 mod read;

@@ -11,12 +11,11 @@ ghost use Rattle.serde_json.specs.View.{view};
 ghost use Rattle.mt_rules.specs.Values.{IsWellSorted, Says};
 ghost use Rattle.mt_rules.specs.Member.{rules_within};
 ghost use Rattle.mt_model.specs.Documents.{rules_array, rules_text};
-ghost use Rattle.mt_rules.specs.Links.{in_order};
+ghost use Rattle.mt_rules.specs.Places.{in_order};
 ghost use Rattle.mt_rules.specs.Rules.{Reserves, has_rule_place, lent_rule};
 
 use crate::counts::Counts;
-use crate::links::{Link, Linked};
-use crate::places::Places;
+use crate::places::{Linked, Places, place_at};
 use crate::{RulesFault, member, read, text, write};
 use mt_model::{Entry, MAX_RULES};
 use mt_names::{KeyspaceName, RuleKey, RuleTarget, TableName};
@@ -164,10 +163,8 @@ impl RoutingRules {
         ensures value { result ≡ length (rule_routes self.now) }
         ensures within { result ≤ most_rules }
     {
-        match self.places.linked() {
-            Some(linked) => rule_count(linked),
-            None => 0,
-        }
+        let (linked, order) = self.places.linked();
+        rule_count(linked, order)
     }
 
     /// The entry of a rule, by its index among the keys that have one, in the order of their places. It takes no memory;
@@ -175,7 +172,8 @@ impl RoutingRules {
     pub fn rule_entry(&self, index: usize) -> Option<Entry>
         ensures { result ≡ slice_get (rule_routes self.now) index }
     {
-        rule_entry(self.places.linked()?, index)
+        let (linked, order) = self.places.linked();
+        rule_entry(linked, order, index)
     }
 
     /// Whether a key is reserved. Of most keys that aren't, that is told without a look at any place.
@@ -310,14 +308,14 @@ impl RoutingRules {
 }
 
 /// How many keys have a rule.
-fn rule_count(linked: &Linked) -> usize
-    requires { length (in_order linked.now.entries) ≤ most_rules }
-    ensures value { result ≡ length (rule_routes (in_order linked.now.entries)) }
+fn rule_count(linked: &Linked, order: &[usize]) -> usize
+    requires { length (in_order linked.now.entries 0 order.now) ≤ most_rules }
+    ensures value { result ≡ length (rule_routes (in_order linked.now.entries 0 order.now)) }
     ensures within { result ≤ most_rules }
 {
     let mut count = 0;
-    for (_, link) in linked.iter().rev() {
-        if let Link::Place(Some(_)) = link {
+    for (slot, place) in order.iter().enumerate() {
+        if let Some((_, Some(_))) = place_at(linked, slot, *place) {
             count += 1;
         }
     }
@@ -325,12 +323,12 @@ fn rule_count(linked: &Linked) -> usize
 }
 
 /// The entry of a rule, by its index among the keys that have one.
-fn rule_entry(linked: &Linked, index: usize) -> Option<Entry>
-    ensures { result ≡ slice_get (rule_routes (in_order linked.now.entries)) index }
+fn rule_entry(linked: &Linked, order: &[usize], index: usize) -> Option<Entry>
+    ensures { result ≡ slice_get (rule_routes (in_order linked.now.entries 0 order.now)) index }
 {
     let mut before = index;
-    for (key, link) in linked.iter().rev() {
-        if let Link::Place(Some(target)) = link {
+    for (slot, place) in order.iter().enumerate() {
+        if let Some((key, Some(target))) = place_at(linked, slot, *place) {
             if before == 0 {
                 return Some(Entry::Rule(key.copied(), Some(target.copied())));
             }

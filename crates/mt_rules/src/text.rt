@@ -8,8 +8,7 @@ ghost use Rattle.mt_model.specs.Documents.{array, entries_of, put_by_text, rules
 ghost use Rattle.mt_rules.specs.Values.{IsNamed, IsWellSorted};
 ghost use Rattle.mt_rules.specs.Written.{named_text, quoted_item, text_of_texts, texts_of, written_document, written_text};
 
-use crate::links::Link;
-use crate::places::Places;
+use crate::places::{Places, rule_at_slot};
 use mt_names::{RuleKey, RuleTarget};
 use std::alloc::{AllocError, Global};
 
@@ -130,11 +129,9 @@ pub fn written_rules(alloc: Global, places: &Places) -> Result<Vec<WrittenItem>,
 {
     let len = places.len();
     let mut rules = Vec::with_capacity(alloc, len)?;
-    let Some(linked) = places.linked() else {
-        return Ok(rules);
-    };
-    'places: for (key, link) in linked.iter().rev() {
-        if let Link::Place(Some(target)) = link {
+    let (linked, order) = places.linked();
+    for (slot, place) in order.iter().enumerate() {
+        if let Some((key, target)) = rule_at_slot(linked, slot, *place) {
             let rule = written_rule(alloc, key, target)?;
             rules.push(rule)?;
         }

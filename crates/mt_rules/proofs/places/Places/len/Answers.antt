@@ -1,20 +1,11 @@
--- Before the first place there is none.
-use Rattle.mt_rules.proofs.PlacesLemmas.{none_distinct}
-use Rattle.std.proofs.Common.{◌≡◌, [], reverse, rules, subst}
+-- No key is linked twice, so none has two places.
+use Rattle.std.proofs.Common.{subst}
 use Rattle.std.specs.List.{IsDistinct}
 use Rattle.std.specs.Map.{keys_of}
 use Rattle.mt_names.specs.Same.{same_key}
-use Rattle.mt_names.proofs.SameLemmas.{same_key_decides}
-use Rattle.mt_rules.proofs.ReverseLemmas.{IsDistinct-reverse}
+use Rattle.mt_rules.proofs.ChangeLemmas.{in_order-distinct}
 use Rattle.mt_rules.proofs.places.Places.len.Goals as goal
 
-pub returns-in-Some-clause-distinct : goal.returns-in-Some-clause-distinct
-returns-in-Some-clause-distinct c =
-    let links = c.in-Some.links in
-    let places : reverse links ≡ c.args.self.now = search rules in
-    subst (λ l. IsDistinct same_key (keys_of l)) places (IsDistinct-reverse same_key same_key_decides links c.len.ensures.distinct)
-
-pub returns-in-None-clause-distinct : goal.returns-in-None-clause-distinct
-returns-in-None-clause-distinct c =
-    let none : c.args.self.now ≡ [] = search rules in
-    none_distinct c.args.self.now none
+pub returns-clause-distinct : goal.returns-clause-distinct
+returns-clause-distinct c =
+    subst (λ l. IsDistinct same_key (keys_of l)) c.self.view_is (in_order-distinct c.self.inside.linked.entries 0 c.self.inside.order.items c.len-distinct.ensures.unique)
