@@ -2,7 +2,7 @@
 
 use mt_desk::Answer;
 use mt_event::Event;
-use mt_script::{Line, Request, read_line};
+use mt_script::{Line, Request, WorkflowAsked, WorkflowRequest, read_line};
 use mt_texts::{LineText, write_answer};
 
 /// The event that a line asks for; none if it asks for none, for several, or where a name leads.
@@ -38,19 +38,28 @@ fn event_of_workflow(request: Request<'_>) -> Option<Event> {
             target,
             tables: tables.tables(),
         }),
-        Request::Advance(workflow, stream, at, max) => Some(Event::Advance {
+        Request::Workflow(request) => event_asked(request),
+        _ => None,
+    }
+}
+
+/// The same of what is asked of a workflow that is there.
+fn event_asked(request: WorkflowRequest) -> Option<Event> {
+    let workflow = request.workflow;
+    match request.asked {
+        WorkflowAsked::Advance(stream, at, max) => Some(Event::Advance {
             workflow,
             stream,
             at,
             max,
         }),
-        Request::BeginSwitch(workflow, types) => Some(Event::BeginSwitch { workflow, types }),
-        Request::BeginReverse(workflow, types) => Some(Event::BeginReverse { workflow, types }),
-        Request::Step(workflow, at) => Some(Event::Step { workflow, at }),
-        Request::Undo(workflow, at) => Some(Event::Undo { workflow, at }),
-        Request::Cancel(workflow) => Some(Event::Cancel { workflow }),
-        Request::Complete(workflow) => Some(Event::Complete { workflow }),
-        Request::Show(workflow) => Some(Event::Show { workflow }),
+        WorkflowAsked::BeginSwitch(types) => Some(Event::BeginSwitch { workflow, types }),
+        WorkflowAsked::BeginReverse(types) => Some(Event::BeginReverse { workflow, types }),
+        WorkflowAsked::Step(at) => Some(Event::Step { workflow, at }),
+        WorkflowAsked::Undo(at) => Some(Event::Undo { workflow, at }),
+        WorkflowAsked::Cancel => Some(Event::Cancel { workflow }),
+        WorkflowAsked::Complete => Some(Event::Complete { workflow }),
+        WorkflowAsked::Show => Some(Event::Show { workflow }),
         _ => None,
     }
 }

@@ -1,11 +1,7 @@
 pub mod AscendLemmas
 pub mod BackLemmas
-pub mod ChangeLemmas
-pub mod CountsLemmas
 pub mod KeysLemmas
 pub mod ListLemmas
-pub mod OrderLemmas
-pub mod PlacesLemmas
 pub mod PutLemmas
 pub mod ReadLemmas
 pub mod RouteLemmas

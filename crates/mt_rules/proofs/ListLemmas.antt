@@ -1,5 +1,5 @@
 -- What was appended is a list, and what was sorted stands in order.
-use Rattle.std.proofs.Common.{◌≡◌, ℕ, zero, suc, List, [], ◌∷◌, ◌++◌, length, slice_get, Some, codes, append_assoc, append-nil, map, refl, sym, ap, ◌∙◌}
+use Rattle.std.proofs.Common.{◌≡◌, ℕ, List, [], ◌∷◌, ◌++◌, codes, append_assoc, append-nil, map, refl, sym, ap, ◌∙◌}
 use Rattle.std.specs.List.{join_with_byte}
 use Rattle.mt_names.specs.Types.{comma}
 use Rattle.mt_model.specs.Documents.{array}
@@ -18,13 +18,3 @@ closed start first now all texts opened is end =
   where
     regroup : (t : List ℕ) → ((start ++ 91 ∷ []) ++ t) ++ 93 ∷ [] ≡ start ++ (91 ∷ (t ++ 93 ∷ []))
     regroup t = simp append_assoc
-
--- an item behind the others, and those that stay where they stood
-pub slice_get-last : {A : Type 0} (xs : List A) (x : A) → slice_get (xs ++ x ∷ []) (length xs) ≡ Some x
-slice_get-last [] x = refl
-slice_get-last (y ∷ xs) x = slice_get-last xs x
-
-pub slice_get-stays : {A : Type 0} (xs : List A) (x : A) (i : ℕ) (y : A) → slice_get xs i ≡ Some y → slice_get (xs ++ x ∷ []) i ≡ Some y
-slice_get-stays [] x i y is = absurd cc
-slice_get-stays (z ∷ xs) x zero y is = is
-slice_get-stays (z ∷ xs) x (suc i) y is = slice_get-stays xs x i y is

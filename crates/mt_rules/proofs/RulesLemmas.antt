@@ -9,7 +9,7 @@ use Rattle.mt_names.proofs.EntryLemmas.{none_from}
 use Rattle.mt_model.specs.Limits.{most_rules}
 use Rattle.mt_model.specs.Topology.{Rules, with_rule_place, without_rule_place}
 use Rattle.mt_rules.specs.Read.{with_one_more}
-use Rattle.mt_rules.specs.Rules.{has_rule_place, lent_rule}
+use Rattle.mt_places.specs.Rules.{has_rule_place, lent_rule}
 use Rattle.mt_rules.specs.Member.{or_shape, with_new_rule}
 
 pub with_rule_place-new : (rules : Rules) (key : RuleKey) → has_rule_place rules key ≡ false → with_rule_place rules key ≡ rules ++ (key, None) ∷ []

@@ -1,5 +1,3 @@
-pub mod Counts
-pub mod Places
 pub mod Member
 pub mod Read
 pub mod Rules

@@ -9,7 +9,7 @@ use Rattle.mt_model.specs.Topology.{Rules}
 use Rattle.mt_rules.specs.declared.fault.RulesFault.{RulesFault}
 use Rattle.mt_rules.specs.declared.fault.RulesFault.TheVariants.{Full, Shape}
 use Rattle.mt_rules.specs.Read.{rule_of}
-use Rattle.mt_rules.specs.Rules.{has_rule_place}
+use Rattle.mt_places.specs.Rules.{has_rule_place}
 
 -- what was read, unless there is a fault
 abbrev pub unless_fault : {A E : Type 0} → Result A E → Option A

@@ -15,7 +15,7 @@ use Rattle.mt_model.specs.Limits.{most_rules}
 use Rattle.mt_model.specs.Topology.{Rules}
 use Rattle.mt_rules.specs.declared.fault.RulesFault.{RulesFault}
 use Rattle.mt_rules.specs.declared.fault.RulesFault.TheVariants.{Memory, Full, NotJson, Shape, BadName, NotOneTarget, RepeatedKey}
-use Rattle.mt_rules.specs.Rules.{has_rule_place}
+use Rattle.mt_places.specs.Rules.{has_rule_place}
 
 -- ---- one rule
 

@@ -1,12 +1,9 @@
--- Places for rule keys: how one is reserved, and how a refusal is printed.
-use Rattle.std.specs.Prelude.{◌≡◌, ℕ, ◌<◌, Bool, true, false, List, length, codes, is_some, ◌⊎◌, Option, None, Some, Result, Ok, Err}
-use Rattle.std.specs.Borrow.{Bor}
-use Rattle.std.specs.Map.{lookup}
+-- How a rule key is reserved, and how a refusal is printed.
+use Rattle.std.specs.Prelude.{◌≡◌, ℕ, ◌<◌, true, false, List, length, codes, ◌⊎◌, Result, Ok, Err}
 use Rattle.mt_names.specs.declared.keys.RuleKey.{RuleKey}
-use Rattle.mt_names.specs.declared.keys.RuleTarget.{RuleTarget}
-use Rattle.mt_names.specs.Same.{same_key}
 use Rattle.mt_model.specs.Limits.{most_rules}
 use Rattle.mt_model.specs.Topology.{Rules, with_rule_place}
+use Rattle.mt_places.specs.Rules.{has_rule_place}
 use Rattle.mt_rules.specs.declared.fault.RulesFault.{RulesFault}
 use Rattle.mt_rules.specs.declared.fault.RulesFault.TheVariants.{Memory, Full, NotJson, Shape, BadName, NotOneTarget, RepeatedKey}
 
@@ -18,15 +15,6 @@ rules_fault_text Shape = codes "R3 Shape"
 rules_fault_text BadName = codes "R4 BadName"
 rules_fault_text NotOneTarget = codes "R5 NotOneTarget"
 rules_fault_text RepeatedKey = codes "R6 RepeatedKey"
-
--- the key has a place
-abbrev pub has_rule_place : Rules → RuleKey → Bool
-has_rule_place rules key = is_some (lookup (same_key key) rules)
-
--- the rule that leads where two lent names say, those of a keyspace and of a table there
-abbrev pub lent_rule : Option (Bor (List ℕ) × Bor (List ℕ)) → Option RuleTarget
-lent_rule None = None
-lent_rule (Some names) = Some (record { keyspace = names.0.now; table = names.1.now })
 
 -- what becomes of the rules where a key is reserved: it has a place or gets one; else there were as many as there may
 -- be, or no memory for one more

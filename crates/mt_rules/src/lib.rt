@@ -1,10 +1,8 @@
 //! Routing rules: a table of places for rule keys, each with a rule or none, and their JSON document.
 #![tactic(auto)]
 
-mod counts;
 mod fault;
 mod member;
-mod places;
 mod read;
 mod rules;
 mod text;

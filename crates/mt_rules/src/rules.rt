@@ -1,6 +1,6 @@
 //! The table of routing rules.
-ghost use Rattle.std.specs.Prelude.{◌≡◌, ◌≤◌, ◌<◌, ◌↔◌, ◌==◌, ◌++◌, ◌∷◌, [], None, true, false, length, IsTrue, IfOk, IfErr, OnOk, OnErr, string_bytes, option_copied, option_map, slice_get};
-ghost use Rattle.std.specs.List.{IsDistinct};
+ghost use Rattle.std.specs.Prelude.{◌≡◌, ◌≤◌, ◌<◌, ◌↔◌, ◌==◌, ◌++◌, ◌∷◌, [], None, true, false, length, IsTrue, IfOk, IfErr, OnOk, OnErr, string_bytes, option_copied, option_map, slice_get, ◌+◌, map};
+ghost use Rattle.std.specs.List.{AllByRecursion, IsDistinct};
 ghost use Rattle.std.specs.Map.{keys_of, remove_entry, set_value};
 ghost use Rattle.mt_names.specs.Same.{same_key};
 ghost use Rattle.mt_model.specs.Limits.{most_rules};
@@ -11,14 +11,14 @@ ghost use Rattle.serde_json.specs.View.{view};
 ghost use Rattle.mt_rules.specs.Values.{IsWellSorted, Says};
 ghost use Rattle.mt_rules.specs.Member.{rules_within};
 ghost use Rattle.mt_model.specs.Documents.{rules_array, rules_text};
-ghost use Rattle.mt_rules.specs.Places.{in_order};
-ghost use Rattle.mt_rules.specs.Rules.{Reserves, has_rule_place, lent_rule};
+ghost use Rattle.mt_places.specs.Places.{in_order};
+ghost use Rattle.mt_places.specs.Rules.{four_keys, four_rules, has_rule_place, lent_rule, with_rules_set, without_keys};
+ghost use Rattle.mt_rules.specs.Rules.{Reserves};
 
-use crate::counts::Counts;
-use crate::places::{Linked, Places, place_at};
 use crate::{RulesFault, member, read, text, write};
 use mt_model::{Entry, MAX_RULES};
 use mt_names::{KeyspaceName, RuleKey, RuleTarget, TableName};
+use mt_places::{Counts, Links, Places, count_dropped};
 use serde_json::Value;
 use std::alloc::{AllocError, Global};
 use std::marker::Model;
@@ -36,7 +36,7 @@ impl Model for RoutingRules {
     ghost use Rattle.std.specs.Prelude.{◌≤◌, is_some, length};
     ghost use Rattle.mt_model.specs.Limits.{most_rules};
     ghost use Rattle.mt_model.specs.Topology.{Rules};
-    ghost use Rattle.mt_rules.specs.Counts.{IsCounted, any_place};
+    ghost use Rattle.mt_places.specs.Counts.{IsCounted, any_place};
 
     ghost Value = { Rules };
 
@@ -163,8 +163,7 @@ impl RoutingRules {
         ensures value { result ≡ length (rule_routes self.now) }
         ensures within { result ≤ most_rules }
     {
-        let (linked, order) = self.places.linked();
-        rule_count(linked, order)
+        rule_count(self.places.links())
     }
 
     /// The entry of a rule, by its index among the keys that have one, in the order of their places. It takes no memory;
@@ -172,8 +171,7 @@ impl RoutingRules {
     pub fn rule_entry(&self, index: usize) -> Option<Entry>
         ensures { result ≡ slice_get (rule_routes self.now) index }
     {
-        let (linked, order) = self.places.linked();
-        rule_entry(linked, order, index)
+        rule_entry(self.places.links(), index)
     }
 
     /// Whether a key is reserved. Of most keys that aren't, that is told without a look at any place.
@@ -214,6 +212,23 @@ impl RoutingRules {
     {
         match self.add_place(key, None) {
             Ok(()) => Ok(()),
+            Err(_) => Err(RulesFault::Memory),
+        }
+    }
+
+    /// Makes the places of a name's four keys, none of which has one, without rules, where there is room for four more. The type of the
+    /// key is not looked at. `R0 Memory`, which leaves all as it was. It looks the name up once.
+    pub fn add_name(&mut self, name: &RuleKey) -> Result<(), RulesFault>
+        requires lacks { AllByRecursion (λ key. has_rule_place self.old key ≡ false) (four_keys name.now) }
+        requires room { length self.old + 4 ≤ most_rules }
+        ensures ok { OnOk result (self.new ≡ self.old ++ map (λ key. (key, None)) (four_keys name.now)) }
+        ensures err { IfErr result (λ fault. (fault ≡ RulesFault.Memory) × (self.new ≡ self.old)) }
+    {
+        match self.places.add_name(name) {
+            Ok(()) => {
+                self.placed.add_four(&name.table);
+                Ok(())
+            }
             Err(_) => Err(RulesFault::Memory),
         }
     }
@@ -280,6 +295,44 @@ impl RoutingRules {
         self.standing.count(&key.table, before.is_some(), stands);
     }
 
+    /// Sets the rules of a name's four keys, each of which has a place, one after the other: that for all types, those of primary,
+    /// replica and rdonly. The type of the key is not looked at. It takes no memory, and looks the name up once.
+    pub fn put_name(
+        &mut self,
+        name: &RuleKey,
+        plain: Option<(&KeyspaceName, &TableName)>,
+        primary: Option<(&KeyspaceName, &TableName)>,
+        replica: Option<(&KeyspaceName, &TableName)>,
+        rdonly: Option<(&KeyspaceName, &TableName)>,
+    )
+        requires { AllByRecursion (λ key. has_rule_place self.old key ≡ true) (four_keys name.now) }
+        ensures { self.new ≡ with_rules_set self.old (four_rules name.now (lent_rule plain.entry) (lent_rule primary.entry) (lent_rule replica.entry) (lent_rule rdonly.entry)) }
+    {
+        let stand = (
+            plain.is_some(),
+            primary.is_some(),
+            replica.is_some(),
+            rdonly.is_some(),
+        );
+        let stood = self.places.put_name(name, plain, primary, replica, rdonly);
+        self.standing.count(&name.table, stood.0, stand.0);
+        self.standing.count(&name.table, stood.1, stand.1);
+        self.standing.count(&name.table, stood.2, stand.2);
+        self.standing.count(&name.table, stood.3, stand.3);
+    }
+
+    /// Drops the places of a name's four keys, with their rules, one after the other. The type of the key is not looked at. It takes no
+    /// memory, and looks the name up once.
+    pub fn drop_name(&mut self, name: &RuleKey)
+        ensures { self.new ≡ without_keys self.old (four_keys name.now) }
+    {
+        let stood = self.places.remove_name(name);
+        count_dropped(&mut self.placed, &mut self.standing, &name.table, stood.0);
+        count_dropped(&mut self.placed, &mut self.standing, &name.table, stood.1);
+        count_dropped(&mut self.placed, &mut self.standing, &name.table, stood.2);
+        count_dropped(&mut self.placed, &mut self.standing, &name.table, stood.3);
+    }
+
     /// Drops the place of a key that has no rule. Where the key has a rule nothing changes. It takes no memory.
     pub fn release_key(&mut self, key: &RuleKey)
         ensures { self.new ≡ without_rule_place self.old key.now }
@@ -308,14 +361,14 @@ impl RoutingRules {
 }
 
 /// How many keys have a rule.
-fn rule_count(linked: &Linked, order: &[usize]) -> usize
-    requires { length (in_order linked.now.entries 0 order.now) ≤ most_rules }
-    ensures value { result ≡ length (rule_routes (in_order linked.now.entries 0 order.now)) }
+fn rule_count(links: &Links) -> usize
+    requires { length (in_order (keys_of links.now.names.entries) links.now.slots.items) ≤ most_rules }
+    ensures value { result ≡ length (rule_routes (in_order (keys_of links.now.names.entries) links.now.slots.items)) }
     ensures within { result ≤ most_rules }
 {
     let mut count = 0;
-    for (slot, place) in order.iter().enumerate() {
-        if let Some((_, Some(_))) = place_at(linked, slot, *place) {
+    for slot in links.slots() {
+        if links.rule_of_slot(slot).is_some() {
             count += 1;
         }
     }
@@ -323,14 +376,14 @@ fn rule_count(linked: &Linked, order: &[usize]) -> usize
 }
 
 /// The entry of a rule, by its index among the keys that have one.
-fn rule_entry(linked: &Linked, order: &[usize], index: usize) -> Option<Entry>
-    ensures { result ≡ slice_get (rule_routes (in_order linked.now.entries 0 order.now)) index }
+fn rule_entry(links: &Links, index: usize) -> Option<Entry>
+    ensures { result ≡ slice_get (rule_routes (in_order (keys_of links.now.names.entries) links.now.slots.items)) index }
 {
     let mut before = index;
-    for (slot, place) in order.iter().enumerate() {
-        if let Some((key, Some(target))) = place_at(linked, slot, *place) {
+    for slot in links.slots() {
+        if let Some((key, target)) = links.rule_of_slot(slot) {
             if before == 0 {
-                return Some(Entry::Rule(key.copied(), Some(target.copied())));
+                return Some(Entry::Rule(key, Some(target.copied())));
             }
             before -= 1;
         }

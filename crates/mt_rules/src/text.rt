@@ -8,8 +8,8 @@ ghost use Rattle.mt_model.specs.Documents.{array, entries_of, put_by_text, rules
 ghost use Rattle.mt_rules.specs.Values.{IsNamed, IsWellSorted};
 ghost use Rattle.mt_rules.specs.Written.{named_text, quoted_item, text_of_texts, texts_of, written_document, written_text};
 
-use crate::places::{Places, rule_at_slot};
 use mt_names::{RuleKey, RuleTarget};
+use mt_places::Places;
 use std::alloc::{AllocError, Global};
 
 /// How many bytes the text of a rule is taken to have before it is known.
@@ -129,10 +129,10 @@ pub fn written_rules(alloc: Global, places: &Places) -> Result<Vec<WrittenItem>,
 {
     let len = places.len();
     let mut rules = Vec::with_capacity(alloc, len)?;
-    let (linked, order) = places.linked();
-    for (slot, place) in order.iter().enumerate() {
-        if let Some((key, target)) = rule_at_slot(linked, slot, *place) {
-            let rule = written_rule(alloc, key, target)?;
+    let links = places.links();
+    for slot in links.slots() {
+        if let Some((key, target)) = links.rule_of_slot(slot) {
+            let rule = written_rule(alloc, &key, target)?;
             rules.push(rule)?;
         }
     }

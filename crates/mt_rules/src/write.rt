@@ -4,8 +4,8 @@ ghost use Rattle.mt_model.specs.Limits.{most_rules};
 ghost use Rattle.mt_model.specs.Documents.{rules_text};
 ghost use Rattle.mt_rules.specs.Values.{Says};
 
-use crate::places::Places;
 use crate::text;
+use mt_places::Places;
 use std::alloc::{AllocError, Global};
 
 /// The document of the rules.

@@ -6,6 +6,7 @@ ghost use Rattle.mt_site.specs.Advance.{advanced_from};
 ghost use Rattle.mt_plain.specs.Output.{answer_text, line_feed};
 ghost use Rattle.mt_plain.specs.Script.{drive, event};
 ghost use Rattle.mt_site.specs.Commands.{event_of_command};
+ghost use Rattle.mt_site.specs.Show.{shown_answer};
 ghost use Rattle.mt_event.specs.Events.{done_from, event_of};
 ghost use Rattle.mt_workflow.specs.Workflows.{stream_name};
 ghost use Rattle.mt_run.specs.Runs.{IsRequestOutput};
@@ -13,7 +14,7 @@ ghost use Rattle.mt_run.specs.Runs.{IsRequestOutput};
 use crate::script::LineOutput;
 use mt_cache::CachedCore;
 use mt_drive::drive;
-use mt_event::{Event, Refusal};
+use mt_event::{Event, Refusal, Shown};
 use mt_model::Op;
 use mt_names::{
     KeyspaceName, Position, RuleKey, RuleTarget, TableName, TabletType, TypeSet, WorkflowName,
@@ -22,7 +23,7 @@ use mt_script::TableText;
 use mt_site::Command;
 use mt_stream::Advanced;
 use mt_texts::{
-    LineText, put_row_refused, put_written, write_advanced, write_answer, write_driven,
+    LineText, put_row_refused, put_written, write_advanced, write_answer, write_driven, write_shown,
 };
 use mt_watch::Asks;
 use mt_workflow::Slot;
@@ -167,17 +168,26 @@ pub fn advance(
     LineOutput::Line
 }
 
-/// Tells of a workflow.
-#[inline(never)]
-pub fn show<A: Asks>(
-    core: &mut CachedCore,
-    watchers: &A,
-    workflow: WorkflowName,
-    text: &mut LineText,
-) -> LineOutput
-    ensures { IsRequestOutput (A.scopes watchers.now) core.old (event (plain.show workflow)) text.new.items result core.new }
+/// Writes what is told of a workflow, or why it is refused, in place of the text that was there.
+fn tell_shown(told: &Result<Shown, Refusal>, text: &mut LineText)
+    ensures { text.new.items ≡ answer_text (shown_answer told.now) ++ line_feed }
 {
-    ask(core, watchers, &Event::Show { workflow }, text)
+    match told {
+        Ok(shown) => write_shown(text, shown),
+        Err(refusal) => {
+            text.clear();
+            put_row_refused(text, refusal);
+        }
+    }
+}
+
+/// Tells of a workflow, which leaves all as it is. It asks nobody.
+#[inline(never)]
+pub fn show(core: &CachedCore, workflow: &WorkflowName, text: &mut LineText) -> LineOutput
+    ensures { (scopes : List Scope) → IsRequestOutput scopes core.now (event (plain.show workflow.now)) text.new.items result core.now }
+{
+    tell_shown(&core.core().shown(workflow), text);
+    LineOutput::Line
 }
 
 /// Switches the traffic of a workflow as a whole, or reverses it.

@@ -5,7 +5,7 @@ ghost use Rattle.mt_plain.specs.Output.{told};
 ghost use Rattle.mt_plain.specs.Plain.{Plain};
 ghost use Rattle.mt_plain.specs.Script.{dump_document, rules_document};
 ghost use Rattle.mt_plain.specs.Script as language;
-ghost use Rattle.mt_script.specs.Requests.{request_from};
+ghost use Rattle.mt_script.specs.Requests.{asked_of_workflow, request_from};
 ghost use Rattle.mt_site_state.specs.Ways.{SiteStands};
 ghost use Rattle.mt_run.specs.Runs.{AsksDocument, IsLineOutput, IsRequestOutput, Runs, RunsLine, RunsLines};
 
@@ -15,7 +15,10 @@ use mt_cache::CachedCore;
 use mt_io::{
     LONGEST_LINE, ROOM, ScriptFault, Waiting, flush, make_room, put_document, put_line, read_script,
 };
-use mt_script::{Line, Request, first_line, read_line, write_refusal};
+use mt_script::{
+    Line, Request, WorkflowAsked, WorkflowRequest, create_line, first_line, read_line,
+    workflow_line, write_refusal,
+};
 use mt_site::Command;
 use mt_texts::LineText;
 use mt_watch::Asks;
@@ -53,6 +56,40 @@ fn dump(core: &CachedCore) -> LineOutput
     match core.core().dump() {
         Ok(text) => LineOutput::Document(text),
         Err(_) => LineOutput::NoMemory,
+    }
+}
+
+/// What a line adds to the output that asks for something of a workflow.
+fn workflow_output<A: Asks>(
+    core: &mut CachedCore,
+    watchers: &A,
+    request: &WorkflowRequest,
+    text: &mut LineText,
+) -> LineOutput
+    ensures { IsRequestOutput (A.scopes watchers.now) core.old (asked_of_workflow request.now) text.new.items result core.new }
+{
+    let workflow = &request.workflow;
+    match request.asked {
+        WorkflowAsked::Advance(stream, at, max) => advance(core, workflow, stream, at, max, text),
+        WorkflowAsked::Step(at) => command(core, watchers, Command::Step(workflow, at), text),
+        WorkflowAsked::Undo(at) => command(core, watchers, Command::Undo(workflow, at), text),
+        WorkflowAsked::Switch(types) => drive_whole(core, watchers, workflow, types, false, text),
+        WorkflowAsked::Reverse(types) => drive_whole(core, watchers, workflow, types, true, text),
+        WorkflowAsked::BeginSwitch(types) => command(
+            core,
+            watchers,
+            Command::BeginSwitch(workflow, types),
+            text,
+        ),
+        WorkflowAsked::BeginReverse(types) => command(
+            core,
+            watchers,
+            Command::BeginReverse(workflow, types),
+            text,
+        ),
+        WorkflowAsked::Cancel => command(core, watchers, Command::Cancel(workflow), text),
+        WorkflowAsked::Complete => command(core, watchers, Command::Complete(workflow), text),
+        WorkflowAsked::Show => show(core, workflow, text),
     }
 }
 
@@ -97,39 +134,62 @@ fn request_output<A: Asks>(
         Request::Create(workflow, source, target, tables) => create(
             core, watchers, workflow, source, target, &tables, text,
         ),
-        Request::Advance(workflow, stream, at, max) => advance(
-            core, &workflow, stream, at, max, text,
-        ),
-        Request::BeginSwitch(workflow, types) => command(
-            core,
-            watchers,
-            Command::BeginSwitch(&workflow, types),
-            text,
-        ),
-        Request::BeginReverse(workflow, types) => command(
-            core,
-            watchers,
-            Command::BeginReverse(&workflow, types),
-            text,
-        ),
-        Request::Step(workflow, at) => command(core, watchers, Command::Step(&workflow, at), text),
-        Request::Undo(workflow, at) => command(core, watchers, Command::Undo(&workflow, at), text),
-        Request::Switch(workflow, types) => drive_whole(
-            core, watchers, &workflow, types, false, text,
-        ),
-        Request::Reverse(workflow, types) => drive_whole(
-            core, watchers, &workflow, types, true, text,
-        ),
-        Request::Cancel(workflow) => command(core, watchers, Command::Cancel(&workflow), text),
-        Request::Complete(workflow) => command(core, watchers, Command::Complete(&workflow), text),
-        Request::Show(workflow) => show(core, watchers, workflow, text),
+        Request::Workflow(request) => workflow_output(core, watchers, &request, text),
         Request::Rules => rules(core),
         Request::Dump => dump(core),
     }
 }
 
-/// What a line of a script adds to the output.
+/// What a line of a script adds to the output. One that asks for something of a workflow in the common form takes a short way: a
+/// request of any kind is larger by far.
 fn line_output<A: Asks>(
+    core: &mut CachedCore,
+    watchers: &A,
+    line: &[u8],
+    text: &mut LineText,
+) -> LineOutput
+    ensures { (p : Plain) → SiteStands p (A.scopes watchers.now) core.old
+        → IsLineOutput (A.scopes watchers.now) p (told language.read_line p line.now) (AsksDocument line.now) text.new.items result core.new }
+{
+    if let Some(request) = workflow_line(line) {
+        return workflow_output(core, watchers, &request, text);
+    }
+    if line.starts_with(b"create ") {
+        return create_line_output(core, watchers, line, text);
+    }
+    other_line_output(core, watchers, line, text)
+}
+
+/// The same, of a line that may be a Create in the common form: its tables are read once.
+#[inline(never)]
+fn create_line_output<A: Asks>(
+    core: &mut CachedCore,
+    watchers: &A,
+    line: &[u8],
+    text: &mut LineText,
+) -> LineOutput
+    ensures { (p : Plain) → SiteStands p (A.scopes watchers.now) core.old
+        → IsLineOutput (A.scopes watchers.now) p (told language.read_line p line.now) (AsksDocument line.now) text.new.items result core.new }
+{
+    match &create_line(line) {
+        Some(request) => command(
+            core,
+            watchers,
+            Command::Create(
+                &request.workflow,
+                &request.source,
+                &request.target,
+                &request.tables,
+            ),
+            text,
+        ),
+        None => other_line_output(core, watchers, line, text),
+    }
+}
+
+/// What any line of a script adds to the output.
+#[inline(never)]
+fn other_line_output<A: Asks>(
     core: &mut CachedCore,
     watchers: &A,
     line: &[u8],

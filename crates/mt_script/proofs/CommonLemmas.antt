@@ -1,4 +1,4 @@
--- Lines that ask for something of a workflow that is there, in their common form.
+-- Lines that ask for something of a workflow, in their common form.
 use Rattle.std.proofs.Common.{◌≡◌, ℕ, ◌<◌, ◌≤◌, ◌^◌, ◌&&◌, Bool, true, false, ltb, leb, None, IfSome, Option, Result, Err, subst, List, [], ◌∷◌, ◌++◌, codes, if◌then◌else◌, get_or, length, Some, Ok, option_map, refl, sym, ap, ◌∙◌, append-nil, arith}
 use Rattle.std.proofs.lemmas.Bool.{and_parts, ltb-true}
 use Rattle.std.proofs.lemmas.List.Sums.{list_all-from_AllPass}
@@ -10,10 +10,10 @@ use Rattle.mt_names.specs.declared.types.TypeSet.{TypeSet}
 use Rattle.mt_names.specs.Names.{IsWorkflowName, read_workflow}
 use Rattle.mt_plain.specs.Events.{StreamName, forward, back}
 use Rattle.mt_plain.specs.Events as core
-use Rattle.mt_plain.specs.Script.{Command, MAX_LINE_LENGTH, Request, cancel, command_of, drive, event, is_number_of, is_readable, is_silent, is_visible, number_of_digits, one_word, read_advance, read_line, read_number, read_small_number, read_stream, request_of, reverse, show, step, switch, undo, with_number, with_types, words_of}
+use Rattle.mt_plain.specs.Script.{Command, MAX_LINE_LENGTH, Request, begin_reverse, begin_switch, cancel, command_of, create, drive, event, four_words, is_number_of, is_readable, is_silent, is_visible, number_of_digits, one_word, read_advance, read_line, read_number, read_small_number, read_stream, request_of, reverse, show, step, switch, undo, with_number, with_types, words_of}
 use Rattle.mt_script.specs.declared.common.WorkflowVerb.{WorkflowVerb}
 use Rattle.mt_script.specs.declared.common.WorkflowVerb.TheVariants as verb
-use Rattle.mt_script.specs.Common.{AsksBehind, IsTextOfTypes, IsTextOfWorkflow, command_behind, stream_text, verb_text}
+use Rattle.mt_script.specs.Common.{AsksBehind, IsTextOfKeyspace, IsTextOfTables, IsTextOfTypes, IsTextOfWorkflow, command_behind, stream_text, verb_text}
 use Rattle.mt_script.specs.Requests.{meaning_of}
 use Rattle.mt_script.specs.Rows.{BeginsWithNumber}
 use Rattle.mt_script.proofs.LineLemmas.{means-read}
@@ -28,6 +28,9 @@ verb-not_silent verb.Step words = refl
 verb-not_silent verb.Undo words = refl
 verb-not_silent verb.Switch words = refl
 verb-not_silent verb.Reverse words = refl
+verb-not_silent verb.BeginSwitch words = refl
+verb-not_silent verb.BeginReverse words = refl
+verb-not_silent verb.Create words = refl
 verb-not_silent verb.Cancel words = refl
 verb-not_silent verb.Show words = refl
 
@@ -37,6 +40,9 @@ verb-readable verb.Step words = refl
 verb-readable verb.Undo words = refl
 verb-readable verb.Switch words = refl
 verb-readable verb.Reverse words = refl
+verb-readable verb.BeginSwitch words = refl
+verb-readable verb.BeginReverse words = refl
+verb-readable verb.Create words = refl
 verb-readable verb.Cancel words = refl
 verb-readable verb.Show words = refl
 
@@ -46,6 +52,9 @@ verb-words verb.Step words = refl
 verb-words verb.Undo words = refl
 verb-words verb.Switch words = refl
 verb-words verb.Reverse words = refl
+verb-words verb.BeginSwitch words = refl
+verb-words verb.BeginReverse words = refl
+verb-words verb.Create words = refl
 verb-words verb.Cancel words = refl
 verb-words verb.Show words = refl
 
@@ -55,6 +64,9 @@ verb-command verb.Step words = refl
 verb-command verb.Undo words = refl
 verb-command verb.Switch words = refl
 verb-command verb.Reverse words = refl
+verb-command verb.BeginSwitch words = refl
+verb-command verb.BeginReverse words = refl
+verb-command verb.Create words = refl
 verb-command verb.Cancel words = refl
 verb-command verb.Show words = refl
 
@@ -125,6 +137,37 @@ module _ (words name word workflow : List ℕ) (types : TypeSet) (is : words ≡
 
   pub reverse-asked : AsksBehind verb.Reverse words (drive workflow types true)
   reverse-asked = record { readable = typed-readable; asks = ap (λ ws. option_map request_of (with_types reverse ws)) typed-words ∙ rw (text.reads, listed.reads) refl }
+
+  pub begin_switch-asked : AsksBehind verb.BeginSwitch words (event (core.begin_switch workflow types))
+  begin_switch-asked = record { readable = typed-readable; asks = ap (λ ws. option_map request_of (with_types begin_switch ws)) typed-words ∙ rw (text.reads, listed.reads) refl }
+
+  pub begin_reverse-asked : AsksBehind verb.BeginReverse words (event (core.begin_reverse workflow types))
+  begin_reverse-asked = record { readable = typed-readable; asks = ap (λ ws. option_map request_of (with_types begin_reverse ws)) typed-words ∙ rw (text.reads, listed.reads) refl }
+
+-- ---- the name, two keyspaces, and a list of tables
+
+module _ (words name words1 source words2 target list workflow from to : List ℕ) (tables : List (List ℕ))
+    (is : words ≡ name ++ 32 ∷ words1) (text : IsTextOfWorkflow name workflow) (is1 : words1 ≡ source ++ 32 ∷ words2) (at_source : IsTextOfKeyspace source from)
+    (is2 : words2 ≡ target ++ 32 ∷ list) (at_target : IsTextOfKeyspace target to) (listed : IsTextOfTables list tables) where
+  create-words : words_of words ≡ name ∷ source ∷ target ∷ list ∷ []
+  create-words =
+      ap words_of is ∙ name-words name words1 workflow text
+      ∙ ap (λ l. name ∷ words_of l) is1 ∙ ap (λ l. name ∷ l) (next-word source words2 at_source.some at_source.visible)
+      ∙ ap (λ l. name ∷ source ∷ words_of l) is2 ∙ ap (λ l. name ∷ source ∷ l) (next-word target list at_target.some at_target.visible)
+      ∙ ap (λ l. name ∷ source ∷ target ∷ l) (last-word list listed.some listed.visible)
+
+  create-readable : is_readable words ≡ true
+  create-readable =
+      ap is_readable is
+      ∙ name-readable name words1 workflow text
+      (ap is_readable is1
+      ∙ readable-word source (32 ∷ words2) at_source.visible (ap is_readable is2 ∙ readable-word target (32 ∷ list) at_target.visible (all-visible list listed.visible)))
+
+  pub create-asked : AsksBehind verb.Create words (event (core.create workflow from to tables))
+  create-asked = record {
+    readable = create-readable;
+    asks = ap (λ ws. option_map request_of (option_map (λ w. create w.0 w.1 w.2 w.3) (four_words ws))) create-words ∙ rw (text.reads, at_source.reads, at_target.reads, listed.reads) refl;
+  }
 
 -- ---- the name alone
 

@@ -11,6 +11,9 @@ use Rattle.mt_script.specs.declared.lines.Request as code
 use Rattle.mt_script.specs.declared.lines.Request.TheVariants as request
 use Rattle.mt_script.specs.declared.lines.RowRequest.{RowRequest}
 use Rattle.mt_script.specs.declared.lines.RowRequest.TheVariants as row
+use Rattle.mt_script.specs.declared.lines.WorkflowAsked.{WorkflowAsked}
+use Rattle.mt_script.specs.declared.lines.WorkflowAsked.TheVariants as of_workflow
+use Rattle.mt_script.specs.declared.lines.WorkflowRequest.{WorkflowRequest}
 use Rattle.mt_script.specs.declared.commands.RowWork.{RowWork}
 use Rattle.mt_script.specs.declared.commands.RowWork.TheVariants as work
 use Rattle.mt_names.specs.Keys.{after, at_sign, dot}
@@ -69,6 +72,23 @@ abbrev pub row_read_from : Result RowRequest NameFault → Result Request NameFa
 row_read_from (Ok r) = Ok (row_from r)
 row_read_from (Err fault) = Err fault
 
+-- what a line asks for of a workflow
+abbrev pub asked_of : List ℕ → WorkflowAsked → Request
+asked_of workflow (of_workflow.Advance stream at max) = event (core.advance workflow (stream_name stream) at max)
+asked_of workflow (of_workflow.Step at) = event (core.step workflow at)
+asked_of workflow (of_workflow.Undo at) = event (core.undo workflow at)
+asked_of workflow (of_workflow.Switch types) = drive workflow types false
+asked_of workflow (of_workflow.Reverse types) = drive workflow types true
+asked_of workflow (of_workflow.BeginSwitch types) = event (core.begin_switch workflow types)
+asked_of workflow (of_workflow.BeginReverse types) = event (core.begin_reverse workflow types)
+asked_of workflow of_workflow.Cancel = event (core.cancel workflow)
+asked_of workflow of_workflow.Complete = event (core.complete workflow)
+asked_of workflow of_workflow.Show = event (core.show workflow)
+
+-- the same of a workflow and what is asked of it
+abbrev pub asked_of_workflow : WorkflowRequest → Request
+asked_of_workflow r = asked_of r.workflow r.asked
+
 -- what a request asks for
 abbrev pub request_from : code.Request → Request
 request_from (request.AddKeyspace keyspace) = event (add_keyspace keyspace)
@@ -78,16 +98,7 @@ request_from (request.Row r) = row_from r
 request_from (request.WriteAt keyspace table op) = event (write keyspace table op)
 request_from (request.ReadAt keyspace table number tablet_type) = event (read keyspace table number tablet_type)
 request_from (request.Create workflow source target tables) = event (core.create workflow source target tables)
-request_from (request.Advance workflow stream at max) = event (core.advance workflow (stream_name stream) at max)
-request_from (request.BeginSwitch workflow types) = event (core.begin_switch workflow types)
-request_from (request.BeginReverse workflow types) = event (core.begin_reverse workflow types)
-request_from (request.Step workflow at) = event (core.step workflow at)
-request_from (request.Undo workflow at) = event (core.undo workflow at)
-request_from (request.Switch workflow types) = drive workflow types false
-request_from (request.Reverse workflow types) = drive workflow types true
-request_from (request.Cancel workflow) = event (core.cancel workflow)
-request_from (request.Complete workflow) = event (core.complete workflow)
-request_from (request.Show workflow) = event (core.show workflow)
+request_from (request.Workflow r) = asked_of_workflow r
 request_from request.Rules = rules_document
 request_from request.Dump = dump_document
 

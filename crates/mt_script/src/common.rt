@@ -1,21 +1,22 @@
-//! Lines that ask for something of a workflow that is there, in their common form: one space between two words, and no other blank.
-ghost use Rattle.std.specs.Prelude.{◌≡◌, ◌++◌, ◌∷◌, IfSome, Ok, Some, false, true};
+//! Lines that ask for something of a workflow, in their common form: one space between two words, and no other blank.
+ghost use Rattle.std.specs.Prelude.{◌≡◌, ◌++◌, ◌∷◌, IfSome, Ok, Some, codes, false, true};
 ghost use Rattle.mt_plain.specs.Script.{read_line, read_small_number};
-ghost use Rattle.mt_plain.specs.Events.{advance, cancel, show, step, undo};
+ghost use Rattle.mt_plain.specs.Events.{advance, begin_reverse, begin_switch, cancel, create, show, step, undo};
 ghost use Rattle.mt_plain.specs.Script.{drive, event};
 ghost use Rattle.mt_workflow.specs.Workflows.{stream_name};
-ghost use Rattle.mt_script.specs.Common.{AsksBehind, IsTextOfTypes, IsTextOfWorkflow, stream_text, verb_text};
+ghost use Rattle.mt_script.specs.Common.{AsksBehind, IsTextOfKeyspace, IsTextOfTables, IsTextOfTypes, IsTextOfWorkflow, stream_text, verb_text};
 ghost use Rattle.mt_script.specs.declared.common.WorkflowVerb.TheVariants as verb;
-ghost use Rattle.mt_script.specs.Requests.{meaning_of, request_from};
+ghost use Rattle.mt_script.specs.Requests.{asked_of_workflow, meaning_of};
 
-use crate::lines::{MAX_LINE_LENGTH, Request};
+use crate::lines::{MAX_LINE_LENGTH, WorkflowAsked, WorkflowRequest};
 use crate::rows::{is_all_visible, name_in_front, number_in_front};
 use crate::words::text_of;
-use mt_names::{TypeSet, WorkflowName};
+use arrayvec::ArrayVec;
+use mt_names::{KeyspaceName, MAX_TABLES, TableName, TypeSet, WorkflowName, table_list};
 use mt_workflow::Slot;
 use std::str;
 
-/// The verb of a line that asks for something of a workflow that is there.
+/// The verb of a line that asks for something of a workflow.
 #[derive(Clone, Copy)]
 pub enum WorkflowVerb {
     /// `advance`.
@@ -28,6 +29,12 @@ pub enum WorkflowVerb {
     Switch,
     /// `reverse`.
     Reverse,
+    /// `begin-switch`.
+    BeginSwitch,
+    /// `begin-reverse`.
+    BeginReverse,
+    /// `create`.
+    Create,
     /// `cancel`.
     Cancel,
     /// `show`.
@@ -59,6 +66,22 @@ fn types_verb_in_front(line: &[u8]) -> Option<(WorkflowVerb, &[u8])>
             WorkflowVerb::Reverse,
             rest,
         )),
+        [b'b', b'e', b'g', b'i', b'n', b'-', rest @ ..] => begin_verb_in_front(rest),
+        _ => None,
+    }
+}
+
+/// What a line begins that goes on so behind `begin-`, and what stands behind that and a space.
+fn begin_verb_in_front(rest: &[u8]) -> Option<(WorkflowVerb, &[u8])>
+    ensures { IfSome result (λ parts. codes "begin-" ++ rest.now ≡ verb_text parts.0 ++ 32 ∷ parts.1.now) }
+{
+    match rest {
+        [b's', b'w', b'i', b't', b'c', b'h', b' ', rest @ ..] => {
+            Some((WorkflowVerb::BeginSwitch, rest))
+        }
+        [b'r', b'e', b'v', b'e', b'r', b's', b'e', b' ', rest @ ..] => {
+            Some((WorkflowVerb::BeginReverse, rest))
+        }
         _ => None,
     }
 }
@@ -161,6 +184,8 @@ fn types_of(word: &[u8]) -> Option<TypeSet>
 fn workflow_and_types(words: &[u8]) -> Option<(WorkflowName, TypeSet)>
     ensures switch { IfSome result (λ asked. AsksBehind verb.Switch words.now (drive asked.0 asked.1 false)) }
     ensures reverse { IfSome result (λ asked. AsksBehind verb.Reverse words.now (drive asked.0 asked.1 true)) }
+    ensures begin_switch { IfSome result (λ asked. AsksBehind verb.BeginSwitch words.now (event (begin_switch asked.0 asked.1))) }
+    ensures begin_reverse { IfSome result (λ asked. AsksBehind verb.BeginReverse words.now (event (begin_reverse asked.0 asked.1))) }
 {
     let (name, types) = name_in_front(words)?;
     Some((workflow_of(name)?, types_of(types)?))
@@ -175,19 +200,23 @@ fn workflow_alone(words: &[u8]) -> Option<WorkflowName>
 }
 
 /// The request of an advance: a workflow, its stream, a position, and how many rows or entries at most.
-fn advance_of(words: &[u8]) -> Option<Request<'_>>
-    ensures { IfSome result (λ request. AsksBehind verb.Advance words.now (request_from request)) }
+fn advance_of(words: &[u8]) -> Option<WorkflowRequest>
+    ensures { IfSome result (λ request. AsksBehind verb.Advance words.now (asked_of_workflow request)) }
 {
     let (name, words) = name_in_front(words)?;
     let (stream, words) = stream_in_front(words)?;
     let (at, words) = number_in_front(words)?;
     let most = small_number(behind_space(words)?)?;
-    Some(Request::Advance(workflow_of(name)?, stream, at, most))
+    Some(WorkflowRequest {
+        workflow: workflow_of(name)?,
+        asked: WorkflowAsked::Advance(stream, at, most),
+    })
 }
 
-/// What a line in the common form asks for. It isn't read byte by byte before its words, which is faster.
-pub fn common_request(line: &[u8]) -> Option<Request<'_>>
-    ensures { IfSome result (λ request. Some (Ok (request_from request)) ≡ meaning_of (read_line line.now)) }
+/// What a line asks for of a workflow that is there, if it is in the common form: one space between two words, and no other blank. It
+/// isn't read byte by byte before its words, which is faster.
+pub fn workflow_line(line: &[u8]) -> Option<WorkflowRequest>
+    ensures { IfSome result (λ request. Some (Ok (asked_of_workflow request)) ≡ meaning_of (read_line line.now)) }
 {
     if line.len() > MAX_LINE_LENGTH {
         return None;
@@ -197,21 +226,98 @@ pub fn common_request(line: &[u8]) -> Option<Request<'_>>
         WorkflowVerb::Advance => advance_of(words),
         WorkflowVerb::Step => {
             let (workflow, at) = workflow_and_number(words)?;
-            Some(Request::Step(workflow, at))
+            Some(WorkflowAsked::Step(at).of(workflow))
         }
         WorkflowVerb::Undo => {
             let (workflow, at) = workflow_and_number(words)?;
-            Some(Request::Undo(workflow, at))
+            Some(WorkflowAsked::Undo(at).of(workflow))
         }
         WorkflowVerb::Switch => {
             let (workflow, types) = workflow_and_types(words)?;
-            Some(Request::Switch(workflow, types))
+            Some(WorkflowAsked::Switch(types).of(workflow))
         }
         WorkflowVerb::Reverse => {
             let (workflow, types) = workflow_and_types(words)?;
-            Some(Request::Reverse(workflow, types))
+            Some(WorkflowAsked::Reverse(types).of(workflow))
         }
-        WorkflowVerb::Cancel => Some(Request::Cancel(workflow_alone(words)?)),
-        WorkflowVerb::Show => Some(Request::Show(workflow_alone(words)?)),
+        WorkflowVerb::BeginSwitch => {
+            let (workflow, types) = workflow_and_types(words)?;
+            Some(WorkflowAsked::BeginSwitch(types).of(workflow))
+        }
+        WorkflowVerb::BeginReverse => {
+            let (workflow, types) = workflow_and_types(words)?;
+            Some(WorkflowAsked::BeginReverse(types).of(workflow))
+        }
+        WorkflowVerb::Cancel => Some(WorkflowAsked::Cancel.of(workflow_alone(words)?)),
+        WorkflowVerb::Show => Some(WorkflowAsked::Show.of(workflow_alone(words)?)),
+        WorkflowVerb::Create => None,
     }
+}
+
+/// What a line asks for that makes a workflow.
+#[derive(Debug, Drop)]
+pub struct CreateRequest {
+    /// The workflow.
+    pub workflow: WorkflowName,
+    /// Where its tables are.
+    pub source: KeyspaceName,
+    /// Where it moves them to.
+    pub target: KeyspaceName,
+    /// The tables.
+    pub tables: ArrayVec<TableName, MAX_TABLES>,
+}
+
+/// The name of a keyspace, if it is one.
+fn keyspace_of(word: &[u8]) -> Option<KeyspaceName>
+    ensures { IfSome result (λ keyspace. IsTextOfKeyspace word.now keyspace) }
+{
+    if word.is_empty() || !is_all_visible(word) {
+        return None;
+    }
+    KeyspaceName::parse(text_of(word)).ok()
+}
+
+/// The tables that a word lists, if it lists some.
+fn tables_of(word: &[u8]) -> Option<ArrayVec<TableName, MAX_TABLES>>
+    ensures { IfSome result (λ tables. IsTextOfTables word.now tables.items) }
+{
+    if word.is_empty() || !is_all_visible(word) {
+        return None;
+    }
+    table_list(text_of(word)).ok()
+}
+
+/// What stands behind the verb `create` and a space, if a line begins with these.
+fn behind_create(line: &[u8]) -> Option<&[u8]>
+    ensures { IfSome result (λ rest. line.now ≡ verb_text verb.Create ++ 32 ∷ rest.now) }
+{
+    match line {
+        [b'c', b'r', b'e', b'a', b't', b'e', b' ', rest @ ..] => Some(rest),
+        _ => None,
+    }
+}
+
+/// A workflow, its source and target, and its tables.
+fn create_of(words: &[u8]) -> Option<CreateRequest>
+    ensures { IfSome result (λ request. AsksBehind verb.Create words.now (event (create request.workflow request.source request.target request.tables.items))) }
+{
+    let (name, words) = name_in_front(words)?;
+    let (source, words) = name_in_front(words)?;
+    let (target, tables) = name_in_front(words)?;
+    Some(CreateRequest {
+        workflow: workflow_of(name)?,
+        source: keyspace_of(source)?,
+        target: keyspace_of(target)?,
+        tables: tables_of(tables)?,
+    })
+}
+
+/// What a line asks for that makes a workflow, if it is in the common form.
+pub fn create_line(line: &[u8]) -> Option<CreateRequest>
+    ensures { IfSome result (λ request. Some (Ok (event (create request.workflow request.source request.target request.tables.items))) ≡ meaning_of (read_line line.now)) }
+{
+    if MAX_LINE_LENGTH < line.len() {
+        return None;
+    }
+    create_of(behind_create(line)?)
 }

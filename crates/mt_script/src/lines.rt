@@ -7,7 +7,6 @@ ghost use Rattle.mt_script.specs.Requests.{meaning_from, meaning_of, row_from};
 ghost use Rattle.mt_script.specs.Rows.{IsRequest};
 
 use crate::commands::read_command;
-use crate::common::common_request;
 use crate::rows::{RowWords, name_in_front, number_in_front, verb_in_front};
 use crate::tables::TableText;
 use crate::words::{is_blank, is_visible};
@@ -30,6 +29,54 @@ pub enum RowRequest {
     Read(RuleKey, u64, TabletType),
 }
 
+/// What a line asks for of a workflow that is there. It is smaller by far than a request of any kind, and so sooner handed up.
+#[derive(Debug, Drop)]
+pub struct WorkflowRequest {
+    /// The workflow, W in what follows.
+    pub workflow: WorkflowName,
+    /// What is asked for.
+    pub asked: WorkflowAsked,
+}
+
+/// What is asked for of a workflow that is there.
+#[derive(Clone, Copy, Debug)]
+pub enum WorkflowAsked {
+    /// `advance W forward AT MAX`, or `back`: the workflow's stream at this position copies rows or reads entries, so many at
+    /// most.
+    Advance(Slot, Position, u16),
+    /// `begin-switch W TYPES`: begins to switch the traffic of these types to the target.
+    BeginSwitch(TypeSet),
+    /// `begin-reverse W TYPES`: begins to send the traffic of these types back to the source.
+    BeginReverse(TypeSet),
+    /// `step W N`: does the next step of the switch or reversal that is open, of which N stand done.
+    Step(u64),
+    /// `undo W N`: undoes the last step of it, of which N stand done.
+    Undo(u64),
+    /// `switch W TYPES`: switches the traffic of these types to the target, step by step to its end, or gives it up.
+    Switch(TypeSet),
+    /// `reverse W TYPES`: sends the traffic of these types back to the source, step by step to its end, or gives it up.
+    Reverse(TypeSet),
+    /// `cancel W`: takes a workflow back.
+    Cancel,
+    /// `complete W`: ends a workflow whose traffic is switched as a whole.
+    Complete,
+    /// `show W`: tells of a workflow.
+    Show,
+}
+
+impl WorkflowAsked {
+    /// This asked of a workflow.
+    pub(crate) fn of(self, workflow: WorkflowName) -> WorkflowRequest
+        ensures workflow { result.workflow ≡ workflow }
+        ensures asked { result.asked ≡ self }
+    {
+        WorkflowRequest {
+            workflow,
+            asked: self,
+        }
+    }
+}
+
 /// What a line asks for, with its names read. It borrows a list of tables from the line.
 #[derive(Debug, Drop)]
 pub enum Request<'a> {
@@ -47,27 +94,8 @@ pub enum Request<'a> {
     ReadAt(KeyspaceName, TableName, u64, TabletType),
     /// `create W S T TABLES`: makes a workflow that moves tables from S to T.
     Create(WorkflowName, KeyspaceName, KeyspaceName, TableText<'a>),
-    /// `advance W forward AT MAX`, or `back`: the workflow's stream at this position copies rows or reads entries, so many at
-    /// most.
-    Advance(WorkflowName, Slot, Position, u16),
-    /// `begin-switch W TYPES`: begins to switch the traffic of these types to the target.
-    BeginSwitch(WorkflowName, TypeSet),
-    /// `begin-reverse W TYPES`: begins to send the traffic of these types back to the source.
-    BeginReverse(WorkflowName, TypeSet),
-    /// `step W N`: does the next step of the switch or reversal that is open, of which N stand done.
-    Step(WorkflowName, u64),
-    /// `undo W N`: undoes the last step of it, of which N stand done.
-    Undo(WorkflowName, u64),
-    /// `switch W TYPES`: switches the traffic of these types to the target, step by step to its end, or gives it up.
-    Switch(WorkflowName, TypeSet),
-    /// `reverse W TYPES`: sends the traffic of these types back to the source, step by step to its end, or gives it up.
-    Reverse(WorkflowName, TypeSet),
-    /// `cancel W`: takes a workflow back.
-    Cancel(WorkflowName),
-    /// `complete W`: ends a workflow whose traffic is switched as a whole.
-    Complete(WorkflowName),
-    /// `show W`: tells of a workflow.
-    Show(WorkflowName),
+    /// A line that asks for something of a workflow that is there.
+    Workflow(WorkflowRequest),
     /// `rules`: the document of the routing rules.
     Rules,
     /// `dump`: the document of the whole topology.
@@ -121,9 +149,6 @@ fn is_readable(line: &[u8]) -> bool
 pub fn read_line(line: &[u8]) -> Line<'_>
     ensures { meaning_from result ≡ meaning_of (read_line line.now) }
 {
-    if let Some(request) = common_request(line) {
-        return Line::Request(request);
-    }
     if is_silent(line) {
         return Line::Silent;
     }

@@ -4,7 +4,7 @@ ghost use Rattle.mt_plain.specs.Script.{advance, begin_reverse, begin_switch, ca
 ghost use Rattle.mt_workflow.specs.Workflows.{stream_name};
 ghost use Rattle.mt_script.specs.Requests.{read_from};
 
-use crate::lines::Request;
+use crate::lines::{Request, WorkflowAsked};
 use crate::numbers::{read_number, read_small_number};
 use crate::tables::TableText;
 use crate::words::{four_words, one_word, two_words};
@@ -46,7 +46,7 @@ fn advance_request(
     ensures { read_from result ≡ request_of (advance workflow.now (stream_name stream) at max) }
 {
     let workflow = WorkflowName::parse(workflow)?;
-    Ok(Request::Advance(workflow, stream, at, max))
+    Ok(Request::Workflow(WorkflowAsked::Advance(stream, at, max).of(workflow)))
 }
 
 fn begin_switch_request<'a>(workflow: &'a str, types: &'a str) -> Result<Request<'a>, NameFault>
@@ -54,7 +54,7 @@ fn begin_switch_request<'a>(workflow: &'a str, types: &'a str) -> Result<Request
 {
     let workflow = WorkflowName::parse(workflow)?;
     let types = TypeSet::parse(types)?;
-    Ok(Request::BeginSwitch(workflow, types))
+    Ok(Request::Workflow(WorkflowAsked::BeginSwitch(types).of(workflow)))
 }
 
 fn begin_reverse_request<'a>(workflow: &'a str, types: &'a str) -> Result<Request<'a>, NameFault>
@@ -62,19 +62,19 @@ fn begin_reverse_request<'a>(workflow: &'a str, types: &'a str) -> Result<Reques
 {
     let workflow = WorkflowName::parse(workflow)?;
     let types = TypeSet::parse(types)?;
-    Ok(Request::BeginReverse(workflow, types))
+    Ok(Request::Workflow(WorkflowAsked::BeginReverse(types).of(workflow)))
 }
 
 fn step_request(workflow: &str, at: u64) -> Result<Request<'_>, NameFault>
     ensures { read_from result ≡ request_of (step workflow.now at) }
 {
-    Ok(Request::Step(WorkflowName::parse(workflow)?, at))
+    Ok(Request::Workflow(WorkflowAsked::Step(at).of(WorkflowName::parse(workflow)?)))
 }
 
 fn undo_request(workflow: &str, at: u64) -> Result<Request<'_>, NameFault>
     ensures { read_from result ≡ request_of (undo workflow.now at) }
 {
-    Ok(Request::Undo(WorkflowName::parse(workflow)?, at))
+    Ok(Request::Workflow(WorkflowAsked::Undo(at).of(WorkflowName::parse(workflow)?)))
 }
 
 fn switch_request<'a>(workflow: &'a str, types: &'a str) -> Result<Request<'a>, NameFault>
@@ -82,7 +82,7 @@ fn switch_request<'a>(workflow: &'a str, types: &'a str) -> Result<Request<'a>, 
 {
     let workflow = WorkflowName::parse(workflow)?;
     let types = TypeSet::parse(types)?;
-    Ok(Request::Switch(workflow, types))
+    Ok(Request::Workflow(WorkflowAsked::Switch(types).of(workflow)))
 }
 
 fn reverse_request<'a>(workflow: &'a str, types: &'a str) -> Result<Request<'a>, NameFault>
@@ -90,25 +90,25 @@ fn reverse_request<'a>(workflow: &'a str, types: &'a str) -> Result<Request<'a>,
 {
     let workflow = WorkflowName::parse(workflow)?;
     let types = TypeSet::parse(types)?;
-    Ok(Request::Reverse(workflow, types))
+    Ok(Request::Workflow(WorkflowAsked::Reverse(types).of(workflow)))
 }
 
 fn cancel_request(workflow: &str) -> Result<Request<'_>, NameFault>
     ensures { read_from result ≡ request_of (cancel workflow.now) }
 {
-    Ok(Request::Cancel(WorkflowName::parse(workflow)?))
+    Ok(Request::Workflow(WorkflowAsked::Cancel.of(WorkflowName::parse(workflow)?)))
 }
 
 fn complete_request(workflow: &str) -> Result<Request<'_>, NameFault>
     ensures { read_from result ≡ request_of (complete workflow.now) }
 {
-    Ok(Request::Complete(WorkflowName::parse(workflow)?))
+    Ok(Request::Workflow(WorkflowAsked::Complete.of(WorkflowName::parse(workflow)?)))
 }
 
 fn show_request(workflow: &str) -> Result<Request<'_>, NameFault>
     ensures { read_from result ≡ request_of (show workflow.now) }
 {
-    Ok(Request::Show(WorkflowName::parse(workflow)?))
+    Ok(Request::Workflow(WorkflowAsked::Show.of(WorkflowName::parse(workflow)?)))
 }
 
 /// Reads what stands behind `create`: the workflow, the source, the target, the tables.

@@ -6,4 +6,5 @@ pub mod GivenUp
 pub mod Headline
 pub mod Owed
 pub mod Runs
+pub mod Show
 pub mod Through

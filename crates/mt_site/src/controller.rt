@@ -17,6 +17,7 @@ ghost use Rattle.mt_site.specs.Applies.{Applies};
 ghost use Rattle.mt_site.specs.GivenUp.{CanBeGivenUp};
 ghost use Rattle.mt_site.specs.Headline.{KeepsTheHeadline};
 ghost use Rattle.mt_site.specs.Owed.{owed_to};
+ghost use Rattle.mt_site.specs.Show.{shown_answer};
 ghost use Rattle.mt_site_state.specs.Switching.{BeginsReverse, BeginsSwitch, Completes, StepsWorkflow, UndoesWorkflow};
 ghost use Rattle.mt_site_state.specs.Ways.{SiteStands, SiteSteps, empty_site};
 ghost use Rattle.mt_site_state.specs.Workflows.{AdvancesWorkflow, Cancels, Creates, ShowsWorkflow};
@@ -33,7 +34,7 @@ use crate::rows::{Hint, NOWHERE};
 use crate::{OpenWays, Primaries, Workflows, advance, by_hand, owed, rows, show};
 pub use commands::Command;
 use indexmap::IndexMap;
-use mt_event::{Event, Refusal, Reply};
+use mt_event::{Event, Refusal, Reply, Shown};
 use mt_journal::Journal;
 use mt_laws::every_run_keeps_the_headline;
 use mt_model::{Op, TopologyFault};
@@ -337,12 +338,22 @@ impl Core {
     }
 
     /// Tells of a workflow: `F7 NoWorkflow`. It takes no memory.
-    fn show(&self, name: &WorkflowName) -> Result<Reply, Refusal>
-        ensures { ShowsWorkflow self.now.core name.now (answer_from result) self.now.core }
+    fn do_show(&self, name: &WorkflowName) -> Result<Shown, Refusal>
+        ensures { ShowsWorkflow self.now.core name.now (shown_answer result) self.now.core }
     {
         a_site_stays_one();
         streams_of_a_core_lie_in_their_logs();
         show::show(&self.workflows, name)
+    }
+
+    /// The same, as an answer.
+    fn show(&self, name: &WorkflowName) -> Result<Reply, Refusal>
+        ensures { ShowsWorkflow self.now.core name.now (answer_from result) self.now.core }
+    {
+        match self.do_show(name) {
+            Ok(shown) => Ok(Reply::Shown(shown)),
+            Err(refusal) => Err(refusal),
+        }
     }
 
     /// Begins a way forward on a workflow: `F7 NoWorkflow`, `F13 UnderWay`, `F15 NothingToSwitch`, `F17 Copying`, `F27 Full`,

@@ -1,13 +1,14 @@
 //! What is told of a workflow.
 ghost use Rattle.std.specs.Prelude.{◌≡◌, true, is_some, option_map};
-ghost use Rattle.mt_event.specs.Events.{answer_from, shown_from, shown_stream_from};
+ghost use Rattle.mt_event.specs.Events.{shown_from, shown_stream_from};
 ghost use Rattle.mt_workflow.specs.Workflows.{WorkflowState};
 ghost use Rattle.mt_site_state.specs.Core.{workflow_at};
 ghost use Rattle.mt_site_state.specs.Workflows.{show_at, shown_by, slot_from};
 ghost use Rattle.std.specs.Prelude.{Some};
+ghost use Rattle.mt_site.specs.Show.{shown_answer};
 
 use crate::Workflows;
-use mt_event::{Refusal, Reply, Shown, ShownStream};
+use mt_event::{Refusal, Shown, ShownStream};
 use mt_names::WorkflowName;
 use mt_stream::Stream;
 use mt_workflow::{Slot, Workflow};
@@ -52,12 +53,12 @@ fn shown_back(workflow: &Workflow) -> Option<ShownStream>
 }
 
 /// Tells of a live workflow: `F7 NoWorkflow`. It takes no memory.
-pub(crate) fn show(workflows: &Workflows, name: &WorkflowName) -> Result<Reply, Refusal>
+pub(crate) fn show(workflows: &Workflows, name: &WorkflowName) -> Result<Shown, Refusal>
     requires { (w : WorkflowState) → workflow_at workflows.now.entries name.now ≡ Some w → is_some w.forward ≡ true }
-    ensures { answer_from result ≡ show_at (workflow_at workflows.now.entries name.now) }
+    ensures { shown_answer result ≡ show_at (workflow_at workflows.now.entries name.now) }
 {
     match mt_few::get(workflows, name) {
         None => Err(Refusal::NoWorkflow),
-        Some(workflow) => Ok(Reply::Shown(shown(workflow))),
+        Some(workflow) => Ok(shown(workflow)),
     }
 }

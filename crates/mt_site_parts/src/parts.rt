@@ -54,7 +54,7 @@ fn write_table(topology: &mut Topology, workflow: &Workflow, table: &TableName)
     topology.put_present(target, table, true);
 }
 
-/// Writes the rules of a name's four keys as they are with nothing switched. One key is made, whose type then changes.
+/// Writes the rules of a name's four keys as they are with nothing switched. The name is looked up once.
 fn write_name(
     topology: &mut Topology,
     workflow: &Workflow,
@@ -64,15 +64,16 @@ fn write_name(
     requires { HasPlaces topology.old (map EntryKey.Rule (keys_of_name (option_copied keyspace) table.now)) }
     ensures { topology.new ≡ with_entries topology.old (map (wanted workflow.now no_types) (map EntryKey.Rule (keys_of_name (option_copied keyspace.entry) table.now))) }
 {
-    let mut key = key_of_name(keyspace, table, None);
-    topology.put_rule(&key, workflow.wanted_names(&key, TypeSet::NONE));
-    key.tablet_type = Some(TabletType::Primary);
-    topology.put_rule(&key, None);
-    let names = (workflow.source(), table);
-    key.tablet_type = Some(TabletType::Replica);
-    topology.put_rule(&key, Some(names));
-    key.tablet_type = Some(TabletType::Rdonly);
-    topology.put_rule(&key, Some(names));
+    let name = key_of_name(keyspace, table, None);
+    let plain = workflow.wanted_names(&name, TypeSet::NONE);
+    let source = workflow.source();
+    topology.put_name(
+        &name,
+        plain,
+        None,
+        Some((source, table)),
+        Some((source, table)),
+    );
 }
 
 /// Writes the part of a workflow as it was before Create. It takes no memory.

@@ -3,7 +3,7 @@ ghost use Rattle.std.specs.Prelude.{◌≡◌, ◌≢◌, None, map};
 ghost use Rattle.mt_model.specs.Part.{table_part_keys};
 ghost use Rattle.mt_plain.specs.Serve.{serve_rule};
 ghost use Rattle.mt_workflow.specs.Workflows.{live_of, rules_only, wanted};
-ghost use Rattle.mt_rules.specs.Rules.{lent_rule};
+ghost use Rattle.mt_places.specs.Rules.{lent_rule};
 ghost use Rattle.mt_steps.specs.Records.{key_at_source, name_at_rest, rule_recorded, side_record, table_entries};
 
 use mt_names::{KeyspaceName, RuleKey, RuleTarget, TableName, TypeSet};

@@ -4,7 +4,7 @@
 mod shown;
 mod texts;
 
-pub use shown::LineText;
+pub use shown::{LineText, write_shown};
 pub use texts::{
     put_look_up, put_row, put_row_refused, put_written, write_advanced, write_answer, write_driven,
     write_line,

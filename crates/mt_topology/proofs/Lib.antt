@@ -3,6 +3,7 @@ pub mod ClearLemmas
 pub mod DumpLemmas
 pub mod EditLemmas
 pub mod LoadLemmas
+pub mod MadeLemmas
 pub mod NewLemmas
 pub mod OnceLemmas
 pub mod OrderLemmas

@@ -1,17 +1,28 @@
 -- Rule keys that have no place, and have none once others have theirs.
-use Rattle.std.proofs.Common.{◌≡◌, ◌≢◌, ℕ, false, List, [], ◌∷◌, ◌++◌, map, Option, None, Some, is_some, refl, sym, ap, ◌∙◌}
+use Rattle.std.proofs.Common.{◌≡◌, ◌≢◌, ℕ, ◌+◌, ◌≤◌, true, false, not, List, [], ◌∷◌, ◌++◌, length, map, reverse, Option, None, Some, is_some, refl, sym, ap, ◌∙◌, append_assoc, arith}
+use Rattle.std.proofs.lemmas.List.{append-nil, length-append, reverse-append}
+use Rattle.std.proofs.lemmas.List.Sums.{fold-append}
 use Rattle.std.specs.List.{AllByRecursion}
 use Rattle.std.specs.Map.{lookup}
 use Rattle.std.specs.Option.{option_map_or}
 use Rattle.mt_names.specs.declared.keys.RuleKey.{RuleKey}
 use Rattle.mt_names.specs.declared.keys.RuleTarget.{RuleTarget}
+use Rattle.mt_names.specs.declared.types.TabletType.{TabletType}
 use Rattle.mt_names.specs.declared.types.TabletType.TheVariants.{Primary, Replica, Rdonly}
+use Rattle.mt_names.specs.Hashes.{type_number}
 use Rattle.mt_names.specs.Same.{same_key}
 use Rattle.mt_names.proofs.EntryLemmas.{lookup-push_elsewhere}
 use Rattle.mt_names.proofs.SameLemmas.{same_key_decides}
 use Rattle.mt_model.specs.declared.entries.EntryKey.TheVariants as about
-use Rattle.mt_model.specs.Part.{keys_of_name, with_place, with_places}
+use Rattle.mt_model.specs.Limits.{most_rules}
+use Rattle.mt_model.specs.Part.{keys_of_name, with_place, with_places, without_place, without_places}
 use Rattle.mt_model.specs.Topology.{Rules, TopologyState, has_place, with_rule_place}
+use Rattle.mt_model.proofs.PlaceLemmas.{place_back}
+use Rattle.mt_places.specs.Rules.{four_keys}
+use Rattle.mt_topology.specs.Edits.{lacks_rule_place}
+use Rattle.mt_topology.specs.Part.{places_refusal}
+use Rattle.mt_topology.proofs.ReserveLemmas.{room_left}
+use Rattle.mt_topology.proofs.RoomLemmas.{first_free}
 
 -- none of some rule keys has a place
 abbrev pub Lack : TopologyState → List RuleKey → Type 0
@@ -55,3 +66,64 @@ names_apart a b table other = (each _ refl, (each _ refl, (each _ refl, (each _ 
   where
     each : (j : RuleKey) → j.keyspace ≡ b → AllByRecursion (λ k. k ≢ j) (keys_of_name a table)
     each j is = let apart : (k : RuleKey) → k.keyspace ≡ a → k ≢ j = λ k at. other_keyspace k j (λ e. other (sym at ∙ e ∙ is)) in (apart _ refl, (apart _ refl, (apart _ refl, (apart _ refl, tt))))
+
+-- ---- rule keys that are made one after the other
+
+-- each is another than those before it
+abbrev pub IsApart : List RuleKey → Type 0
+IsApart [] = Unit
+IsApart (k ∷ keys) = AllByRecursion (λ j. AllByRecursion (λ i. i ≢ j) (k ∷ [])) keys × IsApart keys
+
+-- a name's four are of four types
+pub four_apart : (name : RuleKey) → IsApart (four_keys name)
+four_apart name =
+    let other : (a b : Option TabletType) → type_number a ≢ type_number b → key_for a ≢ key_for b = λ a b apart e. apart (ap (λ (key : RuleKey). type_number key.tablet_type) e) in (
+      ((other None (Some Primary) (λ e. omega (arith, e)), tt), ((other None (Some Replica) (λ e. omega (arith, e)), tt), ((other None (Some Rdonly) (λ e. omega (arith, e)), tt), tt))),
+      (
+        ((other (Some Primary) (Some Replica) (λ e. omega (arith, e)), tt), ((other (Some Primary) (Some Rdonly) (λ e. omega (arith, e)), tt), tt)),
+        (((other (Some Replica) (Some Rdonly) (λ e. omega (arith, e)), tt), tt), (tt, tt)),
+      ),
+    )
+  where
+    key_for : Option TabletType → RuleKey
+    key_for type = record { keyspace = name.keyspace; table = name.table; tablet_type = type }
+
+-- those behind the first lack a place once it has one
+lack_next : (t : TopologyState) (k : RuleKey) (keys : List RuleKey) → IsApart (k ∷ keys) → Lack t (k ∷ keys) → Lack (with_place t (about.Rule k)) keys
+lack_next t k keys apart lack = lack_later t (k ∷ []) keys apart.0 lack.1
+
+-- the rules of a topology once a key has a place that had none
+rules_next : (t : TopologyState) (k : RuleKey) → has_place t (about.Rule k) ≡ false → (with_place t (about.Rule k)).rules ≡ t.rules ++ (k, None) ∷ []
+rules_next t k lacks = by (lookup (same_key k) t.rules) lacks
+  where
+    by : (r : Option (Option RuleTarget)) → is_some r ≡ false → option_map_or (λ rule. t.rules) r (t.rules ++ (k, None) ∷ []) ≡ t.rules ++ (k, None) ∷ []
+    by None e = refl
+    by (Some rule) e = absurd cc
+
+-- they stand behind the others
+pub with_places_new : (t : TopologyState) (keys : List RuleKey) → IsApart keys → Lack t keys → with_places t (map about.Rule keys) ≡ record t { rules = t.rules ++ map (λ key. (key, None)) keys }
+with_places_new t [] apart lack = ap (λ rules. record t { rules = rules }) (sym (append-nil t.rules))
+with_places_new t (k ∷ keys) apart lack =
+    with_places_new (with_place t (about.Rule k)) keys apart.1 (lack_next t k keys apart lack)
+    ∙ ap (λ rules. record t { rules = rules ++ map (λ key. (key, None)) keys }) (rules_next t k lack.0)
+    ∙ ap (λ rules. record t { rules = rules }) (append_assoc t.rules ((k, None) ∷ []) (map (λ key. (key, None)) keys))
+
+-- and are taken back from the last one on
+pub with_places_back : (t : TopologyState) (keys : List RuleKey) → IsApart keys → Lack t keys → without_places (with_places t (map about.Rule keys)) (reverse (map about.Rule keys)) ≡ t
+with_places_back t [] apart lack = refl
+with_places_back t (k ∷ keys) apart lack =
+    ap (without_places (with_places (with_place t (about.Rule k)) (map about.Rule keys))) (reverse-append (about.Rule k ∷ []) (map about.Rule keys))
+    ∙ fold-append without_place (with_places (with_place t (about.Rule k)) (map about.Rule keys)) (reverse (map about.Rule keys)) (about.Rule k ∷ [])
+    ∙ ap (λ u. without_place u (about.Rule k)) (with_places_back (with_place t (about.Rule k)) keys apart.1 (lack_next t k keys apart lack))
+    ∙ place_back t (about.Rule k) lack.0
+
+-- where none is refused a place there is room for all
+pub room_for_new : (t : TopologyState) (keys : List RuleKey) → IsApart keys → Lack t keys → places_refusal t (map about.Rule keys) ≡ None → length t.rules ≤ most_rules → length t.rules + length keys ≤ most_rules
+room_for_new t [] apart lack free within = omega (arith, within)
+room_for_new t (k ∷ keys) apart lack free within =
+    let lacks : lacks_rule_place t.rules k ≡ true = ap not lack.0 in
+    let free_first = first_free t (about.Rule k) (map about.Rule keys) free in
+    let room = room_left t.rules k lacks free_first.0 within in
+    let next = ap length (rules_next t k lack.0) ∙ length-append t.rules ((k, None) ∷ []) in
+    let rest = room_for_new (with_place t (about.Rule k)) keys apart.1 (lack_next t k keys apart lack) (free_first.1 (with_place t (about.Rule k)) refl) (omega (arith, next, room)) in
+    omega (arith, rest, next)

@@ -1,8 +1,8 @@
 -- Places that are made one after the other, and taken back.
-use Rattle.std.proofs.Common.{◌≡◌, ◌≢◌, ℕ, ◌+◌, ◌*◌, ◌<◌, ◌≤◌, ◌==◌, Bool, true, false, cond, not, ◌||◌, nat_lt, List, [], ◌∷◌, ◌++◌, length, filter, fold, take, drop, reverse, Option, None, Some, is_some, slice_index_or, refl, sym, ap, ◌∙◌, arith}
+use Rattle.std.proofs.Common.{◌≡◌, ◌≢◌, ℕ, ◌+◌, ◌*◌, ◌<◌, ◌≤◌, ◌==◌, Bool, true, false, cond, not, ◌||◌, nat_lt, List, [], ◌∷◌, ◌++◌, length, filter, fold, take, drop, Option, None, Some, is_some, slice_index_or, refl, sym, ap, ◌∙◌, arith}
 use Rattle.std.proofs.lemmas.Bool.{eqb-false, le-ltb, lt-ltb, true≢false}
 use Rattle.std.proofs.lemmas.Grind.{flat_map-append}
-use Rattle.std.proofs.lemmas.List.{append-nil, drop_more, reverse-append, take_more}
+use Rattle.std.proofs.lemmas.List.{append-nil, drop_more, take_more}
 use Rattle.std.proofs.lemmas.List.Folds.{list_any-append}
 use Rattle.std.proofs.lemmas.List.Sums.{fold-append}
 use Rattle.std.proofs.lemmas.Map.Steps.{set_value_same}
@@ -15,9 +15,8 @@ use Rattle.mt_names.specs.Names.{same_text}
 use Rattle.mt_names.specs.Same.{same_key}
 use Rattle.mt_model.specs.declared.entries.EntryKey.{EntryKey}
 use Rattle.mt_model.specs.declared.entries.EntryKey.TheVariants as about
-use Rattle.mt_model.specs.Part.{part_keys, table_part_keys, table_rule_keys, with_place, with_places, without_places}
+use Rattle.mt_model.specs.Part.{part_keys, table_part_keys, table_rule_keys, with_place, with_places}
 use Rattle.mt_model.specs.Topology.{TopologyState, Keyspaces, KeyspaceState, Marks, Rules, has_place, keyspace_at, with_keyspace_state, with_mark_place, with_rule_place, with_table_place, with_denied_place}
-use Rattle.mt_model.proofs.PlaceLemmas.{place_back}
 use Rattle.mt_model.specs.declared.faults.TopologyFault.TheVariants.{Full}
 use Rattle.mt_model.specs.Limits.{most_rules}
 use Rattle.mt_topology.specs.Edits.{lacks_rule_place, rule_place_refusal}
@@ -63,15 +62,6 @@ with_places-there t (key ∷ keys) none = by (with_places-there t keys) (has_pla
     by : (lacks_a_place t keys ≡ false → with_places t keys ≡ t) → (b : Bool) → has_place t key ≡ b → lacks_a_place t (key ∷ keys) ≡ false → with_places (with_place t key) keys ≡ t
     by again true b e = ap (λ u. with_places u keys) (with_place-there t key b) ∙ again (rw b at e)
     by again false b e = absurd (true≢false (rw b at e))
-
--- ---- a place that is made and noted
-
-pub made_noted : (t new : TopologyState) (key copy : EntryKey) (made more : List EntryKey) → has_place t key ≡ false → new ≡ with_place t key → copy ≡ key → more ≡ made ++ copy ∷ [] → without_places new (reverse more) ≡ without_places t (reverse made)
-made_noted t new key copy made more lacks is copied noted =
-    ap (λ l. without_places new (reverse l)) (noted ∙ ap (λ k. made ++ k ∷ []) copied)
-    ∙ ap (without_places new) (reverse-append made (key ∷ []))
-    ∙ ap (λ u. without_places u (key ∷ reverse made)) is
-    ∙ ap (λ u. without_places u (reverse made)) (place_back t key lacks)
 
 -- ---- how many rule keys lack a place
 

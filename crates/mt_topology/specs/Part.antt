@@ -1,5 +1,5 @@
 -- When the part of a workflow is reserved: what its places lack, and when it is refused.
-use Rattle.std.specs.Prelude.{ℕ, ◌+◌, ◌&&◌, not, nat_lt, Bool, List, [], ◌∷◌, length, filter, if◌then◌else◌, Option, None, Some, is_some}
+use Rattle.std.specs.Prelude.{ℕ, ◌+◌, ◌&&◌, not, nat_lt, Bool, List, [], ◌∷◌, length, filter, map, if◌then◌else◌, Option, None, Some, is_some}
 use Rattle.std.specs.List.{flat_map, list_any}
 use Rattle.std.specs.Map.{lookup}
 use Rattle.std.specs.Option.{option_map_or, option_or}
@@ -14,7 +14,10 @@ use Rattle.mt_model.specs.Part.{table_rule_keys, with_place}
 use Rattle.mt_model.specs.Topology.{TopologyState, KeyspaceState, Rules, has_place, keyspace_at}
 use Rattle.mt_keyspace.specs.Edits.{denied_place_grows, denied_place_refusal, table_place_grows, table_place_refusal}
 use Rattle.mt_keyspace.specs.Room.{has_mark_room}
+use Rattle.mt_places.specs.Rules.{four_keys}
 use Rattle.mt_topology.specs.Edits.{lacks_rule_place, rule_place_refusal}
+use Rattle.mt_topology.specs.declared.made.Made.{Made}
+use Rattle.mt_topology.specs.declared.made.Made.TheVariants as together
 
 -- how many of some rule keys lack a place, each counted as often as it is named (this profile's own)
 abbrev pub lacking_rules : Rules → List RuleKey → ℕ
@@ -56,3 +59,12 @@ place_grows t (about.Present keyspace table) = table_place_grows t.keyspaces key
 abbrev pub places_refusal : TopologyState → List EntryKey → Option TopologyFault
 places_refusal t [] = None
 places_refusal t (key ∷ keys) = option_or (place_refusal t key) (places_refusal (with_place t key) keys)
+
+-- the keys whose places were made together (this profile's own)
+abbrev pub keys_made : Made → List EntryKey
+keys_made (together.Key key) = key ∷ []
+keys_made (together.Name name) = map about.Rule (four_keys name)
+
+-- all keys whose places were made, in their order (this profile's own)
+abbrev pub all_made : List Made → List EntryKey
+all_made made = flat_map keys_made made

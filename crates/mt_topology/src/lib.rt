@@ -3,6 +3,7 @@
 
 mod examples;
 mod load;
+mod made;
 mod room;
 mod routes;
 mod rules;

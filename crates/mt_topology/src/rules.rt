@@ -122,16 +122,9 @@ pub fn release_name(rules: &mut RoutingRules, keyspace: Option<&KeyspaceName>, t
     rules.release_key(&key);
 }
 
-/// Drops the places of a name's four keys, with their rules. One key is made, whose type then changes.
+/// Drops the places of a name's four keys, with their rules. The name is looked up once.
 pub fn drop_name(rules: &mut RoutingRules, keyspace: Option<&KeyspaceName>, table: &TableName)
     ensures { rules.new ≡ fold without_rule_entry rules.old (keys_of_name (option_copied keyspace.entry) table.now) }
 {
-    let mut rule_key = key_of_name(keyspace, table, None);
-    rules.drop_key(&rule_key);
-    rule_key.tablet_type = Some(TabletType::Primary);
-    rules.drop_key(&rule_key);
-    rule_key.tablet_type = Some(TabletType::Replica);
-    rules.drop_key(&rule_key);
-    rule_key.tablet_type = Some(TabletType::Rdonly);
-    rules.drop_key(&rule_key);
+    rules.drop_name(&key_of_name(keyspace, table, None));
 }

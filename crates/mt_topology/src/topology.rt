@@ -1,5 +1,6 @@
 //! The topology as one value.
-ghost use Rattle.std.specs.Prelude.{◌≡◌, ◌<◌, ◌≤◌, true, All, Some, IfOk, IfErr, length, slice_get, string_bytes};
+ghost use Rattle.std.specs.Prelude.{◌≡◌, ◌<◌, ◌≤◌, true, All, Some, IfOk, IfErr, length, map, slice_get, string_bytes};
+ghost use Rattle.std.specs.List.{AllByRecursion};
 ghost use Rattle.mt_model.specs.Limits.{most_keyspaces};
 ghost use Rattle.mt_model.specs.Topology.{HasDistinctPlaces, empty_topology, has_place, is_denied, is_present, key_of, resolution, routes_of, rule_at, value_of, with_entry, with_keyspace, with_keyspace_state, with_rule, with_table, without_table_place};
 ghost use Rattle.mt_model.specs.Part.{befores, with_entries};
@@ -10,7 +11,7 @@ ghost use Rattle.mt_model.specs.Documents.{dump_text};
 ghost use Rattle.mt_keyspace.specs.Edits.{Edits, add_keyspace_refusal, add_table_grows, add_table_refusal};
 ghost use Rattle.mt_topology.specs.Edits.{edit_rule_grows, edit_rule_refusal};
 ghost use Rattle.mt_topology.specs.Leads.{lent_target};
-ghost use Rattle.mt_rules.specs.Rules.{lent_rule};
+ghost use Rattle.mt_places.specs.Rules.{four_keys, four_rules, lent_rule};
 
 mod clear;
 mod part;
@@ -196,6 +197,23 @@ impl Topology {
     {
         let mut before = None;
         self.rules.exchange(key, rule, &mut before);
+    }
+
+    /// Writes the rules of a name's four keys, each of which has a place, one after the other: that for all types, those of primary,
+    /// replica and rdonly, each by the names of where it leads, or none. The type of the key is not looked at. It takes no memory, and
+    /// looks the name up once.
+    pub fn put_name(
+        &mut self,
+        name: &RuleKey,
+        plain: Option<(&KeyspaceName, &TableName)>,
+        primary: Option<(&KeyspaceName, &TableName)>,
+        replica: Option<(&KeyspaceName, &TableName)>,
+        rdonly: Option<(&KeyspaceName, &TableName)>,
+    )
+        requires { AllByRecursion (λ key. has_place self.old (EntryKey.Rule key) ≡ true) (four_keys name.now) }
+        ensures { self.new ≡ with_entries self.old (map (λ r. Entry.Rule r.0 r.1) (four_rules name.now (lent_rule plain.entry) (lent_rule primary.entry) (lent_rule replica.entry) (lent_rule rdonly.entry))) }
+    {
+        self.rules.put_name(name, plain, primary, replica, rdonly);
     }
 
     /// Writes whether a keyspace's primary is to refuse a table, where that has a place. It takes no memory.

@@ -5,7 +5,7 @@ ghost use Rattle.mt_model.specs.Topology.{rule_at};
 ghost use Rattle.mt_plain.specs.Plain.{among, each_once, in_keyspace, is_side};
 ghost use Rattle.mt_plain.specs.Serve.{is_denied_at, owned_before, serve_plain, serve_rule, step_of_entry};
 ghost use Rattle.mt_plain.specs.Slots.{written_side};
-ghost use Rattle.mt_rules.specs.Rules.{lent_rule};
+ghost use Rattle.mt_places.specs.Rules.{lent_rule};
 ghost use Rattle.mt_primary.specs.Primary.{has_table};
 ghost use Rattle.mt_stream.specs.Streams.{StreamValue, state_from};
 ghost use Rattle.mt_workflow.specs.Advance.{AdvancesSlot};

@@ -1,21 +1,22 @@
-//! Commands and advances: events whose names are lent, and whose answers are smaller than a reply.
+//! Commands, advances and Show: events whose names are lent, and whose answers are smaller than a reply.
 ghost use Rattle.std.specs.Prelude.{◌≡◌, List, [], ◌∷◌, OnErr};
 ghost use Rattle.mt_event.specs.Events.{done_from};
 ghost use Rattle.mt_model.specs.declared.entries.Scope.{Scope};
 ghost use Rattle.mt_plain.specs.Events as plain;
 ghost use Rattle.mt_site_state.specs.Ways.{SiteSteps};
-ghost use Rattle.mt_site_state.specs.Workflows.{AdvancesWorkflow};
+ghost use Rattle.mt_site_state.specs.Workflows.{AdvancesWorkflow, ShowsWorkflow};
 ghost use Rattle.mt_workflow.specs.Workflows.{stream_name};
 ghost use Rattle.mt_site.specs.Advance.{advanced_from};
 ghost use Rattle.mt_site.specs.Applies.{Applies};
 ghost use Rattle.mt_site.specs.Commands.{event_of_command};
 ghost use Rattle.mt_site.specs.GivenUp.{CanBeGivenUp};
 ghost use Rattle.mt_site.specs.Headline.{KeepsTheHeadline};
+ghost use Rattle.mt_site.specs.Show.{shown_answer};
 
 use crate::controller::Core;
 use crate::given_up::a_move_can_be_given_up;
 use arrayvec::ArrayVec;
-use mt_event::Refusal;
+use mt_event::{Refusal, Shown};
 use mt_laws::every_run_keeps_the_headline;
 use mt_names::{
     KeyspaceName, MAX_TABLES, Position, RuleKey, RuleTarget, TableName, TypeSet, WorkflowName,
@@ -126,5 +127,17 @@ impl Core {
         events_on_workflows_step_and_leave_the_ways();
         every_run_keeps_the_headline();
         self.do_advance(workflow, stream, at, max)
+    }
+
+    /// Tells of a workflow: what `apply` does with the event Show, without an event and a reply by value. `F7 NoWorkflow`. It takes no
+    /// memory, and asks nobody. (Vitess: Show of MoveTables)
+    pub fn shown(&self, name: &WorkflowName) -> Result<Shown, Refusal>
+        ensures does { ShowsWorkflow self.now.core name.now (shown_answer result) self.now.core }
+        ensures steps { (scopes : List Scope) → SiteSteps scopes self.now (plain.show name.now) (shown_answer result) self.now }
+        ensures headline { (scopes : List Scope) → KeepsTheHeadline scopes self.now (plain.show name.now ∷ []) (shown_answer result ∷ []) self.now }
+    {
+        events_on_workflows_step_and_leave_the_ways();
+        every_run_keeps_the_headline();
+        self.do_show(name)
     }
 }

@@ -4,8 +4,10 @@ ghost use Rattle.std.specs.List.{AllByRecursion};
 ghost use Rattle.mt_model.specs.Part.{keys_of_name, part_keys, table_part_keys, table_rule_keys, with_place, with_places, without_place, without_places};
 ghost use Rattle.mt_model.specs.Topology.{has_place};
 ghost use Rattle.mt_keyspace.specs.Edits.{Edits, answer_of};
-ghost use Rattle.mt_topology.specs.Part.{lacks_a_place, place_grows, place_refusal, places_refusal, reserve_refusal};
+ghost use Rattle.mt_places.specs.Rules.{four_keys};
+ghost use Rattle.mt_topology.specs.Part.{all_made, keys_made, lacks_a_place, place_grows, place_refusal, places_refusal, reserve_refusal};
 
+use crate::made::Made;
 use crate::room;
 use crate::rules::{add_rule, lacks_name, release_name, reserve_rule};
 use crate::topology::Topology;
@@ -128,12 +130,12 @@ impl Topology {
         source: &KeyspaceName,
         target: &KeyspaceName,
         tables: &[TableName],
-        made: &mut Vec<EntryKey>,
+        made: &mut Vec<Made>,
     ) -> Result<(), TopologyFault>
         requires { places_refusal self.old (part_keys source.now target.now tables.now) ≡ None }
         ensures all { OnOk result (self.new ≡ with_places self.old (part_keys source.now target.now tables.now)) }
         ensures memory { IfErr result (λ fault. fault ≡ TopologyFault.Memory) }
-        ensures back { without_places self.new (reverse made.new.items) ≡ without_places self.old (reverse made.old.items) }
+        ensures back { without_places self.new (reverse (all_made made.new.items)) ≡ without_places self.old (reverse (all_made made.old.items)) }
     {
         for table in tables {
             self.make_table_part(source, target, table, made)?;
@@ -147,12 +149,12 @@ impl Topology {
         source: &KeyspaceName,
         target: &KeyspaceName,
         table: &TableName,
-        made: &mut Vec<EntryKey>,
+        made: &mut Vec<Made>,
     ) -> Result<(), TopologyFault>
         requires { places_refusal self.old (table_part_keys source.now target.now table.now) ≡ None }
         ensures all { OnOk result (self.new ≡ with_places self.old (table_part_keys source.now target.now table.now)) }
         ensures memory { IfErr result (λ fault. fault ≡ TopologyFault.Memory) }
-        ensures back { without_places self.new (reverse made.new.items) ≡ without_places self.old (reverse made.old.items) }
+        ensures back { without_places self.new (reverse (all_made made.new.items)) ≡ without_places self.old (reverse (all_made made.old.items)) }
     {
         self.make_rules(source, target, table, made)?;
         self.make_noted(&EntryKey::Denied(source.copied(), table.copied()), made)?;
@@ -166,12 +168,12 @@ impl Topology {
         source: &KeyspaceName,
         target: &KeyspaceName,
         table: &TableName,
-        made: &mut Vec<EntryKey>,
+        made: &mut Vec<Made>,
     ) -> Result<(), TopologyFault>
         requires { places_refusal self.old (map EntryKey.Rule (table_rule_keys source.now target.now table.now)) ≡ None }
         ensures all { OnOk result (self.new ≡ with_places self.old (map EntryKey.Rule (table_rule_keys source.now target.now table.now))) }
         ensures memory { IfErr result (λ fault. fault ≡ TopologyFault.Memory) }
-        ensures back { without_places self.new (reverse made.new.items) ≡ without_places self.old (reverse made.old.items) }
+        ensures back { without_places self.new (reverse (all_made made.new.items)) ≡ without_places self.old (reverse (all_made made.old.items)) }
     {
         if source != target && !self.rules.may_have_place(table) {
             self.make_new_names(source, target, table, made)
@@ -186,12 +188,12 @@ impl Topology {
         source: &KeyspaceName,
         target: &KeyspaceName,
         table: &TableName,
-        made: &mut Vec<EntryKey>,
+        made: &mut Vec<Made>,
     ) -> Result<(), TopologyFault>
         requires { places_refusal self.old (map EntryKey.Rule (table_rule_keys source.now target.now table.now)) ≡ None }
         ensures all { OnOk result (self.new ≡ with_places self.old (map EntryKey.Rule (table_rule_keys source.now target.now table.now))) }
         ensures memory { IfErr result (λ fault. fault ≡ TopologyFault.Memory) }
-        ensures back { without_places self.new (reverse made.new.items) ≡ without_places self.old (reverse made.old.items) }
+        ensures back { without_places self.new (reverse (all_made made.new.items)) ≡ without_places self.old (reverse (all_made made.old.items)) }
     {
         self.make_name(None, table, made)?;
         self.make_name(Some(source), table, made)?;
@@ -204,41 +206,59 @@ impl Topology {
         source: &KeyspaceName,
         target: &KeyspaceName,
         table: &TableName,
-        made: &mut Vec<EntryKey>,
+        made: &mut Vec<Made>,
     ) -> Result<(), TopologyFault>
         requires free { places_refusal self.old (map EntryKey.Rule (table_rule_keys source.now target.now table.now)) ≡ None }
         requires apart { source.now ≢ target.now }
         requires lacks { (key : RuleKey) → key.table ≡ table.now → has_place self.old (EntryKey.Rule key) ≡ false }
         ensures all { OnOk result (self.new ≡ with_places self.old (map EntryKey.Rule (table_rule_keys source.now target.now table.now))) }
         ensures memory { IfErr result (λ fault. fault ≡ TopologyFault.Memory) }
-        ensures back { without_places self.new (reverse made.new.items) ≡ without_places self.old (reverse made.old.items) }
+        ensures back { without_places self.new (reverse (all_made made.new.items)) ≡ without_places self.old (reverse (all_made made.old.items)) }
     {
         self.make_new_name(None, table, made)?;
         self.make_new_name(Some(source), table, made)?;
         self.make_new_name(Some(target), table, made)
     }
 
-    /// The same of a name's four rule keys, none of which has a place. One key is made, whose type then changes.
+    /// The same of a name's four rule keys, none of which has a place: the name is looked up once, and noted once.
     fn make_new_name(
         &mut self,
         keyspace: Option<&KeyspaceName>,
         table: &TableName,
-        made: &mut Vec<EntryKey>,
+        made: &mut Vec<Made>,
     ) -> Result<(), TopologyFault>
         requires free { places_refusal self.old (map EntryKey.Rule (keys_of_name (option_copied keyspace) table.now)) ≡ None }
         requires lacks { AllByRecursion (λ key. has_place self.old (EntryKey.Rule key) ≡ false) (keys_of_name (option_copied keyspace) table.now) }
         ensures all { OnOk result (self.new ≡ with_places self.old (map EntryKey.Rule (keys_of_name (option_copied keyspace.entry) table.now))) }
         ensures memory { IfErr result (λ fault. fault ≡ TopologyFault.Memory) }
-        ensures back { without_places self.new (reverse made.new.items) ≡ without_places self.old (reverse made.old.items) }
+        ensures back { without_places self.new (reverse (all_made made.new.items)) ≡ without_places self.old (reverse (all_made made.old.items)) }
     {
-        let mut key = key_of_name(keyspace, table, None);
-        self.make_new_noted(&key, made)?;
-        key.tablet_type = Some(TabletType::Primary);
-        self.make_new_noted(&key, made)?;
-        key.tablet_type = Some(TabletType::Replica);
-        self.make_new_noted(&key, made)?;
-        key.tablet_type = Some(TabletType::Rdonly);
-        self.make_new_noted(&key, made)
+        let name = key_of_name(keyspace, table, None);
+        if made.push(Made::Name(name.copied())).is_err() {
+            return Err(TopologyFault::Memory);
+        }
+        match self.make_new_rules(&name) {
+            Ok(()) => Ok(()),
+            Err(fault) => {
+                made.pop();
+                Err(fault)
+            }
+        }
+    }
+
+    /// Makes the places of a name's four rule keys, none of which has one, for which there is room. `T0 Memory`, which leaves all as it
+    /// was.
+    fn make_new_rules(&mut self, name: &RuleKey) -> Result<(), TopologyFault>
+        requires free { places_refusal self.old (map EntryKey.Rule (four_keys name.now)) ≡ None }
+        requires lacks { AllByRecursion (λ key. has_place self.old (EntryKey.Rule key) ≡ false) (four_keys name.now) }
+        ensures ok { OnOk result (self.new ≡ with_places self.old (map EntryKey.Rule (four_keys name.now))) }
+        ensures err { IfErr result (λ fault. (fault ≡ TopologyFault.Memory) × (self.new ≡ self.old)) }
+    {
+        self.rules.facts();
+        if self.rules.add_name(name).is_err() {
+            return Err(TopologyFault::Memory);
+        }
+        Ok(())
     }
 
     /// The same of a name's four rule keys. One key is made, whose type then changes.
@@ -246,12 +266,12 @@ impl Topology {
         &mut self,
         keyspace: Option<&KeyspaceName>,
         table: &TableName,
-        made: &mut Vec<EntryKey>,
+        made: &mut Vec<Made>,
     ) -> Result<(), TopologyFault>
         requires { places_refusal self.old (map EntryKey.Rule (keys_of_name (option_copied keyspace) table.now)) ≡ None }
         ensures all { OnOk result (self.new ≡ with_places self.old (map EntryKey.Rule (keys_of_name (option_copied keyspace.entry) table.now))) }
         ensures memory { IfErr result (λ fault. fault ≡ TopologyFault.Memory) }
-        ensures back { without_places self.new (reverse made.new.items) ≡ without_places self.old (reverse made.old.items) }
+        ensures back { without_places self.new (reverse (all_made made.new.items)) ≡ without_places self.old (reverse (all_made made.old.items)) }
     {
         let mut key = key_of_name(keyspace, table, None);
         self.make_noted_rule(&key, made)?;
@@ -264,15 +284,11 @@ impl Topology {
     }
 
     /// Makes the place of a rule key that lacks it, for which there is room, and notes the key. `T0 Memory`.
-    fn make_noted_rule(
-        &mut self,
-        key: &RuleKey,
-        made: &mut Vec<EntryKey>,
-    ) -> Result<(), TopologyFault>
+    fn make_noted_rule(&mut self, key: &RuleKey, made: &mut Vec<Made>) -> Result<(), TopologyFault>
         requires { place_refusal self.old (EntryKey.Rule key.now) ≡ None }
         ensures all { OnOk result (self.new ≡ with_place self.old (EntryKey.Rule key.now)) }
         ensures memory { IfErr result (λ fault. fault ≡ TopologyFault.Memory) }
-        ensures back { without_places self.new (reverse made.new.items) ≡ without_places self.old (reverse made.old.items) }
+        ensures back { without_places self.new (reverse (all_made made.new.items)) ≡ without_places self.old (reverse (all_made made.old.items)) }
     {
         if self.rules.has_place(key) {
             return Ok(());
@@ -281,18 +297,14 @@ impl Topology {
     }
 
     /// Makes the place of a rule key that has none, for which there is room, and notes the key. `T0 Memory`.
-    fn make_new_noted(
-        &mut self,
-        key: &RuleKey,
-        made: &mut Vec<EntryKey>,
-    ) -> Result<(), TopologyFault>
+    fn make_new_noted(&mut self, key: &RuleKey, made: &mut Vec<Made>) -> Result<(), TopologyFault>
         requires lacks { has_place self.old (EntryKey.Rule key.now) ≡ false }
         requires room { place_refusal self.old (EntryKey.Rule key.now) ≡ None }
         ensures all { OnOk result (self.new ≡ with_place self.old (EntryKey.Rule key.now)) }
         ensures memory { IfErr result (λ fault. fault ≡ TopologyFault.Memory) }
-        ensures back { without_places self.new (reverse made.new.items) ≡ without_places self.old (reverse made.old.items) }
+        ensures back { without_places self.new (reverse (all_made made.new.items)) ≡ without_places self.old (reverse (all_made made.old.items)) }
     {
-        if made.push(EntryKey::Rule(key.copied())).is_err() {
+        if made.push(Made::Key(EntryKey::Rule(key.copied()))).is_err() {
             return Err(TopologyFault::Memory);
         }
         match self.make_new_rule(key) {
@@ -314,16 +326,16 @@ impl Topology {
     }
 
     /// Makes the place of a key that lacks it, for which there is room, and notes the key. `T0 Memory`.
-    fn make_noted(&mut self, key: &EntryKey, made: &mut Vec<EntryKey>) -> Result<(), TopologyFault>
+    fn make_noted(&mut self, key: &EntryKey, made: &mut Vec<Made>) -> Result<(), TopologyFault>
         requires { place_refusal self.old key.now ≡ None }
         ensures all { OnOk result (self.new ≡ with_place self.old key.now) }
         ensures memory { IfErr result (λ fault. fault ≡ TopologyFault.Memory) }
-        ensures back { without_places self.new (reverse made.new.items) ≡ without_places self.old (reverse made.old.items) }
+        ensures back { without_places self.new (reverse (all_made made.new.items)) ≡ without_places self.old (reverse (all_made made.old.items)) }
     {
         if self.has_place(key) {
             return Ok(());
         }
-        if made.push(key.copied()).is_err() {
+        if made.push(Made::Key(key.copied())).is_err() {
             return Err(TopologyFault::Memory);
         }
         match self.make_new_place(key) {
@@ -363,12 +375,24 @@ impl Topology {
         }
     }
 
-    /// Drops the places of keys that hold nothing, the last first.
-    fn take_back(&mut self, made: &[EntryKey])
-        ensures { self.new ≡ without_places self.old (reverse made.now) }
+    /// Drops the places that were made and hold nothing, the last first.
+    fn take_back(&mut self, made: &[Made])
+        ensures { self.new ≡ without_places self.old (reverse (all_made made.now)) }
     {
-        for key in made.iter().rev() {
-            self.drop_place(key);
+        for places in made.iter().rev() {
+            self.drop_made(places);
+        }
+    }
+
+    /// Drops places that were made together and hold nothing, the last first.
+    fn drop_made(&mut self, made: &Made)
+        ensures { self.new ≡ without_places self.old (reverse (keys_made made.now)) }
+    {
+        match made {
+            Made::Key(key) => self.drop_place(key),
+            Made::Name(name) => {
+                release_name(&mut self.rules, name.keyspace.as_ref(), &name.table);
+            }
         }
     }
 

@@ -1,16 +1,8 @@
--- What a line adds is what it tells, and what its request adds.
-use Rattle.std.proofs.Common.{None, Some, Err, refl, ap}
-use Rattle.mt_script.specs.Requests.{request_from}
-use Rattle.mt_run.proofs.RunLemmas.{line_outputs, line_tells}
+-- What a line adds that asks for something of a workflow is what that adds.
+use Rattle.mt_script.specs.Requests.{asked_of_workflow}
+use Rattle.mt_run.proofs.RunLemmas.{line_outputs}
 use Rattle.mt_run.proofs.script.line_output.Goals as goal
 
-pub returns-in-Silent : goal.returns-in-Silent
-returns-in-Silent g c = λ p stands. line_tells (g.A.Asks.scopes c.args.watchers.now) p c.args.line.now None None c.args.core.now c.in-Silent.ensures (refl, stands)
-
-pub returns-in-Refused : goal.returns-in-Refused
-returns-in-Refused g c = λ p stands.
-    line_tells (g.A.Asks.scopes c.args.watchers.now) p c.args.line.now (Some (Err c.in-Refused.refusal)) (Some c.write_refusal.new.text.items) c.args.core.now c.in-Refused.ensures (ap Some c.write_refusal.ensures, stands)
-
-pub returns-in-Request : goal.returns-in-Request
-returns-in-Request g c = λ p stands.
-    line_outputs (g.A.Asks.scopes c.args.watchers.now) p c.args.line.now (request_from c.in-Request.request) c.request_output.new.text.items c.request_output.result c.request_output.new.core c.in-Request.ensures (c.request_output.ensures p stands)
+pub returns-in-Some : goal.returns-in-Some
+returns-in-Some g c = λ p stands.
+    line_outputs (g.A.Asks.scopes c.args.watchers.now) p c.args.line.now (asked_of_workflow c.in-Some.request) c.workflow_output.new.text.items c.workflow_output.result c.workflow_output.new.core c.in-Some.ensures (c.workflow_output.ensures p stands)

@@ -1,8 +1,5 @@
--- A document is that of the core; it and an advance ask nobody.
+-- A document is that of the core; it asks nobody.
 use Rattle.mt_run.proofs.script.request_output.Goals as goal
-
-pub returns-in-Advance : goal.returns-in-Advance
-returns-in-Advance g c = rw c.in-Advance.is (c.advance.ensures (g.A.Asks.scopes c.args.watchers.now))
 
 pub returns-in-Rules : goal.returns-in-Rules
 returns-in-Rules g c = rw c.in-Rules.is (c.rules.ensures (g.A.Asks.scopes c.args.watchers.now) c.args.text.now.items)

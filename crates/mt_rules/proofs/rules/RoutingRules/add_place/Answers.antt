@@ -2,9 +2,9 @@
 use Rattle.std.proofs.Common.{◌≤◌, ap, is_some, length, arith, refl, subst, true, sym, ◌∙◌}
 use Rattle.std.proofs.lemmas.List.{length_push}
 use Rattle.mt_model.specs.Limits.{most_rules}
-use Rattle.mt_rules.specs.Rules.{lent_rule}
-use Rattle.mt_rules.specs.Counts.{IsCounted, any_place, class_of}
-use Rattle.mt_rules.proofs.CountsLemmas.{has_room, right_more}
+use Rattle.mt_places.specs.Rules.{lent_rule}
+use Rattle.mt_places.specs.Counts.{IsCounted, any_place, class_of}
+use Rattle.mt_places.proofs.CountsLemmas.{has_room, right_more}
 use Rattle.mt_rules.proofs.RulesLemmas.{lent_stands}
 use Rattle.mt_rules.proofs.rules.RoutingRules.add_place.Goals as goal
 

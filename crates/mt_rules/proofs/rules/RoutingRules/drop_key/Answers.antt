@@ -1,9 +1,9 @@
 -- The key has no place, and what is counted stays; else there is one place less, and neither it nor its rule is counted.
 use Rattle.std.proofs.Common.{ap, length, arith, false, true, is_some, refl, sym, ◌∙◌}
 use Rattle.mt_names.specs.Same.{same_key}
-use Rattle.mt_rules.specs.Counts.{any_place, class_of}
+use Rattle.mt_places.specs.Counts.{any_place, class_of}
 use Rattle.mt_rules.proofs.RulesLemmas.{length-remove_entry}
-use Rattle.mt_rules.proofs.CountsLemmas.{has_one, has_room, place_counts, right_less, rule_counts}
+use Rattle.mt_places.proofs.CountsLemmas.{has_one, has_room, place_counts, right_less, rule_counts}
 use Rattle.mt_rules.proofs.rules.RoutingRules.drop_key.Goals as goal
 
 pub count-requires-clause-room : goal.count-requires-clause-room

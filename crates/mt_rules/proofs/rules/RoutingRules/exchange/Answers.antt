@@ -3,9 +3,9 @@ use Rattle.std.proofs.Common.{◌≡◌, ◌≤◌, true, length, is_some, refl,
 use Rattle.std.proofs.lemmas.Map.{length-set_value}
 use Rattle.mt_names.specs.Same.{same_key}
 use Rattle.mt_model.specs.Limits.{most_rules}
-use Rattle.mt_rules.specs.Rules.{has_rule_place, lent_rule}
-use Rattle.mt_rules.specs.Counts.{any_place, class_of}
-use Rattle.mt_rules.proofs.CountsLemmas.{has_one, has_room, place_counts, right_set, rule_counts}
+use Rattle.mt_places.specs.Rules.{has_rule_place, lent_rule}
+use Rattle.mt_places.specs.Counts.{any_place, class_of}
+use Rattle.mt_places.proofs.CountsLemmas.{has_one, has_room, place_counts, right_set, rule_counts}
 use Rattle.mt_rules.proofs.RulesLemmas.{lent_stands}
 use Rattle.mt_rules.proofs.rules.RoutingRules.exchange.Goals as goal
 

@@ -1,8 +1,8 @@
 -- Where none is counted of its class, none of its keys has a place.
 use Rattle.std.proofs.Common.{◌≡◌, ap, subst, sym, ◌∙◌}
-use Rattle.mt_rules.specs.Counts.{any_place, class_of, counted}
-use Rattle.mt_rules.specs.Rules.{has_rule_place}
-use Rattle.mt_rules.proofs.CountsLemmas.{none_counts, place_counts}
+use Rattle.mt_places.specs.Counts.{any_place, class_of, counted}
+use Rattle.mt_places.specs.Rules.{has_rule_place}
+use Rattle.mt_places.proofs.CountsLemmas.{none_counts, place_counts}
 use Rattle.mt_rules.proofs.rules.RoutingRules.may_have_place.Goals as goal
 
 pub returns : goal.returns

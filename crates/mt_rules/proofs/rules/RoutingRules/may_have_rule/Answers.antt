@@ -2,8 +2,8 @@
 use Rattle.std.proofs.Common.{◌≡◌, ap, is_some, subst, sym, ◌∙◌}
 use Rattle.mt_names.proofs.EntryLemmas.{none_from}
 use Rattle.mt_model.specs.Topology.{rule_at}
-use Rattle.mt_rules.specs.Counts.{class_of, counted}
-use Rattle.mt_rules.proofs.CountsLemmas.{none_counts, rule_counts}
+use Rattle.mt_places.specs.Counts.{class_of, counted}
+use Rattle.mt_places.proofs.CountsLemmas.{none_counts, rule_counts}
 use Rattle.mt_rules.proofs.rules.RoutingRules.may_have_rule.Goals as goal
 
 pub returns : goal.returns
