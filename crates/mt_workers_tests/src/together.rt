@@ -46,25 +46,64 @@ fn writes<R: Wait, D: DeskName, W: Asks + Drop, H: Wait + Drop>(
     }
 }
 
-/// A controller switches all types. Answers its pass, and whether it did, if it ended as one of two may.
+/// A controller switches all types. Answers its pass, and whether it did, if it ended as one of two may: it did; the other one was first, or
+/// has written the journal; or the switch was given up, since the other one had stopped the stream that this one was to advance.
 fn switches<R: Wait, D: DeskName, W: Asks + Drop, H: Wait + Drop>(
+    rt: &R,
+    desk: &Desk<D, W, H>,
+    pass: Pass<D>,
+) -> Option<(Pass<D>, bool)> {
+    let name = workflow()?;
+    let (pass, end) = controller(rt, &NoGate, desk, pass, 0, &name, TypeSet::ALL, false, 256);
+    match end {
+        Ok(Driven::Done) => Some((pass, true)),
+        Ok(Driven::Abandoned(Refusal::StreamStopped | Refusal::Undoing))
+        | Err(
+            ControlFault::Refused(
+                Refusal::UnderWay
+                | Refusal::NothingUnderWay
+                | Refusal::NothingToSwitch
+                | Refusal::PastJournal,
+            ),
+        ) => Some((pass, false)),
+        _ => None,
+    }
+}
+
+/// The same with a new pass of a client.
+fn switches_as<R: Wait, D: DeskName, W: Asks + Drop, H: Wait + Drop>(
     rt: &R,
     desk: &Desk<D, W, H>,
     client: u16,
 ) -> Option<(Pass<D>, bool)> {
-    let name = workflow()?;
-    let Ok(pass) = desk.pass(rt, client) else {
+    match desk.pass(rt, client) {
+        Ok(pass) => switches(rt, desk, pass),
+        Err(_) => None,
+    }
+}
+
+/// Answers the pass if all is switched behind two controllers, of which one did it (`is_done`). If none did, nothing is switched and no way
+/// is open, and a controller that is alone switches all.
+fn is_switched_at_last<R: Wait, D: DeskName, W: Asks + Drop, H: Wait + Drop>(
+    rt: &R,
+    desk: &Desk<D, W, H>,
+    mut pass: Pass<D>,
+    is_done: bool,
+) -> Option<Pass<D>> {
+    let mut pass = if is_done {
+        pass
+    } else if is_at_rest(rt, desk, &mut pass, TypeSet::NONE) {
+        match switches(rt, desk, pass) {
+            Some((pass, true)) => pass,
+            _ => return None,
+        }
+    } else {
         return None;
     };
-    let (pass, end) = controller(rt, &NoGate, desk, pass, 0, &name, TypeSet::ALL, false, 256);
-    match end {
-        Ok(Driven::Done) => Some((pass, true)),
-        Err(
-            ControlFault::Refused(
-                Refusal::UnderWay | Refusal::NothingUnderWay | Refusal::NothingToSwitch,
-            ),
-        ) => Some((pass, false)),
-        _ => None,
+    if is_at_rest(rt, desk, &mut pass, TypeSet::ALL) {
+        Some(pass)
+    } else {
+        None
     }
 }
 
@@ -100,8 +139,8 @@ fn all_at_once<
         rt,
         move || join(
             rt,
-            move || switches(rt, desk, 1),
-            move || switches(rt, desk, 2),
+            move || switches_as(rt, desk, 1),
+            move || switches_as(rt, desk, 2),
         ),
         move || {
             join(
@@ -113,7 +152,7 @@ fn all_at_once<
     )
 }
 
-/// Whether two controllers switch all between them while two clients write, and all passes are gathered.
+/// Whether two controllers end while two clients write, all is switched at last, by one of them, and all passes are gathered.
 pub fn two_controllers<
     R: Threads + Wait + Sync,
     D: DeskName + Send + Sync,
@@ -125,10 +164,13 @@ pub fn two_controllers<
     };
     let ((one, two), (three, four)) = all_at_once(rt, alloc, desk, &sender);
     match (one, two, three, four) {
-        (Some(one), Some(two), Some(three), Some(four)) => {
-            let ((mut one, first), (two, second)) = (one, two);
-            let is_switched = (first || second) && is_at_rest(rt, desk, &mut one, TypeSet::ALL);
-            are_gathered(rt, alloc, desk, [one, two, three, four]) && is_switched
+        (Some((one, first)), Some((two, second)), Some(three), Some(four)) => {
+            match is_switched_at_last(rt, desk, one, first || second) {
+                Some(one) => {
+                    are_gathered(rt, alloc, desk, [one, two, three, four]) && !(first && second)
+                }
+                None => false,
+            }
         }
         _ => false,
     }
