@@ -1,6 +1,7 @@
 -- Names, each with the slots of its four keys: by them a place is found, and they are right after each call.
-use Rattle.std.proofs.Common.{◌≡◌, ◌≢◌, ◌<◌, ◌⊎◌, ℕ, zero, suc, Bool, true, false, List, [], ◌∷◌, ◌++◌, length, slice_get, slice_set, take, Option, None, Some, is_some, option_and_then, option_map, arith, refl, sym, ap, ◌∙◌, inl, inr}
+use Rattle.std.proofs.Common.{◌≡◌, ◌≢◌, ◌<◌, ◌⊎◌, ℕ, zero, suc, Bool, true, false, List, [], ◌∷◌, ◌++◌, length, slice_get, slice_index_or, slice_set, take, Option, None, Some, is_some, option_and_then, option_map, arith, refl, sym, ap, ◌∙◌, inl, inr}
 use Rattle.std.proofs.lemmas.Bool.{true≢false}
+use Rattle.std.proofs.lemmas.Option.{get_or_from_slice_get, slice_get_within}
 use Rattle.std.specs.List.{IsDistinct}
 use Rattle.std.specs.Map.{keys_of, lookup, remove_entry, set_value, values_of}
 use Rattle.indexmap.specs.IndexMap.{set_value_at}
@@ -12,7 +13,7 @@ use Rattle.mt_names.specs.declared.types.TabletType.TheVariants.{Primary, Replic
 use Rattle.mt_names.specs.Same.{same_key}
 use Rattle.mt_names.proofs.SameLemmas.{same_key_decides}
 use Rattle.mt_model.specs.Topology.{for_all_types}
-use Rattle.mt_places.specs.Places.{IsIndexed, in_order, of_type, place_of, slot_at, slot_of, with_slot, with_slot_at}
+use Rattle.mt_places.specs.Places.{IsIndexed, in_order, of_type, place_of, rule_in, slot_at, slot_of, with_slot, with_slot_at}
 use Rattle.mt_places.specs.Rules.{has_rule_place}
 use Rattle.mt_places.specs.declared.links.Slot.{Slot}
 use Rattle.mt_places.specs.declared.links.Slot.TheVariants.{Place, Dropped}
@@ -233,6 +234,23 @@ module _ (links : Names) (order : List Slot) (distinct : IsDistinct same_key (ke
 
     pub made_at : (rule : Option RuleTarget) → in_order (keys_of links) (order ++ Place n type rule ∷ []) ≡ in_order (keys_of links) order ++ (key, rule) ∷ []
     made_at rule = in_order-append (keys_of links) order (Place n type rule ∷ []) ∙ ap (λ r. in_order (keys_of links) order ++ option_map_or (λ e. e ∷ []) r []) (placed rule)
+
+  -- what stands at the slot of a key
+  module _ (n : ℕ) (type : Option TabletType) (i : ℕ) (is : slot_at links n type ≡ Some i) where
+    abbrev pub rule_there : Option RuleTarget
+    rule_there = (right.there i n type is).0
+
+    pub stands_there : slice_get order i ≡ Some (Place n type rule_there)
+    stands_there = (right.there i n type is).1
+
+    pub is_within : i < length order
+    is_within = slice_get_within order i (Place n type rule_there) stands_there
+
+    pub place_there : (s : Slot) → s ≡ slice_index_or order i s → s ≡ Place n type rule_there
+    place_there s at = at ∙ get_or_from_slice_get order i (Place n type rule_there) s stands_there
+
+    pub rule_found : (name : RuleKey) → slice_get (keys_of links) n ≡ Some name → (s : Slot) → s ≡ slice_index_or order i s → rule_in s ≡ lookup (same_key (of_type name type)) (in_order (keys_of links) order)
+    rule_found name stands s at = ap rule_in (place_there s at) ∙ sym (one_at n name type stands i rule_there is stands_there)
 
 -- ---- names and slots stay right
 

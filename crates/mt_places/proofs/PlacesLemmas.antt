@@ -5,14 +5,14 @@ use Rattle.std.proofs.lemmas.List.Quantifiers.{position-Some}
 use Rattle.std.proofs.lemmas.Option.{slice_get-get_or}
 use Rattle.std.specs.Int.{from_bool}
 use Rattle.std.specs.List.{AllByRecursion, IsDistinct}
-use Rattle.std.specs.Map.{keys_of, lookup, remove_entry}
-use Rattle.std.specs.Option.{unwrap_or}
+use Rattle.std.specs.Map.{keys_of, lookup, remove_entry, set_value}
+use Rattle.std.specs.Option.{option_or, unwrap_or}
 use Rattle.mt_names.specs.declared.keys.RuleKey.{RuleKey}
 use Rattle.mt_names.specs.declared.keys.RuleTarget.{RuleTarget}
 use Rattle.mt_names.specs.Same.{same_key}
 use Rattle.mt_names.proofs.EntryLemmas.{same_turned}
 use Rattle.mt_names.proofs.SameLemmas.{same_key_decides}
-use Rattle.mt_model.specs.Topology.{Rules}
+use Rattle.mt_model.specs.Topology.{Rules, rule_at}
 use Rattle.mt_places.specs.Rules.{has_rule_place}
 
 -- whether a rule stands, by what a place has
@@ -54,6 +54,30 @@ remove-none (r ∷ rules) key none = by (remove-none rules key) (same_key key r.
 pub one_less_if : (rules : Rules) (key : RuleKey) (told : Option Bool) → told ≡ option_map is_some (lookup (same_key key) rules) → length (remove_entry (same_key key) rules) + from_bool (is_some told) ≡ length rules
 one_less_if rules key None is = omega (arith, ap length (remove-none rules key (no_place (lookup (same_key key) rules) is)))
 one_less_if rules key (Some stood) is = omega (arith, one_less rules key (a_place (lookup (same_key key) rules) stood is))
+
+-- the first of two rules that stands
+pub or_first : (a b : Option RuleTarget) → is_some a ≡ true → a ≡ option_or a b
+or_first None b is = absurd (true≢false (sym is))
+or_first (Some rule) b is = refl
+
+pub or_second : (a b : Option RuleTarget) → is_some a ≡ false → b ≡ option_or a b
+or_second None b is = refl
+or_second (Some rule) b is = absurd (true≢false is)
+
+-- ---- what is known of rules holds of the places that are these rules
+
+module _ (places rules : Rules) (key : RuleKey) (same : places ≡ rules) where
+  pub set_of : (after : Rules) (rule : Option RuleTarget) → has_rule_place rules key ≡ true → (has_rule_place places key ≡ true → after ≡ set_value (same_key key) places rule) → after ≡ set_value (same_key key) rules rule
+  set_of after rule has sets = sets (ap (λ l. has_rule_place l key) same ∙ has) ∙ ap (λ l. set_value (same_key key) l rule) same
+
+  pub stood_of : (before : Option RuleTarget) → has_rule_place rules key ≡ true → (has_rule_place places key ≡ true → before ≡ rule_at places key) → before ≡ rule_at rules key
+  stood_of before has stood = stood (ap (λ l. has_rule_place l key) same ∙ has) ∙ ap (λ l. rule_at l key) same
+
+  pub dropped_of : (after : Rules) → after ≡ remove_entry (same_key key) places → after ≡ remove_entry (same_key key) rules
+  dropped_of after drops = drops ∙ ap (remove_entry (same_key key)) same
+
+  pub told_from : (told : Option Bool) → told ≡ option_map is_some (lookup (same_key key) places) → told ≡ option_map is_some (lookup (same_key key) rules)
+  told_from told tells = tells ∙ ap (λ l. option_map is_some (lookup (same_key key) l)) same
 
 -- ---- where a key is found it stands
 

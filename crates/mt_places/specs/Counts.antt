@@ -12,6 +12,10 @@ class_of name = (slice_index name 0 * 37 + slice_index name (length name - 2) * 
 abbrev pub counts_in : ℕ → List ℕ → Bool → ℕ
 counts_in class table is = if is && (class_of table == class) then 1 else 0
 
+-- the same of four places of a table
+abbrev pub four_in : ℕ → List ℕ → Bool × Bool × Bool × Bool → ℕ
+four_in class name is = counts_in class name is.0 + counts_in class name is.1 + counts_in class name is.2 + counts_in class name is.3
+
 -- which places count, by what they have: all of them, or (`is_some`) those whose rule stands
 abbrev pub any_place : Option RuleTarget → Bool
 any_place rule = true

@@ -1,6 +1,7 @@
 -- Rules by their keys: whether a key has a place, a rule by names that are lent, and what all four keys of a name get at once.
-use Rattle.std.specs.Prelude.{ℕ, Bool, List, [], ◌∷◌, fold, is_some, Option, None, Some}
+use Rattle.std.specs.Prelude.{ℕ, ◌+◌, Bool, List, [], ◌∷◌, fold, is_some, Option, None, Some, option_map}
 use Rattle.std.specs.Borrow.{Bor}
+use Rattle.std.specs.Int.{from_bool}
 use Rattle.std.specs.Map.{lookup, remove_entry, set_value}
 use Rattle.mt_names.specs.declared.keys.RuleKey.{RuleKey}
 use Rattle.mt_names.specs.declared.keys.RuleTarget.{RuleTarget}
@@ -27,6 +28,22 @@ abbrev pub four_rules : RuleKey → Option RuleTarget → Option RuleTarget → 
 four_rules name plain primary replica rdonly =
     (record name { tablet_type = None }, plain) ∷ (record name { tablet_type = Some Primary }, primary)
     ∷ (record name { tablet_type = Some Replica }, replica) ∷ (record name { tablet_type = Some Rdonly }, rdonly) ∷ []
+
+-- whether each of their places has a rule, if there is one
+abbrev pub FourTold : Type 0
+FourTold = Option Bool × Option Bool × Option Bool × Option Bool
+
+abbrev pub four_told : Rules → RuleKey → FourTold
+four_told rules name = (
+  option_map is_some (lookup (same_key (record name { tablet_type = None })) rules),
+  option_map is_some (lookup (same_key (record name { tablet_type = Some Primary })) rules),
+  option_map is_some (lookup (same_key (record name { tablet_type = Some Replica })) rules),
+  option_map is_some (lookup (same_key (record name { tablet_type = Some Rdonly })) rules),
+)
+
+-- how many of them there are
+abbrev pub number_told : FourTold → ℕ
+number_told told = from_bool (is_some told.0) + from_bool (is_some told.1) + from_bool (is_some told.2) + from_bool (is_some told.3)
 
 -- rules that are set one after the other
 abbrev pub with_rules_set : Rules → List (RuleKey × Option RuleTarget) → Rules

@@ -3,13 +3,16 @@
 ghost use Rattle.std.specs.Prelude.{◌≡◌, ◌≤◌, ◌<◌, ◌+◌, ◌-◌, ◌*◌, ◌^◌, ℕ, true, false, is_some, length};
 ghost use Rattle.mt_model.specs.Limits.{most_rules};
 ghost use Rattle.std.specs.Map.{keys_of};
-ghost use Rattle.std.specs.Option.{unwrap_or};
+ghost use Rattle.std.specs.Int.{from_bool};
 ghost use Rattle.mt_places.specs.Places.{in_order};
-ghost use Rattle.mt_places.specs.Counts.{IsCounted, any_place, class_of, counted, counts_in};
+ghost use Rattle.mt_places.specs.Counts.{IsCounted, any_place, class_of, counted, counts_in, four_in};
 
 use crate::links::Links;
 use crate::places::Places;
 use mt_names::TableName;
+
+/// Something of the places of a name's four keys: that for all types, those of primary, replica and rdonly.
+pub type Four = (bool, bool, bool, bool);
 
 /// How many there are of each class of tables' names: of places, or of rules that stand.
 #[derive(Drop)]
@@ -55,31 +58,27 @@ impl Counts {
         self.counts[class] = count + u16::from(is) - u16::from(was);
     }
 
-    /// Counts one at each of four more places of a table.
-    pub fn add_four(&mut self, table: &TableName)
-        requires { counted self.old (class_of table.now) < 2 ^ 16 - 4 }
-        ensures { (class : ℕ) → counted self.new class ≡ counted self.old class + 4 * counts_in class table.now true }
+    /// Counts whether there is one at each of four places of a table, instead of whether there was one.
+    pub fn count_four(&mut self, table: &TableName, was: Four, is: Four)
+        requires room { counted self.old (class_of table.now) < 2 ^ 16 - 4 }
+        requires was { four_in (class_of table.now) table.now was ≤ counted self.old (class_of table.now) + four_in (class_of table.now) table.now is }
+        ensures { (class : ℕ) → counted self.new class + four_in class table.now was ≡ counted self.old class + four_in class table.now is }
     {
-        self.counts[class_of(table)] += 4;
+        let (fewer, more) = (number_of(was), number_of(is));
+        if fewer == more {
+            return;
+        }
+        let class = class_of(table);
+        self.counts[class] = self.counts[class] + more - fewer;
     }
 }
 
-/// Counts one place less, with its rule if it had one, if there was one.
-pub fn count_dropped(
-    placed: &mut Counts,
-    standing: &mut Counts,
-    table: &TableName,
-    stood: Option<bool>,
-)
-    requires placed { (counted placed.old (class_of table.now) < 2 ^ 16 - 1) × (is_some stood ≡ true → 0 < counted placed.old (class_of table.now)) }
-    requires standing { (counted standing.old (class_of table.now) < 2 ^ 16 - 1) × (unwrap_or stood false ≡ true → 0 < counted standing.old (class_of table.now)) }
-    ensures placed { (class : ℕ) → counted placed.new class + counts_in class table.now (is_some stood) ≡ counted placed.old class + counts_in class table.now false }
-    ensures standing { (class : ℕ) → counted standing.new class + counts_in class table.now (unwrap_or stood false) ≡ counted standing.old class + counts_in class table.now false }
+/// How many of four are true.
+fn number_of(four: Four) -> u16
+    ensures number { result ≡ from_bool four.0 + from_bool four.1 + from_bool four.2 + from_bool four.3 }
+    ensures few { result ≤ 4 }
 {
-    if let Some(ruled) = stood {
-        placed.count(table, true, false);
-        standing.count(table, ruled, false);
-    }
+    u16::from(four.0) + u16::from(four.1) + u16::from(four.2) + u16::from(four.3)
 }
 
 /// Some places, and the rules that stand there, counted one by one.

@@ -5,6 +5,6 @@ mod counts;
 mod links;
 mod places;
 
-pub use counts::{Counts, count_dropped};
+pub use counts::{Counts, Four};
 pub use links::{Links, Slot};
 pub use places::Places;

@@ -9,9 +9,9 @@ ghost use Rattle.mt_names.specs.declared.keys.RuleKey.{RuleKey};
 ghost use Rattle.mt_names.specs.declared.keys.RuleTarget.{RuleTarget};
 ghost use Rattle.mt_names.specs.declared.types.TabletType.{TabletType};
 ghost use Rattle.mt_names.specs.Same.{same_key};
-ghost use Rattle.mt_model.specs.Topology.{for_all_types, rule_at};
+ghost use Rattle.mt_model.specs.Topology.{for_all_types, rule_at, rule_for};
 ghost use Rattle.mt_places.specs.Places.{IsIndexed, in_order, of_type, place_of, rule_in, rule_of_slot, slot_at, slot_of, with_slot, with_slot_at};
-ghost use Rattle.mt_places.specs.Rules.{has_rule_place, lent_rule};
+ghost use Rattle.mt_places.specs.Rules.{four_keys, four_told, has_rule_place, lent_rule, without_keys};
 
 use indexmap::IndexMap;
 use mt_names::{KeyspaceName, RuleKey, RuleTarget, TableName, TabletType};
@@ -134,7 +134,44 @@ impl Links {
         ensures { option_copied result ≡ lookup (same_key key.now) (in_order (keys_of self.now.names.entries) self.now.slots.items) }
     {
         let place = self.find(near, key)?;
-        let slot = self.slot_at(place, key.tablet_type)?;
+        self.at(place, key.tablet_type)
+    }
+
+    /// The rule of a key's name for a type, or else that for all types. The type of the key is not looked at.
+    pub(crate) fn rule_for(
+        &self,
+        near: usize,
+        key: &RuleKey,
+        tablet_type: TabletType,
+    ) -> Option<&RuleTarget>
+        requires { IsIndexed self.now.names.entries self.now.slots.items }
+        ensures { option_copied result ≡ rule_for (in_order (keys_of self.now.names.entries) self.now.slots.items) key.now tablet_type }
+    {
+        let place = self.find(near, key)?;
+        let rule = self.rule_of(place, Some(tablet_type));
+        if rule.is_some() {
+            return rule;
+        }
+        self.rule_of(place, None)
+    }
+
+    /// The rule of the name at a place, that of its key for a type or for all, if it has one.
+    fn rule_of(&self, place: usize, tablet_type: Option<TabletType>) -> Option<&RuleTarget>
+        requires { IsIndexed self.now.names.entries self.now.slots.items }
+        ensures { (name : RuleKey) → slice_get (keys_of self.now.names.entries) place ≡ Some name
+            → option_copied result ≡ rule_at (in_order (keys_of self.now.names.entries) self.now.slots.items) (of_type name tablet_type) }
+    {
+        self.at(place, tablet_type)?.as_ref()
+    }
+
+    /// What the place of the name at a place has, that of its key for a type or for all.
+    fn at(&self, place: usize, tablet_type: Option<TabletType>) -> Option<&Option<RuleTarget>>
+        requires { IsIndexed self.now.names.entries self.now.slots.items }
+        ensures { (name : RuleKey) → slice_get (keys_of self.now.names.entries) place ≡ Some name
+            → option_copied result ≡ lookup (same_key (of_type name tablet_type)) (in_order (keys_of self.now.names.entries) self.now.slots.items) }
+    {
+        let _distinct = self.names.len();
+        let slot = self.slot_at(place, tablet_type)?;
         match &self.slots[slot] {
             Slot::Place(_, _, rule) => Some(rule),
             Slot::Dropped => None,
@@ -272,6 +309,24 @@ impl Links {
         self.slots[slot] = Slot::Dropped;
         self.set_slot(place, tablet_type, None);
         stood
+    }
+
+    /// Drops the places of a name's four keys, one after the other, and answers of each whether it had a rule, if there is one.
+    pub(crate) fn remove_name(
+        &mut self,
+        place: usize,
+    ) -> (Option<bool>, Option<bool>, Option<bool>, Option<bool>)
+        requires { IsIndexed self.old.names.entries self.old.slots.items }
+        ensures indexed { IsIndexed self.new.names.entries self.new.slots.items }
+        ensures told { (name : RuleKey) → slice_get (keys_of self.old.names.entries) place ≡ Some name → result ≡ four_told (in_order (keys_of self.old.names.entries) self.old.slots.items) name }
+        ensures places { (name : RuleKey) → slice_get (keys_of self.old.names.entries) place ≡ Some name
+            → in_order (keys_of self.new.names.entries) self.new.slots.items ≡ without_keys (in_order (keys_of self.old.names.entries) self.old.slots.items) (four_keys name) }
+    {
+        let plain = self.remove(place, None);
+        let primary = self.remove(place, Some(TabletType::Primary));
+        let replica = self.remove(place, Some(TabletType::Replica));
+        let rdonly = self.remove(place, Some(TabletType::Rdonly));
+        (plain, primary, replica, rdonly)
     }
 
     /// The slots of the places, in their order.

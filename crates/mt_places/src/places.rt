@@ -5,9 +5,9 @@ ghost use Rattle.std.specs.Map.{keys_of, lookup, remove_entry, set_value};
 ghost use Rattle.std.specs.Option.{unwrap_or};
 ghost use Rattle.mt_names.specs.declared.types.TabletType.TheVariants.{Primary, Replica, Rdonly};
 ghost use Rattle.mt_names.specs.Same.{same_key};
-ghost use Rattle.mt_model.specs.Topology.{rule_at};
+ghost use Rattle.mt_model.specs.Topology.{rule_at, rule_for};
 ghost use Rattle.mt_places.specs.Places.{IsIndexed, in_order, of_type};
-ghost use Rattle.mt_places.specs.Rules.{four_keys, four_rules, has_rule_place, lent_rule, with_rules_set, without_keys};
+ghost use Rattle.mt_places.specs.Rules.{four_keys, four_rules, four_told, has_rule_place, lent_rule, number_told, with_rules_set, without_keys};
 
 use crate::links::{Links, Slot, rule_of_names};
 use mt_names::{KeyspaceName, RuleKey, RuleTarget, TableName, TabletType};
@@ -75,6 +75,14 @@ impl Places {
         ensures { option_copied result ≡ lookup (same_key key.now) self.now }
     {
         self.links.get(self.near, key)
+    }
+
+    /// The rule that applies to a name: that for the type, or else that for all types. The type of the key is not looked at. It looks the
+    /// name up once.
+    pub fn rule_for(&self, key: &RuleKey, tablet_type: TabletType) -> Option<&RuleTarget>
+        ensures { option_copied result ≡ rule_for self.now key.now tablet_type }
+    {
+        self.links.rule_for(self.near, key, tablet_type)
     }
 
     /// Whether a key has a place.
@@ -165,6 +173,33 @@ impl Places {
         self.near = place;
     }
 
+    /// Sets the rules of two keys of a name, each of which has a place, one after the other, by the names of where they lead, or takes
+    /// them away, and leaves the rules before. The type of the key is not looked at. It takes no memory, and looks the name up once.
+    pub fn exchange_two(
+        &mut self,
+        name: &RuleKey,
+        types: (Option<TabletType>, Option<TabletType>),
+        rules: (
+            Option<(&KeyspaceName, &TableName)>,
+            Option<(&KeyspaceName, &TableName)>,
+        ),
+        first: &mut Option<RuleTarget>,
+        second: &mut Option<RuleTarget>,
+    )
+        requires first { has_rule_place self.old (of_type name.now types.0) ≡ true }
+        requires second { has_rule_place self.old (of_type name.now types.1) ≡ true }
+        ensures first { first.new ≡ rule_at self.old (of_type name.now types.0) }
+        ensures second { second.new ≡ rule_at (set_value (same_key (of_type name.now types.0)) self.old (lent_rule rules.entry.0)) (of_type name.now types.1) }
+        ensures after { self.new ≡ set_value (same_key (of_type name.now types.1)) (set_value (same_key (of_type name.now types.0)) self.old (lent_rule rules.entry.0)) (lent_rule rules.entry.1) }
+    {
+        let Some(place) = self.links.find(self.near, name) else {
+            return;
+        };
+        self.near = place;
+        self.links.exchange(place, types.0, rules.0, first);
+        self.links.exchange(place, types.1, rules.1, second);
+    }
+
     /// Sets the rules of a name's four keys, each of which has a place, one after the other, and answers which stood. The type of the
     /// key is not looked at. It takes no memory.
     pub fn put_name(
@@ -206,25 +241,16 @@ impl Places {
         &mut self,
         name: &RuleKey,
     ) -> (Option<bool>, Option<bool>, Option<bool>, Option<bool>)
-        ensures plain { result.0 ≡ option_map is_some (lookup (same_key (of_type name.now None)) self.old) }
-        ensures primary { result.1 ≡ option_map is_some (lookup (same_key (of_type name.now (Some Primary))) self.old) }
-        ensures replica { result.2 ≡ option_map is_some (lookup (same_key (of_type name.now (Some Replica))) self.old) }
-        ensures rdonly { result.3 ≡ option_map is_some (lookup (same_key (of_type name.now (Some Rdonly))) self.old) }
+        ensures told { result ≡ four_told self.old name.now }
         ensures after { self.new ≡ without_keys self.old (four_keys name.now) }
     {
         let Some(place) = self.links.find(self.near, name) else {
             return (None, None, None, None);
         };
         self.near = place;
-        let plain = self.links.remove(place, None);
-        let primary = self.links.remove(place, Some(TabletType::Primary));
-        let replica = self.links.remove(place, Some(TabletType::Replica));
-        let rdonly = self.links.remove(place, Some(TabletType::Rdonly));
-        self.len -= usize::from(plain.is_some());
-        self.len -= usize::from(primary.is_some());
-        self.len -= usize::from(replica.is_some());
-        self.len -= usize::from(rdonly.is_some());
-        (plain, primary, replica, rdonly)
+        let told = self.links.remove_name(place);
+        self.len -= number_told(told);
+        told
     }
 
     /// Drops the place of a key, and answers whether it had a rule, if there is one. Its name stays linked. It takes no memory, and
@@ -255,6 +281,16 @@ fn swept(alloc: Global, links: &Links) -> Result<Places, AllocError>
         }
     }
     Ok(swept)
+}
+
+/// How many of four places there were, by whether each had a rule if there was one.
+fn number_told(told: (Option<bool>, Option<bool>, Option<bool>, Option<bool>)) -> usize
+    ensures { result ≡ number_told told }
+{
+    usize::from(told.0.is_some())
+        + usize::from(told.1.is_some())
+        + usize::from(told.2.is_some())
+        + usize::from(told.3.is_some())
 }
 
 /// The names of where a rule leads, if there is one.

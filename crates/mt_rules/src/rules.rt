@@ -5,23 +5,28 @@ ghost use Rattle.std.specs.Map.{keys_of, remove_entry, set_value};
 ghost use Rattle.mt_names.specs.Same.{same_key};
 ghost use Rattle.mt_model.specs.Limits.{most_rules};
 ghost use Rattle.mt_model.specs.Part.{rule_routes};
-ghost use Rattle.mt_model.specs.Topology.{rule_at, without_rule_place};
+ghost use Rattle.mt_model.specs.Topology.{rule_at, rule_for, without_rule_place};
 ghost use Rattle.mt_rules.specs.Read.{IsUnlessMemory, answer_with, rules_of_text, with_one_more};
 ghost use Rattle.serde_json.specs.View.{view};
 ghost use Rattle.mt_rules.specs.Values.{IsWellSorted, Says};
 ghost use Rattle.mt_rules.specs.Member.{rules_within};
 ghost use Rattle.mt_model.specs.Documents.{rules_array, rules_text};
-ghost use Rattle.mt_places.specs.Places.{in_order};
+ghost use Rattle.mt_places.specs.Places.{in_order, of_type};
 ghost use Rattle.mt_places.specs.Rules.{four_keys, four_rules, has_rule_place, lent_rule, with_rules_set, without_keys};
 ghost use Rattle.mt_rules.specs.Rules.{Reserves};
 
 use crate::{RulesFault, member, read, text, write};
 use mt_model::{Entry, MAX_RULES};
-use mt_names::{KeyspaceName, RuleKey, RuleTarget, TableName};
-use mt_places::{Counts, Links, Places, count_dropped};
+use mt_names::{KeyspaceName, RuleKey, RuleTarget, TableName, TabletType};
+use mt_places::{Counts, Four, Links, Places};
 use serde_json::Value;
 use std::alloc::{AllocError, Global};
 use std::marker::Model;
+
+/// None of the places of a name's four keys, and all of them.
+const NONE: Four = (false, false, false, false);
+
+const ALL: Four = (true, true, true, true);
 
 /// Routing rules by their keys. A key is reserved before its rule is set, so that to set it takes no memory: it then
 /// has a place, with a rule or without one. There are at most 4,096 places.
@@ -150,6 +155,17 @@ impl RoutingRules {
         self.places.get(key)?.as_ref()
     }
 
+    /// The rule that applies to a name: that for the type, or else that for all types. The type of the key is not looked at. It takes no
+    /// memory, and looks the name up once.
+    pub fn rule_for(&self, key: &RuleKey, tablet_type: TabletType) -> Option<&RuleTarget>
+        ensures { option_copied result ≡ rule_for self.now key.now tablet_type }
+    {
+        if !self.may_have_rule(&key.table) {
+            return None;
+        }
+        self.places.rule_for(key, tablet_type)
+    }
+
     /// Whether any key of a table may have a rule: if not, none has one. Nothing is promised if it may. It takes no memory, and
     /// looks at no place.
     pub fn may_have_rule(&self, table: &TableName) -> bool
@@ -226,7 +242,7 @@ impl RoutingRules {
     {
         match self.places.add_name(name) {
             Ok(()) => {
-                self.placed.add_four(&name.table);
+                self.placed.count_four(&name.table, NONE, ALL);
                 Ok(())
             }
             Err(_) => Err(RulesFault::Memory),
@@ -295,6 +311,31 @@ impl RoutingRules {
         self.standing.count(&key.table, before.is_some(), stands);
     }
 
+    /// Sets the rules of two keys of a name, each of which is reserved, one after the other, by the names of where they lead, or takes
+    /// them away, and leaves the rules before. The type of the key is not looked at. It takes no memory, and looks the name up once.
+    pub fn exchange_two(
+        &mut self,
+        name: &RuleKey,
+        types: (Option<TabletType>, Option<TabletType>),
+        rules: (
+            Option<(&KeyspaceName, &TableName)>,
+            Option<(&KeyspaceName, &TableName)>,
+        ),
+        first: &mut Option<RuleTarget>,
+        second: &mut Option<RuleTarget>,
+    )
+        requires first { has_rule_place self.old (of_type name.now types.0) ≡ true }
+        requires second { has_rule_place self.old (of_type name.now types.1) ≡ true }
+        ensures first { first.new ≡ rule_at self.old (of_type name.now types.0) }
+        ensures second { second.new ≡ rule_at (set_value (same_key (of_type name.now types.0)) self.old (lent_rule rules.entry.0)) (of_type name.now types.1) }
+        ensures after { self.new ≡ set_value (same_key (of_type name.now types.1)) (set_value (same_key (of_type name.now types.0)) self.old (lent_rule rules.entry.0)) (lent_rule rules.entry.1) }
+    {
+        let stand = (rules.0.is_some(), rules.1.is_some(), false, false);
+        self.places.exchange_two(name, types, rules, first, second);
+        let stood = (first.is_some(), second.is_some(), false, false);
+        self.standing.count_four(&name.table, stood, stand);
+    }
+
     /// Sets the rules of a name's four keys, each of which has a place, one after the other: that for all types, those of primary,
     /// replica and rdonly. The type of the key is not looked at. It takes no memory, and looks the name up once.
     pub fn put_name(
@@ -315,10 +356,7 @@ impl RoutingRules {
             rdonly.is_some(),
         );
         let stood = self.places.put_name(name, plain, primary, replica, rdonly);
-        self.standing.count(&name.table, stood.0, stand.0);
-        self.standing.count(&name.table, stood.1, stand.1);
-        self.standing.count(&name.table, stood.2, stand.2);
-        self.standing.count(&name.table, stood.3, stand.3);
+        self.standing.count_four(&name.table, stood, stand);
     }
 
     /// Drops the places of a name's four keys, with their rules, one after the other. The type of the key is not looked at. It takes no
@@ -326,11 +364,21 @@ impl RoutingRules {
     pub fn drop_name(&mut self, name: &RuleKey)
         ensures { self.new ≡ without_keys self.old (four_keys name.now) }
     {
-        let stood = self.places.remove_name(name);
-        count_dropped(&mut self.placed, &mut self.standing, &name.table, stood.0);
-        count_dropped(&mut self.placed, &mut self.standing, &name.table, stood.1);
-        count_dropped(&mut self.placed, &mut self.standing, &name.table, stood.2);
-        count_dropped(&mut self.placed, &mut self.standing, &name.table, stood.3);
+        let told = self.places.remove_name(name);
+        let placed = (
+            told.0.is_some(),
+            told.1.is_some(),
+            told.2.is_some(),
+            told.3.is_some(),
+        );
+        let stood = (
+            told.0.unwrap_or(false),
+            told.1.unwrap_or(false),
+            told.2.unwrap_or(false),
+            told.3.unwrap_or(false),
+        );
+        self.placed.count_four(&name.table, placed, NONE);
+        self.standing.count_four(&name.table, stood, NONE);
     }
 
     /// Drops the place of a key that has no rule. Where the key has a rule nothing changes. It takes no memory.

@@ -1,18 +1,30 @@
 -- A test of all bytes that looks at one after the other, or at the first and the last ones.
 use native.Mathlib.Omega.{arith}
-use Rattle.std.proofs.Common.{◌≡◌, ◌≤◌, ◌+◌, ◌-◌, ℕ, Bool, true, false, ◌&&◌, List, [], ◌∷◌, ◌++◌, take, drop, length, ap, ◌∙◌, sym, subst, refl}
+use Rattle.std.proofs.Common.{◌≡◌, ◌≤◌, ◌+◌, ◌-◌, ℕ, Option, Bool, true, false, ◌&&◌, List, [], ◌∷◌, ◌++◌, take, drop, length, ap, ◌∙◌, sym, subst, refl}
 use Rattle.std.proofs.lemmas.Bool.{and_parts}
+use Rattle.std.proofs.lemmas.Fn.{fold_over}
 use Rattle.std.proofs.lemmas.List.{drop-drop, take-append-drop}
 use Rattle.std.proofs.lemmas.List.Folds.{list_all-append}
-use Rattle.std.specs.List.{list_all}
+use Rattle.std.specs.Fn.{Called, Mut}
+use Rattle.std.specs.Iterator.{AlwaysYields, Drains}
+use Rattle.std.specs.List.{FoldsTo, list_all}
 
 -- one more
-pub all_and_one : (test : ℕ → Bool) (ys : List ℕ) (y : ℕ) (a b : Bool) → a ≡ list_all test ys → b ≡ (a && test y) → b ≡ list_all test (ys ++ y ∷ [])
+all_and_one : (test : ℕ → Bool) (ys : List ℕ) (y : ℕ) (a b : Bool) → a ≡ list_all test ys → b ≡ (a && test y) → b ≡ list_all test (ys ++ y ∷ [])
 all_and_one test ys y a b before is = is ∙ ap (λ t. t && test y) before ∙ sym (list_all-append test ys (y ∷ []) ∙ ap (λ t. list_all test ys && t) (last (test y)))
   where
     last : (t : Bool) → (t && true) ≡ t
     last true = refl
     last false = refl
+
+-- a fold that keeps whether all bytes so far pass says whether all of them do
+pub all_by_fold : {S A F : Type 0} (steps : S → Option A → S → Type 0) (v : A → ℕ) (g : Mut F (Bool × (A × Unit {0})) Bool) (test : ℕ → Bool) (f : F)
+    → ((a : Bool) (x : A) (b : Bool) (f' : F) → Called g f (a, (x, tt)) b f' → (b ≡ (a && test (v x))) × (f' ≡ f))
+    → (s : S) (all : List ℕ) (r : Bool) → AlwaysYields steps v s all
+    → (xs : List A) × (f' : F) × Drains steps s xs × FoldsTo {P = F × Bool} (λ p x q. Called g p.0 (p.1, (x, tt)) q.1 q.0) (f, true) xs (f', r) → r ≡ list_all test all
+all_by_fold steps v g test f step s all r gives ran =
+    fold_over steps v g (λ ys a. a ≡ list_all test ys) f
+    (λ ys a x b f' before k. let one = step a x b f' k in (all_and_one test ys (v x) a b before one.0, one.1)) s all true r gives refl ran
 
 -- what all pass, those behind some pass
 behind : (test : ℕ → Bool) (k : ℕ) (ys : List ℕ) → list_all test ys ≡ true → list_all test (drop k ys) ≡ true

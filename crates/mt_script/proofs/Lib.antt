@@ -6,4 +6,5 @@ pub mod ManyWordsLemmas
 pub mod NumberLemmas
 pub mod RowLemmas
 pub mod RowLineLemmas
+pub mod VisibleLemmas
 pub mod WordLemmas

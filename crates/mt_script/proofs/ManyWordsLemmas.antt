@@ -9,8 +9,8 @@ four-by-two first second (third ∷ []) = refl
 four-by-two first second (third ∷ fourth ∷ []) = refl
 four-by-two first second (third ∷ fourth ∷ fifth ∷ words) = refl
 
-pub four-found : (first second : List ℕ) (line rest behind : List (List ℕ)) (last : List ℕ × List ℕ) → line ≡ first ∷ rest → rest ≡ second ∷ behind → Some last ≡ two_words behind
+pub four-found : {first second : List ℕ} {line rest behind : List (List ℕ)} {last : List ℕ × List ℕ} → line ≡ first ∷ rest → rest ≡ second ∷ behind → Some last ≡ two_words behind
     → Some (first, second, last.0, last.1) ≡ four_words line
-four-found first second line rest behind last one two others =
+four-found {first = first} {second = second} {behind = behind} one two others =
     ap (option_map (λ w. (first, second, w.0, w.1))) others ∙ sym (four-by-two first second behind)
     ∙ ap four_words (ap (λ words. first ∷ words) (sym two) ∙ sym one)

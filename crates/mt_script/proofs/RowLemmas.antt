@@ -1,15 +1,9 @@
 -- The words of an operation on a row, with its name apart.
-use Rattle.std.proofs.Common.{◌≡◌, ℕ, ◌==◌, Bool, true, false, if◌then◌else◌, List, [], ◌∷◌, codes, find, is_some, Option, None, Some, option_and_then, option_map, Result, Ok, Err, refl, sym, ap, subst, ◌∙◌}
+use Rattle.std.proofs.Common.{◌≡◌, ℕ, ◌==◌, Bool, true, false, if◌then◌else◌, List, [], ◌∷◌, codes, find, Option, None, Some, option_and_then, option_map, refl, sym, ap, subst, ◌∙◌}
 use Rattle.std.proofs.lemmas.Bool.{true≢false, eqb-true}
 use Rattle.std.specs.Option.{option_map_or}
-use Rattle.mt_names.specs.declared.fault.NameFault.{NameFault}
-use Rattle.mt_names.specs.declared.keys.RuleKey.{RuleKey}
-use Rattle.mt_names.specs.declared.keys.RuleTarget.{RuleTarget}
-use Rattle.mt_names.specs.declared.types.TabletType.{TabletType}
-use Rattle.mt_names.specs.Keys.{after, at_sign, before, dot, read_key, read_key_type, read_plain_key, read_target_parts}
+use Rattle.mt_names.specs.Keys.{at_sign, dot}
 use Rattle.mt_names.specs.Names.{same_text}
-use Rattle.mt_names.specs.Results.{◌>>=◌}
-use Rattle.mt_names.specs.Types.{read_type}
 use Rattle.mt_model.specs.declared.rows.Op.{Op}
 use Rattle.mt_model.specs.declared.rows.Op.TheVariants.{Insert, Update, Append, Delete}
 use Rattle.mt_model.specs.Rows.{RowValue}
@@ -59,7 +53,7 @@ module _ (make : List ℕ → Op → Command) (ask : List ℕ → ℕ → Comman
   through false x x' y y' p q = q
 
   -- an operation is read as its work
-  pub read_row-work : (verb : List ℕ) (words : List (List ℕ))
+  read_row-work : (verb : List ℕ) (words : List (List ℕ))
       → read_row_command make ask verb (name ∷ words) ≡ option_and_then (work_of make ask name) (read_work verb words)
   read_row-work verb words =
       through (same_text verb (codes "insert")) _ _ _ _ (value-work Insert words)
@@ -68,35 +62,40 @@ module _ (make : List ℕ → Op → Command) (ask : List ℕ → ℕ → Comman
       (through (same_text verb (codes "delete")) _ _ _ _ (delete-work words)
       (through (same_text verb (codes "get")) _ _ _ _ (get-work words) refl))))
 
-  -- the work that was read is the operation's
-  pub work-found : (name' verb : List ℕ) (rest words : List (List ℕ)) (found : RowWork)
-      → words ≡ name ∷ rest → name' ≡ name → Some found ≡ read_work verb rest → work_of make ask name' found ≡ read_row_command make ask verb words
-  work-found name' verb rest words found is same e =
-      rw (is, same) (ap (option_and_then (work_of make ask name)) e ∙ sym (read_row-work verb rest))
+-- the work that was read is the operation's
+pub work-found : (make : List ℕ → Op → Command) (ask : List ℕ → ℕ → Command) (verb : List ℕ) {name name' : List ℕ} {rest words : List (List ℕ)} {found : RowWork}
+    → words ≡ name ∷ rest → name' ≡ name → Some found ≡ read_work verb rest → work_of make ask name' found ≡ read_row_command make ask verb words
+work-found make ask verb {name = name} {rest = rest} is same e =
+    rw (is, same) (ap (option_and_then (work_of make ask name)) e ∙ sym (read_row-work make ask name verb rest))
 
 -- ---- behind `at`
 
-module _ (name verb verb' : List ℕ) (behind rest words : List (List ℕ)) (is : words ≡ name ∷ behind) (follows : behind ≡ verb ∷ rest) (same : verb' ≡ verb) where
-  at-read : read_at words ≡ (if is_qualified name then option_and_then (work_of change_at get_at name) (read_work verb' rest) else None)
-  at-read = rw (is, follows, same) (ap (λ (c : Option Command). if is_qualified name then c else None) (read_row-work change_at get_at name verb rest))
+-- what is commanded there, by the work that is read of a qualified name
+abbrev pub work_at : List ℕ → Option RowWork → Option Command
+work_at name found = if is_qualified name then option_and_then (work_of change_at get_at name) found else None
 
-  pub at-none : None ≡ read_work verb' rest → read_at words ≡ None
-  at-none e = at-read ∙ rw (sym e) (by (is_qualified name))
-    where
-      by : (b : Bool) → (if b then option_and_then (work_of change_at get_at name) None else None) ≡ None
-      by true = refl
-      by false = refl
+pub at-read : {name verb verb' : List ℕ} {behind rest words : List (List ℕ)} → words ≡ name ∷ behind → behind ≡ verb ∷ rest → verb' ≡ verb → read_at words ≡ work_at name (read_work verb' rest)
+at-read {name = name} {verb = verb} {rest = rest} is follows same =
+    rw (is, follows, same) (ap (λ (c : Option Command). if is_qualified name then c else None) (read_row-work change_at get_at name verb rest))
 
-  pub at-found : (name' : List ℕ) (found : RowWork) → name' ≡ name → is_qualified name' ≡ true → Some found ≡ read_work verb' rest → work_of change_at get_at name' found ≡ read_at words
-  at-found name' found named qualified e = by (subst (λ n. is_qualified n ≡ true) named qualified)
-    where
-      by : is_qualified name ≡ true → work_of change_at get_at name' found ≡ read_at words
-      by q = rw named (sym (at-read ∙ rw (sym e, q) refl))
+pub at-none : (name : List ℕ) (found : Option RowWork) → None ≡ found → work_at name found ≡ None
+at-none name found none = ap (work_at name) (sym none) ∙ by (is_qualified name)
+  where
+    by : (b : Bool) → (if b then option_and_then (work_of change_at get_at name) None else None) ≡ None
+    by true = refl
+    by false = refl
+
+pub at-found : (name name' : List ℕ) (work : RowWork) (found : Option RowWork) → name' ≡ name → is_qualified name' ≡ true → Some work ≡ found
+    → work_of change_at get_at name' work ≡ work_at name found
+at-found name name' work found same qualified is = by (subst (λ n. is_qualified n ≡ true) same qualified)
+  where
+    by : is_qualified name ≡ true → work_of change_at get_at name' work ≡ work_at name found
+    by q = rw (same, sym is, q) refl
 
 -- ---- qualified names
 
 -- a name is qualified where its first mark is a dot
-pub qualified_by_mark : (bytes : List ℕ) → is_qualified bytes ≡ option_map_or (λ b. b == dot) (find is_mark bytes) false
+qualified_by_mark : (bytes : List ℕ) → is_qualified bytes ≡ option_map_or (λ b. b == dot) (find is_mark bytes) false
 qualified_by_mark [] = refl
 qualified_by_mark (b ∷ bs) = by (qualified_by_mark bs) (b == dot) (b == at_sign) refl refl
   where
@@ -106,27 +105,5 @@ qualified_by_mark (b ∷ bs) = by (qualified_by_mark bs) (b == dot) (b == at_sig
     by others false true d a = rw (a, d) (sym d)
     by others false false d a = rw (a, d) others
 
-module _ (key : RuleKey) where
-  typed : (target : RuleTarget) (word : Option (List ℕ))
-      → read_key_type (record { keyspace = Some target.keyspace; table = target.table; tablet_type = None }) word ≡ Ok key → is_some key.keyspace ≡ true
-  typed target None e = let same : record { keyspace = Some target.keyspace; table = target.table; tablet_type = None } ≡ key = cc in rw (sym same) refl
-  typed target (Some word) e = by (read_type word) e
-    where
-      by : (t : Result TabletType NameFault)
-          → (t >>= λ type. Ok (record { keyspace = Some target.keyspace; table = target.table; tablet_type = Some type })) ≡ Ok key → is_some key.keyspace ≡ true
-      by (Err fault) e = absurd cc
-      by (Ok type) e = let same : record { keyspace = Some target.keyspace; table = target.table; tablet_type = Some type } ≡ key = cc in rw (sym same) refl
-
-  parted : (target : Result RuleTarget NameFault) (word : Option (List ℕ))
-      → (target >>= (λ t. Ok (record { keyspace = Some t.keyspace; table = t.table; tablet_type = None })) >>= λ k. read_key_type k word) ≡ Ok key → is_some key.keyspace ≡ true
-  parted (Err fault) word e = absurd cc
-  parted (Ok target) word e = typed target word e
-
-  -- the key of a qualified name has a keyspace
-  pub qualified-has_keyspace : (name : List ℕ) → is_qualified name ≡ true → read_key name ≡ Ok key → is_some key.keyspace ≡ true
-  qualified-has_keyspace name is e = by (after dot (before at_sign name)) is e
-    where
-      by : (table : Option (List ℕ)) → is_some table ≡ true
-          → (read_plain_key (before dot (before at_sign name)) table >>= λ k. read_key_type k (after at_sign name)) ≡ Ok key → is_some key.keyspace ≡ true
-      by None is e = absurd cc
-      by (Some table) is e = parted (read_target_parts (before dot (before at_sign name)) table) (after at_sign name) e
+pub qualified_by_found : (name : List ℕ) (found : Option ℕ) → found ≡ find is_mark name → option_map_or (λ b. b == dot) found false ≡ is_qualified name
+qualified_by_found name found is = ap (λ m. option_map_or (λ b. b == dot) m false) is ∙ sym (qualified_by_mark name)

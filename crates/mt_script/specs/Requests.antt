@@ -2,7 +2,8 @@
 use Rattle.std.specs.Prelude.{ℕ, Bool, true, false, ◌==◌, ◌||◌, if◌then◌else◌, List, codes, Option, None, Some, Result, Ok, Err, option_and_then, option_map}
 use Rattle.mt_names.specs.declared.fault.NameFault.{NameFault}
 use Rattle.mt_names.specs.Faults.{fault_text}
-use Rattle.mt_names.specs.Names.{same_text}
+use Rattle.mt_names.specs.Names.{read_workflow, same_text}
+use Rattle.mt_names.specs.Results.{◌>>=◌}
 use Rattle.mt_script.specs.declared.lines.Line.TheVariants as line
 use Rattle.mt_script.specs.declared.lines.LineRefusal.{LineRefusal}
 use Rattle.mt_script.specs.declared.lines.LineRefusal.TheVariants as refusal
@@ -84,6 +85,10 @@ asked_of workflow (of_workflow.BeginReverse types) = event (core.begin_reverse w
 asked_of workflow of_workflow.Cancel = event (core.cancel workflow)
 asked_of workflow of_workflow.Complete = event (core.complete workflow)
 asked_of workflow of_workflow.Show = event (core.show workflow)
+
+-- the same by a name, if it is read as a workflow's
+abbrev pub asked_by_name : List ℕ → WorkflowAsked → Result Request NameFault
+asked_by_name name asked = read_workflow name >>= λ workflow. Ok (asked_of workflow asked)
 
 -- the same of a workflow and what is asked of it
 abbrev pub asked_of_workflow : WorkflowRequest → Request

@@ -1,12 +1,14 @@
 //! Lines that ask for something of a workflow, in their common form: one space between two words, and no other blank.
 ghost use Rattle.std.specs.Prelude.{◌≡◌, ◌++◌, ◌∷◌, IfSome, Ok, Some, codes, false, true};
-ghost use Rattle.mt_plain.specs.Script.{read_line, read_small_number};
+ghost use Rattle.mt_names.specs.Names.{read_keyspace, read_workflow};
+ghost use Rattle.mt_names.specs.Tables.{read_table_list};
+ghost use Rattle.mt_names.specs.Types.{read_type_set};
+ghost use Rattle.mt_plain.specs.Script.{drive, event, read_line, read_small_number};
 ghost use Rattle.mt_plain.specs.Events.{advance, begin_reverse, begin_switch, cancel, create, show, step, undo};
-ghost use Rattle.mt_plain.specs.Script.{drive, event};
 ghost use Rattle.mt_workflow.specs.Workflows.{stream_name};
-ghost use Rattle.mt_script.specs.Common.{AsksBehind, IsTextOfKeyspace, IsTextOfTables, IsTextOfTypes, IsTextOfWorkflow, stream_text, verb_text};
-ghost use Rattle.mt_script.specs.declared.common.WorkflowVerb.TheVariants as verb;
+ghost use Rattle.mt_script.specs.Common.{AsksBehind, stream_text, verb_text};
 ghost use Rattle.mt_script.specs.Requests.{asked_of_workflow, meaning_of};
+ghost use Rattle.mt_script.specs.Words.{IsTextOf, IsVisibleWord};
 
 use crate::lines::{MAX_LINE_LENGTH, WorkflowAsked, WorkflowRequest};
 use crate::rows::{is_all_visible, name_in_front, number_in_front};
@@ -16,7 +18,7 @@ use mt_names::{KeyspaceName, MAX_TABLES, TableName, TypeSet, WorkflowName, table
 use mt_workflow::Slot;
 use std::str;
 
-/// The verb of a line that asks for something of a workflow.
+/// The verb of a line that asks for something of a workflow that is there.
 #[derive(Clone, Copy)]
 pub enum WorkflowVerb {
     /// `advance`.
@@ -33,8 +35,6 @@ pub enum WorkflowVerb {
     BeginSwitch,
     /// `begin-reverse`.
     BeginReverse,
-    /// `create`.
-    Create,
     /// `cancel`.
     Cancel,
     /// `show`.
@@ -112,7 +112,7 @@ fn workflow_verb_in_front(line: &[u8]) -> Option<(WorkflowVerb, &[u8])>
 
 /// The name of a workflow, if it is one.
 fn workflow_of(name: &[u8]) -> Option<WorkflowName>
-    ensures { IfSome result (λ workflow. IsTextOfWorkflow name.now workflow) }
+    ensures { IfSome result (λ workflow. IsTextOf read_workflow name.now workflow) }
 {
     match str::from_utf8(name) {
         Ok(text) => WorkflowName::parse(text).ok(),
@@ -159,8 +159,8 @@ fn small_number(words: &[u8]) -> Option<u16>
 
 /// A workflow and the number of its steps that stand done, with nothing behind them.
 fn workflow_and_number(words: &[u8]) -> Option<(WorkflowName, u64)>
-    ensures step { IfSome result (λ asked. AsksBehind verb.Step words.now (event (step asked.0 asked.1))) }
-    ensures undo { IfSome result (λ asked. AsksBehind verb.Undo words.now (event (undo asked.0 asked.1))) }
+    ensures step { IfSome result (λ asked. AsksBehind (codes "step") words.now (event (step asked.0 asked.1))) }
+    ensures undo { IfSome result (λ asked. AsksBehind (codes "undo") words.now (event (undo asked.0 asked.1))) }
 {
     let (name, words) = name_in_front(words)?;
     let (number, rest) = number_in_front(words)?;
@@ -170,22 +170,31 @@ fn workflow_and_number(words: &[u8]) -> Option<(WorkflowName, u64)>
     Some((workflow_of(name)?, number))
 }
 
-/// The tablet types that a word lists, if it lists some.
-fn types_of(word: &[u8]) -> Option<TypeSet>
-    ensures { IfSome result (λ types. IsTextOfTypes word.now types) }
+/// The word as a text, if it has some bytes, and each of them is visible.
+#[inline(always)]
+fn visible_text(word: &[u8]) -> Option<&str>
+    ensures same { IfSome result (λ text. text.now ≡ word.now) }
+    ensures visible { IfSome result (λ text. IsVisibleWord word.now) }
 {
     if word.is_empty() || !is_all_visible(word) {
         return None;
     }
-    TypeSet::parse(text_of(word)).ok()
+    Some(text_of(word))
+}
+
+/// The tablet types that a word lists, if it lists some.
+fn types_of(word: &[u8]) -> Option<TypeSet>
+    ensures { IfSome result (λ types. IsTextOf read_type_set word.now types) }
+{
+    TypeSet::parse(visible_text(word)?).ok()
 }
 
 /// A workflow and tablet types.
 fn workflow_and_types(words: &[u8]) -> Option<(WorkflowName, TypeSet)>
-    ensures switch { IfSome result (λ asked. AsksBehind verb.Switch words.now (drive asked.0 asked.1 false)) }
-    ensures reverse { IfSome result (λ asked. AsksBehind verb.Reverse words.now (drive asked.0 asked.1 true)) }
-    ensures begin_switch { IfSome result (λ asked. AsksBehind verb.BeginSwitch words.now (event (begin_switch asked.0 asked.1))) }
-    ensures begin_reverse { IfSome result (λ asked. AsksBehind verb.BeginReverse words.now (event (begin_reverse asked.0 asked.1))) }
+    ensures switch { IfSome result (λ asked. AsksBehind (codes "switch") words.now (drive asked.0 asked.1 false)) }
+    ensures reverse { IfSome result (λ asked. AsksBehind (codes "reverse") words.now (drive asked.0 asked.1 true)) }
+    ensures begin_switch { IfSome result (λ asked. AsksBehind (codes "begin-switch") words.now (event (begin_switch asked.0 asked.1))) }
+    ensures begin_reverse { IfSome result (λ asked. AsksBehind (codes "begin-reverse") words.now (event (begin_reverse asked.0 asked.1))) }
 {
     let (name, types) = name_in_front(words)?;
     Some((workflow_of(name)?, types_of(types)?))
@@ -193,15 +202,15 @@ fn workflow_and_types(words: &[u8]) -> Option<(WorkflowName, TypeSet)>
 
 /// A workflow alone.
 fn workflow_alone(words: &[u8]) -> Option<WorkflowName>
-    ensures cancel { IfSome result (λ workflow. AsksBehind verb.Cancel words.now (event (cancel workflow))) }
-    ensures show { IfSome result (λ workflow. AsksBehind verb.Show words.now (event (show workflow))) }
+    ensures cancel { IfSome result (λ workflow. AsksBehind (codes "cancel") words.now (event (cancel workflow))) }
+    ensures show { IfSome result (λ workflow. AsksBehind (codes "show") words.now (event (show workflow))) }
 {
     workflow_of(words)
 }
 
 /// The request of an advance: a workflow, its stream, a position, and how many rows or entries at most.
 fn advance_of(words: &[u8]) -> Option<WorkflowRequest>
-    ensures { IfSome result (λ request. AsksBehind verb.Advance words.now (asked_of_workflow request)) }
+    ensures { IfSome result (λ request. AsksBehind (codes "advance") words.now (asked_of_workflow request)) }
 {
     let (name, words) = name_in_front(words)?;
     let (stream, words) = stream_in_front(words)?;
@@ -250,7 +259,6 @@ pub fn workflow_line(line: &[u8]) -> Option<WorkflowRequest>
         }
         WorkflowVerb::Cancel => Some(WorkflowAsked::Cancel.of(workflow_alone(words)?)),
         WorkflowVerb::Show => Some(WorkflowAsked::Show.of(workflow_alone(words)?)),
-        WorkflowVerb::Create => None,
     }
 }
 
@@ -269,27 +277,21 @@ pub struct CreateRequest {
 
 /// The name of a keyspace, if it is one.
 fn keyspace_of(word: &[u8]) -> Option<KeyspaceName>
-    ensures { IfSome result (λ keyspace. IsTextOfKeyspace word.now keyspace) }
+    ensures { IfSome result (λ keyspace. IsTextOf read_keyspace word.now keyspace) }
 {
-    if word.is_empty() || !is_all_visible(word) {
-        return None;
-    }
-    KeyspaceName::parse(text_of(word)).ok()
+    KeyspaceName::parse(visible_text(word)?).ok()
 }
 
 /// The tables that a word lists, if it lists some.
 fn tables_of(word: &[u8]) -> Option<ArrayVec<TableName, MAX_TABLES>>
-    ensures { IfSome result (λ tables. IsTextOfTables word.now tables.items) }
+    ensures { IfSome result (λ tables. IsTextOf read_table_list word.now tables.items) }
 {
-    if word.is_empty() || !is_all_visible(word) {
-        return None;
-    }
-    table_list(text_of(word)).ok()
+    table_list(visible_text(word)?).ok()
 }
 
 /// What stands behind the verb `create` and a space, if a line begins with these.
 fn behind_create(line: &[u8]) -> Option<&[u8]>
-    ensures { IfSome result (λ rest. line.now ≡ verb_text verb.Create ++ 32 ∷ rest.now) }
+    ensures { IfSome result (λ rest. line.now ≡ codes "create" ++ 32 ∷ rest.now) }
 {
     match line {
         [b'c', b'r', b'e', b'a', b't', b'e', b' ', rest @ ..] => Some(rest),
@@ -299,7 +301,7 @@ fn behind_create(line: &[u8]) -> Option<&[u8]>
 
 /// A workflow, its source and target, and its tables.
 fn create_of(words: &[u8]) -> Option<CreateRequest>
-    ensures { IfSome result (λ request. AsksBehind verb.Create words.now (event (create request.workflow request.source request.target request.tables.items))) }
+    ensures { IfSome result (λ request. AsksBehind (codes "create") words.now (event (create request.workflow request.source request.target request.tables.items))) }
 {
     let (name, words) = name_in_front(words)?;
     let (source, words) = name_in_front(words)?;

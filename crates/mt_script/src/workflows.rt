@@ -1,14 +1,14 @@
 //! Commands on workflows.
 ghost use Rattle.std.specs.Prelude.{◌≡◌, true, option_map};
-ghost use Rattle.mt_plain.specs.Script.{advance, begin_reverse, begin_switch, cancel, complete, create, four_words, is_readable, read_advance, read_stream, read_workflow_command, request_of, reverse, show, step, switch, undo, words_of};
+ghost use Rattle.mt_plain.specs.Script.{begin_reverse, begin_switch, create, four_words, is_readable, read_advance, read_stream, read_workflow_command, request_of, reverse, switch, words_of};
 ghost use Rattle.mt_workflow.specs.Workflows.{stream_name};
-ghost use Rattle.mt_script.specs.Requests.{read_from};
+ghost use Rattle.mt_script.specs.Requests.{asked_by_name, read_from};
 
 use crate::lines::{Request, WorkflowAsked};
 use crate::numbers::{read_number, read_small_number};
 use crate::tables::TableText;
 use crate::words::{four_words, one_word, two_words};
-use mt_names::{KeyspaceName, NameFault, Position, TypeSet, WorkflowName};
+use mt_names::{KeyspaceName, NameFault, TypeSet, WorkflowName};
 use mt_workflow::Slot;
 
 /// Reads which stream is meant: `forward` or `back`.
@@ -37,16 +37,12 @@ fn create_request<'a>(
     Ok(Request::Create(workflow, source, target, tables))
 }
 
-fn advance_request(
-    workflow: &str,
-    stream: Slot,
-    at: Position,
-    max: u16,
-) -> Result<Request<'_>, NameFault>
-    ensures { read_from result ≡ request_of (advance workflow.now (stream_name stream) at max) }
+/// The request of what is asked for of a workflow, if its name is read.
+#[inline(always)]
+fn workflow_request(workflow: &str, asked: WorkflowAsked) -> Result<Request<'_>, NameFault>
+    ensures { read_from result ≡ asked_by_name workflow.now asked }
 {
-    let workflow = WorkflowName::parse(workflow)?;
-    Ok(Request::Workflow(WorkflowAsked::Advance(stream, at, max).of(workflow)))
+    Ok(Request::Workflow(asked.of(WorkflowName::parse(workflow)?)))
 }
 
 fn begin_switch_request<'a>(workflow: &'a str, types: &'a str) -> Result<Request<'a>, NameFault>
@@ -65,18 +61,6 @@ fn begin_reverse_request<'a>(workflow: &'a str, types: &'a str) -> Result<Reques
     Ok(Request::Workflow(WorkflowAsked::BeginReverse(types).of(workflow)))
 }
 
-fn step_request(workflow: &str, at: u64) -> Result<Request<'_>, NameFault>
-    ensures { read_from result ≡ request_of (step workflow.now at) }
-{
-    Ok(Request::Workflow(WorkflowAsked::Step(at).of(WorkflowName::parse(workflow)?)))
-}
-
-fn undo_request(workflow: &str, at: u64) -> Result<Request<'_>, NameFault>
-    ensures { read_from result ≡ request_of (undo workflow.now at) }
-{
-    Ok(Request::Workflow(WorkflowAsked::Undo(at).of(WorkflowName::parse(workflow)?)))
-}
-
 fn switch_request<'a>(workflow: &'a str, types: &'a str) -> Result<Request<'a>, NameFault>
     ensures { read_from result ≡ request_of (switch workflow.now types.now) }
 {
@@ -91,24 +75,6 @@ fn reverse_request<'a>(workflow: &'a str, types: &'a str) -> Result<Request<'a>,
     let workflow = WorkflowName::parse(workflow)?;
     let types = TypeSet::parse(types)?;
     Ok(Request::Workflow(WorkflowAsked::Reverse(types).of(workflow)))
-}
-
-fn cancel_request(workflow: &str) -> Result<Request<'_>, NameFault>
-    ensures { read_from result ≡ request_of (cancel workflow.now) }
-{
-    Ok(Request::Workflow(WorkflowAsked::Cancel.of(WorkflowName::parse(workflow)?)))
-}
-
-fn complete_request(workflow: &str) -> Result<Request<'_>, NameFault>
-    ensures { read_from result ≡ request_of (complete workflow.now) }
-{
-    Ok(Request::Workflow(WorkflowAsked::Complete.of(WorkflowName::parse(workflow)?)))
-}
-
-fn show_request(workflow: &str) -> Result<Request<'_>, NameFault>
-    ensures { read_from result ≡ request_of (show workflow.now) }
-{
-    Ok(Request::Workflow(WorkflowAsked::Show.of(WorkflowName::parse(workflow)?)))
 }
 
 /// Reads what stands behind `create`: the workflow, the source, the target, the tables.
@@ -129,7 +95,7 @@ fn advance_command(words: &[u8]) -> Option<Result<Request<'_>, NameFault>>
     let stream = read_stream(stream)?;
     let at = read_number(at)?;
     let max = read_small_number(max)?;
-    Some(advance_request(workflow, stream, at, max))
+    Some(workflow_request(workflow, WorkflowAsked::Advance(stream, at, max)))
 }
 
 /// Reads a command on a workflow, behind its verb.
@@ -150,11 +116,11 @@ pub fn workflow_command<'a>(verb: &str, words: &'a [u8]) -> Option<Result<Reques
         }
         "step" => {
             let (workflow, at) = two_words(words)?;
-            Some(step_request(workflow, read_number(at)?))
+            Some(workflow_request(workflow, WorkflowAsked::Step(read_number(at)?)))
         }
         "undo" => {
             let (workflow, at) = two_words(words)?;
-            Some(undo_request(workflow, read_number(at)?))
+            Some(workflow_request(workflow, WorkflowAsked::Undo(read_number(at)?)))
         }
         "switch" => {
             let (workflow, types) = two_words(words)?;
@@ -164,9 +130,9 @@ pub fn workflow_command<'a>(verb: &str, words: &'a [u8]) -> Option<Result<Reques
             let (workflow, types) = two_words(words)?;
             Some(reverse_request(workflow, types))
         }
-        "cancel" => Some(cancel_request(one_word(words)?)),
-        "complete" => Some(complete_request(one_word(words)?)),
-        "show" => Some(show_request(one_word(words)?)),
+        "cancel" => Some(workflow_request(one_word(words)?, WorkflowAsked::Cancel)),
+        "complete" => Some(workflow_request(one_word(words)?, WorkflowAsked::Complete)),
+        "show" => Some(workflow_request(one_word(words)?, WorkflowAsked::Show)),
         _ => None,
     }
 }

@@ -21,7 +21,7 @@ use Rattle.mt_watch.specs.declared.fault.WatchersFault.{WatchersFault}
 use Rattle.mt_watch.specs.Lists.{Pushes}
 use Rattle.mt_workflow.specs.Workflows.{WorkflowState, live_of, wanted}
 use Rattle.mt_site_topology.specs.Keys.{rules_only}
-use Rattle.mt_site_parts.specs.Parts.{HasPlaces}
+use Rattle.mt_site_parts.specs.Parts.{HasPlaces, mark_keys}
 
 -- ---- places
 
@@ -71,32 +71,26 @@ places_at_source t source target table places = (places.1.1.1.1.0, (places.1.1.1
 pub places_at_target : (t : TopologyState) (source target table : List ℕ) → HasPlaces t (table_part_keys source target table) → HasPlaces t (names (Some target) table)
 places_at_target t source target table places = (places.1.1.1.1.1.1.1.1.0, (places.1.1.1.1.1.1.1.1.1.0, (places.1.1.1.1.1.1.1.1.1.1.0, (places.1.1.1.1.1.1.1.1.1.1.1.0, tt))))
 
--- those of both denials, and of the presence
-pub place_denied : (t : TopologyState) (source target table : List ℕ) → HasPlaces t (table_part_keys source target table) → has_place t (about.Denied source table) ≡ true
-place_denied t source target table places = places.1.1.1.1.1.1.1.1.1.1.1.1.0
+-- those of its marks
+pub places_marks : (t : TopologyState) (source target table : List ℕ) → HasPlaces t (table_part_keys source target table) → HasPlaces t (mark_keys source target table)
+places_marks t source target table places = (places.1.1.1.1.1.1.1.1.1.1.1.1.0, (places.1.1.1.1.1.1.1.1.1.1.1.1.1.0, (places.1.1.1.1.1.1.1.1.1.1.1.1.1.1.0, tt)))
 
-pub place_denied_there : (t : TopologyState) (source target table : List ℕ) → HasPlaces t (table_part_keys source target table) → has_place t (about.Denied target table) ≡ true
-place_denied_there t source target table places = places.1.1.1.1.1.1.1.1.1.1.1.1.1.0
+-- those of a name at a side, by another word for it
+pub names_by : (t : TopologyState) (side at table : List ℕ) → at ≡ side → HasPlaces t (names (Some side) table) → HasPlaces t (names (Some at) table)
+names_by t side at table is places = subst (λ s. HasPlaces t (names (Some s) table)) (sym is) places
 
-pub place_present : (t : TopologyState) (source target table : List ℕ) → HasPlaces t (table_part_keys source target table) → has_place t (about.Present target table) ≡ true
-place_present t source target table places = places.1.1.1.1.1.1.1.1.1.1.1.1.1.1.0
+pub marks_by : (t : TopologyState) (source target at to table : List ℕ) → at ≡ source → to ≡ target → HasPlaces t (mark_keys source target table) → HasPlaces t (mark_keys at to table)
+marks_by t source target at to table is_source is_target places =
+    subst (λ s. HasPlaces t (mark_keys s to table)) (sym is_source) (subst (λ g. HasPlaces t (mark_keys source g table)) (sym is_target) places)
 
--- the same places, by other words for the sides
-pub places_by : (t : TopologyState) (source target at to table : List ℕ) → at ≡ source → to ≡ target → HasPlaces t (table_part_keys source target table) → HasPlaces t (table_part_keys at to table)
-places_by t source target at to table is_source is_target places =
-    subst (λ s. HasPlaces t (table_part_keys s to table)) (sym is_source) (subst (λ g. HasPlaces t (table_part_keys source g table)) (sym is_target) places)
-
--- what is written name by name, and the denials and the presence behind them
-pub table_whole : (f : EntryKey → Entry) (t a b c d e u : TopologyState) (source target at to table : List ℕ) → at ≡ source → to ≡ target
+-- what is written name by name, and the marks behind them
+pub table_whole : (f : EntryKey → Entry) (t a b c u : TopologyState) (source target at to table : List ℕ) → at ≡ source → to ≡ target
     → a ≡ with_entries t (map f (names None table)) → b ≡ with_entries a (map f (names (Some at) table)) → c ≡ with_entries b (map f (names (Some to) table))
-    → d ≡ with_entry c (f (about.Denied at table)) → e ≡ with_entry d (f (about.Denied to table)) → u ≡ with_entry e (f (about.Present to table))
-    → u ≡ with_entries t (map f (table_part_keys source target table))
-table_whole f t a b c d e u source target at to table is_source is_target alone with_source with_target denied denied_there present =
-    present ∙ ap (λ x. with_entry x (f (about.Present to table))) (denied_there ∙ ap (λ x. with_entry x (f (about.Denied to table))) (denied
-    ∙ ap (λ x. with_entry x (f (about.Denied at table))) (with_target ∙ ap (λ x. with_entries x (map f (names (Some to) table))) (with_source
-    ∙ ap (λ x. with_entries x (map f (names (Some at) table))) alone))))
-    ∙ ap (λ s. with_entries t (map f (table_part_keys s to table))) is_source
-    ∙ ap (λ g. with_entries t (map f (table_part_keys source g table))) is_target
+    → u ≡ with_entries c (map f (mark_keys source target table)) → u ≡ with_entries t (map f (table_part_keys source target table))
+table_whole f t a b c u source target at to table is_source is_target alone with_source with_target marks =
+    let by_source = with_source ∙ ap (λ s. with_entries a (map f (names (Some s) table))) is_source ∙ ap (λ x. with_entries x (map f (names (Some source) table))) alone in
+    let by_target = with_target ∙ ap (λ g. with_entries b (map f (names (Some g) table))) is_target ∙ ap (λ x. with_entries x (map f (names (Some target) table))) by_source in
+    marks ∙ ap (λ x. with_entries x (map f (mark_keys source target table))) by_target
 
 -- ---- one name
 

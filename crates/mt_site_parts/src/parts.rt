@@ -9,7 +9,7 @@ ghost use Rattle.mt_plain.specs.Plain.{in_keyspace};
 ghost use Rattle.mt_workflow.specs.Workflows.{live_of, wanted};
 ghost use Rattle.mt_site_topology.specs.Keys.{kept_entries, keys_of_part, part_entries, rules_only};
 ghost use Rattle.mt_site_state.specs.Workflows.{change_of};
-ghost use Rattle.mt_site_parts.specs.Parts.{HasPlaces};
+ghost use Rattle.mt_site_parts.specs.Parts.{HasPlaces, mark_entries, mark_keys};
 
 use mt_event::Refusal;
 use mt_model::{Entry, key_of_name};
@@ -49,9 +49,29 @@ fn write_table(topology: &mut Topology, workflow: &Workflow, table: &TableName)
     write_name(topology, workflow, None, table);
     write_name(topology, workflow, Some(source), table);
     write_name(topology, workflow, Some(target), table);
-    topology.put_denied(source, table, workflow.is_denied_at(source, TypeSet::NONE));
-    topology.put_denied(target, table, workflow.is_denied_at(target, TypeSet::NONE));
-    topology.put_present(target, table, true);
+    let denied = (
+        workflow.is_denied_at(source, TypeSet::NONE),
+        workflow.is_denied_at(target, TypeSet::NONE),
+    );
+    write_marks(topology, workflow, table, denied, true);
+}
+
+/// Writes whether the primaries of a workflow's sides are to refuse a table, and whether the target has it.
+fn write_marks(
+    topology: &mut Topology,
+    workflow: &Workflow,
+    table: &TableName,
+    denied: (bool, bool),
+    is_present: bool,
+)
+    requires { HasPlaces topology.old (mark_keys workflow.now.source workflow.now.target table.now) }
+    ensures { topology.new ≡ with_entries topology.old (mark_entries workflow.now.source workflow.now.target table.now denied.0 denied.1 is_present) }
+{
+    let source = workflow.source();
+    let target = workflow.target();
+    topology.put_denied(source, table, denied.0);
+    topology.put_denied(target, table, denied.1);
+    topology.put_present(target, table, is_present);
 }
 
 /// Writes the rules of a name's four keys as they are with nothing switched. The name is looked up once.
@@ -96,9 +116,7 @@ fn write_kept_table(topology: &mut Topology, workflow: &Workflow, table: &TableN
     write_kept_name(topology, workflow, None, table);
     write_kept_name(topology, workflow, Some(source), table);
     write_kept_name(topology, workflow, Some(target), table);
-    topology.put_denied(source, table, false);
-    topology.put_denied(target, table, false);
-    topology.put_present(target, table, false);
+    write_marks(topology, workflow, table, (false, false), false);
 }
 
 /// Writes the rules of a name's four keys as they were before Create. One key is made, whose type then changes.

@@ -13,7 +13,7 @@ use mt_event::Refusal;
 use mt_journal::Journal;
 use mt_names::WorkflowName;
 use mt_primary::Primary;
-use mt_steps::{OpenWay, Sides, Step, next_step, undo_last};
+use mt_steps::{OpenWay, Sides, Step, last_step, next_step, undo_last, undo_reading_step};
 use mt_topology::Topology;
 use mt_watch::Asks;
 use mt_workflow::{Way, Workflow};
@@ -41,8 +41,8 @@ fn undo_refusal(way: Way, at: u64) -> Option<Refusal>
     None
 }
 
-/// Undoes the step that was done last between the primaries of a workflow's sides. Meanwhile it takes both out of their places, and
-/// leaves empty ones there, which takes no memory.
+/// Undoes the step that was done last between the primaries of a workflow's sides. That of the source's refresh takes both out of their
+/// places meanwhile, and leaves empty ones there, which takes no memory.
 fn undo_done<W: Asks>(
     alloc: Global,
     topology: &mut Topology,
@@ -60,6 +60,11 @@ fn undo_done<W: Asks>(
     ensures { UndoesBetween topology.old primaries.old.entries workflow.old (way_from way) journal.old kept.old
         topology.new primaries.new.entries workflow.new journal.new kept.new }
 {
+    let step = last_step(way);
+    if step.leaves_primaries() {
+        undo_reading_step(way, step, topology, workflow, &mut kept.log);
+        return;
+    }
     let at_source = place_of(primaries, workflow.source());
     let at_target = place_of(primaries, workflow.target());
     let mut source = exchange_at(primaries, at_source, Primary::new(alloc));

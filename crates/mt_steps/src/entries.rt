@@ -4,6 +4,8 @@ ghost use Rattle.mt_model.specs.declared.entries.Entry.{Entry};
 ghost use Rattle.mt_model.specs.declared.entries.EntryKey.{EntryKey};
 ghost use Rattle.mt_model.specs.Part.{keys_of_name};
 ghost use Rattle.mt_model.specs.Topology.{has_place, key_of, rule_at, with_entry};
+ghost use Rattle.mt_places.specs.Places.{of_type};
+ghost use Rattle.mt_places.specs.Rules.{lent_rule};
 ghost use Rattle.mt_workflow.specs.Workflows.{WorkflowState, wanted};
 ghost use Rattle.mt_steps.specs.Entries.{HavePlaces, is_of_step, swept, with_recorded, with_wanted};
 ghost use Rattle.mt_steps.specs.declared.records.RuleRecord.{RuleRecord};
@@ -108,7 +110,7 @@ fn exchange_reads(
     noted.is_present = topology.exchange_present(target, table, true);
 }
 
-/// The same of a name. One key is made, whose type then changes.
+/// The same of a name, which is looked up once.
 fn exchange_reads_of(
     topology: &mut Topology,
     workflow: &Workflow,
@@ -121,11 +123,20 @@ fn exchange_reads_of(
     ensures recorded { (source target : List ℕ) → name_entries source target (option_copied keyspace.entry) table.now noted.new ≡ swept workflow.now types 0 topology.old (name_entries source target (option_copied keyspace.entry) table.now noted.old) }
     ensures written { topology.new ≡ fold (with_wanted workflow.now types 0) topology.old (map EntryKey.Rule (keys_of_name (option_copied keyspace.entry) table.now)) }
 {
-    let mut key = key_of_name(keyspace, table, None);
-    key.tablet_type = Some(TabletType::Replica);
-    exchange_rule(topology, workflow, types, &key, &mut noted.replica);
-    key.tablet_type = Some(TabletType::Rdonly);
-    exchange_rule(topology, workflow, types, &key, &mut noted.rdonly);
+    let name = key_of_name(keyspace, table, None);
+    let reads = (Some(TabletType::Replica), Some(TabletType::Rdonly));
+    let rules = (
+        Some((workflow.side(types.replica), table)),
+        Some((workflow.side(types.rdonly), table)),
+    );
+    exchange_two(
+        topology,
+        &name,
+        reads,
+        rules,
+        &mut noted.replica,
+        &mut noted.rdonly,
+    );
 }
 
 /// The same with step 9: the rules for all types, and those of primary.
@@ -161,7 +172,7 @@ fn exchange_writes(
     );
 }
 
-/// The same of a name. One key is made, whose type then changes.
+/// The same of a name, which is looked up once.
 fn exchange_writes_of(
     topology: &mut Topology,
     workflow: &Workflow,
@@ -174,27 +185,43 @@ fn exchange_writes_of(
     ensures recorded { (source target : List ℕ) → name_entries source target (option_copied keyspace.entry) table.now noted.new ≡ swept workflow.now types 9 topology.old (name_entries source target (option_copied keyspace.entry) table.now noted.old) }
     ensures written { topology.new ≡ fold (with_wanted workflow.now types 9) topology.old (map EntryKey.Rule (keys_of_name (option_copied keyspace.entry) table.now)) }
 {
-    let mut key = key_of_name(keyspace, table, None);
-    exchange_rule(topology, workflow, types, &key, &mut noted.plain);
-    key.tablet_type = Some(TabletType::Primary);
-    exchange_rule(topology, workflow, types, &key, &mut noted.primary);
+    let name = key_of_name(keyspace, table, None);
+    let writes = (None, Some(TabletType::Primary));
+    let rules = (workflow.wanted_names(&name, types), None);
+    exchange_two(
+        topology,
+        &name,
+        writes,
+        rules,
+        &mut noted.plain,
+        &mut noted.primary,
+    );
 }
 
-/// Writes the rule of a key as it is to be once these types are switched, and records which stood before.
-fn exchange_rule(
+/// Writes two rules of a name, one after the other, and records which stood before.
+fn exchange_two(
     topology: &mut Topology,
-    workflow: &Workflow,
-    types: TypeSet,
-    key: &RuleKey,
-    noted: &mut RuleRecord,
+    name: &RuleKey,
+    types: (Option<TabletType>, Option<TabletType>),
+    rules: (
+        Option<(&KeyspaceName, &TableName)>,
+        Option<(&KeyspaceName, &TableName)>,
+    ),
+    first: &mut RuleRecord,
+    second: &mut RuleRecord,
 )
-    requires { has_place topology.old (EntryKey.Rule key.now) ≡ true }
-    ensures before { noted.new ≡ RuleRecord.Found (rule_at topology.old.rules key.now) }
-    ensures after { topology.new ≡ with_entry topology.old (wanted workflow.now types (EntryKey.Rule key.now)) }
+    requires first { has_place topology.old (EntryKey.Rule (of_type name.now types.0)) ≡ true }
+    requires second { has_place topology.old (EntryKey.Rule (of_type name.now types.1)) ≡ true }
+    ensures first { first.new ≡ RuleRecord.Found (rule_at topology.old.rules (of_type name.now types.0)) }
+    ensures second { second.new ≡ RuleRecord.Found (rule_at (with_entry topology.old (Entry.Rule (of_type name.now types.0) (lent_rule rules.entry.0))).rules (of_type name.now types.1)) }
+    ensures after { topology.new ≡ with_entry (with_entry topology.old (Entry.Rule (of_type name.now types.0) (lent_rule rules.entry.0))) (Entry.Rule (of_type name.now types.1) (lent_rule rules.entry.1)) }
 {
-    *noted = RuleRecord::Found(None);
-    if let RuleRecord::Found(before) = noted {
-        topology.exchange_rule(key, workflow.wanted_names(key, types), before);
+    *first = RuleRecord::Found(None);
+    *second = RuleRecord::Found(None);
+    if let RuleRecord::Found(first) = first {
+        if let RuleRecord::Found(second) = second {
+            topology.exchange_two(name, types, rules, first, second);
+        }
     }
 }
 

@@ -1,20 +1,25 @@
 //! A step, and the undo of the last one.
-ghost use Rattle.std.specs.Prelude.{◌≡◌, ◌<◌, true, All, None, is_some};
+ghost use Rattle.std.specs.Prelude.{◌≡◌, ◌<◌, true, All, List, [], None, is_some};
+ghost use Rattle.mt_model.specs.Part.{with_entries};
 ghost use Rattle.mt_model.specs.Topology.{has_place, key_of};
 ghost use Rattle.mt_plain.specs.Plain.{next_step, write_journal};
 ghost use Rattle.mt_workflow.specs.Workflows.{way_from};
+ghost use Rattle.mt_primary.specs.Primary.{PrimaryState};
 ghost use Rattle.mt_journal.specs.Journal.{entry_of};
-ghost use Rattle.mt_steps.specs.Entries.{HasPlaces};
-ghost use Rattle.mt_steps.specs.Plans.{last_step, number, step_at};
-ghost use Rattle.mt_steps.specs.Steps.{IsGivenBack, IsUndone, Steps, open_way};
+ghost use Rattle.mt_journal.specs.declared.entry.JournalEntry.{JournalEntry};
+ghost use Rattle.mt_steps.specs.Entries.{HasPlaces, recorded, recorded_of, step_entries};
+ghost use Rattle.mt_steps.specs.Plans.{last_step, leaves_primaries, number, step_at};
+ghost use Rattle.mt_steps.specs.Steps.{IsGivenBack, IsUndone, Steps, left_slot, nobody_answers, open_way};
+ghost use Rattle.mt_steps.specs.Streams.{put_away, workflow_stepped, workflow_undone};
 ghost use Rattle.mt_steps.specs.Undo.{IsLogOf};
 
-use crate::attempt::attempt;
+use crate::attempt::{attempt, attempt_reading};
 use crate::fault::StepFault;
 use crate::log::UndoLog;
 use crate::step::Step;
 use crate::streams::{count_step, count_undo, last_step, log_end, step_streams, undo_streams};
 use mt_journal::Journal;
+use mt_names::Position;
 use mt_primary::{Before, Primary};
 use mt_topology::Topology;
 use mt_watch::Asks;
@@ -115,10 +120,67 @@ fn step_of_way<W: Asks>(
     attempt(
         alloc, way, step, id, topology, workflow, source, target, journal, watchers, listed,
     )?;
+    finish_step(way, step, end, topology, workflow, log);
+    Ok(())
+}
+
+/// Does the step of a way that is next, if it leaves both primaries as they are, as each step does but the two refreshes
+/// (`Step::leaves_primaries`). `source` and `target` are the primaries of the workflow's sides, which it only reads; `way` is the way that
+/// is open on the workflow, and `id` its number; `log` becomes what its undo needs. See `Step` for what each step does, and what refuses
+/// it: `F18 NotLevel`, `F27 Full`, `F0 Memory`. A refused step leaves everything as it was. It asks nobody, and of these steps only the
+/// journal takes memory. (Vitess: SwitchTraffic, ReverseTraffic)
+pub fn do_reading_step(
+    way: Way,
+    step: Step,
+    id: u64,
+    topology: &mut Topology,
+    source: &Primary,
+    target: &Primary,
+    workflow: &mut Workflow,
+    journal: &mut Journal,
+    log: &mut UndoLog,
+) -> Result<(), StepFault>
+    requires reads { leaves_primaries step ≡ true }
+    requires next { number step ≡ next_step (way_from way) }
+    requires places { HasPlaces topology.old workflow.old }
+    requires log { IsLogOf workflow.old log.old }
+    requires fresh { number step ≡ write_journal → entry_of journal.old id ≡ None }
+    ensures log { IsLogOf workflow.new log.new }
+    ensures places { HasPlaces topology.new workflow.new }
+    ensures steps { Steps [] nobody_answers id (way_from way) step
+        (record { topology = topology.old; source = source.now; target = target.now; workflow = workflow.old; journal = journal.old }) log.old
+        result
+        (record { topology = topology.new; source = source.now; target = target.now; workflow = workflow.new; journal = journal.new }) log.new }
+{
+    let end = log_end(way, source, target);
+    attempt_reading(way, step, id, workflow, source, target, journal)?;
+    finish_step(way, step, end, topology, workflow, log);
+    Ok(())
+}
+
+/// Does what of a step is never refused: it writes the entries that change with the step, and records what stood there; it changes the
+/// streams, and counts the step. `end` is how long the log of the new owner's primary is.
+#[inline(always)]
+fn finish_step(
+    way: Way,
+    step: Step,
+    end: Position,
+    topology: &mut Topology,
+    workflow: &mut Workflow,
+    log: &mut UndoLog,
+)
+    requires next { number step ≡ next_step (way_from way) }
+    requires places { HasPlaces topology.old workflow.old }
+    requires log { IsLogOf workflow.old log.old }
+    ensures log { IsLogOf workflow.new log.new }
+    ensures places { HasPlaces topology.new workflow.new }
+    ensures topology { topology.new ≡ with_entries topology.old (step_entries workflow.old (way_from way).after (number step)) }
+    ensures workflow { workflow.new ≡ workflow_stepped workflow.old (way_from way) step end }
+    ensures recorded { log.new ≡ record { entries = recorded workflow.old (number step) topology.old log.old.entries; listed = log.old.listed; slot = put_away workflow.old (way_from way) step log.old.slot } }
+{
     log.exchange(topology, workflow, way.after, step.number());
     step_streams(workflow, way, step, end, &mut log.late.slot);
     count_step(workflow, way, step);
-    Ok(())
 }
 
 /// Takes back the step that was done last, which is before the journal: its entries, the own list and the slot get what stood there
@@ -176,8 +238,52 @@ fn undo_of_way(
         (record { topology = topology.old; source = source.old; target = target.old; workflow = workflow.old; journal = journal.now }) log.old
         (record { topology = topology.new; source = source.new; target = target.new; workflow = workflow.new; journal = journal.now }) log.new }
 {
-    log.write_back(topology, workflow, step.number());
     give_back(way, source, target, log.take_listed(step));
+    finish_undo(way, step, topology, workflow, log);
+}
+
+/// Takes back the step of a way that was done last, `last_step`, if it leaves both primaries as they are (`Step::leaves_primaries`) and is
+/// before the journal: its entries and the slot get what stood there before it, and all else stays as it is now. `way` is the way that is
+/// open on the workflow. It takes no memory, asks nobody, looks at no primary, and is never refused. (Vitess: Cancel of a switch of
+/// traffic before its journal)
+pub fn undo_reading_step(
+    way: Way,
+    step: Step,
+    topology: &mut Topology,
+    workflow: &mut Workflow,
+    log: &mut UndoLog,
+)
+    requires reads { leaves_primaries step ≡ true }
+    requires places { HasPlaces topology.old workflow.old }
+    requires log { IsLogOf workflow.old log.old }
+    ensures log { IsLogOf workflow.new log.new }
+    ensures places { HasPlaces topology.new workflow.new }
+    ensures undone { (source target : PrimaryState) (journal : List JournalEntry) → IsUndone (way_from way) step
+        (record { topology = topology.old; source = source; target = target; workflow = workflow.old; journal = journal }) log.old
+        (record { topology = topology.new; source = source; target = target; workflow = workflow.new; journal = journal }) log.new }
+{
+    finish_undo(way, step, topology, workflow, log);
+}
+
+/// Does what of an undo concerns no primary: it writes back what is recorded of the step's entries, gives back the stream that the step
+/// put away, and counts the undo.
+#[inline(always)]
+fn finish_undo(
+    way: Way,
+    step: Step,
+    topology: &mut Topology,
+    workflow: &mut Workflow,
+    log: &mut UndoLog,
+)
+    requires places { HasPlaces topology.old workflow.old }
+    requires log { IsLogOf workflow.old log.old }
+    ensures log { IsLogOf workflow.new log.new }
+    ensures places { HasPlaces topology.new workflow.new }
+    ensures topology { topology.new ≡ with_entries topology.old (recorded_of workflow.old (number step) log.old.entries) }
+    ensures workflow { workflow.new ≡ workflow_undone workflow.old (way_from way) step log.old.slot }
+    ensures left { log.new ≡ record log.old { slot = left_slot step log.old.slot } }
+{
+    log.write_back(topology, workflow, step.number());
     undo_streams(workflow, way, step, log.take_slot(step));
     count_undo(workflow, way);
 }

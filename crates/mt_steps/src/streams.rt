@@ -123,8 +123,8 @@ pub(crate) fn undo_streams(workflow: &mut Workflow, way: Way, step: Step, kept: 
     }
 }
 
-/// The step that was done last.
-pub(crate) fn last_step(way: Way) -> Step
+/// The step of a way that was done last, before the journal. It takes no memory.
+pub fn last_step(way: Way) -> Step
     requires some { 0 < way.done }
     requires before { last_step (way_from way) < write_journal }
     ensures { result ≡ step_at (last_step (way_from way)) }

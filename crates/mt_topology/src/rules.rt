@@ -22,13 +22,7 @@ pub fn rule_for<'a>(
     if rules.is_empty() {
         return None;
     }
-    let mut looked_up = key.copied();
-    looked_up.tablet_type = Some(tablet_type);
-    if let Some(target) = rules.get(&looked_up) {
-        return Some(target);
-    }
-    looked_up.tablet_type = None;
-    rules.get(&looked_up)
+    rules.rule_for(key, tablet_type)
 }
 
 /// Sets the rule of a key, and makes its place where it has none.
@@ -58,19 +52,6 @@ pub fn take_rule(rules: &mut RoutingRules, key: &RuleKey)
         rules.set(key, None);
     }
     rules.release_key(key);
-}
-
-/// Makes a place for a rule key, without a rule. Where the key has one nothing changes. `T5 Full` at a 4,097th place,
-/// `T0 Memory`.
-pub fn reserve_rule(rules: &mut RoutingRules, key: &RuleKey) -> Result<(), TopologyFault>
-    ensures { Edits rules.old (rule_place_refusal rules.old key.now) (lacks_rule_place rules.old key.now) (with_rule_place rules.old key.now) result rules.new }
-{
-    let reserved = rules.reserve_key(key);
-    match reserved {
-        Ok(()) => Ok(()),
-        Err(RulesFault::Full) => Err(TopologyFault::Full),
-        Err(_) => Err(TopologyFault::Memory),
-    }
 }
 
 /// Makes a place for a rule key that has none, where there is room, without a rule. `T0 Memory`.

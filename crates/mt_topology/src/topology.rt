@@ -11,6 +11,7 @@ ghost use Rattle.mt_model.specs.Documents.{dump_text};
 ghost use Rattle.mt_keyspace.specs.Edits.{Edits, add_keyspace_refusal, add_table_grows, add_table_refusal};
 ghost use Rattle.mt_topology.specs.Edits.{edit_rule_grows, edit_rule_refusal};
 ghost use Rattle.mt_topology.specs.Leads.{lent_target};
+ghost use Rattle.mt_places.specs.Places.{of_type};
 ghost use Rattle.mt_places.specs.Rules.{four_keys, four_rules, lent_rule};
 
 mod clear;
@@ -216,6 +217,28 @@ impl Topology {
         self.rules.put_name(name, plain, primary, replica, rdonly);
     }
 
+    /// Writes the rules of two keys of a name, each of which has a place, one after the other, by the names of where they lead, or takes
+    /// them away, and leaves the rules before. The type of the key is not looked at. It takes no memory, and looks the name up once.
+    pub fn exchange_two(
+        &mut self,
+        name: &RuleKey,
+        types: (Option<TabletType>, Option<TabletType>),
+        rules: (
+            Option<(&KeyspaceName, &TableName)>,
+            Option<(&KeyspaceName, &TableName)>,
+        ),
+        first: &mut Option<RuleTarget>,
+        second: &mut Option<RuleTarget>,
+    )
+        requires first { has_place self.old (EntryKey.Rule (of_type name.now types.0)) ≡ true }
+        requires second { has_place self.old (EntryKey.Rule (of_type name.now types.1)) ≡ true }
+        ensures first { first.new ≡ rule_at self.old.rules (of_type name.now types.0) }
+        ensures second { second.new ≡ rule_at (with_entry self.old (Entry.Rule (of_type name.now types.0) (lent_rule rules.entry.0))).rules (of_type name.now types.1) }
+        ensures after { self.new ≡ with_entry (with_entry self.old (Entry.Rule (of_type name.now types.0) (lent_rule rules.entry.0))) (Entry.Rule (of_type name.now types.1) (lent_rule rules.entry.1)) }
+    {
+        self.rules.exchange_two(name, types, rules, first, second);
+    }
+
     /// Writes whether a keyspace's primary is to refuse a table, where that has a place. It takes no memory.
     pub fn put_denied(&mut self, keyspace: &KeyspaceName, table: &TableName, is_denied: bool)
         requires { has_place self.old (EntryKey.Denied keyspace.now table.now) ≡ true }
@@ -230,21 +253,6 @@ impl Topology {
         ensures { self.new ≡ with_entry self.old (Entry.Present keyspace.now table.now is_present) }
     {
         self.keyspaces.set_present(keyspace, table, is_present);
-    }
-
-    /// Writes the rule of a key that has a place, by the names of where it leads, or takes it away, and leaves the rule before. It
-    /// takes no memory.
-    pub fn exchange_rule(
-        &mut self,
-        key: &RuleKey,
-        rule: Option<(&KeyspaceName, &TableName)>,
-        before: &mut Option<RuleTarget>,
-    )
-        requires { has_place self.old (EntryKey.Rule key.now) ≡ true }
-        ensures before { before.new ≡ rule_at self.old.rules key.now }
-        ensures after { self.new ≡ with_entry self.old (Entry.Rule key.now (lent_rule rule.entry)) }
-    {
-        self.rules.exchange(key, rule, before);
     }
 
     /// Writes whether a keyspace's primary is to refuse a table, where that has a place, and answers what stood before. It takes no

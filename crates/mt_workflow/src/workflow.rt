@@ -278,8 +278,8 @@ impl Workflow {
         }
     }
 
-    /// The target, or the source.
-    fn side(&self, is_target: bool) -> &KeyspaceName
+    /// The target, or the source. (Vitess: MoveTables)
+    pub fn side(&self, is_target: bool) -> &KeyspaceName
         ensures { result.now ≡ (if is_target then self.now.target else self.now.source) }
     {
         if is_target {

@@ -9,7 +9,7 @@ ghost use Rattle.mt_topology.specs.Part.{all_made, keys_made, lacks_a_place, pla
 
 use crate::made::Made;
 use crate::room;
-use crate::rules::{add_rule, lacks_name, release_name, reserve_rule};
+use crate::rules::{add_rule, lacks_name, release_name};
 use crate::topology::Topology;
 use mt_denied::DeniedFault;
 use mt_model::{EntryKey, TopologyFault, key_of_name};
@@ -157,9 +157,9 @@ impl Topology {
         ensures back { without_places self.new (reverse (all_made made.new.items)) ≡ without_places self.old (reverse (all_made made.old.items)) }
     {
         self.make_rules(source, target, table, made)?;
-        self.make_noted(&EntryKey::Denied(source.copied(), table.copied()), made)?;
-        self.make_noted(&EntryKey::Denied(target.copied(), table.copied()), made)?;
-        self.make_noted(&EntryKey::Present(target.copied(), table.copied()), made)
+        self.make_denial(source, table, made)?;
+        self.make_denial(target, table, made)?;
+        self.make_presence(target, table, made)
     }
 
     /// Makes the places of a table's rule keys, for which there is room, and notes those that it made. It stops at `T0 Memory`.
@@ -325,54 +325,76 @@ impl Topology {
         add_rule(&mut self.rules, key)
     }
 
-    /// Makes the place of a key that lacks it, for which there is room, and notes the key. `T0 Memory`.
-    fn make_noted(&mut self, key: &EntryKey, made: &mut Vec<Made>) -> Result<(), TopologyFault>
-        requires { place_refusal self.old key.now ≡ None }
-        ensures all { OnOk result (self.new ≡ with_place self.old key.now) }
+    /// Makes the place of a denial that lacks it, for which there is room, and notes its key. `T0 Memory`.
+    fn make_denial(
+        &mut self,
+        keyspace: &KeyspaceName,
+        table: &TableName,
+        made: &mut Vec<Made>,
+    ) -> Result<(), TopologyFault>
+        requires { place_refusal self.old (EntryKey.Denied keyspace.now table.now) ≡ None }
+        ensures all { OnOk result (self.new ≡ with_place self.old (EntryKey.Denied keyspace.now table.now)) }
         ensures memory { IfErr result (λ fault. fault ≡ TopologyFault.Memory) }
         ensures back { without_places self.new (reverse (all_made made.new.items)) ≡ without_places self.old (reverse (all_made made.old.items)) }
     {
-        if self.has_place(key) {
+        if self.keyspaces.has_denied_place(keyspace, table) {
             return Ok(());
         }
-        if made.push(Made::Key(key.copied())).is_err() {
+        if made.reserve(1).is_err() {
             return Err(TopologyFault::Memory);
         }
-        match self.make_new_place(key) {
-            Ok(()) => Ok(()),
-            Err(fault) => {
-                made.pop();
-                Err(fault)
-            }
-        }
+        self.make_denial_place(keyspace, table)?;
+        let key = EntryKey::Denied(keyspace.copied(), table.copied());
+        made.push_reserved(Made::Key(key));
+        Ok(())
     }
 
-    /// Makes the place of a key that has none, for which there is room. `T0 Memory`.
-    fn make_new_place(&mut self, key: &EntryKey) -> Result<(), TopologyFault>
-        requires lacks { has_place self.old key.now ≡ false }
-        requires room { place_refusal self.old key.now ≡ None }
-        ensures { Edits self.old (place_refusal self.old key.now) (place_grows self.old key.now) (with_place self.old key.now) result self.new }
+    /// The same of a table's presence.
+    fn make_presence(
+        &mut self,
+        keyspace: &KeyspaceName,
+        table: &TableName,
+        made: &mut Vec<Made>,
+    ) -> Result<(), TopologyFault>
+        requires { place_refusal self.old (EntryKey.Present keyspace.now table.now) ≡ None }
+        ensures all { OnOk result (self.new ≡ with_place self.old (EntryKey.Present keyspace.now table.now)) }
+        ensures memory { IfErr result (λ fault. fault ≡ TopologyFault.Memory) }
+        ensures back { without_places self.new (reverse (all_made made.new.items)) ≡ without_places self.old (reverse (all_made made.old.items)) }
     {
-        match key {
-            EntryKey::Rule(key) => self.make_new_rule(key),
-            _ => self.make_place(key),
+        if self.keyspaces.has_place(keyspace, table) {
+            return Ok(());
         }
+        if made.reserve(1).is_err() {
+            return Err(TopologyFault::Memory);
+        }
+        self.make_presence_place(keyspace, table)?;
+        let key = EntryKey::Present(keyspace.copied(), table.copied());
+        made.push_reserved(Made::Key(key));
+        Ok(())
     }
 
-    /// Makes the place of a key, for which there is room. Where the key has one nothing changes. `T0 Memory`.
-    fn make_place(&mut self, key: &EntryKey) -> Result<(), TopologyFault>
-        requires { place_refusal self.old key.now ≡ None }
-        ensures { Edits self.old (place_refusal self.old key.now) (place_grows self.old key.now) (with_place self.old key.now) result self.new }
+    /// Makes the place of a denial, for which there is room. Where it has one nothing changes. `T0 Memory`.
+    fn make_denial_place(
+        &mut self,
+        keyspace: &KeyspaceName,
+        table: &TableName,
+    ) -> Result<(), TopologyFault>
+        requires { place_refusal self.old (EntryKey.Denied keyspace.now table.now) ≡ None }
+        ensures { Edits self.old (place_refusal self.old (EntryKey.Denied keyspace.now table.now)) (place_grows self.old (EntryKey.Denied keyspace.now table.now)) (with_place self.old (EntryKey.Denied keyspace.now table.now)) result self.new }
     {
-        match key {
-            EntryKey::Rule(key) => reserve_rule(&mut self.rules, key),
-            EntryKey::Denied(keyspace, table) => {
-                topology_answer(self.keyspaces.reserve_denial(keyspace, table))
-            }
-            EntryKey::Present(keyspace, table) => {
-                topology_answer(self.keyspaces.reserve_table(keyspace, table))
-            }
-        }
+        topology_answer(self.keyspaces.reserve_denial(keyspace, table))
+    }
+
+    /// The same of a table's presence.
+    fn make_presence_place(
+        &mut self,
+        keyspace: &KeyspaceName,
+        table: &TableName,
+    ) -> Result<(), TopologyFault>
+        requires { place_refusal self.old (EntryKey.Present keyspace.now table.now) ≡ None }
+        ensures { Edits self.old (place_refusal self.old (EntryKey.Present keyspace.now table.now)) (place_grows self.old (EntryKey.Present keyspace.now table.now)) (with_place self.old (EntryKey.Present keyspace.now table.now)) result self.new }
+    {
+        topology_answer(self.keyspaces.reserve_table(keyspace, table))
     }
 
     /// Drops the places that were made and hold nothing, the last first.

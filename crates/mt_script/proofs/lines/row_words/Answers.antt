@@ -4,5 +4,4 @@ use Rattle.mt_script.proofs.RowLineLemmas.{asked}
 use Rattle.mt_script.proofs.lines.row_words.Goals as goal
 
 pub returns : goal.returns
-returns c =
-    asked c.in_ok-verb.verb c.args.line.now c.in_ok-verb.words.now c.in_ok-name.name.now c.in_ok-name.words.now c.in_ok-number.number c.in_ok-number.rest.now (omega (arith, c.if-line-gt-MAX_LINE_LENGTH.false)) c.in_ok-verb.ensures c.in_ok-name.ensures c.in_ok-number.ensures
+returns c = asked c.in_ok-verb.verb c.in_ok-name.name.now c.in_ok-number.rest.now c.in_ok-verb.ensures c.in_ok-name.ensures c.in_ok-number.ensures (omega (arith, c.if-line-gt-MAX_LINE_LENGTH.false))

@@ -1,13 +1,12 @@
 -- The test of the bytes so far, and of one more.
-use Rattle.std.proofs.Common.{◌≡◌, subst, refl, rules}
-use Rattle.std.proofs.lemmas.Fn.{fold_over, fronts, slice_gives}
+use Rattle.std.proofs.Common.{◌≡◌, subst, rules}
+use Rattle.std.proofs.lemmas.Fn.{fronts, slice_gives}
 use Rattle.std.specs.Char.{is_ascii_digit}
 use Rattle.std.specs.List.{list_all}
-use Rattle.mt_script.proofs.AllLemmas.{all_and_one}
+use Rattle.mt_script.proofs.AllLemmas.{all_by_fold}
 use Rattle.mt_script.proofs.rows.is_all_digits.Goals as goal
 
 pub returns : goal.returns
 returns c =
     subst (λ l. c.fold.result ≡ list_all is_ascii_digit l) c.iter.ensures.rest
-    (fold_over fronts (λ y. y.now) _ (λ ys a. a ≡ list_all is_ascii_digit ys) _ (λ ys a x b f' j k. (all_and_one is_ascii_digit ys x.now a b j (search rules), search rules))
-    _ _ _ _ (slice_gives c.iter.result) refl c.fold.ensures.ran)
+    (all_by_fold fronts (λ y. y.now) _ is_ascii_digit _ (λ a x b f' k. (search rules, search rules)) _ _ _ (slice_gives c.iter.result) c.fold.ensures.ran)

@@ -1,10 +1,10 @@
--- Both primaries are out of their places meanwhile, and both are put back.
-use Rattle.std.proofs.Common.{◌≡◌, ap, is_some, rules, ◌∙◌}
+-- A step that leaves both primaries as they are asks nobody. Of the others both are out of their places meanwhile, and both are put back.
+use Rattle.std.proofs.Common.{◌≡◌, true, ap, is_some, rules, ◌∙◌}
 use Rattle.mt_plain.specs.Plain.{next_step}
-use Rattle.mt_steps.specs.Plans.{step_at}
+use Rattle.mt_steps.specs.Plans.{leaves_primaries, step_at}
 use Rattle.mt_workflow.specs.Workflows.{way_from}
 use Rattle.mt_site_switch.proofs.PrimaryLemmas.{given-back, still-at}
-use Rattle.mt_site_switch.proofs.BetweenLemmas.{stepped}
+use Rattle.mt_site_switch.proofs.BetweenLemmas.{between-unasked, stepped}
 use Rattle.mt_site_switch.specs.Places.{IsAt}
 use Rattle.mt_site_switch.proofs.stepping.step_between.Goals as goal
 
@@ -24,6 +24,13 @@ pub exchange_at-requires-2 : goal.exchange_at-requires-2
 exchange_at-requires-2 g c =
     ap is_some (still-at c.args.primaries.now.entries c.exchange_at.new.primaries.entries _ c.place_of-at_target.result
     (c.exchange_at.ensures.places ∙ c.exchange_at-target.ensures.places ∙ c.exchange_at-source.ensures.places) c.place_of-at_target.ensures.at)
+
+pub returns-then-leaves_primaries : goal.returns-then-leaves_primaries
+returns-then-leaves_primaries g c =
+    let leaves : leaves_primaries (step_at (next_step (way_from c.args.way))) ≡ true = cc in
+    let after = c.reading_step_between.new in
+    between-unasked (g.W.Asks.scopes c.args.watchers.now) (g.W.Asks.may_answer c.args.watchers.now) c.args.topology.now c.args.primaries.now.entries c.args.workflow.now (way_from c.args.way)
+    c.args.journal.now c.args.kept.now c.reading_step_between.result after.topology c.args.primaries.now.entries after.workflow after.journal after.kept leaves c.reading_step_between.ensures
 
 pub returns : goal.returns
 returns g c =

@@ -1,8 +1,8 @@
--- Both primaries are out of their places meanwhile, and both are put back.
+-- The undo of a step that leaves both primaries as they are looks at neither. Of the other one both are out of their places meanwhile, and both are put back.
 use Rattle.std.proofs.Common.{ap, is_some, rules, ◌∙◌}
 use Rattle.mt_workflow.specs.Workflows.{way_from}
 use Rattle.mt_site_switch.proofs.PrimaryLemmas.{given-back, still-at}
-use Rattle.mt_site_switch.proofs.BetweenLemmas.{undone}
+use Rattle.mt_site_switch.proofs.BetweenLemmas.{lent-undone, undone}
 use Rattle.mt_site_switch.specs.Places.{IsAt}
 use Rattle.mt_site_switch.proofs.undoing.undo_done.Goals as goal
 
@@ -22,6 +22,13 @@ pub exchange_at-requires-2 : goal.exchange_at-requires-2
 exchange_at-requires-2 g c =
     ap is_some (still-at c.args.primaries.now.entries c.exchange_at.new.primaries.entries _ c.place_of-at_target.result
     (c.exchange_at.ensures.places ∙ c.exchange_at-target.ensures.places ∙ c.exchange_at-source.ensures.places) c.place_of-at_target.ensures.at)
+
+pub returns-then-leaves_primaries : goal.returns-then-leaves_primaries
+returns-then-leaves_primaries g c =
+    let stands = c.requires.stands in
+    let after = c.undo_reading_step.new in
+    lent-undone c.args.topology.now after.topology c.args.primaries.now.entries c.args.workflow.now after.workflow (way_from c.args.way) c.args.journal.now c.args.kept.now after.log c.last_step-step.result stands.source stands.target
+    c.requires.some c.last_step-step.ensures c.undo_reading_step.ensures.undone
 
 pub returns : goal.returns
 returns g c =
