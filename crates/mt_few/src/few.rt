@@ -21,9 +21,21 @@ pub fn place_of<K: Eq + Hash, V, S: BuildHasher, A: Allocator>(
     ensures unique { IsUnique K.eq map.now }
 {
     if map.len() > FEW {
-        return map.get_index_of(key);
+        return place_by_hash(map, key);
     }
     map.keys().position(|there| key == there)
+}
+
+/// The same in a map of more entries. It stands apart, so that a look-up among a few has no frame to make.
+#[inline(never)]
+fn place_by_hash<K: Eq + Hash, V, S: BuildHasher, A: Allocator>(
+    map: &IndexMap<K, V, S, A>,
+    key: &K,
+) -> Option<usize>
+    ensures place { result ≡ index_of_by (K.eq key.now) map.now }
+    ensures unique { IsUnique K.eq map.now }
+{
+    map.get_index_of(key)
 }
 
 /// The value of a key in a map. It takes no memory.

@@ -1,5 +1,5 @@
 -- The four keys of a name, whose places are made one after the other.
-use Rattle.std.proofs.Common.{◌≡◌, ◌≢◌, ◌+◌, ℕ, Bool, arith, true, false, List, [], ◌∷◌, ◌++◌, append_assoc, length, slice_get, Option, None, Some, is_some, map, option_map, refl, sym, ap, ◌∙◌}
+use Rattle.std.proofs.Common.{◌≡◌, ◌≢◌, ◌+◌, ℕ, arith, false, List, [], ◌∷◌, ◌++◌, append_assoc, length, slice_get, Option, None, Some, is_some, map, option_map, sym, ap, ◌∙◌}
 use Rattle.std.specs.Map.{lookup, remove_entry, set_value}
 use Rattle.std.specs.Option.{unwrap_or}
 use Rattle.mt_names.specs.declared.keys.RuleKey.{RuleKey}

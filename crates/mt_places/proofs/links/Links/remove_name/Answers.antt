@@ -1,12 +1,11 @@
 -- The places are dropped one after the other; what is told of each is what stood before all.
-use Rattle.std.proofs.Common.{◌≡◌, None, Some, Option, is_some, option_map, slice_get, ap, ap₂, ◌∙◌}
+use Rattle.std.proofs.Common.{◌≡◌, None, Some, is_some, option_map, slice_get, ap, ◌∙◌}
 use Rattle.std.specs.Map.{keys_of, lookup, remove_entry}
 use Rattle.mt_names.specs.declared.keys.RuleKey.{RuleKey}
 use Rattle.mt_names.specs.declared.types.TabletType.TheVariants.{Primary, Replica, Rdonly}
 use Rattle.mt_names.specs.Same.{same_key}
 use Rattle.mt_model.specs.Topology.{Rules}
 use Rattle.mt_places.specs.Places.{in_order, of_type}
-use Rattle.mt_places.specs.Rules.{four_told}
 use Rattle.mt_places.proofs.NameLemmas.{found-dropped}
 use Rattle.mt_places.proofs.PlacesLemmas.{dropped_of, told_from}
 use Rattle.mt_places.proofs.links.Links.remove_name.Goals as goal

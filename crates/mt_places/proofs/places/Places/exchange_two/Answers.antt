@@ -1,5 +1,5 @@
 -- The second rule is set behind the first.
-use Rattle.std.proofs.Common.{◌≡◌, ◌≢◌, None, Some, Option, true, is_some, length, refl, slice_get, sym, ap, ◌∙◌}
+use Rattle.std.proofs.Common.{◌≡◌, ◌≢◌, None, Some, true, is_some, length, refl, slice_get, sym, ap, ◌∙◌}
 use Rattle.std.proofs.lemmas.Bool.{true≢false}
 use Rattle.std.proofs.lemmas.Map.{length-set_value}
 use Rattle.std.specs.Map.{keys_of, lookup, set_value}

@@ -1,5 +1,5 @@
 -- Where the name isn't linked, no key of it has a place.
-use Rattle.std.proofs.Common.{◌≡◌, ◌≤◌, None, Some, Option, is_some, length, option_map, refl, arith, sym, ap, ◌∙◌}
+use Rattle.std.proofs.Common.{◌≡◌, None, Some, Option, is_some, length, option_map, refl, arith, sym, ap, ◌∙◌}
 use Rattle.std.specs.Map.{keys_of, lookup, remove_entry}
 use Rattle.mt_names.specs.declared.types.TabletType.{TabletType}
 use Rattle.mt_names.specs.declared.types.TabletType.TheVariants.{Primary, Replica, Rdonly}
