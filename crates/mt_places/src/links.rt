@@ -179,6 +179,7 @@ impl Links {
     }
 
     /// Where the name of a key stands among those linked. It is looked for near a place first: the names of a table stand in a row.
+    #[inline(always)]
     pub(crate) fn find(&self, near: usize, key: &RuleKey) -> Option<usize>
         ensures found { IfSome result (λ place. slice_get (keys_of self.now.names.entries) place ≡ Some (for_all_types key.now)) }
         ensures none { result ≡ None → lookup (same_key (for_all_types key.now)) self.now.names.entries ≡ None }

@@ -14,7 +14,8 @@ use mt_names::{KeyspaceName, RuleKey, RuleTarget, TableName, TabletType};
 use std::alloc::{AllocError, Global};
 use std::marker::Model;
 
-/// Half of how many slots there may be beyond twice the places, before the places are made anew without those that were dropped.
+/// Half of how many slots there may be beyond twice the places, before the places are made anew without those that were dropped. With
+/// up to 170 places there are no more than 2,048 slots then, up to which their list doubles.
 const MOST_DROPPED: usize = 850;
 
 /// Places of rule keys, each with a rule or without one.
@@ -109,9 +110,8 @@ impl Places {
     fn sweep(&mut self) -> Result<(), AllocError>
         ensures { self.new ≡ self.old }
     {
-        let most = self.len.saturating_add(MOST_DROPPED).saturating_mul(2);
-        if self.links.slots.len() > most {
-            let swept = swept(self.alloc, &self.links, most)?;
+        if self.links.slots.len() / 2 > self.len.saturating_add(MOST_DROPPED) {
+            let swept = swept(self.alloc, &self.links)?;
             *self = swept;
         }
         Ok(())
@@ -268,15 +268,13 @@ impl Places {
     }
 }
 
-/// The same places, with no name and no slot of those that were dropped. There is room for so many slots, and for those of a name more,
-/// so that their list needn't grow before it is swept again.
-fn swept(alloc: Global, links: &Links, most: usize) -> Result<Places, AllocError>
+/// The same places, with no name and no slot of those that were dropped.
+fn swept(alloc: Global, links: &Links) -> Result<Places, AllocError>
     requires { IsIndexed links.now.names.entries links.now.slots.items }
     ensures { IfOk result (λ swept. swept ≡ in_order (keys_of links.now.names.entries) links.now.slots.items) }
 {
     links.facts();
     let mut swept = Places::new(alloc);
-    swept.links.slots.reserve(most.saturating_add(4))?;
     for slot in &links.slots {
         if let Some((key, rule)) = links.place_of(slot) {
             swept.add_last(&key, names_of_rule(rule))?;

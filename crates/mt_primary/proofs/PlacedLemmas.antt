@@ -1,5 +1,5 @@
 -- What stands at a place of a map whose keys are distinct is what is found by its key, and a value set there is set at the key.
-use Rattle.std.proofs.Common.{◌≡◌, ℕ, Bool, true, false, List, [], ◌∷◌, slice_get, get_or, position, Some, Result, Err, zero, suc, refl, sym, ap, subst, ◌∙◌}
+use Rattle.std.proofs.Common.{◌≡◌, ℕ, Bool, true, false, List, [], ◌∷◌, slice_get, get_or, position, None, Some, Result, Err, zero, suc, refl, sym, ap, subst, ◌∙◌}
 use Rattle.std.proofs.lemmas.List.Quantifiers.{position-Some}
 use Rattle.std.proofs.lemmas.Option.{slice_get-get_or}
 use Rattle.std.specs.Bool.{Decides, ⊤}
@@ -15,9 +15,11 @@ use Rattle.mt_model.specs.declared.faults.PrimaryFault.TheVariants.{Denied}
 use Rattle.mt_model.specs.declared.rows.Op.{Op}
 use Rattle.mt_model.specs.declared.rows.RowChange.{RowChange}
 use Rattle.mt_model.specs.Rows.{Row}
-use Rattle.mt_primary.specs.Primary.{IsPrimary, PrimaryState, TableState, table_at}
+use Rattle.mt_primary.specs.Denials.{AreDenialsSet, told_by_mark}
+use Rattle.mt_primary.specs.Primary.{IsPrimary, PrimaryState, TableState, is_denied_at, table_at}
 use Rattle.mt_primary.specs.Tables.{ChangesRow, Put, Write}
 use Rattle.mt_primary.specs.Writes.{Puts, Writes, written_row}
+use Rattle.mt_primary.proofs.DenialLemmas.{IsPrimary-mark, denials-one}
 use Rattle.mt_primary.proofs.PrimaryLemmas.{change_is_put, change_is_write, denied_write, same_table, with_table}
 
 -- the key of an entry stands at its place
@@ -83,6 +85,17 @@ module _ (old : PrimaryState) (place : ℕ) (name at : List ℕ) (table : TableS
 
   pub denied_write_at : (op : Op) → table.denied ≡ true → written_row old name op ≡ Err Denied
   denied_write_at op is_denied = denied_write old name table table found_at op is_denied
+
+  -- the entry at the place is marked, which is what a denial by name does
+  pub denial_at : (mark : Bool) → IsPrimary (with_table_at old place (record table { denied = mark }) old.log)
+      × AreDenialsSet old (λ n. told_by_mark n None (name, mark)) (with_table_at old place (record table { denied = mark }) old.log)
+  denial_at mark =
+      subst (λ new. IsPrimary new × AreDenialsSet old (λ n. told_by_mark n None (name, mark)) new) (by_name (record table { denied = mark }) old.log)
+      (IsPrimary-mark old name table mark found_at is, denials-one old name table mark found_at is.distinct)
+
+  -- and the own list has it as it is marked
+  pub denied_at : is_denied_at old name ≡ table.denied
+  denied_at = rw found_at refl
 
   module _ (put : TableState) (log : List RowChange) (r : Result ℕ PrimaryFault) where
     pub change_at_is_write : (op : Op) → table.denied ≡ false → ChangesRow (record { table = table; log = old.log }) at (Write op) r (record { table = put; log = log })

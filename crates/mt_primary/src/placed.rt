@@ -1,8 +1,9 @@
 //! Calls of a primary with a place at which the table is looked for first. Where it stands there, no hash is computed.
-ghost use Rattle.std.specs.Prelude.{◌≡◌, true, Some, slice_get};
+ghost use Rattle.std.specs.Prelude.{◌≡◌, ℕ, List, true, None, Some, slice_get};
 ghost use Rattle.std.specs.Map.{keys_of};
 ghost use Rattle.std.specs.Option.{option_copied, option_map};
-ghost use Rattle.mt_primary.specs.Primary.{place_at};
+ghost use Rattle.mt_primary.specs.Denials.{AreDenialsSet, told_by_mark};
+ghost use Rattle.mt_primary.specs.Primary.{is_denied_at, place_at};
 ghost use Rattle.mt_primary.specs.Reads.{next_row, read_row};
 ghost use Rattle.mt_primary.specs.Writes.{Puts, Writes};
 
@@ -79,6 +80,33 @@ impl Primary {
             Some((name, _)) => name.name() == table,
             None => false,
         }
+    }
+
+    /// Where to look for some tables first: the place of the first of them, if there is one.
+    pub(crate) fn first_place(&self, first: Option<&TableName>) -> usize {
+        match first {
+            Some(table) => self.place_of(table).unwrap_or(0),
+            None => 0,
+        }
+    }
+
+    /// Whether the own list has the table that stands at a place.
+    pub(crate) fn denies_at(&self, place: usize) -> bool
+        ensures { (table : List ℕ) → slice_get (keys_of self.now.tables) place ≡ Some table → result ≡ is_denied_at self.now table }
+    {
+        match self.tables.get_index(place) {
+            Some((_, rows)) => rows.is_denied(),
+            None => false,
+        }
+    }
+
+    /// Sets or clears the denial of the table that stands at a place.
+    pub(crate) fn set_denied_at(&mut self, place: usize, table: &TableName, denied: bool)
+        requires there { slice_get (keys_of self.old.tables) place ≡ Some table.now }
+        ensures { AreDenialsSet self.old (λ name. told_by_mark name None (table.now, denied)) self.new }
+    {
+        let (_, rows) = self.tables.pair_mut(place);
+        rows.set_denied(denied);
     }
 
     /// As `write` of the table that stands at a place.

@@ -193,36 +193,47 @@ impl Primary {
         self.tables.get(table)?.row_after(key)
     }
 
-    /// Whether the own list has a table.
-    fn is_denied(&self, table: &TableName) -> bool
+    /// Whether the own list has a table, which is looked for at a place first.
+    fn is_denied(&self, near: usize, table: &TableName) -> bool
         ensures { result ≡ is_denied_at self.now table.now }
     {
+        if self.stands_at(near, table) {
+            return self.denies_at(near);
+        }
         match self.tables.get(table) {
             Some(rows) => rows.is_denied(),
             None => false,
         }
     }
 
-    /// Sets or clears the denial of a table. A table that isn't there has none.
-    fn set_denied(&mut self, table: &TableName, denied: bool)
+    /// Sets or clears the denial of a table, which is looked for at a place first. A table that isn't there has none.
+    #[inline(always)]
+    fn set_denied(&mut self, near: usize, table: &TableName, denied: bool)
         ensures { AreDenialsSet self.old (λ name. told_by_mark name None (table.now, denied)) self.new }
     {
+        if self.stands_at(near, table) {
+            self.set_denied_at(near, table, denied);
+            return;
+        }
         if let Some(rows) = self.tables.get_mut(table) {
             rows.set_denied(denied);
         }
     }
 
-    /// What stands on the own list for these tables.
-    fn stands(&self, tables: &[TableName]) -> Before
+    /// What stands on the own list for these tables. They are looked for in a row first, from a place on.
+    #[inline(never)]
+    fn stands(&self, first: usize, tables: &[TableName]) -> Before
         requires { length tables.now ≤ most_tables }
         ensures { result ≡ marks_of self.now tables.now }
     {
         let mut marks = ArrayVec::new_in(());
+        let mut near = first;
         for table in tables {
             marks.push(Mark {
                 table: table.copied(),
-                denied: self.is_denied(table),
+                denied: self.is_denied(near, table),
             });
+            near = near.wrapping_add(1);
         }
         Before { marks }
     }
@@ -241,13 +252,15 @@ impl Primary {
         ensures before { result ≡ marks_of self.old tables.now }
         ensures taken { AreDenialsSet self.old (told_by_refresh keyspace.now notice.now tables.now) self.new }
     {
-        let before = self.stands(tables);
+        let mut near = self.first_place(tables.first());
+        let before = self.stands(near, tables);
         for entry in notice.as_slice() {
             if let Entry::Denied(at, table, denied) = entry {
                 if keyspace == at && tables.contains(table) {
-                    self.set_denied(table, *denied);
+                    self.set_denied(near, table, *denied);
                 }
             }
+            near = near.wrapping_add(1);
         }
         before
     }
@@ -257,8 +270,10 @@ impl Primary {
     pub fn put_denied(&mut self, before: Before)
         ensures { AreDenialsSet self.old (told_by_marks before) self.new }
     {
+        let mut near = self.first_place(before.marks.first().map(|mark| &mark.table));
         for mark in before.marks.iter() {
-            self.set_denied(&mark.table, mark.denied);
+            self.set_denied(near, &mark.table, mark.denied);
+            near = near.wrapping_add(1);
         }
     }
 }

@@ -20,6 +20,7 @@ use mt_workflow::Workflow;
 use std::alloc::Global;
 
 /// A table at the source of a workflow, as a rule leads to it.
+#[inline(always)]
 fn at_source(workflow: &Workflow, table: &TableName) -> RuleTarget
     ensures { result ≡ in_keyspace workflow.now.source table.now }
 {
@@ -149,6 +150,7 @@ fn write_kept_rule(topology: &mut Topology, workflow: &Workflow, key: &RuleKey)
 }
 
 /// Adds to a change the rules that a name's four keys have with nothing switched. `H0 Memory`.
+#[inline(always)]
 fn push_name(
     change: &mut Change,
     workflow: &Workflow,

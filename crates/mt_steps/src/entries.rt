@@ -199,6 +199,7 @@ fn exchange_writes_of(
 }
 
 /// Writes two rules of a name, one after the other, and records which stood before.
+#[inline(always)]
 fn exchange_two(
     topology: &mut Topology,
     name: &RuleKey,

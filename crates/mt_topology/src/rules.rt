@@ -104,6 +104,7 @@ pub fn release_name(rules: &mut RoutingRules, keyspace: Option<&KeyspaceName>, t
 }
 
 /// Drops the places of a name's four keys, with their rules. The name is looked up once.
+#[inline(always)]
 pub fn drop_name(rules: &mut RoutingRules, keyspace: Option<&KeyspaceName>, table: &TableName)
     ensures { rules.new ≡ fold without_rule_entry rules.old (keys_of_name (option_copied keyspace.entry) table.now) }
 {

@@ -44,6 +44,7 @@ impl Change {
     }
 
     /// Adds an entry at the end. It is refused with `H0 Memory` alone, and then leaves the list as it was.
+    #[inline(always)]
     pub fn push(&mut self, entry: Entry) -> Result<(), WatchersFault>
         ensures { Pushes self.old entry result self.new }
     {

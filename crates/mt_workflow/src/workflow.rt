@@ -215,6 +215,7 @@ impl Workflow {
     }
 
     /// The names of the keyspace and the table that the rule of a key leads to, as `wanted_rule` answers it, without a copy of either.
+    #[inline(always)]
     pub fn wanted_names<'a>(
         &'a self,
         key: &'a RuleKey,

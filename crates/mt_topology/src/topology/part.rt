@@ -221,6 +221,7 @@ impl Topology {
     }
 
     /// The same of a name's four rule keys, none of which has a place: the name is looked up once, and noted once.
+    #[inline(always)]
     fn make_new_name(
         &mut self,
         keyspace: Option<&KeyspaceName>,
@@ -326,6 +327,7 @@ impl Topology {
     }
 
     /// Makes the place of a denial that lacks it, for which there is room, and notes its key. `T0 Memory`.
+    #[inline(always)]
     fn make_denial(
         &mut self,
         keyspace: &KeyspaceName,
