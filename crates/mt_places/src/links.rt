@@ -155,7 +155,7 @@ impl Links {
         self.rule_of(place, None)
     }
 
-    /// The rule of the name at a place, that of its key for a type or for all, if it has one.
+    /// The rule that the name at a place has for a type, or for all types, if it has one.
     fn rule_of(&self, place: usize, tablet_type: Option<TabletType>) -> Option<&RuleTarget>
         requires { IsIndexed self.now.names.entries self.now.slots.items }
         ensures { (name : RuleKey) → slice_get (keys_of self.now.names.entries) place ≡ Some name
@@ -164,7 +164,7 @@ impl Links {
         self.at(place, tablet_type)?.as_ref()
     }
 
-    /// What the place of the name at a place has, that of its key for a type or for all.
+    /// What the key of the name at a place has for a type, or for all types: a rule or none, if the key has a place.
     fn at(&self, place: usize, tablet_type: Option<TabletType>) -> Option<&Option<RuleTarget>>
         requires { IsIndexed self.now.names.entries self.now.slots.items }
         ensures { (name : RuleKey) → slice_get (keys_of self.now.names.entries) place ≡ Some name

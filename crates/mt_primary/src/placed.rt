@@ -1,7 +1,7 @@
 //! Calls of a primary with a place at which the table is looked for first. Where it stands there, no hash is computed.
 ghost use Rattle.std.specs.Prelude.{◌≡◌, ℕ, List, true, None, Some, slice_get};
 ghost use Rattle.std.specs.Map.{keys_of};
-ghost use Rattle.std.specs.Option.{option_copied, option_map};
+ghost use Rattle.std.specs.Option.{option_copied, option_map, option_map_or, unwrap_or};
 ghost use Rattle.mt_primary.specs.Denials.{AreDenialsSet, told_by_mark};
 ghost use Rattle.mt_primary.specs.Primary.{is_denied_at, place_at};
 ghost use Rattle.mt_primary.specs.Reads.{next_row, read_row};
@@ -83,7 +83,9 @@ impl Primary {
     }
 
     /// Where to look for some tables first: the place of the first of them, if there is one.
-    pub(crate) fn first_place(&self, first: Option<&TableName>) -> usize {
+    pub(crate) fn first_place(&self, first: Option<&TableName>) -> usize
+        ensures { result ≡ option_map_or (λ table. unwrap_or (place_at self.now table) 0) (option_copied first.entry) 0 }
+    {
         match first {
             Some(table) => self.place_of(table).unwrap_or(0),
             None => 0,

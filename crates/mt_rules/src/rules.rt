@@ -23,9 +23,10 @@ use serde_json::Value;
 use std::alloc::{AllocError, Global};
 use std::marker::Model;
 
-/// None of the places of a name's four keys, and all of them.
+/// None of the places of a name's four keys.
 const NONE: Four = (false, false, false, false);
 
+/// All of the places of a name's four keys.
 const ALL: Four = (true, true, true, true);
 
 /// Routing rules by their keys. A key is reserved before its rule is set, so that to set it takes no memory: it then
