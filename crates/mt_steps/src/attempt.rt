@@ -76,6 +76,7 @@ fn append(
 }
 
 /// Does what of a step that leaves both primaries as they are may be refused, and leaves all as it was if it is. It asks nobody.
+#[inline(always)]
 pub(crate) fn attempt_reading(
     way: Way,
     step: Step,

@@ -38,6 +38,7 @@ fn denials(
 
 /// Asks the watchers of a side's primary, which takes over their notice for these tables alone; `listed` becomes what stood there
 /// for them. `F24 NoWatcher`, then `F0 Memory`, then `F23 WatcherRefused`.
+#[inline(always)]
 fn refresh<W: Asks>(
     alloc: Global,
     topology: &Topology,

@@ -145,6 +145,7 @@ impl Topology {
     }
 
     /// Whether a keyspace has a table, as `value` says it of that entry. It takes no memory, and copies no key.
+    #[inline(always)]
     pub fn is_present(&self, keyspace: &KeyspaceName, table: &TableName) -> bool
         ensures { result ≡ is_present self.now.keyspaces keyspace.now table.now }
     {
@@ -152,6 +153,7 @@ impl Topology {
     }
 
     /// Whether a keyspace's primary is to refuse a table, as `value` says it of that entry. It takes no memory, and copies no key.
+    #[inline(always)]
     pub fn is_denied(&self, keyspace: &KeyspaceName, table: &TableName) -> bool
         ensures { result ≡ is_denied self.now.keyspaces keyspace.now table.now }
     {
@@ -363,6 +365,7 @@ impl Topology {
 
     /// The names of the keyspace and the table that a name leads to for a type, as `resolve` answers them, without a copy
     /// of either. It takes no memory.
+    #[inline(always)]
     pub fn look_up<'a>(
         &'a self,
         key: &'a RuleKey,
