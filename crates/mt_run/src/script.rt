@@ -118,7 +118,7 @@ fn request_output<A: Asks>(
         Request::EditRule(key, target) => command(
             core,
             watchers,
-            Command::EditRule(&key, target),
+            Command::EditRule(&key, target.as_ref()),
             text,
         ),
         Request::Row(row) => {

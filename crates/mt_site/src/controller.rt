@@ -492,9 +492,7 @@ impl Core {
         let command = match event {
             Event::AddKeyspace { keyspace } => Command::AddKeyspace(keyspace),
             Event::AddTable { keyspace, table } => Command::AddTable(keyspace, table),
-            Event::EditRule { key, target } => {
-                Command::EditRule(key, target.as_ref().map(RuleTarget::copied))
-            }
+            Event::EditRule { key, target } => { Command::EditRule(key, target.as_ref()) }
             Event::Create {
                 workflow,
                 source,

@@ -86,7 +86,7 @@ fn switches(
             Err(Refusal::UnderWay)
         ),
         matches!(
-            core.command(watchers, Command::EditRule(&key, Some(target))),
+            core.command(watchers, Command::EditRule(&key, Some(&target))),
             Err(Refusal::RuleOwned)
         ),
         core.command(watchers, Command::Undo(name, 1)).is_ok(),

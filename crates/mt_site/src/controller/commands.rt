@@ -39,7 +39,7 @@ pub enum Command<'a> {
     /// Makes a table in a keyspace.
     AddTable(&'a KeyspaceName, &'a TableName),
     /// Sets the routing rule of a key, or takes it away.
-    EditRule(&'a RuleKey, Option<RuleTarget>),
+    EditRule(&'a RuleKey, Option<&'a RuleTarget>),
     /// Makes a workflow that moves tables from a source to a target.
     Create(
         &'a WorkflowName,
@@ -96,7 +96,7 @@ impl Core {
         match command {
             Command::AddKeyspace(keyspace) => self.add_keyspace(keyspace),
             Command::AddTable(keyspace, table) => self.add_table(keyspace, table),
-            Command::EditRule(key, target) => self.edit_rule(key, target),
+            Command::EditRule(key, target) => self.edit_rule(key, target.map(RuleTarget::copied)),
             Command::Create(workflow, source, target, tables) => {
                 self.create(watchers, workflow, source, target, tables.as_slice())
             }

@@ -1,5 +1,6 @@
 -- Each event leads from each state that the controller stands for to the next one.
 use Rattle.std.proofs.Common.{◌≡◌, ap, refl, rules, subst, sym, ◌∙◌}
+use Rattle.std.specs.Option.{option_copied}
 use Rattle.mt_event.specs.Events.{answer_from, event_of, refusal_from}
 use Rattle.mt_plain.specs.Events as plain
 use Rattle.mt_site_state.specs.ByHand.{WritesRow}
@@ -56,7 +57,7 @@ returns-in-Ok-do_command-clause-steps g c =
     = elim c.match-event.branch [
       | in-AddKeyspace w ↦ ap event_of_command w.command-is ∙ sym (ap event_of w.in-AddKeyspace.is)
       | in-AddTable w ↦ ap event_of_command w.command-is ∙ sym (ap event_of w.in-AddTable.is)
-      | in-EditRule w ↦ let same : w.map.result ≡ w.in-EditRule.target = search rules in ap event_of_command w.command-is ∙ ap (plain.edit_rule w.in-EditRule.key) same ∙ sym (ap event_of w.in-EditRule.is)
+      | in-EditRule w ↦ let same : option_copied w.as_ref.result ≡ w.in-EditRule.target = search rules in ap event_of_command w.command-is ∙ ap (plain.edit_rule w.in-EditRule.key) same ∙ sym (ap event_of w.in-EditRule.is)
       | in-Create w ↦ ap event_of_command w.command-is ∙ sym (ap event_of w.in-Create.is)
       | in-BeginSwitch w ↦ ap event_of_command w.command-is ∙ sym (ap event_of w.in-BeginSwitch.is)
       | in-BeginReverse w ↦ ap event_of_command w.command-is ∙ sym (ap event_of w.in-BeginReverse.is)

@@ -1,7 +1,9 @@
 -- Each command leads from each state that the controller stands for to the next one.
 use Rattle.std.proofs.Common.{◌≡◌, rules, subst, sym}
+use Rattle.std.specs.Option.{option_copied}
 use Rattle.mt_event.specs.Events.{done_from}
 use Rattle.mt_plain.specs.Events as plain
+use Rattle.mt_site_state.specs.ByHand.{EditsRule}
 use Rattle.mt_site_state.specs.Ways.{SiteSteps}
 use Rattle.mt_site_state.specs.Workflows.{Creates}
 use Rattle.mt_site.specs.Commands.{event_of_command}
@@ -28,9 +30,10 @@ pub returns-in-EditRule-clause-steps : goal.returns-in-EditRule-clause-steps
 returns-in-EditRule-clause-steps g c =
     let told = done_from c.edit_rule.result in
     let new = c.edit_rule.new.self in
+    let same : c.map.result ≡ option_copied c.in-EditRule.target = search rules in
     subst (λ e. SiteSteps (g.W.Asks.scopes c.args.watchers.now) c.args.self.now (event_of_command e) told new) (sym c.in-EditRule.is)
-    (subst (λ s. SiteSteps (g.W.Asks.scopes c.args.watchers.now) c.args.self.now (plain.edit_rule c.in-EditRule.key.now c.in-EditRule.target) told s) (joined c.args.self.now new c.edit_rule.ensures.ways)
-    (c.events_by_hand_step_and_leave_the_ways.ensures.rule (g.W.Asks.scopes c.args.watchers.now) c.args.self.now new.core c.in-EditRule.key.now c.in-EditRule.target told c.edit_rule.ensures.does))
+    (subst (λ s. SiteSteps (g.W.Asks.scopes c.args.watchers.now) c.args.self.now (plain.edit_rule c.in-EditRule.key.now (option_copied c.in-EditRule.target)) told s) (joined c.args.self.now new c.edit_rule.ensures.ways)
+    (c.events_by_hand_step_and_leave_the_ways.ensures.rule (g.W.Asks.scopes c.args.watchers.now) c.args.self.now new.core c.in-EditRule.key.now (option_copied c.in-EditRule.target) told (subst (λ t. EditsRule c.args.self.now.core c.in-EditRule.key.now t told new.core) same c.edit_rule.ensures.does)))
 
 pub returns-in-Create-clause-steps : goal.returns-in-Create-clause-steps
 returns-in-Create-clause-steps g c =
