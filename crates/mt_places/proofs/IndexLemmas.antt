@@ -1,18 +1,18 @@
 -- Names, each with the slots of its four keys: by them a place is found, and they are right after each call.
-use Rattle.std.proofs.Common.{◌≡◌, ◌≢◌, ◌<◌, ◌⊎◌, ℕ, zero, suc, Bool, true, false, List, [], ◌∷◌, ◌++◌, length, slice_get, slice_index_or, slice_set, take, Option, None, Some, is_some, option_and_then, option_map, arith, refl, sym, ap, ◌∙◌, inl, inr}
+use Rattle.std.proofs.Common.{◌≡◌, ◌≢◌, ◌<◌, ◌⊎◌, ℕ, zero, suc, Bool, true, false, List, [], ◌∷◌, ◌++◌, length, slice_get, slice_index_or, slice_set, take, Option, None, Some, is_some, option_and_then, option_map, arith, refl, sym, ap, subst, ◌∙◌, inl, inr}
 use Rattle.std.proofs.lemmas.Bool.{true≢false}
 use Rattle.std.proofs.lemmas.Option.{get_or_from_slice_get, slice_get_within}
 use Rattle.std.specs.List.{IsDistinct}
 use Rattle.std.specs.Map.{keys_of, lookup, remove_entry, set_value, values_of}
 use Rattle.indexmap.specs.IndexMap.{set_value_at}
-use Rattle.std.specs.Option.{option_map_or}
+use Rattle.std.specs.Option.{option_map_or, unwrap_or}
 use Rattle.mt_names.specs.declared.keys.RuleKey.{RuleKey}
 use Rattle.mt_names.specs.declared.keys.RuleTarget.{RuleTarget}
 use Rattle.mt_names.specs.declared.types.TabletType.{TabletType}
 use Rattle.mt_names.specs.declared.types.TabletType.TheVariants.{Primary, Replica, Rdonly}
 use Rattle.mt_names.specs.Same.{same_key}
 use Rattle.mt_names.proofs.SameLemmas.{same_key_decides}
-use Rattle.mt_model.specs.Topology.{for_all_types}
+use Rattle.mt_model.specs.Topology.{for_all_types, rule_at}
 use Rattle.mt_places.specs.Places.{IsIndexed, in_order, of_type, place_of, rule_in, slot_at, slot_of, with_slot, with_slot_at}
 use Rattle.mt_places.specs.Rules.{has_rule_place}
 use Rattle.mt_places.specs.declared.links.Slot.{Slot}
@@ -378,6 +378,24 @@ module _ (links : Names) (order : List Slot) (right : IsIndexed links order) (n 
               (rule, ap (slice_get (order ++ Place n type rule ∷ [])) (sym last) ∙ slice_get-last order (Place n type rule) ∙ ap (λ q. Some (Place q type rule)) (sym h) ∙ ap (λ u. Some (Place p u rule)) g)
           by (inl h) (inr g) = stood (λ e. g)
           by (inr h) g = stood (λ e. absurd (h (sym e)))
+
+-- another rule is set at the slot of a key
+module _ (links : Names) (order : List Slot) (distinct : IsDistinct same_key (keys_of links)) (right : IsIndexed links order) (n : ℕ) (type : Option TabletType) (i : ℕ) (is : slot_at links n type ≡ Some i) where
+  abbrev pub stood_there : Option RuleTarget
+  stood_there = rule_there links order distinct right n type i is
+
+  pub rule_stood : (name : RuleKey) → slice_get (keys_of links) n ≡ Some name → rule_at (in_order (keys_of links) order) (of_type name type) ≡ stood_there
+  rule_stood name stands = ap (λ r. unwrap_or r None) (one_at links order distinct right n name type stands i stood_there is (stands_there links order distinct right n type i is))
+
+  module _ (put : Option RuleTarget) (s : Slot) (set : s ≡ Place n type put) where
+    pub indexed_set : IsIndexed links (slice_set order i s)
+    indexed_set = subst (λ q. IsIndexed links (slice_set order i q)) (sym set) (still-set links order right n type i stood_there put (stands_there links order distinct right n type i is))
+
+    pub places_set : (name : RuleKey) → slice_get (keys_of links) n ≡ Some name
+        → in_order (keys_of links) (slice_set order i s) ≡ set_value (same_key (of_type name type)) (in_order (keys_of links) order) put
+    places_set name stands =
+        ap (λ q. in_order (keys_of links) (slice_set order i q)) set
+        ∙ set_at links order distinct right n name type stands i stood_there put is (stands_there links order distinct right n type i is)
 
 -- ---- a name more
 

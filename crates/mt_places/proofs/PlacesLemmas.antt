@@ -73,6 +73,9 @@ module _ (places rules : Rules) (key : RuleKey) (same : places ≡ rules) where
   pub stood_of : (before : Option RuleTarget) → has_rule_place rules key ≡ true → (has_rule_place places key ≡ true → before ≡ rule_at places key) → before ≡ rule_at rules key
   stood_of before has stood = stood (ap (λ l. has_rule_place l key) same ∙ has) ∙ ap (λ l. rule_at l key) same
 
+  pub put_over : (stood : Bool) → has_rule_place rules key ≡ true → (has_rule_place places key ≡ true → stood ≡ is_some (rule_at places key)) → stood ≡ is_some (rule_at rules key)
+  put_over stood has stands = stands (ap (λ l. has_rule_place l key) same ∙ has) ∙ ap (λ l. is_some (rule_at l key)) same
+
   pub dropped_of : (after : Rules) → after ≡ remove_entry (same_key key) places → after ≡ remove_entry (same_key key) rules
   dropped_of after drops = drops ∙ ap (remove_entry (same_key key)) same
 

@@ -51,6 +51,17 @@ impl Slot {
             Slot::Dropped => {}
         }
     }
+
+    /// Sets the rule of the place, by the names of where it leads, or takes it away, and answers whether there was one.
+    fn put(&mut self, rule: Option<(&KeyspaceName, &TableName)>) -> bool
+        ensures slot { (place : ℕ) (type : Option TabletType) (was : Option RuleTarget) → self.old ≡ Slot.Place place type was → self.new ≡ Slot.Place place type (lent_rule rule.entry) }
+        ensures stood { (place : ℕ) (type : Option TabletType) (was : Option RuleTarget) → self.old ≡ Slot.Place place type was → result ≡ is_some was }
+    {
+        match self {
+            Slot::Place(_, _, stood) => put_rule(stood, rule),
+            Slot::Dropped => false,
+        }
+    }
 }
 
 /// The slots of the places of a name's four keys, of those that have one.
@@ -294,6 +305,28 @@ impl Links {
         self.slots[slot].exchange(rule, before);
     }
 
+    /// Sets the rule of a key that has a place, by the names of where it leads, or takes it away, and answers whether there was one.
+    pub(crate) fn put(
+        &mut self,
+        place: usize,
+        tablet_type: Option<TabletType>,
+        rule: Option<(&KeyspaceName, &TableName)>,
+    ) -> bool
+        requires indexed { IsIndexed self.old.names.entries self.old.slots.items }
+        ensures indexed { IsIndexed self.new.names.entries self.new.slots.items }
+        ensures names { self.new.names ≡ self.old.names }
+        ensures places { (name : RuleKey) → slice_get (keys_of self.old.names.entries) place ≡ Some name → has_rule_place (in_order (keys_of self.old.names.entries) self.old.slots.items) (of_type name tablet_type) ≡ true
+            → in_order (keys_of self.new.names.entries) self.new.slots.items ≡ set_value (same_key (of_type name tablet_type)) (in_order (keys_of self.old.names.entries) self.old.slots.items) (lent_rule rule.entry) }
+        ensures stood { (name : RuleKey) → slice_get (keys_of self.old.names.entries) place ≡ Some name → has_rule_place (in_order (keys_of self.old.names.entries) self.old.slots.items) (of_type name tablet_type) ≡ true
+            → result ≡ is_some (rule_at (in_order (keys_of self.old.names.entries) self.old.slots.items) (of_type name tablet_type)) }
+    {
+        let _distinct = self.names.len();
+        let Some(slot) = self.slot_at(place, tablet_type) else {
+            return false;
+        };
+        self.slots[slot].put(rule)
+    }
+
     /// Drops the place of a key, and answers whether it had a rule, if there is one.
     pub(crate) fn remove(&mut self, place: usize, tablet_type: Option<TabletType>) -> Option<bool>
         requires indexed { IsIndexed self.old.names.entries self.old.slots.items }
@@ -370,7 +403,7 @@ fn is_name_of(name: &RuleKey, key: &RuleKey) -> bool
     name.tablet_type.is_none() && name.keyspace == key.keyspace && name.table == key.table
 }
 
-/// Sets what a place has, and leaves what it had. Names are copied to where they stay.
+/// Sets what a place has, and leaves what it had.
 fn exchange_rule(
     place: &mut Option<RuleTarget>,
     rule: Option<(&KeyspaceName, &TableName)>,
@@ -383,6 +416,15 @@ fn exchange_rule(
         Some(stood) => *before = Some(stood.copied()),
         None => *before = None,
     }
+    put_rule(place, rule);
+}
+
+/// Sets what a place has, and answers whether it had a rule. Names are copied to where they stay.
+fn put_rule(place: &mut Option<RuleTarget>, rule: Option<(&KeyspaceName, &TableName)>) -> bool
+    ensures stood { result ≡ is_some place.old }
+    ensures after { place.new ≡ lent_rule rule.entry }
+{
+    let stood = place.is_some();
     match (place.as_mut(), rule) {
         (Some(stood), Some((keyspace, table))) => {
             stood.keyspace = keyspace.copied();
@@ -390,6 +432,7 @@ fn exchange_rule(
         }
         _ => *place = rule_of_names(rule),
     }
+    stood
 }
 
 /// The rule that leads where some names say.

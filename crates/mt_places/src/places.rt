@@ -111,9 +111,17 @@ impl Places {
         ensures { self.new ≡ self.old }
     {
         if self.links.slots.len() / 2 > self.len.saturating_add(MOST_DROPPED) {
-            let swept = swept(self.alloc, &self.links)?;
-            *self = swept;
+            return self.make_anew();
         }
+        Ok(())
+    }
+
+    /// Makes the places anew without the slots that have none.
+    #[inline(never)]
+    fn make_anew(&mut self) -> Result<(), AllocError>
+        ensures { self.new ≡ self.old }
+    {
+        *self = swept(self.alloc, &self.links)?;
         Ok(())
     }
 
@@ -154,23 +162,18 @@ impl Places {
         Ok(())
     }
 
-    /// Sets the rule of a key that has a place, by the names of where it leads, or takes it away, and leaves the rule before. It takes
-    /// no memory.
-    pub fn exchange(
-        &mut self,
-        key: &RuleKey,
-        rule: Option<(&KeyspaceName, &TableName)>,
-        before: &mut Option<RuleTarget>,
-    )
+    /// Sets the rule of a key that has a place, by the names of where it leads, or takes it away, and answers whether there was one. It
+    /// takes no memory.
+    pub fn put(&mut self, key: &RuleKey, rule: Option<(&KeyspaceName, &TableName)>) -> bool
         requires { has_rule_place self.old key.now ≡ true }
-        ensures before { before.new ≡ rule_at self.old key.now }
+        ensures stood { result ≡ is_some (rule_at self.old key.now) }
         ensures after { self.new ≡ set_value (same_key key.now) self.old (lent_rule rule.entry) }
     {
         let Some(place) = self.links.find(self.near, key) else {
-            return;
+            return false;
         };
-        self.links.exchange(place, key.tablet_type, rule, before);
         self.near = place;
+        self.links.put(place, key.tablet_type, rule)
     }
 
     /// Sets the rules of two keys of a name, each of which has a place, one after the other, by the names of where they lead, or takes
@@ -221,18 +224,11 @@ impl Places {
             return (false, false, false, false);
         };
         self.near = place;
-        let mut before = None;
-        self.links.exchange(place, None, plain, &mut before);
-        let all = before.is_some();
-        self.links
-            .exchange(place, Some(TabletType::Primary), primary, &mut before);
-        let first = before.is_some();
-        self.links
-            .exchange(place, Some(TabletType::Replica), replica, &mut before);
-        let second = before.is_some();
-        self.links
-            .exchange(place, Some(TabletType::Rdonly), rdonly, &mut before);
-        (all, first, second, before.is_some())
+        let all = self.links.put(place, None, plain);
+        let first = self.links.put(place, Some(TabletType::Primary), primary);
+        let second = self.links.put(place, Some(TabletType::Replica), replica);
+        let third = self.links.put(place, Some(TabletType::Rdonly), rdonly);
+        (all, first, second, third)
     }
 
     /// Drops the places of a name's four keys, one after the other, and answers of each whether it had a rule, if there is one. The

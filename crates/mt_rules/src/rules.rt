@@ -290,26 +290,22 @@ impl RoutingRules {
         ensures before { result ≡ rule_at self.old key.now }
         ensures after { self.new ≡ set_value (same_key key.now) self.old target }
     {
-        let mut before = None;
-        let rule = target.as_ref().map(|rule| (&rule.keyspace, &rule.table));
-        self.exchange(key, rule, &mut before);
+        let before = self.get(key).map(|rule| rule.copied());
+        self.put(
+            key,
+            target.as_ref().map(|rule| (&rule.keyspace, &rule.table)),
+        );
         before
     }
 
-    /// Sets the rule of a reserved key, by the names of where it leads, or takes it away, and leaves the rule before. It takes no memory.
-    pub fn exchange(
-        &mut self,
-        key: &RuleKey,
-        rule: Option<(&KeyspaceName, &TableName)>,
-        before: &mut Option<RuleTarget>,
-    )
+    /// Sets the rule of a reserved key, by the names of where it leads, or takes it away. It takes no memory.
+    pub fn put(&mut self, key: &RuleKey, rule: Option<(&KeyspaceName, &TableName)>)
         requires { has_rule_place self.old key.now ≡ true }
-        ensures before { before.new ≡ rule_at self.old key.now }
-        ensures after { self.new ≡ set_value (same_key key.now) self.old (lent_rule rule.entry) }
+        ensures { self.new ≡ set_value (same_key key.now) self.old (lent_rule rule.entry) }
     {
         let stands = rule.is_some();
-        self.places.exchange(key, rule, before);
-        self.standing.count(&key.table, before.is_some(), stands);
+        let stood = self.places.put(key, rule);
+        self.standing.count(&key.table, stood, stands);
     }
 
     /// Sets the rules of two keys of a name, each of which is reserved, one after the other, by the names of where they lead, or takes

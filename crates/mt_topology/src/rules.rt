@@ -36,7 +36,7 @@ pub fn put_rule(
 {
     match rules.reserve_key(key) {
         Ok(()) => {
-            rules.set(key, Some(target));
+            rules.put(key, Some((&target.keyspace, &target.table)));
             Ok(())
         }
         Err(RulesFault::Full) => Err(TopologyFault::Full),
@@ -49,7 +49,7 @@ pub fn take_rule(rules: &mut RoutingRules, key: &RuleKey)
     ensures { rules.new ≡ with_rule rules.old key.now None }
 {
     if rules.has_place(key) {
-        rules.set(key, None);
+        rules.put(key, None);
     }
     rules.release_key(key);
 }

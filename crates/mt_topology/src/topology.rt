@@ -198,8 +198,7 @@ impl Topology {
         requires { has_place self.old (EntryKey.Rule key.now) ≡ true }
         ensures { self.new ≡ with_entry self.old (Entry.Rule key.now (lent_rule rule.entry)) }
     {
-        let mut before = None;
-        self.rules.exchange(key, rule, &mut before);
+        self.rules.put(key, rule);
     }
 
     /// Writes the rules of a name's four keys, each of which has a place, one after the other: that for all types, those of primary,

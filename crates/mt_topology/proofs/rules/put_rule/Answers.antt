@@ -5,5 +5,5 @@ use Rattle.mt_names.specs.Same.{same_key}
 use Rattle.mt_model.proofs.TopologyLemmas.{with_rule_place-there}
 use Rattle.mt_topology.proofs.rules.put_rule.Goals as goal
 
-pub set-requires : goal.set-requires
-set-requires c = ap (λ rules. is_some (lookup (same_key c.args.key.now) rules)) c.in-Ok.ensures.1 ∙ with_rule_place-there c.args.rules.now c.args.key.now
+pub put-requires : goal.put-requires
+put-requires c = ap (λ rules. is_some (lookup (same_key c.args.key.now) rules)) c.in-Ok.ensures.1 ∙ with_rule_place-there c.args.rules.now c.args.key.now

@@ -12,6 +12,6 @@ returns c =
     let old = c.args.rules.now in
     let key = c.args.key.now in
     c.release_key.ensures ∙ elim c.if-has_place.branch as (λ b. without_rule_place c.if-has_place.rules key ≡ remove_entry (same_key key) old) [
-      | then-has_place w ↦ ap (λ rules. without_rule_place rules key) (w.rules-is ∙ w.set.ensures.after) ∙ taken_from_place old key (sym c.has_place.ensures ∙ w.if-has_place.true)
+      | then-has_place w ↦ ap (λ rules. without_rule_place rules key) (w.rules-is ∙ w.put.ensures) ∙ taken_from_place old key (sym c.has_place.ensures ∙ w.if-has_place.true)
       | else-has_place w ↦ ap (λ rules. without_rule_place rules key) w.rules-is ∙ taken_from_no_place old key (sym c.has_place.ensures ∙ w.if-has_place.false)
     ]

@@ -13,7 +13,7 @@ use Rattle.mt_places.specs.Places.{in_order, of_type}
 use Rattle.mt_places.specs.Rules.{has_rule_place, lent_rule}
 use Rattle.mt_places.proofs.IndexLemmas.{none_linked}
 use Rattle.mt_places.proofs.NameLemmas.{stands-set}
-use Rattle.mt_places.proofs.PlacesLemmas.{set_of, stood_of}
+use Rattle.mt_places.proofs.PlacesLemmas.{put_over, set_of}
 use Rattle.mt_places.proofs.places.Places.put_name.Goals as goal
 
 -- ---- the name is linked, since its keys have places
@@ -41,68 +41,68 @@ returns-in_default-clause-after c = absurd (linked c (c.in_default.ensures.none 
 
 -- ---- the rules that are set so far, and the places of the keys that are left
 
-abbrev key : goal.After-is_some → Option TabletType → RuleKey
+abbrev key : goal.After-put-third → Option TabletType → RuleKey
 key c = of_type c.args.name.now
 
-abbrev set_0 : goal.After-is_some → Rules
+abbrev set_0 : goal.After-put-third → Rules
 set_0 c = c.args.self.now
 
-abbrev set_1 : goal.After-is_some → Rules
+abbrev set_1 : goal.After-put-third → Rules
 set_1 c = set_value (same_key (key c None)) (set_0 c) (lent_rule c.args.plain)
 
-abbrev set_2 : goal.After-is_some → Rules
+abbrev set_2 : goal.After-put-third → Rules
 set_2 c = set_value (same_key (key c (Some Primary))) (set_1 c) (lent_rule c.args.primary)
 
-abbrev set_3 : goal.After-is_some → Rules
+abbrev set_3 : goal.After-put-third → Rules
 set_3 c = set_value (same_key (key c (Some Replica))) (set_2 c) (lent_rule c.args.replica)
 
-abbrev set_4 : goal.After-is_some → Rules
+abbrev set_4 : goal.After-put-third → Rules
 set_4 c = set_value (same_key (key c (Some Rdonly))) (set_3 c) (lent_rule c.args.rdonly)
 
-has_0 : (c : goal.After-is_some) → has_rule_place (set_0 c) (key c None) ≡ true
+has_0 : (c : goal.After-put-third) → has_rule_place (set_0 c) (key c None) ≡ true
 has_0 c = c.requires.0
 
-has_1 : (c : goal.After-is_some) → has_rule_place (set_1 c) (key c (Some Primary)) ≡ true
+has_1 : (c : goal.After-put-third) → has_rule_place (set_1 c) (key c (Some Primary)) ≡ true
 has_1 c = is_some-set_value same_key (set_0 c) (key c None) (key c (Some Primary)) (lent_rule c.args.plain) ∙ c.requires.1.0
 
-has_2 : (c : goal.After-is_some) → has_rule_place (set_2 c) (key c (Some Replica)) ≡ true
+has_2 : (c : goal.After-put-third) → has_rule_place (set_2 c) (key c (Some Replica)) ≡ true
 has_2 c = is_some-set_value same_key (set_1 c) (key c (Some Primary)) (key c (Some Replica)) (lent_rule c.args.primary) ∙ (is_some-set_value same_key (set_0 c) (key c None) (key c (Some Replica)) (lent_rule c.args.plain) ∙ c.requires.1.1.0)
 
-has_3 : (c : goal.After-is_some) → has_rule_place (set_3 c) (key c (Some Rdonly)) ≡ true
+has_3 : (c : goal.After-put-third) → has_rule_place (set_3 c) (key c (Some Rdonly)) ≡ true
 has_3 c = is_some-set_value same_key (set_2 c) (key c (Some Replica)) (key c (Some Rdonly)) (lent_rule c.args.replica) ∙ (is_some-set_value same_key (set_1 c) (key c (Some Primary)) (key c (Some Rdonly)) (lent_rule c.args.primary) ∙ (is_some-set_value same_key (set_0 c) (key c None) (key c (Some Rdonly)) (lent_rule c.args.plain) ∙ c.requires.1.1.1.0))
 
 -- ---- the places, as each call leaves them
 
-stands_0 : (c : goal.After-is_some) → slice_get (keys_of c.self.inside.links.names.entries) c.in-Some.place ≡ Some (for_all_types c.args.name.now)
+stands_0 : (c : goal.After-put-third) → slice_get (keys_of c.self.inside.links.names.entries) c.in-Some.place ≡ Some (for_all_types c.args.name.now)
 stands_0 c = c.in-Some.ensures.found
 
-stands_1 : (c : goal.After-is_some) → slice_get (keys_of c.exchange.new.self.names.entries) c.in-Some.place ≡ Some (for_all_types c.args.name.now)
-stands_1 c = ap (λ m. slice_get (keys_of m.entries) c.in-Some.place) c.exchange.ensures.names ∙ stands_0 c
+stands_1 : (c : goal.After-put-third) → slice_get (keys_of c.put-all.new.self.names.entries) c.in-Some.place ≡ Some (for_all_types c.args.name.now)
+stands_1 c = ap (λ m. slice_get (keys_of m.entries) c.in-Some.place) c.put-all.ensures.names ∙ stands_0 c
 
-stands_2 : (c : goal.After-is_some) → slice_get (keys_of c.exchange-2.new.self.names.entries) c.in-Some.place ≡ Some (for_all_types c.args.name.now)
-stands_2 c = ap (λ m. slice_get (keys_of m.entries) c.in-Some.place) c.exchange-2.ensures.names ∙ stands_1 c
+stands_2 : (c : goal.After-put-third) → slice_get (keys_of c.put-first.new.self.names.entries) c.in-Some.place ≡ Some (for_all_types c.args.name.now)
+stands_2 c = ap (λ m. slice_get (keys_of m.entries) c.in-Some.place) c.put-first.ensures.names ∙ stands_1 c
 
-stands_3 : (c : goal.After-is_some) → slice_get (keys_of c.exchange-3.new.self.names.entries) c.in-Some.place ≡ Some (for_all_types c.args.name.now)
-stands_3 c = ap (λ m. slice_get (keys_of m.entries) c.in-Some.place) c.exchange-3.ensures.names ∙ stands_2 c
+stands_3 : (c : goal.After-put-third) → slice_get (keys_of c.put-second.new.self.names.entries) c.in-Some.place ≡ Some (for_all_types c.args.name.now)
+stands_3 c = ap (λ m. slice_get (keys_of m.entries) c.in-Some.place) c.put-second.ensures.names ∙ stands_2 c
 
-places_0 : (c : goal.After-is_some) → in_order (keys_of c.self.inside.links.names.entries) c.self.inside.links.slots.items ≡ set_0 c
+places_0 : (c : goal.After-put-third) → in_order (keys_of c.self.inside.links.names.entries) c.self.inside.links.slots.items ≡ set_0 c
 places_0 c = c.self.view_is
 
-places_1 : (c : goal.After-is_some) → in_order (keys_of c.exchange.new.self.names.entries) c.exchange.new.self.slots.items ≡ set_1 c
-places_1 c = set_of _ (set_0 c) (key c None) (places_0 c) _ (lent_rule c.args.plain) (has_0 c) (c.exchange.ensures.places (for_all_types c.args.name.now) (stands_0 c))
+places_1 : (c : goal.After-put-third) → in_order (keys_of c.put-all.new.self.names.entries) c.put-all.new.self.slots.items ≡ set_1 c
+places_1 c = set_of _ (set_0 c) (key c None) (places_0 c) _ (lent_rule c.args.plain) (has_0 c) (c.put-all.ensures.places (for_all_types c.args.name.now) (stands_0 c))
 
-places_2 : (c : goal.After-is_some) → in_order (keys_of c.exchange-2.new.self.names.entries) c.exchange-2.new.self.slots.items ≡ set_2 c
-places_2 c = set_of _ (set_1 c) (key c (Some Primary)) (places_1 c) _ (lent_rule c.args.primary) (has_1 c) (c.exchange-2.ensures.places (for_all_types c.args.name.now) (stands_1 c))
+places_2 : (c : goal.After-put-third) → in_order (keys_of c.put-first.new.self.names.entries) c.put-first.new.self.slots.items ≡ set_2 c
+places_2 c = set_of _ (set_1 c) (key c (Some Primary)) (places_1 c) _ (lent_rule c.args.primary) (has_1 c) (c.put-first.ensures.places (for_all_types c.args.name.now) (stands_1 c))
 
-places_3 : (c : goal.After-is_some) → in_order (keys_of c.exchange-3.new.self.names.entries) c.exchange-3.new.self.slots.items ≡ set_3 c
-places_3 c = set_of _ (set_2 c) (key c (Some Replica)) (places_2 c) _ (lent_rule c.args.replica) (has_2 c) (c.exchange-3.ensures.places (for_all_types c.args.name.now) (stands_2 c))
+places_3 : (c : goal.After-put-third) → in_order (keys_of c.put-second.new.self.names.entries) c.put-second.new.self.slots.items ≡ set_3 c
+places_3 c = set_of _ (set_2 c) (key c (Some Replica)) (places_2 c) _ (lent_rule c.args.replica) (has_2 c) (c.put-second.ensures.places (for_all_types c.args.name.now) (stands_2 c))
 
-places_4 : (c : goal.After-is_some) → in_order (keys_of c.exchange-4.new.self.names.entries) c.exchange-4.new.self.slots.items ≡ set_4 c
-places_4 c = set_of _ (set_3 c) (key c (Some Rdonly)) (places_3 c) _ (lent_rule c.args.rdonly) (has_3 c) (c.exchange-4.ensures.places (for_all_types c.args.name.now) (stands_3 c))
+places_4 : (c : goal.After-put-third) → in_order (keys_of c.put-third.new.self.names.entries) c.put-third.new.self.slots.items ≡ set_4 c
+places_4 c = set_of _ (set_3 c) (key c (Some Rdonly)) (places_3 c) _ (lent_rule c.args.rdonly) (has_3 c) (c.put-third.ensures.places (for_all_types c.args.name.now) (stands_3 c))
 
 pub invariant_of-self : goal.invariant_of-self
 invariant_of-self c = (
-  c.exchange-4.ensures.indexed,
+  c.put-third.ensures.indexed,
   c.self.invariant.1 ∙ ap length c.self.view_is
       ∙ sym (ap length (places_4 c) ∙ length-set_value (same_key (key c (Some Rdonly))) (set_3 c) (lent_rule c.args.rdonly) ∙ length-set_value (same_key (key c (Some Replica))) (set_2 c) (lent_rule c.args.replica)
       ∙ length-set_value (same_key (key c (Some Primary))) (set_1 c) (lent_rule c.args.primary) ∙ length-set_value (same_key (key c None)) (set_0 c) (lent_rule c.args.plain)),
@@ -112,22 +112,22 @@ invariant_of-self c = (
 
 pub returns-clause-plain : goal.returns-clause-plain
 returns-clause-plain c =
-    c.is_some-all.ensures ∙ ap is_some (stood_of _ (set_0 c) (key c None) (places_0 c) _ (has_0 c) (c.exchange.ensures.before (for_all_types c.args.name.now) (stands_0 c)))
+    (put_over _ (set_0 c) (key c None) (places_0 c) _ (has_0 c) (c.put-all.ensures.stood (for_all_types c.args.name.now) (stands_0 c)))
 
 pub returns-clause-primary : goal.returns-clause-primary
 returns-clause-primary c =
-    c.is_some-first.ensures ∙ ap is_some (stood_of _ (set_1 c) (key c (Some Primary)) (places_1 c) _ (has_1 c) (c.exchange-2.ensures.before (for_all_types c.args.name.now) (stands_1 c)))
+    (put_over _ (set_1 c) (key c (Some Primary)) (places_1 c) _ (has_1 c) (c.put-first.ensures.stood (for_all_types c.args.name.now) (stands_1 c)))
     ∙ stands-set c.args.name.now None (Some Primary) (λ e. cc) (set_0 c) (lent_rule c.args.plain)
 
 pub returns-clause-replica : goal.returns-clause-replica
 returns-clause-replica c =
-    c.is_some-second.ensures ∙ ap is_some (stood_of _ (set_2 c) (key c (Some Replica)) (places_2 c) _ (has_2 c) (c.exchange-3.ensures.before (for_all_types c.args.name.now) (stands_2 c)))
+    (put_over _ (set_2 c) (key c (Some Replica)) (places_2 c) _ (has_2 c) (c.put-second.ensures.stood (for_all_types c.args.name.now) (stands_2 c)))
     ∙ stands-set c.args.name.now (Some Primary) (Some Replica) (λ e. cc) (set_1 c) (lent_rule c.args.primary)
     ∙ stands-set c.args.name.now None (Some Replica) (λ e. cc) (set_0 c) (lent_rule c.args.plain)
 
 pub returns-clause-rdonly : goal.returns-clause-rdonly
 returns-clause-rdonly c =
-    c.is_some.ensures ∙ ap is_some (stood_of _ (set_3 c) (key c (Some Rdonly)) (places_3 c) _ (has_3 c) (c.exchange-4.ensures.before (for_all_types c.args.name.now) (stands_3 c)))
+    (put_over _ (set_3 c) (key c (Some Rdonly)) (places_3 c) _ (has_3 c) (c.put-third.ensures.stood (for_all_types c.args.name.now) (stands_3 c)))
     ∙ stands-set c.args.name.now (Some Replica) (Some Rdonly) (λ e. cc) (set_2 c) (lent_rule c.args.replica)
     ∙ stands-set c.args.name.now (Some Primary) (Some Rdonly) (λ e. cc) (set_1 c) (lent_rule c.args.primary)
     ∙ stands-set c.args.name.now None (Some Rdonly) (λ e. cc) (set_0 c) (lent_rule c.args.plain)

@@ -1,5 +1,5 @@
 -- The places that are dropped are counted no more, nor are their rules.
-use Rattle.std.proofs.Common.{◌≡◌, ◌≤◌, is_some, length, refl, arith, sym, subst}
+use Rattle.std.proofs.Common.{◌≤◌, is_some, length, refl, arith, sym, subst}
 use Rattle.mt_model.specs.Limits.{most_rules}
 use Rattle.mt_places.specs.Counts.{IsCounted, any_place, class_of}
 use Rattle.mt_places.proofs.CountsLemmas.{fits_less, has_room_four, placed_told, right_less_four, standing_told}

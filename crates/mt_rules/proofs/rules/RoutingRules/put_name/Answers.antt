@@ -1,5 +1,5 @@
 -- The rules that are set are counted, instead of those that stood; there are as many places as before.
-use Rattle.std.proofs.Common.{◌≡◌, ◌≤◌, true, is_some, length, refl, arith, sym, ap, subst, ◌∙◌}
+use Rattle.std.proofs.Common.{◌≡◌, ◌≤◌, true, is_some, length, refl, arith, sym, subst}
 use Rattle.std.specs.List.{AllByRecursion}
 use Rattle.mt_model.specs.Limits.{most_rules}
 use Rattle.mt_places.specs.Counts.{IsCounted, any_place, class_of}

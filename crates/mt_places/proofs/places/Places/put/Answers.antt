@@ -8,10 +8,10 @@ use Rattle.mt_model.specs.Topology.{for_all_types, rule_at}
 use Rattle.mt_places.specs.Places.{in_order}
 use Rattle.mt_places.specs.Rules.{has_rule_place, lent_rule}
 use Rattle.mt_places.proofs.IndexLemmas.{none_linked}
-use Rattle.mt_places.proofs.places.Places.exchange.Goals as goal
+use Rattle.mt_places.proofs.places.Places.put.Goals as goal
 
-pub returns-in_default-clause-before : goal.returns-in_default-clause-before
-returns-in_default-clause-before c =
+pub returns-in_default-clause-stood : goal.returns-in_default-clause-stood
+returns-in_default-clause-stood c =
     let links = c.self.inside.links.names.entries in
     let order = c.self.inside.links.slots.items in
     let key = c.args.key.now in
@@ -34,18 +34,18 @@ invariant_of-self c =
     let order = c.self.inside.links.slots.items in
     let key = c.args.key.now in
     let has = ap (λ rules. has_rule_place rules key) c.self.view_is ∙ c.requires in
-    let after = c.exchange.ensures.places (for_all_types key) c.in-Some.ensures.found has in
-    (c.exchange.ensures.indexed, c.self.invariant.1 ∙ sym (ap length after ∙ length-set_value (same_key key) (in_order (keys_of links) order) (lent_rule c.args.rule)))
+    let after = c.put.ensures.places (for_all_types key) c.in-Some.ensures.found has in
+    (c.put.ensures.indexed, c.self.invariant.1 ∙ sym (ap length after ∙ length-set_value (same_key key) (in_order (keys_of links) order) (lent_rule c.args.rule)))
 
-pub returns-clause-before : goal.returns-clause-before
-returns-clause-before c =
+pub returns-clause-stood : goal.returns-clause-stood
+returns-clause-stood c =
     let key = c.args.key.now in
     let has = ap (λ rules. has_rule_place rules key) c.self.view_is ∙ c.requires in
-    c.exchange.ensures.before (for_all_types key) c.in-Some.ensures.found has ∙ ap (λ rules. rule_at rules key) c.self.view_is
+    c.put.ensures.stood (for_all_types key) c.in-Some.ensures.found has ∙ ap (λ rules. is_some (rule_at rules key)) c.self.view_is
 
 pub returns-clause-after : goal.returns-clause-after
 returns-clause-after c =
     let key = c.args.key.now in
     let has = ap (λ rules. has_rule_place rules key) c.self.view_is ∙ c.requires in
-    let after = c.exchange.ensures.places (for_all_types key) c.in-Some.ensures.found has in
+    let after = c.put.ensures.places (for_all_types key) c.in-Some.ensures.found has in
     after ∙ ap (λ rules. set_value (same_key key) rules (lent_rule c.args.rule)) c.self.view_is
