@@ -16,7 +16,7 @@ use Rattle.mt_model.specs.declared.rows.Op.{Op}
 use Rattle.mt_model.specs.declared.rows.RowChange.{RowChange}
 use Rattle.mt_model.specs.Rows.{Row}
 use Rattle.mt_primary.specs.Denials.{AreDenialsSet, told_by_mark}
-use Rattle.mt_primary.specs.Primary.{IsPrimary, PrimaryState, TableState, is_denied_at, table_at}
+use Rattle.mt_primary.specs.Primary.{IsPrimary, PrimaryState, TableState, table_at}
 use Rattle.mt_primary.specs.Tables.{ChangesRow, Put, Write}
 use Rattle.mt_primary.specs.Writes.{Puts, Writes, written_row}
 use Rattle.mt_primary.proofs.DenialLemmas.{IsPrimary-mark, denials-one}
@@ -92,10 +92,6 @@ module _ (old : PrimaryState) (place : ℕ) (name at : List ℕ) (table : TableS
   denial_at mark =
       subst (λ new. IsPrimary new × AreDenialsSet old (λ n. told_by_mark n None (name, mark)) new) (by_name (record table { denied = mark }) old.log)
       (IsPrimary-mark old name table mark found_at is, denials-one old name table mark found_at is.distinct)
-
-  -- and the own list has it as it is marked
-  pub denied_at : is_denied_at old name ≡ table.denied
-  denied_at = rw found_at refl
 
   module _ (put : TableState) (log : List RowChange) (r : Result ℕ PrimaryFault) where
     pub change_at_is_write : (op : Op) → table.denied ≡ false → ChangesRow (record { table = table; log = old.log }) at (Write op) r (record { table = put; log = log })

@@ -57,11 +57,11 @@ impl Core {
     {
         a_site_stays_one();
         events_by_hand_step_and_leave_the_ways();
-        match self.topology.look_up(name, TabletType::Primary) {
-            Ok((keyspace, table)) => {
-                Ok(rows::write_row(&mut self.primaries, NOWHERE, keyspace, table, op))
-            }
-            Err(fault) => Err(fault),
+        let (keyspace, table) = self.topology.look_up(name, TabletType::Primary)?;
+        // (a refusal has 176 bytes, and is moved only if there is one)
+        match rows::write_row(&mut self.primaries, NOWHERE, keyspace, table, op) {
+            Ok(()) => Ok(Ok(())),
+            Err(refusal) => Ok(Err(refusal)),
         }
     }
 
