@@ -24,6 +24,7 @@ impl Primary {
 
     /// As `write`, with a place at which the table is looked for first. Whatever place is given, the table of this name
     /// is written to. (Vitess: a client's write at a primary tablet)
+    #[inline(always)]
     pub fn write_placed(
         &mut self,
         place: usize,

@@ -204,6 +204,7 @@ impl Workflow {
 
     /// The rule of a key of its part once these types are switched, if the key is to have one. Of a key of another part the
     /// answer means nothing. It takes no memory. (Vitess: how traffic is switched)
+    #[inline(always)]
     pub fn wanted_rule(&self, key: &RuleKey, types: TypeSet) -> Option<RuleTarget>
         ensures { result ≡ serve_rule (rules_only self.now.kept) (live_of self.now) types key.now key.now.tablet_type }
     {
