@@ -66,6 +66,7 @@ fn share(
 
 /// Makes room for one entry more, and what it shares with a row of this value, which nobody has yet. It leaves the
 /// entries.
+#[inline(always)]
 fn make(log: &mut Vec<RowChange>, name: &SharedName, value: Value) -> Result<Made, PrimaryFault>
     ensures entries { log.new.items ≡ log.old.items }
     ensures room { OnOk result (vec_len log.new < vec_capacity log.new) }

@@ -242,6 +242,7 @@ impl Primary {
     /// what stood on the own list for them. A table of which the notice has no entry keeps what stands, and so does each
     /// table that isn't named. Of several entries for a table the last one counts. At most 16 tables. It takes no
     /// memory. (Vitess: RefreshState)
+    #[inline(always)]
     pub fn take_denied(
         &mut self,
         keyspace: &KeyspaceName,

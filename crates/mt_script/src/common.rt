@@ -283,6 +283,7 @@ fn keyspace_of(word: &[u8]) -> Option<KeyspaceName>
 }
 
 /// The tables that a word lists, if it lists some.
+#[inline(always)]
 fn tables_of(word: &[u8]) -> Option<ArrayVec<TableName, MAX_TABLES>>
     ensures { IfSome result (λ tables. IsTextOf read_table_list word.now tables.items) }
 {

@@ -80,6 +80,7 @@ fn put_stopped(workflow: &mut Workflow, slot: Slot, position: Position) -> Optio
 }
 
 /// What a step does with the streams; `kept` becomes the one that it puts away, if it puts one away.
+#[inline(always)]
 pub(crate) fn step_streams(
     workflow: &mut Workflow,
     way: Way,
