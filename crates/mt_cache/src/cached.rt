@@ -101,16 +101,16 @@ impl CachedCore {
     }
 
     /// Keeps where a name by which a row was asked for leads for the primary, if it is to be kept.
-    fn keep(&mut self, name: &RuleKey)
-        requires { name.now ≡ plain_key name.now.table }
+    fn keep(&mut self, name: RuleKey)
+        requires { name ≡ plain_key name.table }
         ensures { self.new ≡ self.old }
     {
         if !self.names.wants_more() {
             return;
         }
-        if let Ok(target) = self.core.resolve(name, TabletType::Primary) {
+        if let Ok(target) = self.core.resolve(&name, TabletType::Primary) {
             let place = self.core.place_of(target);
-            self.names.keep(name.table.copied(), place);
+            self.names.keep(name.table, place);
         }
     }
 
@@ -159,27 +159,20 @@ impl CachedCore {
         ensures told { IfSome result (λ told. WrittenThrough self.old (plain_key name.now) op told self.new) }
     {
         let key = table_key(name)?;
-        // (a refusal has 176 bytes, and is moved only if there is one)
-        match self.write_led(&key, op) {
-            Ok(Ok(())) => Some(Ok(Ok(()))),
-            refused => Some(refused),
-        }
+        Some(self.write_led(key, op))
     }
 
     /// Writes a row of the table that a name alone leads to, by a look-up, and keeps where that is.
-    fn write_led(&mut self, key: &RuleKey, op: Op) -> Result<Result<(), Refusal>, TopologyFault>
-        requires { key.now ≡ plain_key key.now.table }
-        ensures { WrittenThrough self.old key.now op result self.new }
+    fn write_led(&mut self, key: RuleKey, op: Op) -> Result<Result<(), Refusal>, TopologyFault>
+        requires { key ≡ plain_key key.table }
+        ensures { WrittenThrough self.old key op result self.new }
     {
-        match self.core.write_through(key, op)? {
-            Ok(()) => {
+        match self.core.write_through(&key, op) {
+            Ok(told) => {
                 self.keep(key);
-                Ok(Ok(()))
+                Ok(told)
             }
-            Err(refusal) => {
-                self.keep(key);
-                Ok(Err(refusal))
-            }
+            Err(fault) => Err(fault),
         }
     }
 
@@ -216,20 +209,20 @@ impl CachedCore {
         ensures told { IfSome result (λ told. ReadThrough self.old (plain_key name.now) key TabletType.Primary told) }
     {
         let name = table_key(name)?;
-        Some(self.read_led(&name, key))
+        Some(self.read_led(name, key))
     }
 
     /// Reads a row of the table that a name alone leads to, by a look-up, and keeps where that is.
     fn read_led(
         &mut self,
-        name: &RuleKey,
+        name: RuleKey,
         key: u64,
     ) -> Result<Result<Option<Value>, Refusal>, TopologyFault>
-        requires { name.now ≡ plain_key name.now.table }
+        requires { name ≡ plain_key name.table }
         ensures same { self.new ≡ self.old }
-        ensures told { ReadThrough self.old name.now key TabletType.Primary result }
+        ensures told { ReadThrough self.old name key TabletType.Primary result }
     {
-        match self.core.read_through(name, key, TabletType::Primary) {
+        match self.core.read_through(&name, key, TabletType::Primary) {
             Ok(told) => {
                 self.keep(name);
                 Ok(told)
