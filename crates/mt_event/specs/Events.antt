@@ -7,6 +7,7 @@ use Rattle.mt_event.specs.declared.refusal.Refusal.TheVariants as from
 use Rattle.mt_event.specs.declared.reply.Reply.{Reply}
 use Rattle.mt_event.specs.declared.reply.Reply.TheVariants as reply
 use Rattle.mt_event.specs.declared.reply.Shown.{Shown}
+use Rattle.mt_event.specs.declared.reply.ShownOf.{ShownOf}
 use Rattle.mt_event.specs.declared.reply.ShownStream.{ShownStream}
 use Rattle.mt_plain.specs.Events as plain
 use Rattle.mt_stream.specs.Streams.{state_from}
@@ -74,6 +75,20 @@ shown_from shown = record {
   source = shown.source;
   target = shown.target;
   tables = shown.tables.items;
+  switched = shown.switched;
+  way = option_map way_from shown.way;
+  forward = shown_stream_from shown.forward;
+  copied = shown.copied;
+  back = option_map shown_stream_from shown.back;
+}
+
+-- the same, where names and tables are lent
+abbrev pub lent_shown : ShownOf → plain.Shown
+lent_shown shown = record {
+  workflow = shown.workflow.now;
+  source = shown.source.now;
+  target = shown.target.now;
+  tables = shown.tables;
   switched = shown.switched;
   way = option_map way_from shown.way;
   forward = shown_stream_from shown.forward;

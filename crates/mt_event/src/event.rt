@@ -167,7 +167,7 @@ impl Event {
                 workflow: workflow.copied(),
                 source: source.copied(),
                 target: target.copied(),
-                tables: copied_tables(tables),
+                tables: copied_tables(tables.as_slice()),
             },
             Event::Advance {
                 workflow,

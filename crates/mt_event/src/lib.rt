@@ -12,4 +12,5 @@ pub use driven::Driven;
 pub use event::Event;
 pub use laws::{events_and_answers_are_told_apart, events_and_answers_are_told_in_full};
 pub use refusal::Refusal;
-pub use reply::{Reply, Shown, ShownStream};
+pub use reply::{Reply, Shown, ShownOf, ShownStream};
+pub use tables::Tables;

@@ -1,5 +1,5 @@
 //! What the controller answers to an event that is taken.
-use crate::tables::copied_tables;
+use crate::tables::{Tables, copied_tables};
 use arrayvec::ArrayVec;
 use mt_names::{
     KeyspaceName, MAX_TABLES, Position, TableName, TypeSet, Value, WorkflowName, copied_value,
@@ -39,6 +39,29 @@ pub struct Shown {
     pub back: Option<ShownStream>,
 }
 
+/// The same, with its names and its tables lent. (Vitess: Show of MoveTables)
+#[derive(Debug, Drop)]
+pub struct ShownOf<'a> {
+    /// Its name.
+    pub workflow: &'a WorkflowName,
+    /// The keyspace that its tables move from.
+    pub source: &'a KeyspaceName,
+    /// The keyspace that they move to.
+    pub target: &'a KeyspaceName,
+    /// Its tables, each once, in the order in which they were first named.
+    pub tables: Tables<'a>,
+    /// The tablet types whose traffic is switched.
+    pub switched: TypeSet,
+    /// The way that is open, if one is.
+    pub way: Option<Way>,
+    /// Its forward stream.
+    pub forward: ShownStream,
+    /// Whether the copy has ended.
+    pub copied: bool,
+    /// Its back stream, if it has one.
+    pub back: Option<ShownStream>,
+}
+
 /// The answer to an event that is taken.
 #[derive(Debug, Drop, Eq, PartialEq)]
 pub enum Reply {
@@ -54,6 +77,7 @@ pub enum Reply {
 
 impl Shown {
     ghost use Rattle.std.specs.Prelude.{◌≡◌};
+    ghost use Rattle.mt_event.specs.Events.{lent_shown, shown_from};
 
     /// The same. It takes no memory.
     pub fn copied(&self) -> Self
@@ -63,7 +87,47 @@ impl Shown {
             workflow: self.workflow.copied(),
             source: self.source.copied(),
             target: self.target.copied(),
-            tables: copied_tables(&self.tables),
+            tables: copied_tables(self.tables.as_slice()),
+            switched: self.switched,
+            way: self.way,
+            forward: self.forward,
+            copied: self.copied,
+            back: self.back,
+        }
+    }
+
+    /// The same, lent. It takes no memory.
+    pub fn lent(&self) -> ShownOf<'_>
+        ensures { lent_shown result ≡ shown_from self.now }
+    {
+        ShownOf {
+            workflow: &self.workflow,
+            source: &self.source,
+            target: &self.target,
+            tables: Tables::new(self.tables.as_slice()),
+            switched: self.switched,
+            way: self.way,
+            forward: self.forward,
+            copied: self.copied,
+            back: self.back,
+        }
+    }
+}
+
+impl ShownOf<'_> {
+    ghost use Rattle.std.specs.Prelude.{◌≡◌};
+    ghost use Rattle.mt_event.specs.Events.{lent_shown, shown_from};
+
+    /// The same, with names and tables of its own. It takes no memory.
+    pub fn owned(&self) -> Shown
+        ensures { shown_from result ≡ lent_shown self.now }
+    {
+        let tables = copied_tables(self.tables.as_slice());
+        Shown {
+            workflow: self.workflow.copied(),
+            source: self.source.copied(),
+            target: self.target.copied(),
+            tables,
             switched: self.switched,
             way: self.way,
             forward: self.forward,

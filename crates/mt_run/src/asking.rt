@@ -14,7 +14,7 @@ ghost use Rattle.mt_run.specs.Runs.{IsRequestOutput};
 use crate::script::LineOutput;
 use mt_cache::CachedCore;
 use mt_drive::drive;
-use mt_event::{Event, Refusal, Shown};
+use mt_event::{Event, Refusal, ShownOf};
 use mt_model::Op;
 use mt_names::{
     KeyspaceName, Position, RuleKey, RuleTarget, TableName, TabletType, TypeSet, WorkflowName,
@@ -169,7 +169,7 @@ pub fn advance(
 }
 
 /// Writes what is told of a workflow, or why it is refused, in place of the text that was there.
-fn tell_shown(told: &Result<Shown, Refusal>, text: &mut LineText)
+fn tell_shown(told: &Result<ShownOf<'_>, Refusal>, text: &mut LineText)
     ensures { text.new.items ≡ answer_text (shown_answer told.now) ++ line_feed }
 {
     match told {

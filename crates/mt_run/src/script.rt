@@ -15,6 +15,7 @@ use mt_cache::CachedCore;
 use mt_io::{
     LONGEST_LINE, ROOM, ScriptFault, Waiting, flush, make_room, put_document, put_line, read_script,
 };
+use mt_names::table_list;
 use mt_script::{
     Line, Request, WorkflowAsked, WorkflowRequest, create_line, first_line, read_line,
     workflow_line, write_refusal,
@@ -160,7 +161,7 @@ fn line_output<A: Asks>(
     other_line_output(core, watchers, line, text)
 }
 
-/// The same, of a line that may be a Create in the common form: its tables are read once.
+/// The same, of a line that may be a Create in the common form: its tables are read once, and lent from where they are read.
 #[inline(never)]
 fn create_line_output<A: Asks>(
     core: &mut CachedCore,
@@ -171,19 +172,17 @@ fn create_line_output<A: Asks>(
     ensures { (p : Plain) → SiteStands p (A.scopes watchers.now) core.old
         → IsLineOutput (A.scopes watchers.now) p (told language.read_line p line.now) (AsksDocument line.now) text.new.items result core.new }
 {
-    match &create_line(line) {
-        Some(request) => command(
+    let Some(request) = create_line(line) else {
+        return other_line_output(core, watchers, line, text);
+    };
+    match &table_list(request.tables) {
+        Ok(tables) => command(
             core,
             watchers,
-            Command::Create(
-                &request.workflow,
-                &request.source,
-                &request.target,
-                &request.tables,
-            ),
+            Command::Create(&request.workflow, &request.source, &request.target, tables),
             text,
         ),
-        None => other_line_output(core, watchers, line, text),
+        Err(_) => other_line_output(core, watchers, line, text),
     }
 }
 

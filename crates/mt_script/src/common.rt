@@ -1,5 +1,5 @@
 //! Lines that ask for something of a workflow, in their common form: one space between two words, and no other blank.
-ghost use Rattle.std.specs.Prelude.{◌≡◌, ◌++◌, ◌∷◌, IfSome, Ok, Some, codes, false, true};
+ghost use Rattle.std.specs.Prelude.{◌≡◌, ℕ, List, ◌++◌, ◌∷◌, IfSome, Ok, Some, codes, false, true};
 ghost use Rattle.mt_names.specs.Names.{read_keyspace, read_workflow};
 ghost use Rattle.mt_names.specs.Tables.{read_table_list};
 ghost use Rattle.mt_names.specs.Types.{read_type_set};
@@ -13,8 +13,7 @@ ghost use Rattle.mt_script.specs.Words.{IsTextOf, IsVisibleWord};
 use crate::lines::{MAX_LINE_LENGTH, WorkflowAsked, WorkflowRequest};
 use crate::rows::{is_all_visible, name_in_front, number_in_front};
 use crate::words::text_of;
-use arrayvec::ArrayVec;
-use mt_names::{KeyspaceName, MAX_TABLES, TableName, TypeSet, WorkflowName, table_list};
+use mt_names::{KeyspaceName, TypeSet, WorkflowName};
 use mt_workflow::Slot;
 use std::str;
 
@@ -262,17 +261,17 @@ pub fn workflow_line(line: &[u8]) -> Option<WorkflowRequest>
     }
 }
 
-/// What a line asks for that makes a workflow.
+/// What a line asks for that makes a workflow, if the text of its tables is read.
 #[derive(Debug, Drop)]
-pub struct CreateRequest {
+pub struct CreateRequest<'a> {
     /// The workflow.
     pub workflow: WorkflowName,
     /// Where its tables are.
     pub source: KeyspaceName,
     /// Where it moves them to.
     pub target: KeyspaceName,
-    /// The tables.
-    pub tables: ArrayVec<TableName, MAX_TABLES>,
+    /// The text that is to list the tables.
+    pub tables: &'a str,
 }
 
 /// The name of a keyspace, if it is one.
@@ -280,14 +279,6 @@ fn keyspace_of(word: &[u8]) -> Option<KeyspaceName>
     ensures { IfSome result (λ keyspace. IsTextOf read_keyspace word.now keyspace) }
 {
     KeyspaceName::parse(visible_text(word)?).ok()
-}
-
-/// The tables that a word lists, if it lists some.
-#[inline(always)]
-fn tables_of(word: &[u8]) -> Option<ArrayVec<TableName, MAX_TABLES>>
-    ensures { IfSome result (λ tables. IsTextOf read_table_list word.now tables.items) }
-{
-    table_list(visible_text(word)?).ok()
 }
 
 /// What stands behind the verb `create` and a space, if a line begins with these.
@@ -300,9 +291,10 @@ fn behind_create(line: &[u8]) -> Option<&[u8]>
     }
 }
 
-/// A workflow, its source and target, and its tables.
-fn create_of(words: &[u8]) -> Option<CreateRequest>
-    ensures { IfSome result (λ request. AsksBehind (codes "create") words.now (event (create request.workflow request.source request.target request.tables.items))) }
+/// A workflow, its source and target, and the text of its tables.
+fn create_of(words: &[u8]) -> Option<CreateRequest<'_>>
+    ensures { IfSome result (λ request. (tables : List (List ℕ)) → read_table_list request.tables.now ≡ Ok tables
+        → AsksBehind (codes "create") words.now (event (create request.workflow request.source request.target tables))) }
 {
     let (name, words) = name_in_front(words)?;
     let (source, words) = name_in_front(words)?;
@@ -311,13 +303,15 @@ fn create_of(words: &[u8]) -> Option<CreateRequest>
         workflow: workflow_of(name)?,
         source: keyspace_of(source)?,
         target: keyspace_of(target)?,
-        tables: tables_of(tables)?,
+        tables: visible_text(tables)?,
     })
 }
 
-/// What a line asks for that makes a workflow, if it is in the common form.
-pub fn create_line(line: &[u8]) -> Option<CreateRequest>
-    ensures { IfSome result (λ request. Some (Ok (event (create request.workflow request.source request.target request.tables.items))) ≡ meaning_of (read_line line.now)) }
+/// What a line asks for that makes a workflow, if it is in the common form. The tables aren't read: who reads them needs no copy of their
+/// list, which is large.
+pub fn create_line(line: &[u8]) -> Option<CreateRequest<'_>>
+    ensures { IfSome result (λ request. (tables : List (List ℕ)) → read_table_list request.tables.now ≡ Ok tables
+        → Some (Ok (event (create request.workflow request.source request.target tables))) ≡ meaning_of (read_line line.now)) }
 {
     if MAX_LINE_LENGTH < line.len() {
         return None;

@@ -34,7 +34,7 @@ use crate::rows::{Hint, NOWHERE};
 use crate::{OpenWays, Primaries, Workflows, advance, by_hand, owed, rows, show};
 pub use commands::Command;
 use indexmap::IndexMap;
-use mt_event::{Event, Refusal, Reply, Shown};
+use mt_event::{Event, Refusal, Reply, ShownOf};
 use mt_journal::Journal;
 use mt_laws::every_run_keeps_the_headline;
 use mt_model::{Op, TopologyFault};
@@ -338,7 +338,7 @@ impl Core {
     }
 
     /// Tells of a workflow: `F7 NoWorkflow`. It takes no memory.
-    fn do_show(&self, name: &WorkflowName) -> Result<Shown, Refusal>
+    fn do_show(&self, name: &WorkflowName) -> Result<ShownOf<'_>, Refusal>
         ensures { ShowsWorkflow self.now.core name.now (shown_answer result) self.now.core }
     {
         a_site_stays_one();
@@ -351,7 +351,7 @@ impl Core {
         ensures { ShowsWorkflow self.now.core name.now (answer_from result) self.now.core }
     {
         match self.do_show(name) {
-            Ok(shown) => Ok(Reply::Shown(shown)),
+            Ok(shown) => Ok(Reply::Shown(shown.owned())),
             Err(refusal) => Err(refusal),
         }
     }

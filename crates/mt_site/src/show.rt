@@ -1,6 +1,6 @@
 //! What is told of a workflow.
 ghost use Rattle.std.specs.Prelude.{◌≡◌, true, is_some, option_map};
-ghost use Rattle.mt_event.specs.Events.{shown_from, shown_stream_from};
+ghost use Rattle.mt_event.specs.Events.{lent_shown, shown_stream_from};
 ghost use Rattle.mt_workflow.specs.Workflows.{WorkflowState};
 ghost use Rattle.mt_site_state.specs.Core.{workflow_at};
 ghost use Rattle.mt_site_state.specs.Workflows.{show_at, shown_by, slot_from};
@@ -8,7 +8,7 @@ ghost use Rattle.std.specs.Prelude.{Some};
 ghost use Rattle.mt_site.specs.Show.{shown_answer};
 
 use crate::Workflows;
-use mt_event::{Refusal, Shown, ShownStream};
+use mt_event::{Refusal, ShownOf, ShownStream, Tables};
 use mt_names::WorkflowName;
 use mt_stream::Stream;
 use mt_workflow::{Slot, Workflow};
@@ -24,16 +24,17 @@ fn shown_stream(stream: &Stream) -> ShownStream
 }
 
 /// What is told of a workflow, which has a forward stream.
-fn shown(workflow: &Workflow) -> Shown
+fn shown(workflow: &Workflow) -> ShownOf<'_>
     requires { is_some workflow.now.forward ≡ true }
-    ensures { shown_from result ≡ shown_by workflow.now }
+    ensures { lent_shown result ≡ shown_by workflow.now }
 {
+    workflow.facts();
     let forward = workflow.slot(Slot::Forward).unwrap();
-    Shown {
-        workflow: workflow.name().copied(),
-        source: workflow.source().copied(),
-        target: workflow.target().copied(),
-        tables: workflow.table_list(),
+    ShownOf {
+        workflow: workflow.name(),
+        source: workflow.source(),
+        target: workflow.target(),
+        tables: Tables::new(workflow.tables()),
         switched: workflow.switched(),
         way: workflow.way(),
         forward: shown_stream(forward),
@@ -53,7 +54,10 @@ fn shown_back(workflow: &Workflow) -> Option<ShownStream>
 }
 
 /// Tells of a live workflow: `F7 NoWorkflow`. It takes no memory.
-pub(crate) fn show(workflows: &Workflows, name: &WorkflowName) -> Result<Shown, Refusal>
+pub(crate) fn show<'a>(
+    workflows: &'a Workflows,
+    name: &WorkflowName,
+) -> Result<ShownOf<'a>, Refusal>
     requires { (w : WorkflowState) → workflow_at workflows.now.entries name.now ≡ Some w → is_some w.forward ≡ true }
     ensures { shown_answer result ≡ show_at (workflow_at workflows.now.entries name.now) }
 {

@@ -1,5 +1,5 @@
 //! Create: tables become a workflow's, which moves them.
-ghost use Rattle.std.specs.Prelude.{◌≡◌, ◌≢◌, ◌<◌, ◌≤◌, ℕ, List, true, false, All, None, OnOk, is_some, length, option_map};
+ghost use Rattle.std.specs.Prelude.{◌≡◌, ◌≢◌, ◌<◌, ◌≤◌, ℕ, List, true, false, All, IsTrue, None, OnOk, is_some, length, option_map};
 ghost use Rattle.indexmap.specs.IndexMap.{spare};
 ghost use Rattle.indexmap.specs.IndexSet.{insert_key};
 ghost use Rattle.mt_event.specs.Events.{done_from, refusal_from};
@@ -33,6 +33,18 @@ use std::slice;
 
 /// How many workflows may be live.
 const MAX_WORKFLOWS: usize = 16;
+
+/// Whether no table is named twice, so that the tables are a set as they stand. It takes no memory.
+fn is_set(tables: &[TableName]) -> bool
+    ensures { IsTrue result → each_once tables.now ≡ tables.now }
+{
+    for index in 0..tables.len() {
+        if tables[..index].contains(&tables[index]) {
+            return false;
+        }
+    }
+    true
+}
 
 /// Tables as a set, in the order in which they are first named. It takes no memory.
 fn each_once(tables: &[TableName]) -> ArrayVec<TableName, MAX_TABLES>
@@ -259,6 +271,7 @@ fn make<W: Asks>(
 }
 
 /// Creates a workflow of a set of tables.
+#[inline(never)]
 fn create_set<W: Asks>(
     alloc: Global,
     topology: &mut Topology,
@@ -313,6 +326,11 @@ pub fn create<W: Asks>(
     ensures { Creates (record { topology = topology.old; primaries = primaries.old.entries; workflows = workflows.old.entries }) (W.scopes watchers.now) (W.may_answer watchers.now) name.now source.now target.now tables.now (done_from result)
         (record { topology = topology.new; primaries = primaries.new.entries; workflows = workflows.new.entries }) }
 {
+    if is_set(tables) {
+        return create_set(
+            alloc, topology, primaries, workflows, watchers, name, source, target, tables,
+        );
+    }
     let set = each_once(tables);
     create_set(
         alloc,

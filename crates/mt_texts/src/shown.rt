@@ -8,12 +8,12 @@ ghost use Rattle.mt_plain.specs.Output.{back_text, line_feed, shown_text, slot_t
 ghost use Rattle.mt_plain.specs.Plain.{changed_types};
 ghost use Rattle.mt_stream.specs.Streams.{state_from};
 ghost use Rattle.mt_workflow.specs.Workflows.{way_from};
-ghost use Rattle.mt_event.specs.Events.{shown_from, shown_stream_from};
+ghost use Rattle.mt_event.specs.Events.{lent_shown, shown_stream_from};
 ghost use Rattle.mt_texts.specs.Texts.{streams_text, traffic_text};
 
 use arrayvec::ArrayVec;
 use itoa::Buffer;
-use mt_event::{Shown, ShownStream};
+use mt_event::{ShownOf, ShownStream};
 use mt_io::LONGEST_LINE;
 use mt_names::{TableName, TypeSet};
 use mt_stream::StreamState;
@@ -193,9 +193,9 @@ fn copied_text(is_copied: bool) -> &'static [u8]
 }
 
 /// Adds the streams of a workflow.
-fn put_streams(text: &mut LineText, shown: &Shown)
+fn put_streams(text: &mut LineText, shown: &ShownOf<'_>)
     requires { length text.old.items + 78 ≤ LONGEST_LINE }
-    ensures text { text.new.items ≡ text.old.items ++ streams_text (shown_from shown.now) }
+    ensures text { text.new.items ≡ text.old.items ++ streams_text (lent_shown shown.now) }
     ensures short { length text.new.items ≤ length text.old.items + 78 }
 {
     put_word(text, b"forward");
@@ -206,9 +206,9 @@ fn put_streams(text: &mut LineText, shown: &Shown)
 }
 
 /// Adds the types whose traffic is switched, the open way, and the streams.
-fn put_traffic(text: &mut LineText, shown: &Shown)
+fn put_traffic(text: &mut LineText, shown: &ShownOf<'_>)
     requires { length text.old.items + 174 ≤ LONGEST_LINE }
-    ensures text { text.new.items ≡ text.old.items ++ traffic_text (shown_from shown.now) }
+    ensures text { text.new.items ≡ text.old.items ++ traffic_text (lent_shown shown.now) }
     ensures short { length text.new.items ≤ length text.old.items + 174 }
 {
     let types = shown.switched.text();
@@ -221,8 +221,8 @@ fn put_traffic(text: &mut LineText, shown: &Shown)
 
 /// Writes the line that tells of a workflow, in place of the text that was there.
 #[inline(never)]
-pub fn write_shown(text: &mut LineText, shown: &Shown)
-    ensures { text.new.items ≡ shown_text (shown_from shown.now) ++ line_feed }
+pub fn write_shown(text: &mut LineText, shown: &ShownOf<'_>)
+    ensures { text.new.items ≡ shown_text (lent_shown shown.now) ++ line_feed }
 {
     text.clear();
     put_word(text, shown.workflow.as_str().as_bytes());

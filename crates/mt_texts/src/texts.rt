@@ -70,7 +70,7 @@ pub fn write_answer(text: &mut LineText, answer: &Result<Reply, Refusal>)
         Ok(Reply::Row(None)) => write_line(text, b"none", b""),
         Ok(Reply::Row(Some(value))) => write_line(text, b"row ", value),
         Ok(Reply::Advanced(advanced)) => write_advanced(text, *advanced),
-        Ok(Reply::Shown(shown)) => write_shown(text, shown),
+        Ok(Reply::Shown(shown)) => write_shown(text, &shown.lent()),
         Err(refusal) => write_line(text, b"refused ", refusal.as_str().as_bytes()),
     }
 }

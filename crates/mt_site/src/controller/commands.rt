@@ -16,7 +16,7 @@ ghost use Rattle.mt_site.specs.Show.{shown_answer};
 use crate::controller::Core;
 use crate::given_up::a_move_can_be_given_up;
 use arrayvec::ArrayVec;
-use mt_event::{Refusal, Shown};
+use mt_event::{Refusal, ShownOf};
 use mt_laws::every_run_keeps_the_headline;
 use mt_names::{
     KeyspaceName, MAX_TABLES, Position, RuleKey, RuleTarget, TableName, TypeSet, WorkflowName,
@@ -131,7 +131,7 @@ impl Core {
 
     /// Tells of a workflow: what `apply` does with the event Show, without an event and a reply by value. `F7 NoWorkflow`. It takes no
     /// memory, and asks nobody. (Vitess: Show of MoveTables)
-    pub fn shown(&self, name: &WorkflowName) -> Result<Shown, Refusal>
+    pub fn shown(&self, name: &WorkflowName) -> Result<ShownOf<'_>, Refusal>
         ensures does { ShowsWorkflow self.now.core name.now (shown_answer result) self.now.core }
         ensures steps { (scopes : List Scope) → SiteSteps scopes self.now (plain.show name.now) (shown_answer result) self.now }
         ensures headline { (scopes : List Scope) → KeepsTheHeadline scopes self.now (plain.show name.now ∷ []) (shown_answer result ∷ []) self.now }

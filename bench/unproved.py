@@ -1,0 +1,150 @@
+#!/usr/bin/env python3
+"""Builds the program of these sources without proofs, to be measured by `bench/whole.py`: two minutes in place of an hour.
+
+bench/unproved.py [--no-fills] [--no-hints] PROGRAM
+
+It is no build to use: nothing is proved, and whoever measures it says so. `rt try` compiles the program with checks of its own, for LLVM; of
+that module the checks are taken out, and clang and the kit's linker make a program of it, with the flags of the kit. The sources' hints
+on inlining are set as they are in a proved build (`--no-hints` leaves them out). The instructions of the two builds differ by a few in a hundred.
+
+`--no-fills` also takes out the zeros with which each local that a function begins with is filled, to measure what they cost. A program may
+rest on them, so its outputs have to be compared: `bench/whole.py --beside` does.
+"""
+import argparse
+import os
+import pathlib
+import re
+import shlex
+import subprocess
+import sys
+import tempfile
+
+TOP = pathlib.Path(__file__).resolve().parent.parent
+RECORDER = """#!/bin/sh
+for word in "$@"; do
+    case "$word" in *.bc) cp "$word" {module} ;; esac
+done
+printf '%s\\n' "$@" > {flags}
+exec {clang} "$@"
+"""
+CHECK = re.compile(r'^  call void @"rattle-(llvm-checks|try)::|^  call void @llvm\.memset\.[^(]*\(ptr [^,]*, i8 -86,')
+FILL = re.compile(r"^  call void @llvm\.memset\.[^(]*\(ptr [^%]*(%[\w.]+), i8 0, i64 \d+, i1 false\)")
+LOCAL = re.compile(r"^  (%[\w.]+) = alloca ")
+DEFINED = re.compile(r'^define .*?@"((mt_\w+)::[^"]*)"\(')
+OWNER = re.compile(r"^impl(?:<[^{]*>)? (?:[^{]*? for )?(\w+)")
+HINT = re.compile(r"^\s*#\[inline\((always|never)\)\]")
+FUNCTION = re.compile(r"^\s*(?:pub(?:\([^)]*\))? )?(?:const )?fn (\w+)")
+GENERICS = re.compile(r"::<[^:]*>$")
+
+
+def kit():
+    """The folder of the kit whose `rt` is called."""
+    told = subprocess.run(["rt", "doc"], stdout=subprocess.PIPE, check=True, text=True).stdout
+    return pathlib.Path(told.strip()).parent
+
+
+def with_recorder(own, room):
+    """A kit like the given one, but that its clang leaves a copy of the module and of its flags in a folder."""
+    made = room / "kit"
+    for folder in (made / "bin", made / "toolchain/bin"):
+        folder.mkdir(parents=True)
+    listed = [it for it in own.iterdir() if it.name not in ("bin", "toolchain")]
+    listed += [*(own / "bin").iterdir(), own / "toolchain/lib", *(own / "toolchain/bin").iterdir()]
+    for it in listed:
+        to = made / it.relative_to(own)
+        if it.name in ("rt", "rtlib.py"):
+            to.write_bytes(it.read_bytes())  # rt finds its kit by where its own file is
+        elif it.name != "clang":
+            to.symlink_to(it)
+    words = {"module": room / "module.bc", "flags": room / "flags", "clang": own / "toolchain/bin/clang"}
+    clang = made / "toolchain/bin/clang"
+    clang.write_text(RECORDER.format(**{name: shlex.quote(str(it)) for name, it in words.items()}))
+    clang.chmod(0o755)
+    return made
+
+
+def compiled(own, room):
+    """The text of the module of the program that `rt try` compiles. Whatever it then runs ends with a usage error, which is of no account."""
+    rt = with_recorder(own, room) / "bin/rt"
+    subprocess.run([sys.executable, rt, "try"], cwd=TOP / "crates/mt_program", stdin=subprocess.DEVNULL, capture_output=True)
+    words = ["--target=x86_64-unknown-linux-gnu", "-S", "-emit-llvm", "-x", "ir", "-Xclang", "-disable-llvm-passes", "-w"]
+    subprocess.run([own / "toolchain/bin/clang", *words, room / "module.bc", "-o", room / "module.ll"], check=True)
+    return (room / "module.ll").read_text()
+
+
+def hints():
+    """What the sources say on inlining: of crate, owner (or none) and function, the word."""
+    found = {}
+    for file in sorted(TOP.glob("crates/*/src/**/*.rt")):
+        owner, word = "", None
+        for line in file.read_text().splitlines():
+            if line.startswith("}"):
+                owner = ""
+            elif line.startswith("impl"):
+                owner = OWNER.match(line)[1]
+            word = (HINT.match(line) or [None, word])[1]
+            if (named := FUNCTION.match(line)) and word:
+                found[file.relative_to(TOP).parts[1], owner, named[1]] = word
+                word = None
+    return found
+
+
+def hinted(line, words):
+    """The first line of a function with the hint that the sources have for it."""
+    named = DEFINED.match(line)
+    if not named:
+        return line
+    parts = GENERICS.sub("", named[1]).split("::")
+    owner = parts[-2] if len(parts) > 1 and parts[-2][:1].isupper() else ""
+    word = words.get((named[2], owner, parts[-1]))
+    return re.sub(r" (#\d+) \{", {"always": r" alwaysinline \1 {", "never": r" noinline \1 {"}.get(word, r" \1 {"), line, count=1)
+
+
+def stripped(lines, words):
+    """The lines of a module without the checks of a try, its functions with these hints."""
+    lines = [hinted(line, words) for line in lines if not CHECK.match(line)]
+    return [it.replace(" sanitize_address", "").replace('"frame-pointer"="all"', '"frame-pointer"="none"') if it.startswith("attributes") else it for it in lines]
+
+
+def without_fills(lines):
+    """The lines without what fills locals with zeros in the block that a function begins with. `indexmap` rests on its fills, so that it keeps them."""
+    kept, locals_, begins = [], set(), False
+    for line in lines:
+        if line.startswith("define"):
+            locals_, begins = set(), '@"indexmap' not in line
+        elif line.endswith(":") or line.startswith("  br "):
+            begins = begins and line == "start:"
+        elif begins and (local := LOCAL.match(line)):
+            locals_.add(local[1])
+        filled = FILL.match(line) if begins else None
+        if not filled or filled[1] not in locals_:
+            kept.append(line)
+    return kept
+
+
+def linked(own, room, program):
+    """Compiles the module's text with the kit's flags, and links it."""
+    flags = (room / "flags").read_text().splitlines()
+    flags = [it for it in flags if it.startswith("-") and not it.startswith(("-O", "-fsanitize", "-Werror", "--sysroot", "-o", "-c", "-x"))]
+    clang = [own / "toolchain/bin/clang", f"--sysroot={own}/toolchain", *flags, "-w", "-O3", "-fPIE", "-c", "-x", "ir"]
+    subprocess.run([*clang, room / "stripped.ll", "-o", room / "program.o"], check=True)
+    words = ["--target", "x86_64-unknown-linux-gnu", "--toolchain", own / "toolchain", "-o", program, room / "program.o"]
+    subprocess.run([own / "bin/rattle-link", *words, own / "c/libos_c.a", own / "c/liblibc_c.a"], check=True)
+
+
+def main():
+    asked = argparse.ArgumentParser(description=__doc__.split("\n")[0])
+    asked.add_argument("--no-fills", action="store_true")
+    asked.add_argument("--no-hints", action="store_true")
+    asked.add_argument("program")
+    given = asked.parse_args()
+    with tempfile.TemporaryDirectory() as folder:
+        own, room = kit(), pathlib.Path(folder)
+        lines = stripped(compiled(own, room).splitlines(), {} if given.no_hints else hints())
+        lines = without_fills(lines) if given.no_fills else lines
+        (room / "stripped.ll").write_text("\n".join(lines) + "\n")
+        linked(own, room, os.path.abspath(given.program))
+
+
+if __name__ == "__main__":
+    main()
