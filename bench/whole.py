@@ -1,11 +1,11 @@
 #!/usr/bin/env python3
 """Measures the whole program on seven inputs of about 1 MB each, and on request beside another program that prints the same.
 
-bench/whole.py [--beside OTHER] [--instructions | --memory | --faults] [--keep FOLDER] [PROGRAM]: PROGRAM is crates/mt_program/out/mt_program where none is named.
+bench/whole.py [--beside OTHER] [--instructions | --memory | --faults] [--only INPUT] [--keep FOLDER] [PROGRAM]: PROGRAM is crates/mt_program/out/mt_program where none is named.
 
 Of each input the least processor time of five runs counts, less that of an empty script; `--instructions` counts instructions instead, by
 one run under `valgrind --tool=callgrind`; `--memory` tells the most memory of one run, and `--faults` its page faults. With `--beside` both outputs have to be equal, byte for byte, and the ratio is told.
-`--keep` leaves the inputs in a folder. The seeds are fixed, so that each run measures the same inputs.
+`--only` measures the input of that name alone, and `--keep` leaves the inputs in a folder. The seeds are fixed, so that each run measures the same inputs.
 
 client operations: rows of 16 tables in two keyspaces, inserted, updated, appended to, deleted and got by names alone.
 a large table: rows of four tables; three of them are moved while clients go on, switched, reversed, switched again and completed.
@@ -287,12 +287,15 @@ def main():
     kind = words.add_mutually_exclusive_group()
     for name in MEASURES:
         kind.add_argument(f"--{name}", dest="kind", action="store_const", const=name)
+    words.add_argument("--only", choices=[title for title, _, _ in INPUTS])
     words.add_argument("--keep", type=pathlib.Path)
     asked = words.parse_args()
     measure, unit, scale, is_more = MEASURES.get(asked.kind, (seconds, "ms", 1e3, True))
     programs = [asked.program] + ([asked.beside] if asked.beside else [])
     empty = [measure(program, SCRIPT, b"") if is_more else 0 for program in programs]
     for title, command, make in INPUTS:
+        if asked.only not in (None, title):
+            continue
         text = make(random.Random(7))
         if asked.keep:
             (asked.keep / title.replace(" ", "_")).write_bytes(text)

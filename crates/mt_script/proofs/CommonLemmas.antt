@@ -1,5 +1,5 @@
 -- Lines that ask for something of a workflow, in their common form.
-use Rattle.std.proofs.Common.{◌≡◌, ℕ, ◌<◌, ◌^◌, None, IfSome, Option, Result, Err, true, false, List, [], ◌∷◌, ◌++◌, codes, get_or, length, Some, Ok, option_map, refl, sym, ap, ◌∙◌, arith}
+use Rattle.std.proofs.Common.{◌≡◌, ℕ, ◌<◌, ◌≤◌, ◌^◌, None, IfSome, Option, Result, Err, true, false, List, [], ◌∷◌, ◌++◌, codes, get_or, length, Some, Ok, option_map, refl, sym, ap, ◌∙◌, arith}
 use Rattle.std.proofs.lemmas.List.Sums.{list_all-from_AllPass}
 use Rattle.std.specs.Result.{IsOk, result_ok}
 use Rattle.mt_names.specs.declared.fault.NameFault.{NameFault}
@@ -9,10 +9,14 @@ use Rattle.mt_names.specs.Tables.{read_table_list}
 use Rattle.mt_names.specs.Types.{read_type_set}
 use Rattle.mt_plain.specs.Events.{StreamName, forward, back}
 use Rattle.mt_plain.specs.Events as core
-use Rattle.mt_plain.specs.Script.{Request, command_of, drive, event, is_visible, read_small_number, read_stream, request_of}
-use Rattle.mt_script.specs.Common.{AsksBehind, stream_text}
+use Rattle.mt_plain.specs.Script.{MAX_LINE_LENGTH, Request, command_of, drive, event, is_silent, is_visible, read_line, read_small_number, read_stream, request_of, words_of}
+use Rattle.mt_script.specs.declared.common.WorkflowVerb.{WorkflowVerb}
+use Rattle.mt_script.specs.declared.common.WorkflowVerb.TheVariants as verb
+use Rattle.mt_script.specs.Common.{AsksBehind, stream_text, verb_text}
+use Rattle.mt_script.specs.Requests.{meaning_of}
 use Rattle.mt_script.specs.Rows.{BeginsWithNumber}
 use Rattle.mt_script.specs.Words.{IsTextOf, IsVisibleWord}
+use Rattle.mt_script.proofs.LineLemmas.{means-read}
 use Rattle.mt_script.proofs.NumberLemmas.{number-alone, number-in-front, number-word}
 use Rattle.mt_script.proofs.RowLineLemmas.{name-visible}
 use Rattle.mt_script.proofs.VisibleLemmas.{HasWords, alone, in-front}
@@ -96,3 +100,34 @@ module _ {words name behind : List ℕ} {workflow : List ℕ} (is : words ≡ na
   advance-asks {behind_stream = behind_stream} {rest = rest} {last = last} stream {at = at} {most = most} is1 begins is2 reads =
       asks (in-front text.is_word is (in-front (stream-word stream) is1 (number-in-front behind_stream at rest begins is2 (alone (number-word 5 (2 ^ 16) last most reads)))))
       (rw (stream-read stream, begins.1, reads, text.reads) refl)
+
+-- ---- the verb
+
+verb-not_silent : (v : WorkflowVerb) (rest : List ℕ) → is_silent (verb_text v ++ 32 ∷ rest) ≡ false
+verb-not_silent verb.Advance rest = refl
+verb-not_silent verb.Step rest = refl
+verb-not_silent verb.Undo rest = refl
+verb-not_silent verb.Switch rest = refl
+verb-not_silent verb.Reverse rest = refl
+verb-not_silent verb.BeginSwitch rest = refl
+verb-not_silent verb.BeginReverse rest = refl
+verb-not_silent verb.Cancel rest = refl
+verb-not_silent verb.Show rest = refl
+
+verb-word : (v : WorkflowVerb) → IsVisibleWord (verb_text v)
+verb-word verb.Advance = record { visible = refl; some = omega arith }
+verb-word verb.Step = record { visible = refl; some = omega arith }
+verb-word verb.Undo = record { visible = refl; some = omega arith }
+verb-word verb.Switch = record { visible = refl; some = omega arith }
+verb-word verb.Reverse = record { visible = refl; some = omega arith }
+verb-word verb.BeginSwitch = record { visible = refl; some = omega arith }
+verb-word verb.BeginReverse = record { visible = refl; some = omega arith }
+verb-word verb.Cancel = record { visible = refl; some = omega arith }
+verb-word verb.Show = record { visible = refl; some = omega arith }
+
+-- what a line asks for that begins with a verb
+pub line-asks : (v : WorkflowVerb) (line words : List ℕ) (request : Request) → line ≡ verb_text v ++ 32 ∷ words → length line ≤ MAX_LINE_LENGTH
+    → AsksBehind (verb_text v) words request → Some (Ok request) ≡ meaning_of (read_line line)
+line-asks v line words request is short behind =
+    let all : HasWords line (verb_text v ∷ words_of words) = in-front (verb-word v) is (record { readable = behind.readable; words = refl }) in
+    means-read line (ap is_silent is ∙ verb-not_silent v words) short all.readable (Ok request) (sym (ap (λ ws. option_map request_of (command_of ws)) all.words ∙ behind.asks))

@@ -1,13 +1,14 @@
 //! Lines that ask for something of a workflow, in their common form: one space between two words, and no other blank.
-ghost use Rattle.std.specs.Prelude.{◌≡◌, ℕ, List, ◌++◌, ◌∷◌, IfSome, Ok, Some, codes, false, true};
+ghost use Rattle.std.specs.Prelude.{◌≡◌, ℕ, List, [], ◌++◌, ◌∷◌, IfSome, Ok, Some, codes, false, true};
 ghost use Rattle.mt_names.specs.Names.{read_keyspace, read_workflow};
 ghost use Rattle.mt_names.specs.Tables.{read_table_list};
 ghost use Rattle.mt_names.specs.Types.{read_type_set};
-ghost use Rattle.mt_plain.specs.Script.{drive, event, read_line, read_small_number};
-ghost use Rattle.mt_plain.specs.Events.{advance, begin_reverse, begin_switch, cancel, create, show, step, undo};
+ghost use Rattle.mt_plain.specs.Script.{event, read_line, read_small_number};
+ghost use Rattle.mt_plain.specs.Events.{create};
 ghost use Rattle.mt_workflow.specs.Workflows.{stream_name};
-ghost use Rattle.mt_script.specs.Common.{AsksBehind, stream_text, verb_text};
-ghost use Rattle.mt_script.specs.Requests.{asked_of_workflow, meaning_of};
+ghost use Rattle.mt_script.specs.Common.{AsksBehind, AsksOf, stream_text, verb_text};
+ghost use Rattle.mt_script.specs.Requests.{asked_of, asked_of_workflow, meaning_of};
+ghost use Rattle.mt_script.specs.Rows.{BeginsWithNumber};
 ghost use Rattle.mt_script.specs.Words.{IsTextOf, IsVisibleWord};
 
 use crate::lines::{MAX_LINE_LENGTH, WorkflowAsked, WorkflowRequest};
@@ -156,17 +157,15 @@ fn small_number(words: &[u8]) -> Option<u16>
     u16::try_from(number).ok()
 }
 
-/// A workflow and the number of its steps that stand done, with nothing behind them.
-fn workflow_and_number(words: &[u8]) -> Option<(WorkflowName, u64)>
-    ensures step { IfSome result (λ asked. AsksBehind (codes "step") words.now (event (step asked.0 asked.1))) }
-    ensures undo { IfSome result (λ asked. AsksBehind (codes "undo") words.now (event (undo asked.0 asked.1))) }
+/// The number that some words are.
+fn number_alone(words: &[u8]) -> Option<u64>
+    ensures { IfSome result (λ number. BeginsWithNumber words.now number []) }
 {
-    let (name, words) = name_in_front(words)?;
     let (number, rest) = number_in_front(words)?;
     if !rest.is_empty() {
         return None;
     }
-    Some((workflow_of(name)?, number))
+    Some(number)
 }
 
 /// The word as a text, if it has some bytes, and each of them is visible.
@@ -188,41 +187,98 @@ fn types_of(word: &[u8]) -> Option<TypeSet>
     TypeSet::parse(visible_text(word)?).ok()
 }
 
-/// A workflow and tablet types.
-fn workflow_and_types(words: &[u8]) -> Option<(WorkflowName, TypeSet)>
-    ensures switch { IfSome result (λ asked. AsksBehind (codes "switch") words.now (drive asked.0 asked.1 false)) }
-    ensures reverse { IfSome result (λ asked. AsksBehind (codes "reverse") words.now (drive asked.0 asked.1 true)) }
-    ensures begin_switch { IfSome result (λ asked. AsksBehind (codes "begin-switch") words.now (event (begin_switch asked.0 asked.1))) }
-    ensures begin_reverse { IfSome result (λ asked. AsksBehind (codes "begin-reverse") words.now (event (begin_reverse asked.0 asked.1))) }
+/// An advance, behind the workflow: its stream, a position, and how many rows or entries at most.
+fn advance_of(words: &[u8]) -> Option<WorkflowAsked>
+    ensures { IfSome result (λ asked. AsksOf (codes "advance") words.now asked) }
 {
-    let (name, types) = name_in_front(words)?;
-    Some((workflow_of(name)?, types_of(types)?))
-}
-
-/// A workflow alone.
-fn workflow_alone(words: &[u8]) -> Option<WorkflowName>
-    ensures cancel { IfSome result (λ workflow. AsksBehind (codes "cancel") words.now (event (cancel workflow))) }
-    ensures show { IfSome result (λ workflow. AsksBehind (codes "show") words.now (event (show workflow))) }
-{
-    workflow_of(words)
-}
-
-/// The request of an advance: a workflow, its stream, a position, and how many rows or entries at most.
-fn advance_of(words: &[u8]) -> Option<WorkflowRequest>
-    ensures { IfSome result (λ request. AsksBehind (codes "advance") words.now (asked_of_workflow request)) }
-{
-    let (name, words) = name_in_front(words)?;
     let (stream, words) = stream_in_front(words)?;
     let (at, words) = number_in_front(words)?;
     let most = small_number(behind_space(words)?)?;
-    Some(WorkflowRequest {
-        workflow: workflow_of(name)?,
-        asked: WorkflowAsked::Advance(stream, at, most),
-    })
+    Some(WorkflowAsked::Advance(stream, at, most))
+}
+
+/// A step, behind the workflow: how many stand done.
+fn step_of(words: &[u8]) -> Option<WorkflowAsked>
+    ensures { IfSome result (λ asked. AsksOf (codes "step") words.now asked) }
+{
+    let number = number_alone(words)?;
+    Some(WorkflowAsked::Step(number))
+}
+
+/// The undo of a step, behind the workflow: how many stand done.
+fn undo_of(words: &[u8]) -> Option<WorkflowAsked>
+    ensures { IfSome result (λ asked. AsksOf (codes "undo") words.now asked) }
+{
+    let number = number_alone(words)?;
+    Some(WorkflowAsked::Undo(number))
+}
+
+/// A switch, behind the workflow: its tablet types.
+fn switch_of(words: &[u8]) -> Option<WorkflowAsked>
+    ensures { IfSome result (λ asked. AsksOf (codes "switch") words.now asked) }
+{
+    let types = types_of(words)?;
+    Some(WorkflowAsked::Switch(types))
+}
+
+/// A reversal, behind the workflow: its tablet types.
+fn reverse_of(words: &[u8]) -> Option<WorkflowAsked>
+    ensures { IfSome result (λ asked. AsksOf (codes "reverse") words.now asked) }
+{
+    let types = types_of(words)?;
+    Some(WorkflowAsked::Reverse(types))
+}
+
+/// The begin of a switch, behind the workflow: its tablet types.
+fn begin_switch_of(words: &[u8]) -> Option<WorkflowAsked>
+    ensures { IfSome result (λ asked. AsksOf (codes "begin-switch") words.now asked) }
+{
+    let types = types_of(words)?;
+    Some(WorkflowAsked::BeginSwitch(types))
+}
+
+/// The begin of a reversal, behind the workflow: its tablet types.
+fn begin_reverse_of(words: &[u8]) -> Option<WorkflowAsked>
+    ensures { IfSome result (λ asked. AsksOf (codes "begin-reverse") words.now asked) }
+{
+    let types = types_of(words)?;
+    Some(WorkflowAsked::BeginReverse(types))
+}
+
+/// What a verb asks for by what stands behind the workflow and a space.
+fn asked_behind(verb: WorkflowVerb, words: &[u8]) -> Option<WorkflowAsked>
+    ensures { IfSome result (λ asked. AsksOf (verb_text verb) words.now asked) }
+{
+    match verb {
+        WorkflowVerb::Advance => advance_of(words),
+        WorkflowVerb::Step => step_of(words),
+        WorkflowVerb::Undo => undo_of(words),
+        WorkflowVerb::Switch => switch_of(words),
+        WorkflowVerb::Reverse => reverse_of(words),
+        WorkflowVerb::BeginSwitch => begin_switch_of(words),
+        WorkflowVerb::BeginReverse => begin_reverse_of(words),
+        WorkflowVerb::Cancel | WorkflowVerb::Show => None,
+    }
+}
+
+/// The word that names the workflow, and what the verb asks for of it. The name isn't read: of a name that is, what all words ask for.
+fn name_and_asked(verb: WorkflowVerb, words: &[u8]) -> Option<(&[u8], WorkflowAsked)>
+    ensures { IfSome result (λ parts. (workflow : List ℕ) → IsTextOf read_workflow parts.0.now workflow → AsksBehind (verb_text verb) words.now (asked_of workflow parts.1)) }
+{
+    match verb {
+        WorkflowVerb::Cancel => Some((words, WorkflowAsked::Cancel)),
+        WorkflowVerb::Show => Some((words, WorkflowAsked::Show)),
+        _ => {
+            let (name, rest) = name_in_front(words)?;
+            let asked = asked_behind(verb, rest)?;
+            Some((name, asked))
+        }
+    }
 }
 
 /// What a line asks for of a workflow that is there, if it is in the common form: one space between two words, and no other blank. It
-/// isn't read byte by byte before its words, which is faster.
+/// isn't read byte by byte before its words, which is faster; and its name is read once for all verbs, since a name has 72 bytes and is
+/// filled with zeros wherever one may be read.
 pub fn workflow_line(line: &[u8]) -> Option<WorkflowRequest>
     ensures { IfSome result (λ request. Some (Ok (asked_of_workflow request)) ≡ meaning_of (read_line line.now)) }
 {
@@ -230,35 +286,9 @@ pub fn workflow_line(line: &[u8]) -> Option<WorkflowRequest>
         return None;
     }
     let (verb, words) = workflow_verb_in_front(line)?;
-    match verb {
-        WorkflowVerb::Advance => advance_of(words),
-        WorkflowVerb::Step => {
-            let (workflow, at) = workflow_and_number(words)?;
-            Some(WorkflowAsked::Step(at).of(workflow))
-        }
-        WorkflowVerb::Undo => {
-            let (workflow, at) = workflow_and_number(words)?;
-            Some(WorkflowAsked::Undo(at).of(workflow))
-        }
-        WorkflowVerb::Switch => {
-            let (workflow, types) = workflow_and_types(words)?;
-            Some(WorkflowAsked::Switch(types).of(workflow))
-        }
-        WorkflowVerb::Reverse => {
-            let (workflow, types) = workflow_and_types(words)?;
-            Some(WorkflowAsked::Reverse(types).of(workflow))
-        }
-        WorkflowVerb::BeginSwitch => {
-            let (workflow, types) = workflow_and_types(words)?;
-            Some(WorkflowAsked::BeginSwitch(types).of(workflow))
-        }
-        WorkflowVerb::BeginReverse => {
-            let (workflow, types) = workflow_and_types(words)?;
-            Some(WorkflowAsked::BeginReverse(types).of(workflow))
-        }
-        WorkflowVerb::Cancel => Some(WorkflowAsked::Cancel.of(workflow_alone(words)?)),
-        WorkflowVerb::Show => Some(WorkflowAsked::Show.of(workflow_alone(words)?)),
-    }
+    let (name, asked) = name_and_asked(verb, words)?;
+    let workflow = workflow_of(name)?;
+    Some(WorkflowRequest { workflow, asked })
 }
 
 /// What a line asks for that makes a workflow, if the text of its tables is read.
