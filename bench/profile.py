@@ -70,9 +70,9 @@ def shares(program, text):
         taken[kind] += int(count.replace(",", ""))
     for kind, count in taken.most_common():
         print(f"{kind}: {count / 1e6:.2f} million, {100 * count / taken['all']:.0f} %")
-    for level in ("I1", "D1"):
-        missed = re.search(rf"{level} +misses: +([\d,]+)".encode(), done.stderr).group(1).decode()
-        print(f"misses of the first-level cache, {'code' if level == 'I1' else 'data'}: {missed}")
+    for letter, kind in (("I", "code"), ("D", "data")):
+        missed = re.search(rf"{letter}1 +misses: +([\d,]+)".encode(), done.stderr).group(1).decode()
+        print(f"misses of the first-level cache, {kind}: {missed}")
 
 
 def main():
