@@ -5,7 +5,7 @@ bench/unproved.py [--no-fills] [--no-hints] PROGRAM
 
 It is no build to use: nothing is proved, and whoever measures it says so. `rt try` compiles the program with checks of its own, for LLVM; of
 that module the checks are taken out, and clang and the kit's linker make a program of it, with the flags of the kit. The sources' hints
-on inlining are set as they are in a proved build (`--no-hints` leaves them out). The instructions of the two builds differ by a few in a hundred.
+on inlining are set as they are in a proved build (`--no-hints` leaves them out). The instructions of the two builds differ by less than one in a hundred.
 
 `--no-fills` also takes out the zeros with which each local that a function begins with is filled, to measure what they cost. A program may
 rest on them, so its outputs have to be compared: `bench/whole.py --beside` does.
@@ -112,7 +112,7 @@ def without_fills(lines):
     for line in lines:
         if line.startswith("define"):
             locals_, begins = set(), '@"indexmap' not in line
-        elif line.endswith(":") or line.startswith("  br "):
+        elif line and not line.startswith(" "):
             begins = begins and line == "start:"
         elif begins and (local := LOCAL.match(line)):
             locals_.add(local[1])
