@@ -10,6 +10,7 @@ ghost use Rattle.mt_keyspace.specs.Values.{IsDenialText, IsNamedKeyspace};
 ghost use Rattle.mt_keyspace.specs.Written.{items_behind, keyspace_item};
 
 use crate::keyspace::Keyspace;
+use arrayvec::ArrayString;
 use indexmap::IndexMap;
 use mt_names::{KeyspaceName, TableName};
 use mt_rules::{WrittenItem, push_sorted};
@@ -22,15 +23,14 @@ const LIKELY_LENGTH: usize = 64;
 const LIKELY_KEYSPACE: usize = 4096;
 
 /// The name of a table behind another text, as an item of a list of texts.
-fn written_name(alloc: Global, before: &str, table: &TableName) -> Result<WrittenItem, AllocError>
-    ensures text { IfOk result (λ item. written_text item ≡ quoted_item (before.now ++ table.now)) }
+fn written_name(before: &str, table: &TableName) -> WrittenItem
+    ensures text { written_text result ≡ quoted_item (before.now ++ table.now) }
     ensures named { IsTableName table.now }
 {
-    let name = table.as_str();
-    let mut text = String::with_capacity(alloc, LIKELY_LENGTH)?;
-    text.push_str(before)?;
-    text.push_str(name)?;
-    WrittenItem::of_text(alloc, text)
+    let mut text = ArrayString::new();
+    text.push_str(before);
+    text.push_str(table.as_str());
+    WrittenItem::quoted(text)
 }
 
 /// Adds the names that are marked, each behind another text, in the order of their places.
@@ -45,7 +45,7 @@ pub fn add_names(
 {
     'places: for (table, is_marked) in places.iter() {
         if *is_marked {
-            let item = written_name(alloc, before, table)?;
+            let item = written_name(before, table);
             items.push(item)?;
         }
     }
@@ -83,8 +83,9 @@ fn written_keyspace(
     text.push_str("\",\"tables\":")?;
     keyspace.push_tables(alloc, &mut text)?;
     text.push_str("}")?;
-    let key = String::from_str(alloc, name.as_str())?;
-    Ok(WrittenItem::new(key, text))
+    let mut key = ArrayString::new();
+    key.push_str(name.as_str());
+    Ok(WrittenItem::of_text(key, text))
 }
 
 /// The keyspaces as they are written, in the order of their places.

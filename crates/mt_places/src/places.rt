@@ -15,8 +15,8 @@ use std::alloc::{AllocError, Global};
 use std::marker::Model;
 
 /// Half of how many slots there may be beyond twice the places, before the places are made anew without those that were dropped. With
-/// up to 170 places there are no more than 2,048 slots then, up to which their list doubles.
-const MOST_DROPPED: usize = 850;
+/// up to 120 places their list has less than 128 KiB then, so that it stays where small pieces of memory are, and few caches miss it.
+const MOST_DROPPED: usize = 250;
 
 /// Places of rule keys, each with a rule or without one.
 #[derive(Drop)]
@@ -264,13 +264,14 @@ impl Places {
     }
 }
 
-/// The same places, with no name and no slot of those that were dropped.
+/// The same places, with no name and no slot of those that were dropped, and with room for as many slots.
 fn swept(alloc: Global, links: &Links) -> Result<Places, AllocError>
     requires { IsIndexed links.now.names.entries links.now.slots.items }
     ensures { IfOk result (λ swept. swept ≡ in_order (keys_of links.now.names.entries) links.now.slots.items) }
 {
     links.facts();
     let mut swept = Places::new(alloc);
+    swept.links.slots.reserve(links.slots.len())?;
     for slot in &links.slots {
         if let Some((key, rule)) = links.place_of(slot) {
             swept.add_last(&key, names_of_rule(rule))?;

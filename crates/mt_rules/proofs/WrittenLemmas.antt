@@ -176,19 +176,22 @@ Writes-all texts rules w = sym (append-nil texts) ∙ w.texts
 
 -- ---- what was appended in turn
 
-pub five_parts : (start first second third fourth all from to : List ℕ) → start ≡ [] → first ≡ start ++ codes "{\"from_table\":\"" → second ≡ first ++ from → third ≡ second ++ codes "\",\"to_tables\":[\"" → fourth ≡ third ++ to
-    → all ≡ fourth ++ codes "\"]}" → all ≡ text_of_texts from to
-five_parts start first second third fourth all from to none one two three four five =
-    let front : second ≡ (codes "{\"from_table\":\"") ++ from = two ∙ ap (λ t. t ++ from) (one ∙ ap (λ t. t ++ codes "{\"from_table\":\"") none) in
+pub five_parts : (start first second third fourth all from to : List ℕ) → first ≡ start ++ codes "{\"from_table\":\"" → second ≡ first ++ from → third ≡ second ++ codes "\",\"to_tables\":[\"" → fourth ≡ third ++ to
+    → all ≡ fourth ++ codes "\"]}" → all ≡ start ++ text_of_texts from to
+five_parts start first second third fourth all from to one two three four five =
+    let front : second ≡ (start ++ codes "{\"from_table\":\"") ++ from = two ∙ ap (λ t. t ++ from) one in
     five ∙ ap (λ t. t ++ codes "\"]}") (four ∙ ap (λ t. t ++ to) (three ∙ ap (λ t. t ++ codes "\",\"to_tables\":[\"") front))
-    ∙ in_turn (codes "{\"from_table\":\"") from (codes "\",\"to_tables\":[\"") to (codes "\"]}") ∙ parts (quoted (codes "from_table")) from (quoted (codes "to_tables")) to
+    ∙ in_turn start (codes "{\"from_table\":\"") from (codes "\",\"to_tables\":[\"") to (codes "\"]}") ∙ ap (λ t. start ++ t) (parts (quoted (codes "from_table")) from (quoted (codes "to_tables")) to)
   where
-    in_turn : (a b c d e : List ℕ) → (((a ++ b) ++ c) ++ d) ++ e ≡ a ++ (b ++ (c ++ (d ++ e)))
-    in_turn a b c d e = simp append_assoc
+    in_turn : (s a b c d e : List ℕ) → ((((s ++ a) ++ b) ++ c) ++ d) ++ e ≡ s ++ (a ++ (b ++ (c ++ (d ++ e))))
+    in_turn s a b c d e = simp append_assoc
 
     parts : (p from s to : List ℕ) → 123 ∷ (p ++ 58 ∷ 34 ∷ (from ++ 34 ∷ 44 ∷ (s ++ 58 ∷ 91 ∷ 34 ∷ (to ++ 34 ∷ 93 ∷ 125 ∷ []))))
         ≡ 123 ∷ (((p ++ 58 ∷ 34 ∷ (from ++ 34 ∷ [])) ++ 44 ∷ (s ++ 58 ∷ 91 ∷ ((34 ∷ (to ++ 34 ∷ [])) ++ 93 ∷ []))) ++ 125 ∷ [])
     parts p from s to = simp append_assoc
+
+pub three_parts : (start first second all a b c : List ℕ) → first ≡ start ++ a → second ≡ first ++ b → all ≡ second ++ c → all ≡ start ++ (a ++ (b ++ c))
+three_parts start first second all a b c one two three = three ∙ ap (λ t. t ++ c) (two ∙ ap (λ t. t ++ b) one) ∙ simp append_assoc
 
 -- a text more, behind what stands before it
 pub one_more : (start first second before text rest whole : List ℕ) → first ≡ start ++ before → second ≡ first ++ text → start ++ (before ++ (text ++ rest)) ≡ whole → second ++ rest ≡ whole

@@ -1,8 +1,8 @@
 -- The document of the rules as it is written: the texts of the rules, in the order of their keys' texts.
-use Rattle.std.specs.Prelude.{ℕ, List, [], ◌∷◌, ◌++◌, codes, flat_map, map, string_bytes}
+use Rattle.std.specs.Prelude.{ℕ, List, [], ◌∷◌, ◌++◌, Option, None, Some, codes, flat_map, map, option_map, string_bytes}
 use Rattle.mt_names.specs.declared.keys.RuleKey.{RuleKey}
 use Rattle.mt_names.specs.declared.keys.RuleTarget.{RuleTarget}
-use Rattle.mt_names.specs.Keys.{key_text}
+use Rattle.mt_names.specs.Keys.{key_text, target_text}
 use Rattle.mt_names.specs.Types.{comma}
 use Rattle.mt_model.specs.Documents.{array, entries_of, member, object, quoted, rule_text}
 use Rattle.mt_model.specs.Topology.{Rules}
@@ -20,13 +20,19 @@ named_text r = (key_text r.0, rule_text r)
 abbrev pub texts_of : Rules → List (List ℕ × List ℕ)
 texts_of rules = map named_text (flat_map entries_of rules)
 
--- the key and the text that the code keeps of an item
-abbrev pub written_text : WrittenItem → List ℕ × List ℕ
-written_text item = (string_bytes item.key, string_bytes item.text)
-
 -- a text in quotes, under itself
 abbrev pub quoted_item : List ℕ → List ℕ × List ℕ
 quoted_item text = (text, quoted text)
+
+-- the text of an item with this key: of a rule where it leads somewhere, else one of its own, or the key in quotes
+abbrev pub item_text : List ℕ → Option RuleTarget → Option (List ℕ) → List ℕ
+item_text key (Some target) text = text_of_texts key (target_text target)
+item_text key None (Some text) = text
+item_text key None None = quoted key
+
+-- the key and the text of an item
+abbrev pub written_text : WrittenItem → List ℕ × List ℕ
+written_text item = (item.key.bytes, item_text item.key.bytes item.target (option_map string_bytes item.text))
 
 -- the document of rules with these texts, in their order
 abbrev pub written_document : List (List ℕ × List ℕ) → List ℕ

@@ -90,20 +90,27 @@ pub fn rule_of(rule: &Value) -> Result<(RuleKey, RuleTarget), RulesFault>
     rule_of_texts(from, to)
 }
 
-/// The rules of a list, taken in turn.
-fn rules_of_list(alloc: Global, list: &[Value]) -> Result<RoutingRules, RulesFault>
-    ensures { IsUnlessMemory result (with_rules [] (items_view list.now)) }
+/// The rule that a value says, in whose place null is left, so that its memory is given back.
+fn take_rule(rule: &mut Value) -> Result<(RuleKey, RuleTarget), RulesFault>
+    ensures { result ≡ rule_of (view rule.old) }
+{
+    rule_of(&rule.take())
+}
+
+/// The rules of a list, taken in turn. Each value is given back as its rule is taken, so that the two never stand in memory whole.
+fn rules_of_list(alloc: Global, list: &mut [Value]) -> Result<RoutingRules, RulesFault>
+    ensures { IsUnlessMemory result (with_rules [] (items_view list.old)) }
 {
     let mut rules = RoutingRules::new(alloc);
-    'values: for value in list {
-        let (key, target) = rule_of(value)?;
+    'values: for value in list.iter_mut() {
+        let (key, target) = take_rule(value)?;
         rules.add(key, target)?;
     }
     Ok(rules)
 }
 
 /// The rules of a document's member.
-pub fn rules_of_member(alloc: Global, found: Option<&Value>) -> Result<RoutingRules, RulesFault>
+pub fn rules_of_member(alloc: Global, found: Option<&mut Value>) -> Result<RoutingRules, RulesFault>
     ensures { IsUnlessMemory result (rules_of_member (option_map (λ v. view v.now) found.entry)) }
 {
     match found {
@@ -114,13 +121,13 @@ pub fn rules_of_member(alloc: Global, found: Option<&Value>) -> Result<RoutingRu
 }
 
 /// The rules that a document's value says.
-fn rules_of_value(alloc: Global, document: &Value) -> Result<RoutingRules, RulesFault>
-    ensures { IsUnlessMemory result (rules_of_value (view document.now)) }
+fn rules_of_value(alloc: Global, document: &mut Value) -> Result<RoutingRules, RulesFault>
+    ensures { IsUnlessMemory result (rules_of_value (view document.old)) }
 {
     if !document.is_object() {
         return Err(RulesFault::Shape);
     }
-    rules_of_member(alloc, document.get("rules"))
+    rules_of_member(alloc, document.get_mut("rules"))
 }
 
 /// The value that `serde_json` reads of a text. `R2 NotJson` where it reads none, `R0 Memory`.
@@ -143,6 +150,6 @@ pub fn value_of_text(alloc: Global, text: &[u8]) -> Result<Value, RulesFault>
 pub fn rules_of_text(alloc: Global, text: &[u8]) -> Result<RoutingRules, RulesFault>
     ensures { IsUnlessMemory result (rules_of_text text.now) }
 {
-    let document = value_of_text(alloc, text)?;
-    rules_of_value(alloc, &document)
+    let mut document = value_of_text(alloc, text)?;
+    rules_of_value(alloc, &mut document)
 }

@@ -4,10 +4,12 @@ ghost use Rattle.std.specs.List.{AllByRecursion, IsDistinct};
 ghost use Rattle.std.specs.Map.{keys_of};
 ghost use Rattle.mt_names.specs.Names.{same_text};
 ghost use Rattle.mt_names.specs.Same.{same_key};
-ghost use Rattle.mt_model.specs.Documents.{array, entries_of, put_by_text, rules_array};
+ghost use Rattle.mt_model.specs.Documents.{array, entries_of, put_by_text, quoted, rules_array};
 ghost use Rattle.mt_rules.specs.Values.{IsNamed, IsWellSorted};
 ghost use Rattle.mt_rules.specs.Written.{named_text, quoted_item, text_of_texts, texts_of, written_document, written_text};
+ghost use Rattle.mt_names.specs.Keys.{target_text};
 
+use arrayvec::ArrayString;
 use mt_names::{RuleKey, RuleTarget};
 use mt_places::Places;
 use std::alloc::{AllocError, Global};
@@ -15,31 +17,85 @@ use std::alloc::{AllocError, Global};
 /// How many bytes the text of a rule is taken to have before it is known.
 const LIKELY_LENGTH: usize = 112;
 
-/// An item of a list as it is written, with the key by which such items are sorted.
+/// The longest text in bytes that a routing rule's key has.
+const MAX_KEY_LENGTH: usize = 137;
+
+/// An item of a list as it is written, with the key by which such items are sorted. It has a text of its own only where it isn't
+/// written from other parts.
 #[derive(Drop)]
 pub struct WrittenItem {
-    key: String,
-    text: String,
+    key: ArrayString<MAX_KEY_LENGTH>,
+    /// Where a rule leads.
+    target: Option<RuleTarget>,
+    /// The text, of what is no rule.
+    text: Option<String>,
 }
 
 impl WrittenItem {
-    /// An item of this text.
-    pub fn new(key: String, text: String) -> Self
-        ensures { written_text result ≡ (string_bytes key, string_bytes text) }
+    /// An item with a text of its own.
+    pub fn of_text(key: ArrayString<MAX_KEY_LENGTH>, text: String) -> Self
+        ensures { written_text result ≡ (key.bytes, string_bytes text) }
     {
-        WrittenItem { key, text }
+        WrittenItem {
+            key,
+            target: None,
+            text: Some(text),
+        }
     }
 
     /// A text as an item, which is written in quotes. A text that JSON escapes is not written as JSON wants it.
-    pub fn of_text(alloc: Global, key: String) -> Result<Self, AllocError>
-        ensures { IfOk result (λ item. written_text item ≡ quoted_item (string_bytes key)) }
+    pub fn quoted(key: ArrayString<MAX_KEY_LENGTH>) -> Self
+        ensures { written_text result ≡ quoted_item key.bytes }
     {
-        let mut text = String::with_capacity(alloc, LIKELY_LENGTH)?;
-        text.push_str("\"")?;
-        text.push_str(key.as_str())?;
-        text.push_str("\"")?;
-        Ok(WrittenItem { key, text })
+        WrittenItem {
+            key,
+            target: None,
+            text: None,
+        }
     }
+
+    /// Appends its text.
+    fn push_to(&self, text: &mut String) -> Result<(), AllocError>
+        ensures { OnOk result (string_bytes text.new ≡ string_bytes text.old ++ (written_text self.now).1) }
+    {
+        match (&self.target, &self.text) {
+            (Some(target), _) => push_rule(text, self.key.as_str(), target),
+            (None, None) => push_quoted(text, self.key.as_str()),
+            (None, Some(own)) => text.push_str(own.as_str()),
+        }
+    }
+}
+
+/// Appends a rule of a key with this text.
+fn push_rule(text: &mut String, key: &str, target: &RuleTarget) -> Result<(), AllocError>
+    ensures { OnOk result (string_bytes text.new ≡ string_bytes text.old ++ text_of_texts key.now (target_text target.now)) }
+{
+    text.push_str("{\"from_table\":\"")?;
+    text.push_str(key)?;
+    text.push_str("\",\"to_tables\":[\"")?;
+    push_target(text, target)?;
+    text.push_str("\"]}")?;
+    Ok(())
+}
+
+/// Appends the text of where a rule leads.
+fn push_target(text: &mut String, target: &RuleTarget) -> Result<(), AllocError>
+    ensures { OnOk result (string_bytes text.new ≡ string_bytes text.old ++ target_text target.now) }
+{
+    text.push_str(target.keyspace.as_str())?;
+    text.push_str(".")?;
+    text.push_str(target.table.as_str())?;
+    Ok(())
+}
+
+/// Appends a text in quotes.
+fn push_quoted(text: &mut String, own: &str) -> Result<(), AllocError>
+    ensures { OnOk result (string_bytes text.new ≡ string_bytes text.old ++ quoted own.now) }
+{
+    text.push_str("\"")?;
+    text.push_str(own)?;
+    text.push_str("\"")?;
+    Ok(())
 }
 
 /// Some items by reference, in their order.
@@ -85,40 +141,25 @@ fn push_list(text: &mut String, items: &[&WrittenItem]) -> Result<(), AllocError
     let mut before = "";
     'items: for &item in items {
         text.push_str(before)?;
-        text.push_str(item.text.as_str())?;
+        item.push_to(text)?;
         before = ",";
     }
     text.push_str("]")?;
     Ok(())
 }
 
-/// The text of a rule of these two texts.
-fn text_of_texts(alloc: Global, from: &str, to: &str) -> Result<String, AllocError>
-    ensures { IfOk result (λ text. string_bytes text ≡ text_of_texts from.now to.now) }
-{
-    let mut text = String::with_capacity(alloc, LIKELY_LENGTH)?;
-    text.push_str("{\"from_table\":\"")?;
-    text.push_str(from)?;
-    text.push_str("\",\"to_tables\":[\"")?;
-    text.push_str(to)?;
-    text.push_str("\"]}")?;
-    Ok(text)
-}
-
 /// A rule as it is written.
-fn written_rule(
-    alloc: Global,
-    key: &RuleKey,
-    target: &RuleTarget,
-) -> Result<WrittenItem, AllocError>
-    ensures text { IfOk result (λ rule. written_text rule ≡ named_text (key.now, target.now)) }
+fn written_rule(key: &RuleKey, target: &RuleTarget) -> WrittenItem
+    ensures text { written_text result ≡ named_text (key.now, target.now) }
     ensures named { IsNamed (key.now, target.now) }
 {
-    let from = key.text();
-    let to = target.text();
-    let text = text_of_texts(alloc, from.as_str(), to.as_str())?;
-    let key = String::from_str(alloc, from.as_str())?;
-    Ok(WrittenItem { key, text })
+    target.keyspace.as_str();
+    target.table.as_str();
+    WrittenItem {
+        key: key.text(),
+        target: Some(target.copied()),
+        text: None,
+    }
 }
 
 /// The rules as they are written, in the order of their places.
@@ -132,8 +173,7 @@ pub fn written_rules(alloc: Global, places: &Places) -> Result<Vec<WrittenItem>,
     let links = places.links();
     for slot in links.slots() {
         if let Some((key, target)) = links.rule_of_slot(slot) {
-            let rule = written_rule(alloc, &key, target)?;
-            rules.push(rule)?;
+            rules.push(written_rule(&key, target))?;
         }
     }
     Ok(rules)

@@ -5,4 +5,4 @@ use Rattle.mt_rules.specs.Read.{with_rules}
 use Rattle.mt_rules.proofs.read.rules_of_list.Given as goal
 
 abbrev pub invariant-values : goal.invariant-values
-invariant-values l = with_rules [] (items_view l.list) ≡ with_rules l.rules (items_view (drop l.value-index l.list))
+invariant-values l = with_rules [] (items_view l.initial.list) ≡ with_rules l.rules (items_view (drop l.value-index l.list))

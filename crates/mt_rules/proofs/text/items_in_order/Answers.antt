@@ -14,6 +14,6 @@ returns c =
     let before = c.in_ok-lent.lent.items in
     let after = c.sort_unstable_by.new.self.items in
     let given = map_twice written_text (λ item. item.now) before ∙ ap (map written_text) c.in_ok-lent.ensures in
-    let rises = rises_from_sorted (λ item. written_text item.now) after (c.sort_unstable_by.ensures.sorted _ (ranks (λ item. string_bytes item.now.key)) (answers_always _ _ _ (λ f a r g k. search rules))) in
+    let rises = rises_from_sorted (λ item. written_text item.now) after (c.sort_unstable_by.ensures.sorted _ (ranks (λ item. item.now.key.bytes)) (answers_always _ _ _ (λ f a r g k. search rules))) in
     sorted_is_put (map (λ item. written_text item.now) before) (map (λ item. written_text item.now) after) (IsPermutation-map (λ item. written_text item.now) before after c.sort_unstable_by.ensures.permutation) rises
     (subst (λ texts. IsDistinct same_text (map (λ x. x.0) texts)) (sym given) c.requires) ∙ ap (fold put_by_text []) given

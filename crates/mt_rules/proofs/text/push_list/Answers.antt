@@ -16,9 +16,9 @@ items-preserved c =
     let step : drop c.items.item-index items ≡ item ∷ left = drop_more items c.items.item-index item c.items-test.true ∙ ap (λ x. x ∷ left) (sym c.item-item.is) in
     let whole = string_bytes c.push_str.new.self ++ rest_text [] (map (λ x. x.1) (map (λ item. written_text item.now) items)) in
     let before = subst (λ l. string_bytes c.items.text ++ rest_text c.items.before.now (map (λ x. x.1) (map (λ item. written_text item.now) l)) ≡ whole) step c.items.invariant.0 in (
-      one_more (string_bytes c.items.text) (string_bytes c.push_str-in-items.new.self) (string_bytes c.push_str-in-items-2.new.self) c.items.before.now (string_bytes item.now.text)
+      one_more (string_bytes c.items.text) (string_bytes c.push_str-in-items.new.self) (string_bytes c.push_to.new.text) c.items.before.now (written_text item.now).1
           (rest_text (comma ∷ []) (map (λ x. x.1) (map (λ item. written_text item.now) left))) whole c.in_ok-push_str-2.ensures.bytes
-          (c.in_ok-push_str-3.ensures.bytes ∙ ap (λ t. string_bytes c.push_str-in-items.new.self ++ t) c.as_str.ensures.value) before,
+          c.in_ok-push_to.ensures before,
       (44 ∷ [], (refl, refl)),
     )
 
@@ -28,4 +28,4 @@ returns c =
     let texts = map (λ x. x.1) (map (λ item. written_text item.now) items) in
     let all = subst (λ l. string_bytes c.items.text ++ rest_text c.items.before.now (map (λ x. x.1) (map (λ item. written_text item.now) l)) ≡ string_bytes c.push_str.new.self ++ rest_text [] texts)
     (drop_all c.items.item-index items c.items-test.false) c.items.invariant.0 in
-    closed (string_bytes c.args.text.now) (string_bytes c.push_str.new.self) (string_bytes c.items.text) (string_bytes c.push_str-2.new.self) texts c.in_ok-push_str.ensures.bytes all c.in_ok-push_str-4.ensures.bytes
+    closed (string_bytes c.args.text.now) (string_bytes c.push_str.new.self) (string_bytes c.items.text) (string_bytes c.push_str-2.new.self) texts c.in_ok-push_str.ensures.bytes all c.in_ok-push_str-3.ensures.bytes
