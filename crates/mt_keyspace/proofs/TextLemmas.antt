@@ -1,9 +1,9 @@
 -- The texts that were written, in the order of their keys, are the lists of the dump.
-use Rattle.std.proofs.Common.{◌≡◌, ℕ, true, false, List, [], ◌∷◌, ◌++◌, codes, map, flat_map, fold, append_assoc, append-nil, refl, sym, ap, ◌∙◌}
+use Rattle.std.proofs.Common.{◌≡◌, ℕ, Option, None, Some, true, false, List, [], ◌∷◌, ◌++◌, codes, map, flat_map, fold, append_assoc, append-nil, refl, sym, ap, ◌∙◌}
 use Rattle.std.proofs.lemmas.List.{map-append}
 use Rattle.std.specs.List.{AllByRecursion}
 use Rattle.mt_names.specs.declared.keys.RuleTarget.{RuleTarget}
-use Rattle.mt_names.specs.Keys.{IsRuleTarget, dot}
+use Rattle.mt_names.specs.Keys.{IsRuleTarget, dot, key_text, qualifier_text}
 use Rattle.mt_names.specs.Names.{IsKeyspaceName, IsTableName}
 use Rattle.mt_names.proofs.KeyLemmas.{read_target-target_text}
 use Rattle.mt_model.specs.Documents.{denied_text, denied_texts, marked, put_by_text, quoted, sorted_by_text, sorted_texts}
@@ -46,6 +46,12 @@ all-themselves P (t ∷ ts) all = (all.0, all-themselves P ts all.1)
 
 pub all-sorted : (P : List ℕ → Type 0) (texts : List (List ℕ)) → AllByRecursion P texts → AllByRecursion P (sorted_texts texts)
 all-sorted P texts all = of_seconds P (fold put_by_text [] (by_themselves texts)) (all-sort (λ x. P x.1) [] (by_themselves texts) tt (all-themselves P texts all))
+
+-- ---- a name as a key for all types
+
+pub text_of_name : (keyspace : Option (List ℕ)) (table : List ℕ) → key_text (record { keyspace = keyspace; table = table; tablet_type = None }) ≡ qualifier_text keyspace ++ table
+text_of_name None table = simp append-nil
+text_of_name (Some k) table = simp append-nil
 
 -- ---- one name after another
 

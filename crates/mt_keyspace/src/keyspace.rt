@@ -1,7 +1,8 @@
 //! One keyspace of a topology.
-ghost use Rattle.std.specs.Prelude.{◌≡◌, ◌&&◌, ◌==◌, ◌≤◌, ◌++◌, [], true, false, length, is_some, map, slice_get, OnOk, string_bytes};
+ghost use Rattle.std.specs.Prelude.{◌≡◌, ◌&&◌, ◌==◌, ◌≤◌, ◌++◌, [], Some, true, false, length, is_some, map, slice_get, OnOk, string_bytes};
 ghost use Rattle.std.specs.List.{AllByRecursion, IsDistinct};
 ghost use Rattle.std.specs.Map.{keys_of, lookup};
+ghost use Rattle.mt_names.specs.Keys.{qualifier_text};
 ghost use Rattle.mt_names.specs.Names.{IsTableName, same_text};
 ghost use Rattle.mt_model.specs.Limits.{most_tables_in_keyspace};
 ghost use Rattle.mt_model.specs.Part.{table_routes};
@@ -191,17 +192,16 @@ impl Keyspace {
         text::push_tables(alloc, text, self.tables.places())
     }
 
-    /// Adds the denied tables, each behind another text, in the order of their places.
+    /// Adds the denied tables, each behind the name of the keyspace, in the order of their places.
     pub(crate) fn add_denied(
         &self,
-        alloc: Global,
         items: &mut Vec<WrittenItem>,
-        before: &str,
+        name: &KeyspaceName,
     ) -> Result<(), AllocError>
-        ensures texts { OnOk result (map written_text items.new.items ≡ map written_text items.old.items ++ items_behind before.now self.now.denied) }
+        ensures texts { OnOk result (map written_text items.new.items ≡ map written_text items.old.items ++ items_behind (qualifier_text (Some name.now)) self.now.denied) }
         ensures named { OnOk result (AllByRecursion IsTableName (marked self.now.denied)) }
     {
-        text::add_names(alloc, items, before, self.denied.places())
+        text::add_names(items, Some(name), self.denied.places())
     }
 
     /// Adds a table. `T4 Exists`, `T5 Full` at a 257th place, `T0 Memory`.

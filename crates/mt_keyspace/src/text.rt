@@ -1,7 +1,8 @@
 //! Writing the keyspaces of a dump as a text, without a value of `serde_json`.
-ghost use Rattle.std.specs.Prelude.{◌≡◌, ◌++◌, [], flat_map, map, IfOk, OnOk, string_bytes};
+ghost use Rattle.std.specs.Prelude.{◌≡◌, ◌++◌, [], flat_map, map, option_copied, IfOk, OnOk, string_bytes};
 ghost use Rattle.std.specs.List.{AllByRecursion, IsDistinct};
 ghost use Rattle.std.specs.Map.{keys_of};
+ghost use Rattle.mt_names.specs.Keys.{qualifier_text};
 ghost use Rattle.mt_names.specs.Names.{IsKeyspaceName, IsTableName, same_text};
 ghost use Rattle.mt_model.specs.Documents.{array, denied_sorted, denied_texts, keyspace_text, keyspaces_in_order, marked, quoted, sorted_texts};
 ghost use Rattle.mt_rules.specs.Written.{quoted_item, written_text};
@@ -12,41 +13,34 @@ ghost use Rattle.mt_keyspace.specs.Written.{items_behind, keyspace_item};
 use crate::keyspace::Keyspace;
 use arrayvec::ArrayString;
 use indexmap::IndexMap;
+use mt_model::key_of_name;
 use mt_names::{KeyspaceName, TableName};
 use mt_rules::{WrittenItem, push_sorted};
 use std::alloc::{AllocError, Global};
 
-/// How many bytes a name is taken to have before it is known.
-const LIKELY_LENGTH: usize = 64;
-
 /// How many bytes the text of a keyspace is taken to have before it is known.
 const LIKELY_KEYSPACE: usize = 4096;
 
-/// The name of a table behind another text, as an item of a list of texts.
-fn written_name(before: &str, table: &TableName) -> WrittenItem
-    ensures text { written_text result ≡ quoted_item (before.now ++ table.now) }
+/// The name of a table, alone or behind that of its keyspace, as an item of a list of texts.
+fn written_name(keyspace: Option<&KeyspaceName>, table: &TableName) -> WrittenItem
+    ensures text { written_text result ≡ quoted_item (qualifier_text (option_copied keyspace.entry) ++ table.now) }
     ensures named { IsTableName table.now }
 {
-    let mut text = ArrayString::new();
-    text.push_str(before);
-    text.push_str(table.as_str());
-    WrittenItem::quoted(text)
+    WrittenItem::quoted(key_of_name(keyspace, table, None).text())
 }
 
-/// Adds the names that are marked, each behind another text, in the order of their places.
+/// Adds the names that are marked, each alone or behind that of the keyspace, in the order of their places.
 pub fn add_names(
-    alloc: Global,
     items: &mut Vec<WrittenItem>,
-    before: &str,
+    keyspace: Option<&KeyspaceName>,
     places: &IndexMap<TableName, bool>,
 ) -> Result<(), AllocError>
-    ensures texts { OnOk result (map written_text items.new.items ≡ map written_text items.old.items ++ items_behind before.now places.now.entries) }
+    ensures texts { OnOk result (map written_text items.new.items ≡ map written_text items.old.items ++ items_behind (qualifier_text (option_copied keyspace.entry)) places.now.entries) }
     ensures named { OnOk result (AllByRecursion IsTableName (marked places.now.entries)) }
 {
     'places: for (table, is_marked) in places.iter() {
         if *is_marked {
-            let item = written_name(before, table);
-            items.push(item)?;
+            items.push(written_name(keyspace, table))?;
         }
     }
     Ok(())
@@ -63,7 +57,7 @@ pub fn push_tables(
     ensures named { OnOk result (AllByRecursion IsTableName (sorted_texts (marked places.now.entries))) }
 {
     let mut items = Vec::with_capacity(alloc, places.len())?;
-    add_names(alloc, &mut items, "", places)?;
+    add_names(&mut items, None, places)?;
     push_sorted(alloc, text, &items)
 }
 
@@ -121,7 +115,6 @@ pub fn push_keyspaces(
 
 /// Adds the texts of a keyspace's denials, in the order of their places.
 fn add_denials(
-    alloc: Global,
     items: &mut Vec<WrittenItem>,
     name: &KeyspaceName,
     keyspace: &Keyspace,
@@ -130,10 +123,8 @@ fn add_denials(
     ensures named { OnOk result (AllByRecursion IsDenialText (denied_texts (name.now, keyspace.now))) }
     ensures keyspace { OnOk result (IsKeyspaceName name.now) }
 {
-    let mut before = String::with_capacity(alloc, LIKELY_LENGTH)?;
-    before.push_str(name.as_str())?;
-    before.push_str(".")?;
-    keyspace.add_denied(alloc, items, before.as_str())
+    name.as_str();
+    keyspace.add_denied(items, name)
 }
 
 /// The texts of all denials, in the order of their places.
@@ -147,7 +138,7 @@ fn written_denials(
 {
     let mut items = Vec::new(alloc);
     'keyspaces: for (name, keyspace) in keyspaces.iter() {
-        add_denials(alloc, &mut items, name, keyspace)?;
+        add_denials(&mut items, name, keyspace)?;
     }
     Ok(items)
 }
