@@ -430,7 +430,13 @@ fn put_rule(place: &mut Option<RuleTarget>, rule: Option<(&KeyspaceName, &TableN
             stood.keyspace = keyspace.copied();
             stood.table = table.copied();
         }
-        _ => *place = rule_of_names(rule),
+        (None, Some((keyspace, table))) => {
+            *place = Some(RuleTarget {
+                keyspace: keyspace.copied(),
+                table: table.copied(),
+            });
+        }
+        (_, None) => *place = None,
     }
     stood
 }
