@@ -63,19 +63,19 @@ def with_recorder(own, room):
     return made
 
 
-def compiled(own, room):
+def compiled(top, own, room):
     """The text of the module of the program that `rt try` compiles. Whatever it then runs ends with a usage error, which is of no account."""
     rt = with_recorder(own, room) / "bin/rt"
-    subprocess.run([sys.executable, rt, "try"], cwd=TOP / "crates/mt_program", stdin=subprocess.DEVNULL, capture_output=True)
+    subprocess.run([sys.executable, rt, "try"], cwd=top / "crates/mt_program", stdin=subprocess.DEVNULL, capture_output=True)
     words = ["--target=x86_64-unknown-linux-gnu", "-S", "-emit-llvm", "-x", "ir", "-Xclang", "-disable-llvm-passes", "-w"]
     subprocess.run([own / "toolchain/bin/clang", *words, room / "module.bc", "-o", room / "module.ll"], check=True)
     return (room / "module.ll").read_text()
 
 
-def hints():
+def hints(top):
     """What the sources say on inlining: of crate, owner (or none) and function, the word."""
     found = {}
-    for file in sorted(TOP.glob("crates/*/src/**/*.rt")):
+    for file in sorted(top.glob("crates/*/src/**/*.rt")):
         owner, word = "", None
         for line in file.read_text().splitlines():
             if line.startswith("}"):
@@ -84,7 +84,7 @@ def hints():
                 owner = OWNER.match(line)[1]
             word = (HINT.match(line) or [None, word])[1]
             if (named := FUNCTION.match(line)) and word:
-                found[file.relative_to(TOP).parts[1], owner, named[1]] = word
+                found[file.relative_to(top).parts[1], owner, named[1]] = word
                 word = None
     return found
 
@@ -132,18 +132,23 @@ def linked(own, room, program):
     subprocess.run([own / "bin/rattle-link", *words, own / "c/libos_c.a", own / "c/liblibc_c.a"], check=True)
 
 
+def build(top, program, with_hints=True, with_fills=True):
+    """Builds the program of the sources in a folder."""
+    with tempfile.TemporaryDirectory() as folder:
+        own, room = kit(), pathlib.Path(folder)
+        lines = stripped(compiled(top, own, room).splitlines(), hints(top) if with_hints else {})
+        lines = lines if with_fills else without_fills(lines)
+        (room / "stripped.ll").write_text("\n".join(lines) + "\n")
+        linked(own, room, os.path.abspath(program))
+
+
 def main():
     asked = argparse.ArgumentParser(description=__doc__.split("\n")[0])
     asked.add_argument("--no-fills", action="store_true")
     asked.add_argument("--no-hints", action="store_true")
     asked.add_argument("program")
     given = asked.parse_args()
-    with tempfile.TemporaryDirectory() as folder:
-        own, room = kit(), pathlib.Path(folder)
-        lines = stripped(compiled(own, room).splitlines(), {} if given.no_hints else hints())
-        lines = without_fills(lines) if given.no_fills else lines
-        (room / "stripped.ll").write_text("\n".join(lines) + "\n")
-        linked(own, room, os.path.abspath(given.program))
+    build(TOP, given.program, not given.no_hints, not given.no_fills)
 
 
 if __name__ == "__main__":

@@ -29,6 +29,7 @@ LIMIT = 1_048_576
 LETTERS = string.ascii_letters + string.digits
 SIDES = ["keyspace commerce", "keyspace customer"]
 SCRIPT = ["run", "commerce", "customer"]
+SEED = 7
 
 
 class Rows:
@@ -296,7 +297,7 @@ def main():
     for title, command, make in INPUTS:
         if asked.only not in (None, title):
             continue
-        text = make(random.Random(7))
+        text = make(random.Random(SEED))
         if asked.keep:
             (asked.keep / title.replace(" ", "_")).write_bytes(text)
         if asked.beside and output(asked.program, command, text) != output(asked.beside, command, text):

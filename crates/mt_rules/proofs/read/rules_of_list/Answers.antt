@@ -1,5 +1,5 @@
 -- One rule more, or the first fault.
-use Rattle.std.proofs.Common.{◌≡◌, ◌<◌, ◌+◌, Err, Ok, ap, arith, drop, inr, [], length, rules, subst, sym, ◌∙◌}
+use Rattle.std.proofs.Common.{◌≡◌, ◌<◌, ◌+◌, Err, ap, arith, drop, inr, [], length, rules, subst, sym, ◌∙◌}
 use Rattle.std.proofs.lemmas.List.{drop-set-lt, drop_all}
 use Rattle.mt_names.specs.Results.{◌>>=◌}
 use Rattle.serde_json.specs.View.{items_view}

@@ -1,5 +1,5 @@
 -- What was sorted by texts that differ.
-use Rattle.std.proofs.Common.{ap, fold, [], map, rules, string_bytes, subst, sym, ◌∙◌}
+use Rattle.std.proofs.Common.{ap, fold, [], map, rules, subst, sym, ◌∙◌}
 use Rattle.std.proofs.lemmas.List.Sorted.{IsPermutation-map, answers_always}
 use Rattle.std.specs.List.{IsDistinct}
 use Rattle.mt_names.specs.Names.{same_text}

@@ -1,5 +1,5 @@
 -- Five texts, one behind the other.
-use Rattle.std.proofs.Common.{◌++◌, ap, string_bytes, ◌∙◌}
+use Rattle.std.proofs.Common.{string_bytes}
 use Rattle.mt_rules.proofs.WrittenLemmas.{five_parts}
 use Rattle.mt_rules.proofs.text.push_rule.Goals as goal
 

@@ -1,5 +1,5 @@
 -- Three texts, one behind the other.
-use Rattle.std.proofs.Common.{◌≡◌, ◌++◌, ap, append_assoc, codes, string_bytes, ◌∙◌}
+use Rattle.std.proofs.Common.{◌++◌, ap, codes, string_bytes, ◌∙◌}
 use Rattle.mt_rules.proofs.WrittenLemmas.{three_parts}
 use Rattle.mt_rules.proofs.text.push_target.Goals as goal
 
