@@ -81,7 +81,7 @@ def main():
     words.add_argument("programs", nargs="*", default=[str(top / "crates/mt_program/out/mt_program")])
     words.add_argument("--shares", action="store_true")
     asked = words.parse_args()
-    lines = whole.many_short_moves(random.Random(7)).splitlines()
+    lines = whole.many_short_moves(random.Random(whole.SEED)).splitlines()
     if not asked.shares:
         by_command(asked.programs, lines)
         return

@@ -1,11 +1,11 @@
 #!/usr/bin/env python3
 """Measures the whole program on seven inputs of about 1 MB each, and on request beside another program that prints the same.
 
-bench/whole.py [--beside OTHER] [--instructions | --memory | --faults] [--only INPUT] [--keep FOLDER] [PROGRAM]: PROGRAM is crates/mt_program/out/mt_program where none is named.
+bench/whole.py [--beside OTHER] [--instructions | --memory | --faults] [--only INPUT] [--bytes N] [--keep FOLDER] [PROGRAM]: PROGRAM is crates/mt_program/out/mt_program where none is named.
 
 Of each input the least processor time of five runs counts, less that of an empty script; `--instructions` counts instructions instead, by
-one run under `valgrind --tool=callgrind`; `--memory` tells the most memory of one run, and `--faults` its page faults. With `--beside` both outputs have to be equal, byte for byte, and the ratio is told.
-`--only` measures the input of that name alone, and `--keep` leaves the inputs in a folder. The seeds are fixed, so that each run measures the same inputs.
+one run under `valgrind --tool=callgrind`; `--memory` tells the most memory of five runs, and `--faults` the page faults of one. With `--beside` both outputs have to be equal, byte for byte, and the ratio is told.
+`--only` measures the input of that name alone, `--bytes` makes inputs of so many bytes at most, to see how time grows, and `--keep` leaves the inputs in a folder. The seeds are fixed, so that each run measures the same inputs.
 
 client operations: rows of 16 tables in two keyspaces, inserted, updated, appended to, deleted and got by names alone.
 a large table: rows of four tables; three of them are moved while clients go on, switched, reversed, switched again and completed.
@@ -25,7 +25,7 @@ import subprocess
 import sys
 import tempfile
 
-LIMIT = 1_048_576
+LIMIT = 1_048_576  # how many bytes an input has at most; main sets another
 LETTERS = string.ascii_letters + string.digits
 SIDES = ["keyspace commerce", "keyspace customer"]
 SCRIPT = ["run", "commerce", "customer"]
@@ -253,15 +253,16 @@ def instructions(program, words, text):
 
 
 def memory(program, words, text):
-    """The most memory of one run in kilobytes: what the kernel last says of it before it ends. Memory that is given back counts."""
+    """The most memory of a run in kilobytes, of five: what the kernel last says of it before it ends. Memory that is given back counts."""
     most = 0
-    with tempfile.TemporaryFile() as given:
-        given.write(text)
-        given.seek(0)
-        run = subprocess.Popen([program, *words], stdin=given, stdout=subprocess.DEVNULL)
-        while run.poll() is None:
-            found = re.search(r"VmHWM:\s+(\d+)", pathlib.Path(f"/proc/{run.pid}/status").read_text())
-            most = max(most, int(found.group(1)) if found else 0)
+    for _ in range(5):
+        with tempfile.TemporaryFile() as given:
+            given.write(text)
+            given.seek(0)
+            run = subprocess.Popen([program, *words], stdin=given, stdout=subprocess.DEVNULL)
+            while run.poll() is None:
+                found = re.search(r"VmHWM:\s+(\d+)", pathlib.Path(f"/proc/{run.pid}/status").read_text())
+                most = max(most, int(found.group(1)) if found else 0)
     return most
 
 
@@ -281,6 +282,7 @@ MEASURES = {
 
 
 def main():
+    global LIMIT
     top = pathlib.Path(__file__).resolve().parent.parent
     words = argparse.ArgumentParser(description="Measures the whole program on seven inputs.")
     words.add_argument("program", nargs="?", default=str(top / "crates/mt_program/out/mt_program"))
@@ -288,9 +290,11 @@ def main():
     kind = words.add_mutually_exclusive_group()
     for name in MEASURES:
         kind.add_argument(f"--{name}", dest="kind", action="store_const", const=name)
+    words.add_argument("--bytes", type=int, default=LIMIT)
     words.add_argument("--only", choices=[title for title, _, _ in INPUTS])
     words.add_argument("--keep", type=pathlib.Path)
     asked = words.parse_args()
+    LIMIT = asked.bytes
     measure, unit, scale, is_more = MEASURES.get(asked.kind, (seconds, "ms", 1e3, True))
     programs = [asked.program] + ([asked.beside] if asked.beside else [])
     empty = [measure(program, SCRIPT, b"") if is_more else 0 for program in programs]
