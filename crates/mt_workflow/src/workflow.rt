@@ -9,7 +9,7 @@ ghost use Rattle.mt_places.specs.Rules.{lent_rule};
 ghost use Rattle.mt_primary.specs.Primary.{has_table};
 ghost use Rattle.mt_stream.specs.Streams.{StreamValue, state_from};
 ghost use Rattle.mt_workflow.specs.Advance.{AdvancesSlot};
-ghost use Rattle.mt_workflow.specs.Workflows.{IsWorkflow, feeding, in_state, is_as_before, keys_of_part, live_of, new_workflow, rules_only, slot_of, stream_name, wanted, way_from, with_slot};
+ghost use Rattle.mt_workflow.specs.Workflows.{IsWorkflow, feeding, in_state, is_as_before, keys_of_part, live_of, new_stream, new_workflow, rules_only, slot_of, stream_name, wanted, way_from, with_slot};
 
 use crate::building::{each_once, kept_rules, table_list};
 use crate::fault::WorkflowFault;
@@ -44,7 +44,15 @@ pub struct Workflow {
     switched: TypeSet,
     way: Option<Way>,
     kept: IndexMap<RuleKey, Option<RuleTarget>>,
+    streams: Box<Streams>,
+}
+
+/// The streams of a workflow, in memory of their own, so that a workflow that is moved on is small.
+#[derive(Drop)]
+struct Streams {
+    /// From the source to the target.
     forward: Option<Stream>,
+    /// From the target to the source.
     back: Option<Stream>,
 }
 
@@ -55,7 +63,7 @@ impl Model for Workflow {
 
     ghost Value = { WorkflowState };
 
-    ghost view = { λ w. record { name = w.name; source = w.source; target = w.target; tables = w.tables.keys; switched = w.switched; way = option_map way_from w.way; kept = kept_of w.kept.entries w.source w.target w.tables.keys; forward = w.forward; back = w.back } };
+    ghost view = { λ w. record { name = w.name; source = w.source; target = w.target; tables = w.tables.keys; switched = w.switched; way = option_map way_from w.way; kept = kept_of w.kept.entries w.source w.target w.tables.keys; forward = w.streams.value.forward; back = w.streams.value.back } };
 
     ghost invariant = { λ w. IsWorkflow w.source w.target w.tables.keys × Agrees w.kept.entries (kept_of w.kept.entries w.source w.target w.tables.keys) };
 }
@@ -82,7 +90,7 @@ impl Workflow {
     {
         let tables = each_once(alloc, tables)?;
         let kept = kept_rules(alloc, source, target, tables.as_slice(), topology.rules())?;
-        let stream = Stream::new_copy(table_list(tables.as_slice()), position);
+        let streams = first_streams(alloc, tables.as_slice(), position)?;
         Ok(Workflow {
             name: name.copied(),
             source: source.copied(),
@@ -91,8 +99,7 @@ impl Workflow {
             switched: TypeSet::NONE,
             way: None,
             kept,
-            forward: Some(stream),
-            back: None,
+            streams,
         })
     }
 
@@ -360,8 +367,8 @@ impl Workflow {
         ensures { option_copied result ≡ slot_of self.now (stream_name slot) }
     {
         match slot {
-            Slot::Forward => self.forward.as_ref(),
-            Slot::Back => self.back.as_ref(),
+            Slot::Forward => self.streams.forward.as_ref(),
+            Slot::Back => self.streams.back.as_ref(),
         }
     }
 
@@ -371,8 +378,8 @@ impl Workflow {
         ensures after { self.new ≡ with_slot self.old (stream_name slot) stream }
     {
         match slot {
-            Slot::Forward => mem::replace(&mut self.forward, stream),
-            Slot::Back => mem::replace(&mut self.back, stream),
+            Slot::Forward => mem::replace(&mut self.streams.forward, stream),
+            Slot::Back => mem::replace(&mut self.streams.back, stream),
         }
     }
 
@@ -392,8 +399,8 @@ impl Workflow {
         ensures rest { self.new ≡ with_slot self.old (stream_name slot) (slot_of self.new (stream_name slot)) }
     {
         match slot {
-            Slot::Forward => advance_in(&mut self.forward, source, sink, at, max),
-            Slot::Back => advance_in(&mut self.back, source, sink, at, max),
+            Slot::Forward => advance_in(&mut self.streams.forward, source, sink, at, max),
+            Slot::Back => advance_in(&mut self.streams.back, source, sink, at, max),
         }
     }
 
@@ -403,8 +410,8 @@ impl Workflow {
         ensures { self.new ≡ with_slot self.old (stream_name slot) (option_map (in_state (state_from state)) (slot_of self.old (stream_name slot))) }
     {
         match slot {
-            Slot::Forward => set_state_in(&mut self.forward, state),
-            Slot::Back => set_state_in(&mut self.back, state),
+            Slot::Forward => set_state_in(&mut self.streams.forward, state),
+            Slot::Back => set_state_in(&mut self.streams.back, state),
         }
     }
 
@@ -422,6 +429,31 @@ impl Workflow {
         ensures after { self.new ≡ record self.old { way = option_map way_from way } }
     {
         mem::replace(&mut self.way, way)
+    }
+}
+
+/// The streams of a new workflow of some tables: the forward one alone, which reads the source's log from a position on.
+/// `W0 Memory`.
+fn first_streams(
+    alloc: Global,
+    tables: &[TableName],
+    position: Position,
+) -> Result<Box<Streams>, WorkflowFault>
+    requires few { length tables.now ≤ most_tables }
+    requires distinct { AllPairs ◌≢◌ tables.now }
+    ensures value { IfOk result (λ streams. streams.value ≡ record { forward = Some (new_stream tables.now position); back = None }) }
+    ensures memory { IfErr result (λ fault. fault ≡ WorkflowFault.Memory) }
+{
+    let forward = Some(Stream::new_copy(table_list(tables), position));
+    match Box::new(
+        alloc,
+        Streams {
+            forward,
+            back: None,
+        },
+    ) {
+        Ok(streams) => Ok(streams),
+        Err(_) => Err(WorkflowFault::Memory),
     }
 }
 

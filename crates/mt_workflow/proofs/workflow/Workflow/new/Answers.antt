@@ -13,19 +13,23 @@ pub kept_rules-requires-clause-distinct : goal.kept_rules-requires-clause-distin
 kept_rules-requires-clause-distinct c =
     subst (AllPairs ◌≢◌) (sym c.as_slice.ensures.keys) (AllPairs-from_IsDistinct same_text_decides c.in_ok-tables.tables.keys c.as_slice.ensures.unique)
 
-pub table_list-requires : goal.table_list-requires
-table_list-requires c =
+pub first_streams-requires-clause-few : goal.first_streams-requires-clause-few
+first_streams-requires-clause-few c =
     omega (arith, ap length c.as_slice-2.ensures.keys, ap length c.in_ok-tables.ensures.value, length-once c.args.tables.now, c.requires.few)
 
-pub new_copy-stream-requires : goal.new_copy-stream-requires
-new_copy-stream-requires c =
-    subst (AllPairs ◌≢◌) (sym (c.table_list.ensures ∙ c.as_slice-2.ensures.keys)) (AllPairs-from_IsDistinct same_text_decides c.in_ok-tables.tables.keys c.as_slice-2.ensures.unique)
+pub first_streams-requires-clause-distinct : goal.first_streams-requires-clause-distinct
+first_streams-requires-clause-distinct c =
+    subst (AllPairs ◌≢◌) (sym c.as_slice-2.ensures.keys) (AllPairs-from_IsDistinct same_text_decides c.in_ok-tables.tables.keys c.as_slice-2.ensures.unique)
 
 pub invariant_of-result : goal.invariant_of-result
 invariant_of-result c =
     let es = c.in_ok-kept.kept.entries in
     let named = c.as_slice.result.now in
-    let is : IsWorkflow c.copied-2.result c.copied-3.result c.in_ok-tables.tables.keys = search rules in (
+    let is : IsWorkflow c.copied-2.result c.copied-3.result c.in_ok-tables.tables.keys = record {
+      distinct = AllPairs-from_IsDistinct same_text_decides c.in_ok-tables.tables.keys c.as_slice-2.ensures.unique;
+      few = omega (arith, ap length c.in_ok-tables.ensures.value, length-once c.args.tables.now, c.requires.few);
+      apart = λ same. c.requires.apart (sym c.copied-2.ensures ∙ same ∙ c.copied-3.ensures);
+    } in (
       is,
       subst (λ tables. Agrees es (kept_of es c.copied-2.result c.copied-3.result tables)) c.as_slice.ensures.keys
           (subst (λ target. Agrees es (kept_of es c.copied-2.result target named)) (sym c.copied-3.ensures)
