@@ -1,11 +1,10 @@
 //! Whom a race has watch the topology.
 ghost use Rattle.std.specs.Prelude.{◌≡◌, ◌≤◌, true, IfOk};
-ghost use Rattle.mt_watch.specs.Notices.{notice_of};
 
 use crate::moving::{source, target};
 use crate::{RaceFault, Raced, race};
 use mt_messages::Gate;
-use mt_watch::{Callback, Change, Notice, Scope, WatchFault, Watcher, Watchers};
+use mt_watch::{PlainWatchers, Scope};
 use std::alloc::Global;
 use std::sync::Wait;
 use std::thread::Threads;
@@ -23,24 +22,14 @@ pub fn race_watched<R: Threads + Wait + Sync, G: Gate + Sync>(
     requires writes { (1 ≤ writes) × (writes ≤ 1000) }
     ensures agree { IfOk result (λ raced. raced.agree ≡ true → raced.acknowledged ≡ raced.rows) }
 {
-    let mut watchers = Watchers::new(alloc);
+    let mut watchers = PlainWatchers::new(alloc);
     let scopes = [
         Scope::Routes,
         Scope::Primary(source()),
         Scope::Primary(target()),
     ];
     for scope in &scopes {
-        let own = scope.copied();
-        let call: Callback = match Box::new(
-            alloc,
-            move |change: &Change| -> Result<Notice, WatchFault>
-                ensures { IfOk result (λ notice. notice ≡ notice_of own change.now) }
-            { Notice::of(alloc, &own, change).map_err(|_| WatchFault(0)) },
-        ) {
-            Ok(call) => call,
-            Err(_) => return Err(RaceFault::Memory),
-        };
-        if watchers.add(Watcher::new(scope.copied(), call)).is_err() {
+        if watchers.add(scope.copied()).is_err() {
             return Err(RaceFault::Memory);
         }
     }

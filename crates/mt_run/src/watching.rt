@@ -1,32 +1,31 @@
 //! Whom `mt run` has watch a topology.
 ghost use Rattle.std.specs.Prelude.{◌≡◌, IfErr, IfOk};
 ghost use Rattle.mt_plain.specs.Output.{watchers_of};
-ghost use Rattle.mt_watch.specs.Notices.{notice_of};
 ghost use Rattle.mt_run.specs.Runs.{Runs};
 
 use crate::run_script;
 use mt_io::ScriptFault;
 use mt_names::KeyspaceName;
-use mt_watch::{Callback, Change, Notice, Scope, WatchFault, Watcher, Watchers};
+use mt_watch::{PlainWatchers, Scope};
 use std::alloc::Global;
 use std::io::{Read, Write};
 
-/// The scopes of the watchers of a run: one for the routers, and one for the primary of each keyspace that is named, in
-/// their order; a keyspace that is named twice has two. `ScriptFault::Memory` alone.
-fn scopes_of(alloc: Global, keyspaces: &[KeyspaceName]) -> Result<Vec<Scope>, ScriptFault>
-    ensures scopes { IfOk result (λ scopes. scopes.items ≡ watchers_of keyspaces.now) }
+/// The watchers of a run: one for the routers, and one for the primary of each keyspace that is named, in their order; a
+/// keyspace that is named twice has two. `ScriptFault::Memory` alone.
+fn watchers_of(alloc: Global, keyspaces: &[KeyspaceName]) -> Result<PlainWatchers, ScriptFault>
+    ensures scopes { IfOk result (λ watchers. watchers.scopes.items ≡ watchers_of keyspaces.now) }
     ensures memory { IfErr result (λ fault. fault ≡ ScriptFault.Memory) }
 {
-    let mut scopes = Vec::new(alloc);
-    if scopes.push(Scope::Routes).is_err() {
+    let mut watchers = PlainWatchers::new(alloc);
+    if watchers.add(Scope::Routes).is_err() {
         return Err(ScriptFault::Memory);
     }
     for keyspace in keyspaces {
-        if scopes.push(Scope::Primary(keyspace.copied())).is_err() {
+        if watchers.add(Scope::Primary(keyspace.copied())).is_err() {
             return Err(ScriptFault::Memory);
         }
     }
-    Ok(scopes)
+    Ok(watchers)
 }
 
 /// Runs a script as `run_script` does, with a watcher for the routers and one for the primary of each keyspace that is
@@ -40,22 +39,6 @@ pub fn run_watched<R: Read, W: Write>(
 ) -> Result<(), ScriptFault>
     ensures { Runs (watchers_of keyspaces.now) (R.remaining reader.old) (R.remaining reader.new) (W.contents writer.old) (W.contents writer.new) result }
 {
-    let mut watchers = Watchers::new(alloc);
-    let scopes = scopes_of(alloc, keyspaces)?;
-    for scope in &scopes {
-        let own = scope.copied();
-        let call: Callback = match Box::new(
-            alloc,
-            move |change: &Change| -> Result<Notice, WatchFault>
-                ensures { IfOk result (λ notice. notice ≡ notice_of own change.now) }
-            { Notice::of(alloc, &own, change).map_err(|_| WatchFault(0)) },
-        ) {
-            Ok(call) => call,
-            Err(_) => return Err(ScriptFault::Memory),
-        };
-        if watchers.add(Watcher::new(scope.copied(), call)).is_err() {
-            return Err(ScriptFault::Memory);
-        }
-    }
+    let watchers = watchers_of(alloc, keyspaces)?;
     run_script(alloc, reader, writer, &watchers)
 }

@@ -3,4 +3,5 @@ pub mod CreateLemmas
 pub mod MakeLemmas
 pub mod OnceLemmas
 pub mod TargetLemmas
+pub mod TellingLemmas
 pub mod WriteLemmas

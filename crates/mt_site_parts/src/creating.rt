@@ -14,19 +14,21 @@ ghost use Rattle.mt_plain.specs.Refuse.{or_else, refuse_if};
 ghost use Rattle.mt_primary.specs.Primary.{has_table};
 ghost use Rattle.mt_site_state.specs.Core.{primary_at, primary_of, workflow_at};
 ghost use Rattle.mt_site_state.specs.Core as core;
-ghost use Rattle.mt_site_state.specs.Workflows.{Creates, CreatesSet, create_refusal, is_full, is_moved, refusal_by_table, table_refusal, tables_refusal};
+ghost use Rattle.mt_site_state.specs.Workflows.{Creates, CreatesSet, change_of, create_refusal, is_full, is_moved, refusal_by_table, table_refusal, tables_refusal};
 ghost use Rattle.mt_workflow.specs.Workflows.{new_workflow};
+ghost use Rattle.mt_site_parts.specs.Target.{IsTelling};
 ghost use Rattle.mt_site_parts.specs.Create.{CanCreate, IsReady, Makes, MakesAtTarget, Prepares};
 
-use crate::parts::{change_of, write_part};
-use crate::target::make_target;
+use crate::parts::write_part;
+use crate::target::{Telling, make_target};
+use crate::telling::telling_of;
 use crate::{Primaries, Workflows};
 use arrayvec::ArrayVec;
 use mt_event::Refusal;
 use mt_model::{Scope, TopologyFault};
 use mt_names::{KeyspaceName, MAX_TABLES, Position, TableName, WorkflowName};
 use mt_topology::Topology;
-use mt_watch::{Asks, Change};
+use mt_watch::Asks;
 use mt_workflow::{Workflow, WorkflowFault, may_create};
 use std::alloc::Global;
 use std::slice;
@@ -191,20 +193,21 @@ fn position_of(primaries: &Primaries, keyspace: &KeyspaceName) -> Position
     }
 }
 
-/// Makes the tables of a new workflow at the primary of its target, as its watchers are asked.
+/// Makes the tables of a new workflow at the primary of its target, as its watchers tell or are asked.
 fn make_at_target<W: Asks>(
     primaries: &mut Primaries,
     watchers: &W,
     workflow: &Workflow,
-    change: &Change,
+    telling: Telling,
 ) -> Result<(), Refusal>
     requires there { is_some (primary_at primaries.old.entries workflow.now.target) ≡ true }
     requires absent { (table : List ℕ) → among workflow.now.tables table ≡ true → has_table (primary_of primaries.old.entries workflow.now.target) table ≡ false }
-    ensures { MakesAtTarget (W.scopes watchers.now) (W.may_answer watchers.now) workflow.now change.now primaries.old.entries result primaries.new.entries }
+    requires telling { IsTelling (W.scopes watchers.now) (W.may_answer watchers.now) workflow.now telling }
+    ensures { MakesAtTarget (W.scopes watchers.now) (W.may_answer watchers.now) workflow.now (change_of workflow.now) primaries.old.entries result primaries.new.entries }
 {
     match mt_few::get_mut(primaries, workflow.target()) {
         None => unreachable!(),
-        Some(primary) => make_target(primary, watchers, workflow, change),
+        Some(primary) => make_target(primary, watchers, workflow, telling),
     }
 }
 
@@ -221,11 +224,11 @@ fn prepare<W: Asks>(
     ensures room { OnOk result (1 ≤ spare workflows.new) }
     ensures workflows { workflows.new.entries ≡ workflows.old.entries }
 {
-    let change = change_of(alloc, workflow)?;
+    let telling = telling_of(alloc, watchers, workflow)?;
     if workflows.reserve(1).is_err() {
         return Err(Refusal::Memory);
     }
-    make_at_target(primaries, watchers, workflow, &change)?;
+    make_at_target(primaries, watchers, workflow, telling)?;
     Ok(())
 }
 

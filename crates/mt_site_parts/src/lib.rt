@@ -5,6 +5,7 @@ mod cancelling;
 mod creating;
 mod parts;
 mod target;
+mod telling;
 
 pub use cancelling::cancel;
 pub use creating::{create, names_are_names};

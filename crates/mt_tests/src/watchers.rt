@@ -4,7 +4,9 @@ ghost use Rattle.mt_watch.specs.Notices.{notice_of};
 
 use mt_model::{Entry, Scope};
 use mt_names::{KeyspaceName, RuleKey, RuleTarget, TableName};
-use mt_watch::{Asks, Callback, Change, Notice, WatchFault, Watcher, Watchers, WatchersFault};
+use mt_watch::{
+    Asks, Callback, Change, Notice, PlainWatchers, WatchFault, Watcher, Watchers, WatchersFault,
+};
 use std::alloc::Global;
 
 /// A rule, and an entry of either kind at the keyspace `customer`.
@@ -87,7 +89,7 @@ fn are_added(alloc: Global, watchers: &mut Watchers, scope: &Scope, refusing: &[
 }
 
 /// How many entries the watchers of a scope answer of a change.
-fn noticed(watchers: &Watchers, scope: &Scope, change: &Change) -> Result<usize, WatchersFault> {
+fn noticed<A: Asks>(watchers: &A, scope: &Scope, change: &Change) -> Result<usize, WatchersFault> {
     match watchers.ask(scope, change) {
         Ok(notice) => Ok(notice.as_slice().len()),
         Err(fault) => Err(fault),
@@ -142,6 +144,29 @@ fn the_watchers_of_a_scope_are_asked(rt: HostRuntime) {
             are_asked_alone(rt.alloc(), &mut watchers, &change) == Some(true)
         })
     );
+}
+
+/// Whether watchers without callbacks answer each just its entries of a change, which has two for routers and one for the
+/// primary of `customer`.
+fn are_told(watchers: &mut PlainWatchers, change: &Change) -> Option<bool> {
+    let customer = Scope::Primary(KeyspaceName::parse("customer").ok()?);
+    let commerce = Scope::Primary(KeyspaceName::parse("commerce").ok()?);
+    Some(
+        watchers.add(Scope::Routes) == Ok(())
+            && watchers.add(customer.copied()) == Ok(())
+            && noticed(watchers, &Scope::Routes, change) == Ok(2)
+            && noticed(watchers, &customer, change) == Ok(1)
+            && noticed(watchers, &commerce, change) == Err(WatchersFault::NoWatcher)
+            && watchers.always_tell(&customer)
+            && !watchers.always_tell(&commerce),
+    )
+}
+
+#[test]
+fn watchers_without_callbacks_tell(rt: HostRuntime) {
+    let mut watchers = PlainWatchers::new(rt.alloc());
+    let change = three_entries(rt.alloc());
+    assert!(rt; change.is_some_and(|change| are_told(&mut watchers, &change) == Some(true)));
 }
 
 /// Whether the second of three watchers refuses, with its number.

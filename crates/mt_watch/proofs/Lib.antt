@@ -1,2 +1,3 @@
 pub mod AskLemmas
+pub mod PlainLemmas
 pub mod ScopeLemmas

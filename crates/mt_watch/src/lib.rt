@@ -8,15 +8,17 @@ mod change;
 mod fault;
 mod laws;
 mod notice;
+mod plain;
 mod step;
 mod watcher;
 mod watchers;
 
-pub use asks::Asks;
+pub use asks::{Asks, ask_with_all};
 pub use change::Change;
 pub use fault::{WatchFault, WatchersFault};
 pub use laws::scopes_are_told_apart;
 pub use mt_model::{Entry, EntryKey, Scope};
 pub use notice::Notice;
+pub use plain::PlainWatchers;
 pub use watcher::{Callback, Watcher};
 pub use watchers::Watchers;

@@ -68,4 +68,9 @@ impl Asks for Watchers {
             None => Err(WatchersFault::NoWatcher),
         }
     }
+
+    /// A callback may refuse.
+    fn always_tell(&self, _scope: &Scope) -> bool {
+        false
+    }
 }

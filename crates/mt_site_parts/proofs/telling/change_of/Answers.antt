@@ -4,7 +4,7 @@ use Rattle.mt_plain.specs.Asks.{create_change}
 use Rattle.mt_workflow.specs.Workflows.{live_of}
 use Rattle.mt_site_topology.specs.Keys.{rules_only}
 use Rattle.mt_site_parts.proofs.WriteLemmas.{change_more, where_ok}
-use Rattle.mt_site_parts.proofs.parts.change_of.Goals as goal
+use Rattle.mt_site_parts.proofs.telling.change_of.Goals as goal
 
 pub loop-table-preserved : goal.loop-table-preserved
 loop-table-preserved c =

@@ -4,7 +4,7 @@ use Rattle.std.proofs.lemmas.Result.{on_ok_weaker}
 use Rattle.mt_model.specs.declared.entries.Entry.{Entry}
 use Rattle.mt_model.specs.declared.entries.Entry.TheVariants as entry
 use Rattle.mt_site_parts.proofs.WriteLemmas.{pushed, table_pushed}
-use Rattle.mt_site_parts.proofs.parts.push_table.Goals as goal
+use Rattle.mt_site_parts.proofs.telling.push_table.Goals as goal
 
 pub returns : goal.returns
 returns c =
