@@ -3,7 +3,7 @@
 
 bench/whole.py [--beside OTHER] [--instructions | --memory | --faults] [--only INPUT] [--bytes N] [--keep FOLDER] [PROGRAM]: PROGRAM is crates/mt_program/out/mt_program where none is named.
 
-Of each input the least processor time of five runs counts, less that of an empty script; `--instructions` counts instructions instead, by
+Of each input the least processor time of fifteen runs counts, in turn with those of the other program, less that of an empty script; `--instructions` counts instructions instead, by
 one run under `valgrind --tool=callgrind`; `--memory` tells the most memory of five runs, and `--faults` the page faults of one. With `--beside` both outputs have to be equal, byte for byte, and the ratio is told.
 `--only` measures the input of that name alone, `--bytes` makes inputs of so many bytes at most, to see how time grows, and `--keep` leaves the inputs in a folder. The seeds are fixed, so that each run measures the same inputs.
 
@@ -30,6 +30,7 @@ LETTERS = string.ascii_letters + string.digits
 SIDES = ["keyspace commerce", "keyspace customer"]
 SCRIPT = ["run", "commerce", "customer"]
 SEED = 7
+RUNS = 15  # of which the least time counts
 
 
 class Rows:
@@ -233,15 +234,15 @@ def output(program, words, text):
     return subprocess.run([program, *words], input=text, stdout=subprocess.PIPE, check=True).stdout
 
 
-def seconds(program, words, text):
-    """The least processor time of five runs."""
-    times = []
-    for _ in range(5):
+def seconds(programs, words, text):
+    """The least processor time of each program, of fifteen runs in turn, so that a slow moment of the machine is one of both."""
+    times = {program: [] for program in programs}
+    for program in programs * RUNS:
         before = resource.getrusage(resource.RUSAGE_CHILDREN)
         subprocess.run([program, *words], input=text, stdout=subprocess.DEVNULL, check=True)
         after = resource.getrusage(resource.RUSAGE_CHILDREN)
-        times.append(after.ru_utime + after.ru_stime - before.ru_utime - before.ru_stime)
-    return min(times)
+        times[program].append(after.ru_utime + after.ru_stime - before.ru_utime - before.ru_stime)
+    return [min(times[program]) for program in programs]
 
 
 def instructions(program, words, text):
@@ -295,9 +296,13 @@ def main():
     words.add_argument("--keep", type=pathlib.Path)
     asked = words.parse_args()
     LIMIT = asked.bytes
-    measure, unit, scale, is_more = MEASURES.get(asked.kind, (seconds, "ms", 1e3, True))
+    measure, unit, scale, is_more = MEASURES.get(asked.kind, (None, "ms", 1e3, True))
     programs = [asked.program] + ([asked.beside] if asked.beside else [])
-    empty = [measure(program, SCRIPT, b"") if is_more else 0 for program in programs]
+
+    def of_each(words, text):
+        return [measure(program, words, text) for program in programs] if measure else seconds(programs, words, text)
+
+    empty = of_each(SCRIPT, b"") if is_more else [0 for _ in programs]
     for title, command, make in INPUTS:
         if asked.only not in (None, title):
             continue
@@ -306,7 +311,7 @@ def main():
             (asked.keep / title.replace(" ", "_")).write_bytes(text)
         if asked.beside and output(asked.program, command, text) != output(asked.beside, command, text):
             sys.exit(f"{title}: the outputs differ")
-        took = [measure(program, command, text) - least for program, least in zip(programs, empty)]
+        took = [all_of_it - least for all_of_it, least in zip(of_each(command, text), empty)]
         beside = f", the other {took[1] * scale:.1f}, ratio {took[0] / took[1]:.2f}" if asked.beside else ""
         lines = len(text.splitlines())
         print(f"{title}: {len(text)} bytes, {lines} lines, {took[0] * scale:.1f} {unit}{beside}")
