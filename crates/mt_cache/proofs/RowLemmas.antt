@@ -1,9 +1,9 @@
 -- What is asked for at the place where a name leads is asked for through the name.
 use Rattle.std.proofs.Common.{◌≡◌, ℕ, List, [], ◌∷◌, Option, None, Some, Result, Ok, Err, sym, ap, subst}
-use Rattle.mt_event.specs.Events.{done_from}
+use Rattle.mt_event.specs.Reasons.{done_by}
 use Rattle.std.specs.Prelude.{⊤}
 use Rattle.std.specs.Result.{OnErr}
-use Rattle.mt_event.specs.declared.refusal.Refusal.{Refusal}
+use Rattle.mt_event.specs.declared.reason.Reason.{Reason}
 use Rattle.mt_model.specs.declared.entries.Scope.{Scope}
 use Rattle.mt_model.specs.declared.faults.TopologyFault.{TopologyFault}
 use Rattle.mt_model.specs.declared.rows.Op.{Op}
@@ -31,24 +31,24 @@ at_target : {A : Type 0} (Stays : Type 0) (P : RuleTarget → A → Type 0) (led
     → IsThrough led Stays P (Ok told)
 at_target Stays P led target told leads holds = subst (λ r. IsThrough r Stays P (Ok told)) (sym leads) holds
 
-pub written_there : (old new : SiteState) (name : RuleKey) (op : Op) (target : RuleTarget) (told : Result ⊤ Refusal) → resolution old.core.topology name Primary ≡ Ok target
-    → WritesRow old.core target.keyspace target.table op (done_from told) new.core
+pub written_there : (old new : SiteState) (name : RuleKey) (op : Op) (target : RuleTarget) (told : Result ⊤ Reason) → resolution old.core.topology name Primary ≡ Ok target
+    → WritesRow old.core target.keyspace target.table op (done_by told) new.core
     → new.ways ≡ old.ways
-    → ((scopes : List Scope) → SiteSteps scopes old (write target.keyspace target.table op) (done_from told) new)
+    → ((scopes : List Scope) → SiteSteps scopes old (write target.keyspace target.table op) (done_by told) new)
     → OnErr told (new ≡ old)
-    → ((scopes : List Scope) → KeepsTheHeadline scopes old (write target.keyspace target.table op ∷ []) (done_from told ∷ []) new)
+    → ((scopes : List Scope) → KeepsTheHeadline scopes old (write target.keyspace target.table op ∷ []) (done_by told ∷ []) new)
     → WrittenThrough old name op (Ok told) new
 written_there old new name op target told leads does ways steps unchanged headline =
     let led = resolution old.core.topology name Primary in
     record {
-      does = at_target (new.core ≡ old.core) (λ target told. WritesRow old.core target.keyspace target.table op (done_from told) new.core) led target told leads does;
+      does = at_target (new.core ≡ old.core) (λ target told. WritesRow old.core target.keyspace target.table op (done_by told) new.core) led target told leads does;
       ways = ways;
-      steps = λ scopes. at_target (new ≡ old) (λ target told. SiteSteps scopes old (write target.keyspace target.table op) (done_from told) new) led target told leads (steps scopes);
+      steps = λ scopes. at_target (new ≡ old) (λ target told. SiteSteps scopes old (write target.keyspace target.table op) (done_by told) new) led target told leads (steps scopes);
       unchanged = unchanged;
-      headline = λ scopes. at_target (new ≡ old) (λ target told. KeepsTheHeadline scopes old (write target.keyspace target.table op ∷ []) (done_from told ∷ []) new) led target told leads (headline scopes);
+      headline = λ scopes. at_target (new ≡ old) (λ target told. KeepsTheHeadline scopes old (write target.keyspace target.table op ∷ []) (done_by told ∷ []) new) led target told leads (headline scopes);
     }
 
-pub read_there : (core : SiteState) (name : RuleKey) (key : ℕ) (tablet_type : TabletType) (target : RuleTarget) (told : Result (Option RowValue) Refusal)
+pub read_there : (core : SiteState) (name : RuleKey) (key : ℕ) (tablet_type : TabletType) (target : RuleTarget) (told : Result (Option RowValue) Reason)
     → resolution core.core.topology name tablet_type ≡ Ok target
     → ReadsRow core.core target.keyspace target.table key tablet_type (read_from told) core.core
     → ((scopes : List Scope) → SiteSteps scopes core (read target.keyspace target.table key tablet_type) (read_from told) core)
@@ -63,10 +63,10 @@ read_there core name key tablet_type target told leads does steps headline =
     }
 
 -- a row that is written through a name leaves the topology
-pub written_leaves_topology : (old new : SiteState) (op : Op) (led : Result RuleTarget TopologyFault) (result : Result (Result ⊤ Refusal) TopologyFault)
-    → IsThrough led (new.core ≡ old.core) (λ target told. WritesRow old.core target.keyspace target.table op (done_from told) new.core) result
+pub written_leaves_topology : (old new : SiteState) (op : Op) (led : Result RuleTarget TopologyFault) (result : Result (Result ⊤ Reason) TopologyFault)
+    → IsThrough led (new.core ≡ old.core) (λ target told. WritesRow old.core target.keyspace target.table op (done_by told) new.core) result
     → new.core.topology ≡ old.core.topology
-written_leaves_topology old new op (Ok target) (Ok told) is = row_leaves_topology old.core new.core target.keyspace target.table op (done_from told) (primary_at old.core.primaries target.keyspace) is
+written_leaves_topology old new op (Ok target) (Ok told) is = row_leaves_topology old.core new.core target.keyspace target.table op (done_by told) (primary_at old.core.primaries target.keyspace) is
 written_leaves_topology old new op (Ok target) (Err fault) is = absurd is
 written_leaves_topology old new op (Err fault) (Ok told) is = absurd is
 written_leaves_topology old new op (Err fault) (Err told) is = let topology_of : CoreState → TopologyState = λ core. core.topology in ap topology_of is.1

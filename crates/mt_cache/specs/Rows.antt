@@ -1,7 +1,7 @@
 -- What a row costs that is asked for through a name, as the core's calls say it: each of them in one fact.
 use Rattle.std.specs.Prelude.{◌≡◌, ⊤, ℕ, IfOk, List, [], ◌∷◌, OnErr, Option, Result}
-use Rattle.mt_event.specs.Events.{done_from}
-use Rattle.mt_event.specs.declared.refusal.Refusal.{Refusal}
+use Rattle.mt_event.specs.Reasons.{done_by}
+use Rattle.mt_event.specs.declared.reason.Reason.{Reason}
 use Rattle.mt_model.specs.declared.entries.Scope.{Scope}
 use Rattle.mt_model.specs.declared.faults.TopologyFault.{TopologyFault}
 use Rattle.mt_model.specs.declared.rows.Op.{Op}
@@ -18,18 +18,18 @@ use Rattle.mt_site.specs.Headline.{KeepsTheHeadline}
 use Rattle.mt_site.specs.Through.{IsThrough}
 
 -- a row is written where a name leads
-pub record WrittenThrough (old : SiteState) (name : RuleKey) (op : Op) (result : Result (Result ⊤ Refusal) TopologyFault) (new : SiteState) : Type 0 where
+pub record WrittenThrough (old : SiteState) (name : RuleKey) (op : Op) (result : Result (Result ⊤ Reason) TopologyFault) (new : SiteState) : Type 0 where
   pub does : IsThrough (resolution old.core.topology name Primary) (new.core ≡ old.core)
-      (λ target told. WritesRow old.core target.keyspace target.table op (done_from told) new.core) result
+      (λ target told. WritesRow old.core target.keyspace target.table op (done_by told) new.core) result
   pub ways : new.ways ≡ old.ways
   pub steps : (scopes : List Scope) → IsThrough (resolution old.core.topology name Primary) (new ≡ old)
-      (λ target told. SiteSteps scopes old (write target.keyspace target.table op) (done_from told) new) result
+      (λ target told. SiteSteps scopes old (write target.keyspace target.table op) (done_by told) new) result
   pub unchanged : IfOk result (λ told. OnErr told (new ≡ old))
   pub headline : (scopes : List Scope) → IsThrough (resolution old.core.topology name Primary) (new ≡ old)
-      (λ target told. KeepsTheHeadline scopes old (write target.keyspace target.table op ∷ []) (done_from told ∷ []) new) result
+      (λ target told. KeepsTheHeadline scopes old (write target.keyspace target.table op ∷ []) (done_by told ∷ []) new) result
 
 -- a row is read where a name leads
-pub record ReadThrough (core : SiteState) (name : RuleKey) (key : ℕ) (tablet_type : TabletType) (result : Result (Result (Option RowValue) Refusal) TopologyFault) : Type 0 where
+pub record ReadThrough (core : SiteState) (name : RuleKey) (key : ℕ) (tablet_type : TabletType) (result : Result (Result (Option RowValue) Reason) TopologyFault) : Type 0 where
   pub does : IsThrough (resolution core.core.topology name tablet_type) ⊤
       (λ target told. ReadsRow core.core target.keyspace target.table key tablet_type (read_from told) core.core) result
   pub steps : (scopes : List Scope) → IsThrough (resolution core.core.topology name tablet_type) ⊤

@@ -18,7 +18,7 @@ ghost use Rattle.mt_cache.specs.Names.{LeadsMarked, LeadsTo, plain_key};
 
 use crate::marked::{Marked, MarkedPlace};
 use crate::names::Names;
-use mt_event::Refusal;
+use mt_event::Reason;
 use mt_model::{Op, TopologyFault};
 use mt_names::{Position, RuleKey, TableName, TabletType, Value, WorkflowName};
 use mt_site::{Core, Place};
@@ -92,7 +92,7 @@ impl CachedCore {
         stream: Slot,
         at: Position,
         max: u16,
-    ) -> Result<Advanced, Refusal>
+    ) -> Result<Advanced, Reason>
         ensures steps { (scopes : List Scope) → SiteSteps scopes self.old (plain.advance workflow.now (stream_name stream) at max) (advanced_from result) self.new }
         ensures unchanged { OnErr result (self.new ≡ self.old) }
         ensures headline { (scopes : List Scope) → KeepsTheHeadline scopes self.old (plain.advance workflow.now (stream_name stream) at max ∷ []) (advanced_from result ∷ []) self.new }
@@ -133,7 +133,7 @@ impl CachedCore {
         &mut self,
         name: &[u8],
         op: Op,
-    ) -> Option<Result<Result<(), Refusal>, TopologyFault>>
+    ) -> Option<Result<Result<(), Reason>, TopologyFault>>
         ensures name { is_some result ≡ is_ok (read_table name.now) }
         ensures none { IfNone result (self.new ≡ self.old) }
         ensures told { IfSome result (λ told. WrittenThrough self.old (plain_key name.now) op told self.new) }
@@ -153,7 +153,7 @@ impl CachedCore {
         &mut self,
         name: &[u8],
         op: Op,
-    ) -> Option<Result<Result<(), Refusal>, TopologyFault>>
+    ) -> Option<Result<Result<(), Reason>, TopologyFault>>
         ensures name { is_some result ≡ is_ok (read_table name.now) }
         ensures none { IfNone result (self.new ≡ self.old) }
         ensures told { IfSome result (λ told. WrittenThrough self.old (plain_key name.now) op told self.new) }
@@ -163,7 +163,7 @@ impl CachedCore {
     }
 
     /// Writes a row of the table that a name alone leads to, by a look-up, and keeps where that is.
-    fn write_led(&mut self, key: RuleKey, op: Op) -> Result<Result<(), Refusal>, TopologyFault>
+    fn write_led(&mut self, key: RuleKey, op: Op) -> Result<Result<(), Reason>, TopologyFault>
         requires { key ≡ plain_key key.table }
         ensures { WrittenThrough self.old key op result self.new }
     {
@@ -183,7 +183,7 @@ impl CachedCore {
         &mut self,
         name: &[u8],
         key: u64,
-    ) -> Option<Result<Result<Option<Value>, Refusal>, TopologyFault>>
+    ) -> Option<Result<Result<Option<Value>, Reason>, TopologyFault>>
         ensures same { self.new ≡ self.old }
         ensures name { is_some result ≡ is_ok (read_table name.now) }
         ensures told { IfSome result (λ told. ReadThrough self.old (plain_key name.now) key TabletType.Primary told) }
@@ -203,7 +203,7 @@ impl CachedCore {
         &mut self,
         name: &[u8],
         key: u64,
-    ) -> Option<Result<Result<Option<Value>, Refusal>, TopologyFault>>
+    ) -> Option<Result<Result<Option<Value>, Reason>, TopologyFault>>
         ensures same { self.new ≡ self.old }
         ensures name { is_some result ≡ is_ok (read_table name.now) }
         ensures told { IfSome result (λ told. ReadThrough self.old (plain_key name.now) key TabletType.Primary told) }
@@ -217,7 +217,7 @@ impl CachedCore {
         &mut self,
         name: RuleKey,
         key: u64,
-    ) -> Result<Result<Option<Value>, Refusal>, TopologyFault>
+    ) -> Result<Result<Option<Value>, Reason>, TopologyFault>
         requires { name ≡ plain_key name.table }
         ensures same { self.new ≡ self.old }
         ensures told { ReadThrough self.old name key TabletType.Primary result }
@@ -264,7 +264,7 @@ impl CachedCore {
         &mut self,
         name: &RuleKey,
         op: Op,
-    ) -> Result<Result<(), Refusal>, TopologyFault>
+    ) -> Result<Result<(), Reason>, TopologyFault>
         ensures told { WrittenThrough self.old name.now op result self.new }
         ensures served { (p : Plain) (scopes : List Scope) → SiteStands p scopes self.old
             → resolution self.old.core.topology name.now TabletType.Primary ≡ resolution (served p) name.now TabletType.Primary }

@@ -1,7 +1,9 @@
 -- A turn that is taken, and a drive that is on its way.
 use Rattle.std.proofs.Common.{◌≡◌, ℕ, suc, Bool, List, Option, Result, Ok, Err, refl, sym, ap, subst, ◌∙◌}
+use Rattle.mt_event.specs.declared.reason.Reason.{Reason}
 use Rattle.mt_event.specs.declared.refusal.Refusal.{Refusal}
 use Rattle.mt_event.specs.Events.{refusal_from}
+use Rattle.mt_event.specs.Reasons.{reason_from}
 use Rattle.mt_laws.specs.Turns.{Fits, FitsHeard}
 use Rattle.mt_model.specs.declared.entries.Scope.{Scope}
 use Rattle.mt_names.specs.declared.types.TypeSet.{TypeSet}
@@ -35,11 +37,9 @@ advance_due p workflow tries name at same there =
     ap (λ n. advance workflow n at most_at_once) same ∙ ap (λ n. advance workflow (feeding_stream p workflow) n most_at_once) there
 
 -- what follows from any answer to an undo
-pub undone : (q : Plain) (workflow : List ℕ) (why told : Refusal) (way : Option Way) (answer : Answer) (said : Heard) → way ≡ way_of q workflow → told ≡ why
-    → said ≡ unless_closed way (abandoned (refusal_from told)) (gives_up workflow (refusal_from why)) → heard q (gives_up workflow (refusal_from why)) answer ≡ said
-undone q workflow why told way answer said same tells is =
-    ap (λ w. unless_closed w (abandoned (refusal_from why)) (gives_up workflow (refusal_from why))) (sym same)
-    ∙ ap (λ r. unless_closed way (abandoned (refusal_from r)) (gives_up workflow (refusal_from why))) (sym tells) ∙ sym is
+pub undone : (q : Plain) (workflow : List ℕ) (why : Reason) (way : Option Way) (answer : Answer) (said : Heard) → way ≡ way_of q workflow
+    → said ≡ unless_closed way (abandoned (reason_from why)) (gives_up workflow (reason_from why)) → heard q (gives_up workflow (reason_from why)) answer ≡ said
+undone q workflow why way answer said same is = ap (λ w. unless_closed w (abandoned (reason_from why)) (gives_up workflow (reason_from why))) (sym same) ∙ sym is
 
 -- ---- turn after turn
 

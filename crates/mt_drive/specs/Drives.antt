@@ -1,8 +1,8 @@
 -- What a drive of the controller means: a whole switch of traffic, or its reversal (MoveTables: SwitchTraffic, ReverseTraffic).
 use Rattle.std.specs.Prelude.{◌≡◌, ℕ, Bool, List, ◌++◌, Result, Ok}
 use Rattle.mt_event.specs.declared.refusal.Refusal.{Refusal}
-use Rattle.mt_event.specs.Drives.{driven_from, ended_from}
-use Rattle.mt_event.specs.Events.{refusal_from}
+use Rattle.mt_event.specs.Drives.{ended_from}
+use Rattle.mt_event.specs.Reasons.{reason_from}
 use Rattle.mt_model.specs.declared.entries.Scope.{Scope}
 use Rattle.mt_names.specs.declared.types.TypeSet.{TypeSet}
 use Rattle.mt_plain.specs.Answers.{Answers, after}
@@ -17,6 +17,8 @@ use Rattle.mt_laws.specs.Turns.{Fits}
 use Rattle.mt_site.specs.Headline.{HasRun}
 use Rattle.mt_site_state.specs.Ways.{SiteStands, SiteState}
 use Rattle.mt_event.specs.declared.driven.Driven.{Driven}
+use Rattle.mt_drive.specs.declared.turn.End as code_end
+use Rattle.mt_drive.specs.declared.turn.End.TheVariants as end
 use Rattle.mt_drive.specs.declared.turn.Heard as code_heard
 use Rattle.mt_drive.specs.declared.turn.Heard.TheVariants as says
 use Rattle.mt_drive.specs.declared.turn.Turn as code_turn
@@ -26,12 +28,18 @@ use Rattle.mt_drive.specs.declared.turn.Turn.TheVariants as turn
 abbrev pub turn_from : (workflow : List ℕ) → code_turn.Turn → Driving
 turn_from workflow (turn.Steps tries) = plain.steps workflow tries
 turn_from workflow (turn.Feeds tries) = plain.feeds workflow tries
-turn_from workflow (turn.GivesUp refusal) = plain.gives_up workflow (refusal_from refusal)
+turn_from workflow (turn.GivesUp reason) = plain.gives_up workflow (reason_from reason)
+
+-- how a drive that is begun ends
+abbrev pub end_from : code_end.End → plain.Driven
+end_from end.Done = plain.done
+end_from (end.Abandoned reason) = plain.abandoned (reason_from reason)
+end_from (end.Stopped reason steps) = plain.stopped (reason_from reason) steps
 
 -- what follows from an answer
 abbrev pub heard_from : (workflow : List ℕ) → code_heard.Heard → Heard
 heard_from workflow (says.GoesOn next) = plain.goes_on (turn_from workflow next)
-heard_from workflow (says.Ends driven) = plain.ends (Ok (driven_from driven))
+heard_from workflow (says.Ends how) = plain.ends (Ok (end_from how))
 
 -- one turn, in each state that the controller stands for: the event that the drive asks for there is answered as it may be, the controller
 -- stands for the state after it, and what follows is what the definitions say

@@ -50,7 +50,7 @@ pub fn drive<W: Asks>(
     for _ in 1..MOST_TURNS {
         match take(core, watchers, workflow, turn) {
             Heard::GoesOn(next) => turn = next,
-            Heard::Ends(driven) => return Ok(driven),
+            Heard::Ends(end) => return Ok(end.driven()),
         }
     }
     // (no drive of a state that the definitions know has a turn more)

@@ -1,15 +1,15 @@
 //! The turns of a drive: what it asks for, and what follows from the answer.
 ghost use Rattle.std.specs.Prelude.{◌≡◌, List, ℕ, option_map};
 ghost use Rattle.mt_event.specs.Drives.{driven_from};
-ghost use Rattle.mt_event.specs.Events.{refusal_from};
+ghost use Rattle.mt_event.specs.Reasons.{reason_from};
 ghost use Rattle.mt_model.specs.declared.entries.Scope.{Scope};
 ghost use Rattle.mt_plain.specs.Drive as plain;
 ghost use Rattle.mt_plain.specs.Plain.{Plain, stands_done, write_journal};
 ghost use Rattle.mt_site_state.specs.Ways.{SiteStands};
 ghost use Rattle.mt_workflow.specs.Workflows.{stream_name, way_from};
-ghost use Rattle.mt_drive.specs.Drives.{Turns, heard_from, turn_from};
+ghost use Rattle.mt_drive.specs.Drives.{Turns, end_from, heard_from, turn_from};
 
-use mt_event::{Driven, Refusal};
+use mt_event::{Driven, Reason, Refusal};
 use mt_names::{Position, WorkflowName};
 use mt_site::{Command, Core};
 use mt_watch::Asks;
@@ -32,7 +32,18 @@ pub(crate) enum Turn {
     /// An advance of the feeding stream, before the step may be tried so many times more.
     Feeds(u8),
     /// An undo, after this refusal, which it will tell.
-    GivesUp(Refusal),
+    GivesUp(Reason),
+}
+
+/// How a drive that is begun ends: see `Driven`, which has room for a refusal with a name, as no event of a drive is refused.
+#[derive(Drop)]
+pub(crate) enum End {
+    /// All its steps are done, and the way is closed.
+    Done,
+    /// This refusal came before the journal: all is undone, and the way is closed.
+    Abandoned(Reason),
+    /// This refusal came behind the journal, with so many steps done: the way stays open.
+    Stopped(Reason, u64),
 }
 
 /// What follows from an answer.
@@ -41,7 +52,20 @@ pub(crate) enum Heard {
     /// The drive goes on.
     GoesOn(Turn),
     /// It ends.
-    Ends(Driven),
+    Ends(End),
+}
+
+impl End {
+    /// It, as it is told.
+    pub(crate) fn driven(self) -> Driven
+        ensures { driven_from result ≡ end_from self }
+    {
+        match self {
+            End::Done => Driven::Done,
+            End::Abandoned(reason) => Driven::Abandoned(Refusal::from(reason)),
+            End::Stopped(reason, steps) => Driven::Stopped(Refusal::from(reason), steps),
+        }
+    }
 }
 
 /// The way that is open on a workflow.
@@ -91,23 +115,23 @@ fn feeding(core: &Core, workflow: &WorkflowName) -> (Slot, Position)
 }
 
 /// What follows once a way may have closed: that ends the drive, and else it goes on.
-fn unless_closed(way: Option<Way>, driven: Driven, turn: Turn) -> Heard
+fn unless_closed(way: Option<Way>, end: End, turn: Turn) -> Heard
     ensures { (workflow : List ℕ) → heard_from workflow result
-        ≡ plain.unless_closed (option_map way_from way) (driven_from driven) (turn_from workflow turn) }
+        ≡ plain.unless_closed (option_map way_from way) (end_from end) (turn_from workflow turn) }
 {
     match way {
-        None => Heard::Ends(driven),
+        None => Heard::Ends(end),
         Some(_) => Heard::GoesOn(turn),
     }
 }
 
 /// What follows from a refusal: before the journal all is undone, and behind it the drive stops.
-fn fail(way: Option<Way>, refusal: Refusal) -> Heard
+fn fail(way: Option<Way>, refusal: Reason) -> Heard
     ensures { (p : Plain) (workflow : List ℕ) → option_map way_from way ≡ plain.way_of p workflow
-        → heard_from workflow result ≡ plain.fails p workflow (refusal_from refusal) }
+        → heard_from workflow result ≡ plain.fails p workflow (reason_from refusal) }
 {
     match way {
-        Some(found) if is_past_journal(found) => Heard::Ends(Driven::Stopped(
+        Some(found) if is_past_journal(found) => Heard::Ends(End::Stopped(
             refusal,
             steps_done(way),
         )),
@@ -116,12 +140,12 @@ fn fail(way: Option<Way>, refusal: Refusal) -> Heard
 }
 
 /// What follows from the refusal of a step: it is tried again behind an advance, where the stream isn't level and tries are left.
-fn refused_step(way: Option<Way>, tries: u8, refusal: Refusal) -> Heard
+fn refused_step(way: Option<Way>, tries: u8, refusal: Reason) -> Heard
     ensures { (p : Plain) (workflow : List ℕ) → option_map way_from way ≡ plain.way_of p workflow
-        → heard_from workflow result ≡ plain.refused_step p workflow tries (refusal_from refusal) }
+        → heard_from workflow result ≡ plain.refused_step p workflow tries (reason_from refusal) }
 {
     match refusal {
-        Refusal::NotLevel if tries > 1 => Heard::GoesOn(Turn::Feeds(tries - 1)),
+        Reason::NotLevel if tries > 1 => Heard::GoesOn(Turn::Feeds(tries - 1)),
         refusal => fail(way, refusal),
     }
 }
@@ -134,7 +158,7 @@ fn step<W: Asks>(core: &mut Core, watchers: &W, workflow: &WorkflowName, tries: 
     let answer = core.command(watchers, Command::Step(workflow, at));
     let way = way_of(core, workflow);
     match answer {
-        Ok(()) => unless_closed(way, Driven::Done, Turn::Steps(MOST_TRIES)),
+        Ok(()) => unless_closed(way, End::Done, Turn::Steps(MOST_TRIES)),
         Err(refusal) => refused_step(way, tries, refusal),
     }
 }
@@ -155,15 +179,15 @@ fn give_up<W: Asks>(
     core: &mut Core,
     watchers: &W,
     workflow: &WorkflowName,
-    refusal: Refusal,
+    refusal: Reason,
 ) -> Heard
-    ensures { Turns (W.scopes watchers.now) core.old (plain.gives_up workflow.now (refusal_from refusal)) (heard_from workflow.now result) core.new }
+    ensures { Turns (W.scopes watchers.now) core.old (plain.gives_up workflow.now (reason_from refusal)) (heard_from workflow.now result) core.new }
 {
     let at = steps_done(way_of(core, workflow));
     let _ = core.command(watchers, Command::Undo(workflow, at));
     unless_closed(
         way_of(core, workflow),
-        Driven::Abandoned(refusal.copied()),
+        End::Abandoned(refusal),
         Turn::GivesUp(refusal),
     )
 }

@@ -1,3 +1,4 @@
 pub mod Drives
 pub mod Events
+pub mod Reasons
 pub mod Same

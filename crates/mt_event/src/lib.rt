@@ -4,6 +4,7 @@
 mod driven;
 mod event;
 mod laws;
+mod reason;
 mod refusal;
 mod reply;
 mod tables;
@@ -11,6 +12,7 @@ mod tables;
 pub use driven::Driven;
 pub use event::Event;
 pub use laws::{events_and_answers_are_told_apart, events_and_answers_are_told_in_full};
+pub use reason::Reason;
 pub use refusal::Refusal;
 pub use reply::{Reply, Shown, ShownOf, ShownStream};
 pub use tables::Tables;

@@ -7,23 +7,24 @@ ghost use Rattle.mt_plain.specs.Output.{answer_text, line_feed};
 ghost use Rattle.mt_plain.specs.Script.{drive, event};
 ghost use Rattle.mt_site.specs.Commands.{event_of_command};
 ghost use Rattle.mt_site.specs.Show.{shown_answer};
-ghost use Rattle.mt_event.specs.Events.{done_from, event_of};
+ghost use Rattle.mt_event.specs.Events.{event_of};
+ghost use Rattle.mt_event.specs.Reasons.{done_by};
 ghost use Rattle.mt_workflow.specs.Workflows.{stream_name};
 ghost use Rattle.mt_run.specs.Runs.{IsRequestOutput};
 
 use crate::script::LineOutput;
+use arrayvec::ArrayVec;
 use mt_cache::CachedCore;
 use mt_drive::drive;
-use mt_event::{Event, Refusal, ShownOf};
+use mt_event::{Event, Reason, ShownOf};
 use mt_model::Op;
-use mt_names::{
-    KeyspaceName, Position, RuleKey, RuleTarget, TableName, TabletType, TypeSet, WorkflowName,
-};
+use mt_names::{KeyspaceName, MAX_TABLES, Position, TableName, TabletType, TypeSet, WorkflowName};
 use mt_script::TableText;
 use mt_site::Command;
 use mt_stream::Advanced;
 use mt_texts::{
-    LineText, put_row_refused, put_written, write_advanced, write_answer, write_driven, write_shown,
+    LineText, put_reason, put_written, write_advanced, write_answer, write_created, write_driven,
+    write_shown,
 };
 use mt_watch::Asks;
 use mt_workflow::Slot;
@@ -43,13 +44,13 @@ fn ask<A: Asks>(
 }
 
 /// Writes that a command is done, or why it is refused, in place of the text that was there.
-fn tell_done(told: &Result<(), Refusal>, text: &mut LineText)
-    ensures { text.new.items ≡ answer_text (done_from told.now) ++ line_feed }
+fn tell_done(told: &Result<(), Reason>, text: &mut LineText)
+    ensures { text.new.items ≡ answer_text (done_by told.now) ++ line_feed }
 {
     text.clear();
     match told {
         Ok(()) => put_written(text),
-        Err(refusal) => put_row_refused(text, refusal),
+        Err(reason) => put_reason(text, *reason),
     }
 }
 
@@ -117,7 +118,26 @@ pub fn read_at<A: Asks>(
     )
 }
 
-/// Creates a workflow.
+/// Creates a workflow of a name, of tables that are moved from a source to a target.
+#[inline(never)]
+pub fn create_of<A: Asks>(
+    core: &mut CachedCore,
+    watchers: &A,
+    names: (&WorkflowName, &KeyspaceName, &KeyspaceName),
+    tables: &ArrayVec<TableName, MAX_TABLES>,
+    text: &mut LineText,
+) -> LineOutput
+    ensures { IsRequestOutput (A.scopes watchers.now) core.old (event (plain.create names.entry.0.now names.entry.1.now names.entry.2.now tables.now.items)) text.new.items result core.new }
+{
+    let (workflow, source, target) = names;
+    let told = core
+        .core_mut()
+        .create(watchers, workflow, source, target, tables);
+    write_created(text, &told);
+    LineOutput::Line
+}
+
+/// The same, of tables that are read first.
 #[inline(never)]
 pub fn create<A: Asks>(
     core: &mut CachedCore,
@@ -130,24 +150,24 @@ pub fn create<A: Asks>(
 ) -> LineOutput
     ensures { IsRequestOutput (A.scopes watchers.now) core.old (event (plain.create workflow source target tables.now)) text.new.items result core.new }
 {
-    let tables = tables.tables();
-    command(
+    create_of(
         core,
         watchers,
-        Command::Create(&workflow, &source, &target, &tables),
+        (&workflow, &source, &target),
+        &tables.tables(),
         text,
     )
 }
 
 /// Writes what an advance did, or why it is refused, in place of the text that was there.
-fn tell_advanced(told: &Result<Advanced, Refusal>, text: &mut LineText)
+fn tell_advanced(told: &Result<Advanced, Reason>, text: &mut LineText)
     ensures { text.new.items ≡ answer_text (advanced_from told.now) ++ line_feed }
 {
     match told {
         Ok(did) => write_advanced(text, *did),
-        Err(refusal) => {
+        Err(reason) => {
             text.clear();
-            put_row_refused(text, refusal);
+            put_reason(text, *reason);
         }
     }
 }
@@ -169,14 +189,14 @@ pub fn advance(
 }
 
 /// Writes what is told of a workflow, or why it is refused, in place of the text that was there.
-fn tell_shown(told: &Result<ShownOf<'_>, Refusal>, text: &mut LineText)
+fn tell_shown(told: &Result<ShownOf<'_>, Reason>, text: &mut LineText)
     ensures { text.new.items ≡ answer_text (shown_answer told.now) ++ line_feed }
 {
     match told {
         Ok(shown) => write_shown(text, shown),
-        Err(refusal) => {
+        Err(reason) => {
             text.clear();
-            put_row_refused(text, refusal);
+            put_reason(text, *reason);
         }
     }
 }

@@ -1,6 +1,6 @@
 //! Rows of a script: a line that asks for one is answered without an event.
 ghost use Rattle.std.specs.Prelude.{◌≡◌, ◌+◌, ◌≤◌, ◌++◌, [], length, Some, Ok};
-ghost use Rattle.mt_event.specs.Events.{done_from};
+ghost use Rattle.mt_event.specs.Reasons.{done_by};
 ghost use Rattle.mt_model.specs.declared.rows.Op.TheVariants.{Delete};
 ghost use Rattle.mt_plain.specs.Output.{answer_text, line_feed};
 ghost use Rattle.mt_plain.specs.Script.{read_line, read_through, write_through};
@@ -11,45 +11,45 @@ ghost use Rattle.mt_run.specs.Runs.{IsRowBehind, IsRowOutput, IsRowTold, through
 
 use arrayvec::ArrayVec;
 use mt_cache::CachedCore;
-use mt_event::Refusal;
+use mt_event::Reason;
 use mt_io::{LONGEST_LINE, ROOM, Waiting};
 use mt_model::{Op, TopologyFault};
 use mt_names::{RuleKey, TabletType, Value};
 use mt_script::{RowRequest, RowVerb, ValueVerb, any_key, op_of, row_words, value_behind};
 use mt_site::Core;
-use mt_texts::{LineText, put_look_up, put_row, put_row_refused, put_written};
+use mt_texts::{LineText, put_look_up, put_reason, put_row, put_written};
 
 /// Tells of a write through a name, behind what stands.
 #[inline(always)]
 fn tell_written<const N: usize>(
-    told: &Result<Result<(), Refusal>, TopologyFault>,
+    told: &Result<Result<(), Reason>, TopologyFault>,
     text: &mut ArrayVec<u8, N>,
 )
     requires room { length text.old.items + LONGEST_LINE ≤ N }
-    ensures { text.new.items ≡ text.old.items ++ through_text done_from told.now }
+    ensures { text.new.items ≡ text.old.items ++ through_text done_by told.now }
 {
     match told {
         Ok(Ok(())) => put_written(text),
-        Ok(Err(refusal)) => put_row_refused(text, refusal),
+        Ok(Err(reason)) => put_reason(text, *reason),
         Err(fault) => put_look_up(text, *fault),
     }
 }
 
 /// Tells of a row that was read where a name leads, behind what stands.
 #[inline(always)]
-fn tell_row<const N: usize>(told: &Result<Option<Value>, Refusal>, text: &mut ArrayVec<u8, N>)
+fn tell_row<const N: usize>(told: &Result<Option<Value>, Reason>, text: &mut ArrayVec<u8, N>)
     requires room { length text.old.items + LONGEST_LINE ≤ N }
     ensures { text.new.items ≡ text.old.items ++ answer_text (read_from told.now) ++ line_feed }
 {
     match told {
         Ok(row) => put_row(text, row),
-        Err(refusal) => put_row_refused(text, refusal),
+        Err(reason) => put_reason(text, *reason),
     }
 }
 
 /// Tells of a row that was read through a name, behind what stands.
 fn tell_read<const N: usize>(
-    told: &Result<Result<Option<Value>, Refusal>, TopologyFault>,
+    told: &Result<Result<Option<Value>, Reason>, TopologyFault>,
     text: &mut ArrayVec<u8, N>,
 )
     requires room { length text.old.items + LONGEST_LINE ≤ N }

@@ -9,7 +9,7 @@ ghost use Rattle.mt_script.specs.Requests.{asked_of_workflow, request_from};
 ghost use Rattle.mt_site_state.specs.Ways.{SiteStands};
 ghost use Rattle.mt_run.specs.Runs.{AsksDocument, IsLineOutput, IsRequestOutput, Runs, RunsLine, RunsLines};
 
-use crate::asking::{advance, command, create, drive_whole, read_at, show, write_at};
+use crate::asking::{advance, command, create, create_of, drive_whole, read_at, show, write_at};
 use crate::rows::{row_line_output, row_output};
 use mt_cache::CachedCore;
 use mt_io::{
@@ -176,10 +176,11 @@ fn create_line_output<A: Asks>(
         return other_line_output(core, watchers, line, text);
     };
     match &table_list(request.tables) {
-        Ok(tables) => command(
+        Ok(tables) => create_of(
             core,
             watchers,
-            Command::Create(&request.workflow, &request.source, &request.target, tables),
+            (&request.workflow, &request.source, &request.target),
+            tables,
             text,
         ),
         Err(_) => other_line_output(core, watchers, line, text),

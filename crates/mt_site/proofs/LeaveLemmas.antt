@@ -9,8 +9,8 @@ use Rattle.mt_names.specs.Names.{same_text}
 use Rattle.mt_model.specs.declared.faults.PrimaryFault.{PrimaryFault}
 use Rattle.mt_model.specs.declared.faults.PrimaryFault.TheVariants as fault
 use Rattle.mt_model.specs.declared.rows.Op.{Op}
-use Rattle.mt_event.specs.declared.refusal.Refusal as code
-use Rattle.mt_event.specs.Events.{done_from, refusal_from}
+use Rattle.mt_event.specs.declared.reason.Reason as code
+use Rattle.mt_event.specs.Reasons.{done_by, reason_from}
 use Rattle.mt_plain.specs.Events.{StreamName, forward, back, Refusal, memory, refused}
 use Rattle.mt_plain.specs.Refuse.{cancel_refusal}
 use Rattle.mt_plain.specs.Slots.{written_side}
@@ -33,9 +33,9 @@ refused_leaves : (old new : CoreState) (refusal : Option Refusal) (grows : Bool)
 refused_leaves old new refusal grows made memory is = is.2
 refused_leaves old new refusal grows made other is = is.1
 
-pub does_leave : (old new : CoreState) (refusal : Option Refusal) (grows : Bool) (made : CoreState) (result : Result ⊤ code.Refusal) → Does old refusal grows made (done_from result) new → OnErr result (new ≡ old)
+pub does_leave : (old new : CoreState) (refusal : Option Refusal) (grows : Bool) (made : CoreState) (result : Result ⊤ code.Reason) → Does old refusal grows made (done_by result) new → OnErr result (new ≡ old)
 does_leave old new refusal grows made (Ok reply) is = tt
-does_leave old new refusal grows made (Err r) is = refused_leaves old new refusal grows made (refusal_from r) is
+does_leave old new refusal grows made (Err r) is = refused_leaves old new refusal grows made (reason_from r) is
 
 -- ---- a write
 
@@ -43,8 +43,8 @@ write_leaves : (before after : PrimaryState) (table : List ℕ) (op : Op) (f : P
 write_leaves before after table op fault.Memory is = is.1
 write_leaves before after table op other is = is.1
 
-pub rows_leave : (old new : CoreState) (keyspace table : List ℕ) (op : Op) (result : Result ⊤ code.Refusal) (o : Option PrimaryState) → primary_at old.primaries keyspace ≡ o
-    → WritesAt o old keyspace table op (done_from result) new → OnErr result (new ≡ old)
+pub rows_leave : (old new : CoreState) (keyspace table : List ℕ) (op : Op) (result : Result ⊤ code.Reason) (o : Option PrimaryState) → primary_at old.primaries keyspace ≡ o
+    → WritesAt o old keyspace table op (done_by result) new → OnErr result (new ≡ old)
 rows_leave old new keyspace table op (Ok is-done) o found is = tt
 rows_leave old new keyspace table op (Err r) None found is = is.1
 rows_leave old new keyspace table op (Err r) (Some before) found (Ok position, after, writes, told, made) = absurd cc
@@ -69,8 +69,8 @@ module _ (old new : CoreState) (workflow : List ℕ) (name : StreamName) (at at_
   found_again keyspace None found is = absurd (true≢false (sym is))
   found_again keyspace (Some state) found is = found
 
-  stream_leaves : (w : WorkflowState) → workflow_at old.workflows workflow ≡ Some w → (r : code.Refusal) (o : Option StreamValue) → slot_of w name ≡ o
-      → AdvancesStream o old w name at at_most (refused (refusal_from r)) new → new ≡ old
+  stream_leaves : (w : WorkflowState) → workflow_at old.workflows workflow ≡ Some w → (r : code.Reason) (o : Option StreamValue) → slot_of w name ≡ o
+      → AdvancesStream o old w name at at_most (refused (reason_from r)) new → new ≡ old
   stream_leaves w found r None slot is = is.1
   stream_leaves w found r (Some s) slot (Ok counts, after, sink, advances, told, made) = absurd cc
   stream_leaves w found r (Some s) slot (Err f, after, sink, advances, told, made) =
@@ -85,14 +85,14 @@ module _ (old new : CoreState) (workflow : List ℕ) (name : StreamName) (at at_
       let with_workflows : Workflows → CoreState = λ ws. record old { workflows = ws } in
       made ∙ ap with_primaries primaries_again ∙ ap with_workflows workflows_again
 
-  pub advances_leave : (result : Result Advanced code.Refusal) (o : Option WorkflowState) → workflow_at old.workflows workflow ≡ o → AdvancesAt o old name at at_most (advanced_from result) new → OnErr result (new ≡ old)
+  pub advances_leave : (result : Result Advanced code.Reason) (o : Option WorkflowState) → workflow_at old.workflows workflow ≡ o → AdvancesAt o old name at at_most (advanced_from result) new → OnErr result (new ≡ old)
   advances_leave (Ok reply) o found is = tt
   advances_leave (Err r) None found is = is.1
   advances_leave (Err r) (Some w) found is = stream_leaves w found r (slot_of w name) refl is
 
 -- ---- Cancel
 
-pub cancels_leave : (old new : CoreState) (workflow : List ℕ) (result : Result ⊤ code.Refusal) (o : Option WorkflowState) → workflow_at old.workflows workflow ≡ o → CancelsAt o old (done_from result) new → OnErr result (new ≡ old)
+pub cancels_leave : (old new : CoreState) (workflow : List ℕ) (result : Result ⊤ code.Reason) (o : Option WorkflowState) → workflow_at old.workflows workflow ≡ o → CancelsAt o old (done_by result) new → OnErr result (new ≡ old)
 cancels_leave old new workflow (Ok reply) o found is = tt
 cancels_leave old new workflow (Err r) None found is = is.1
-cancels_leave old new workflow (Err r) (Some w) found is = refused_leaves old new (cancel_refusal (live_of w)) false (cancelled old w) (refusal_from r) is
+cancels_leave old new workflow (Err r) (Some w) found is = refused_leaves old new (cancel_refusal (live_of w)) false (cancelled old w) (reason_from r) is

@@ -5,7 +5,7 @@ use Rattle.std.specs.Prelude.{MatchOption}
 use Rattle.std.specs.List.{IsDistinct}
 use Rattle.std.specs.Map.{keys_of, values_of}
 use Rattle.indexmap.specs.IndexMap.{set_value_at}
-use Rattle.mt_event.specs.Events.{refusal_from}
+use Rattle.mt_event.specs.Reasons.{reason_from}
 use Rattle.mt_model.specs.declared.faults.PrimaryFault.{PrimaryFault}
 use Rattle.mt_model.specs.declared.faults.PrimaryFault.TheVariants as fault
 use Rattle.mt_model.specs.declared.rows.Op.{Op}
@@ -23,7 +23,7 @@ use Rattle.mt_site_state.specs.Core.{CoreState, Primaries, Workflows, primary_at
 use Rattle.mt_site.specs.ByHand.{refusal_by_primary}
 
 -- a refusal of a primary, as the core tells it
-pub refused_there : (f : PrimaryFault) → refused (refusal_from (refusal_by_primary f)) ≡ refused (refusal_by f)
+pub refused_there : (f : PrimaryFault) → refused (reason_from (refusal_by_primary f)) ≡ refused (refusal_by f)
 refused_there fault.Memory = refl
 refused_there fault.NoTable = refl
 refused_there fault.Denied = refl

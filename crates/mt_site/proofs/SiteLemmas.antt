@@ -5,8 +5,8 @@ use Rattle.std.proofs.lemmas.List.Elements.{All-append, All-from_recursion}
 use Rattle.std.specs.List.{AllByRecursion}
 use Rattle.std.specs.Prelude.{⊤, ◌||◌, false, not, IfOk}
 use Rattle.std.specs.Result.{OnErr}
-use Rattle.mt_event.specs.declared.refusal.Refusal as code
-use Rattle.mt_event.specs.Events.{done_from, refusal_from}
+use Rattle.mt_event.specs.declared.reason.Reason as code
+use Rattle.mt_event.specs.Reasons.{done_by, reason_from}
 use Rattle.mt_journal.specs.declared.entry.JournalEntry.{JournalEntry}
 use Rattle.mt_journal.specs.Journal.{entry_of}
 use Rattle.mt_model.specs.declared.entries.EntryKey.TheVariants as about
@@ -52,7 +52,7 @@ abbrev pub whole : CoreState → WaysState → SiteState
 whole core ways = record { core = core; ways = ways }
 
 -- a refusal that leaves the core leaves the whole
-pub lifted : {X : Type 0} (r : Result X code.Refusal) (ways : WaysState) (new old : CoreState) → OnErr r (new ≡ old) → OnErr r (whole new ways ≡ whole old ways)
+pub lifted : {X E : Type 0} (r : Result X E) (ways : WaysState) (new old : CoreState) → OnErr r (new ≡ old) → OnErr r (whole new ways ≡ whole old ways)
 lifted (Ok made) ways new old leaves = tt
 lifted (Err refusal) ways new old leaves = ap (λ core. whole core ways) leaves
 
@@ -66,9 +66,9 @@ refused_leaves : (old new : SiteState) (refusal : Option Refusal) (grows : Bool)
 refused_leaves old new refusal grows made memory is = is.2
 refused_leaves old new refusal grows made other is = is.1
 
-pub site_does_leave : (old new : SiteState) (refusal : Option Refusal) (grows : Bool) (made : SiteState) (result : Result ⊤ code.Refusal) → SiteDoes old refusal grows made (done_from result) new → OnErr result (new ≡ old)
+pub site_does_leave : (old new : SiteState) (refusal : Option Refusal) (grows : Bool) (made : SiteState) (result : Result ⊤ code.Reason) → SiteDoes old refusal grows made (done_by result) new → OnErr result (new ≡ old)
 site_does_leave old new refusal grows made (Ok reply) is = tt
-site_does_leave old new refusal grows made (Err r) is = refused_leaves old new refusal grows made (refusal_from r) is
+site_does_leave old new refusal grows made (Err r) is = refused_leaves old new refusal grows made (reason_from r) is
 
 -- an open way has a next step, of twelve
 few : (way : Way) → next_step way < behind_last way → next_step way < 12
@@ -141,38 +141,38 @@ module _ (mine : List Scope) (may_answer : Answering) (old new : SiteState) (wor
 
 -- ---- what is refused leaves all as it was
 
-pub begin_switch_leaves : (old new : SiteState) (types : TypeSet) (result : Result ⊤ code.Refusal) (o : Option WorkflowState) → BeginsSwitchAt o old types (done_from result) new → OnErr result (new ≡ old)
+pub begin_switch_leaves : (old new : SiteState) (types : TypeSet) (result : Result ⊤ code.Reason) (o : Option WorkflowState) → BeginsSwitchAt o old types (done_by result) new → OnErr result (new ≡ old)
 begin_switch_leaves old new types (Ok reply) o is = tt
 begin_switch_leaves old new types (Err r) None is = is.1
 begin_switch_leaves old new types (Err r) (Some w) is =
     refused_leaves old new
     (at_rest (live_of w) (or_else (refuse_if (not (has_more types w.switched)) nothing_to_switch) (or_else (refuse_if (is_copying w) copying) (no_number_left old))))
-    true (with_way old w (way_to w false (types_and w.switched types))) (refusal_from r) is
+    true (with_way old w (way_to w false (types_and w.switched types))) (reason_from r) is
 
-pub begin_reverse_leaves : (old new : SiteState) (types : TypeSet) (result : Result ⊤ code.Refusal) (o : Option WorkflowState) → BeginsReverseAt o old types (done_from result) new → OnErr result (new ≡ old)
+pub begin_reverse_leaves : (old new : SiteState) (types : TypeSet) (result : Result ⊤ code.Reason) (o : Option WorkflowState) → BeginsReverseAt o old types (done_by result) new → OnErr result (new ≡ old)
 begin_reverse_leaves old new types (Ok reply) o is = tt
 begin_reverse_leaves old new types (Err r) None is = is.1
 begin_reverse_leaves old new types (Err r) (Some w) is =
     refused_leaves old new (at_rest (live_of w) (or_else (refuse_if (not (share_type types w.switched)) nothing_to_reverse) (no_number_left old)))
-    true (with_way old w (way_to w true (types_without w.switched types))) (refusal_from r) is
+    true (with_way old w (way_to w true (types_without w.switched types))) (reason_from r) is
 
-pub completes_leave : (old new : SiteState) (result : Result ⊤ code.Refusal) (o : Option WorkflowState) → CompletesAt o old (done_from result) new → OnErr result (new ≡ old)
+pub completes_leave : (old new : SiteState) (result : Result ⊤ code.Reason) (o : Option WorkflowState) → CompletesAt o old (done_by result) new → OnErr result (new ≡ old)
 completes_leave old new (Ok reply) o is = tt
 completes_leave old new (Err r) None is = is.1
-completes_leave old new (Err r) (Some w) is = refused_leaves old new (complete_refusal (live_of w)) false (record old { core = completed old.core w }) (refusal_from r) is
+completes_leave old new (Err r) (Some w) is = refused_leaves old new (complete_refusal (live_of w)) false (record old { core = completed old.core w }) (reason_from r) is
 
-pub undoes_leave : (old new : SiteState) (workflow : List ℕ) (at : ℕ) (result : Result ⊤ code.Refusal) → UndoesWorkflow old workflow at (done_from result) new → OnErr result (new ≡ old)
+pub undoes_leave : (old new : SiteState) (workflow : List ℕ) (at : ℕ) (result : Result ⊤ code.Reason) → UndoesWorkflow old workflow at (done_by result) new → OnErr result (new ≡ old)
 undoes_leave old new workflow at (Ok reply) is = tt
-undoes_leave old new workflow at (Err r) is = undo_same old new at (refusal_from r) (workflow_at old.core.workflows workflow) is
+undoes_leave old new workflow at (Err r) is = undo_same old new at (reason_from r) (workflow_at old.core.workflows workflow) is
 
 module _ (scopes : List Scope) (may_answer : Answering) (old new : SiteState) (workflow : List ℕ) (at : ℕ) where
-  pub steps_leave : (result : Result ⊤ code.Refusal)
+  pub steps_leave : (result : Result ⊤ code.Reason)
       → ((w : WorkflowState) → workflow_at old.core.workflows workflow ≡ Some w → w.name ≡ workflow)
       → ((w : WorkflowState) → workflow_at old.core.workflows workflow ≡ Some w → is_some (primary_at old.core.primaries w.source) ≡ true)
       → ((w : WorkflowState) → workflow_at old.core.workflows workflow ≡ Some w → is_some (primary_at old.core.primaries w.target) ≡ true)
-      → StepsWorkflow old scopes may_answer workflow at (done_from result) new → OnErr result (new ≡ old)
+      → StepsWorkflow old scopes may_answer workflow at (done_by result) new → OnErr result (new ≡ old)
   steps_leave (Ok reply) named source target is = tt
-  steps_leave (Err r) named source target is = stepped_leaves scopes may_answer old new workflow at (refusal_from r) named source target is
+  steps_leave (Err r) named source target is = stepped_leaves scopes may_answer old new workflow at (reason_from r) named source target is
 
 -- ---- Complete
 

@@ -2,9 +2,9 @@
 use Rattle.std.specs.Prelude.{◌≡◌, ◌≢◌, ◌≤◌, ℕ, true, List, Option, None, Some, is_some, length, Result, Ok, Err}
 use Rattle.std.specs.Map.{set_value}
 use Rattle.mt_names.specs.Names.{same_text}
-use Rattle.mt_event.specs.declared.refusal.Refusal.{Refusal}
-use Rattle.mt_event.specs.declared.refusal.Refusal.TheVariants as refusal
-use Rattle.mt_event.specs.Events.{refusal_from}
+use Rattle.mt_event.specs.declared.reason.Reason.{Reason}
+use Rattle.mt_event.specs.declared.reason.Reason.TheVariants as reason
+use Rattle.mt_event.specs.Reasons.{reason_from}
 use Rattle.mt_plain.specs.Events.{StreamName, Answer, advanced, refused, stream_stopped}
 use Rattle.mt_plain.specs.Plain.{among}
 use Rattle.mt_plain.specs.Slots.{read_side, written_side}
@@ -19,17 +19,17 @@ use Rattle.mt_workflow.specs.Workflows.{WorkflowState, live_of, slot_of, with_sl
 use Rattle.mt_site_rows.specs.Answers.{answer_by_stream}
 use Rattle.mt_site_state.specs.Core.{Primaries, Workflows, primary_at, primary_of, workflow_at}
 
-abbrev pub refusal_by_stream : StreamFault → Refusal
-refusal_by_stream stream.Memory = refusal.Memory
-refusal_by_stream (stream.Stale position) = refusal.Stale position
-refusal_by_stream stream.Stopped = refusal.StreamStopped
-refusal_by_stream stream.Frozen = refusal.StreamStopped
-refusal_by_stream stream.LogFull = refusal.Full
+abbrev pub refusal_by_stream : StreamFault → Reason
+refusal_by_stream stream.Memory = reason.Memory
+refusal_by_stream (stream.Stale position) = reason.Stale position
+refusal_by_stream stream.Stopped = reason.StreamStopped
+refusal_by_stream stream.Frozen = reason.StreamStopped
+refusal_by_stream stream.LogFull = reason.Full
 
 -- the answer of an advance that is done, with its counts, or refused
-abbrev pub advanced_from : Result Advanced Refusal → Answer
+abbrev pub advanced_from : Result Advanced Reason → Answer
 advanced_from (Ok counts) = advanced counts.events counts.rows
-advanced_from (Err r) = refused (refusal_from r)
+advanced_from (Err r) = refused (reason_from r)
 
 -- that of a stream, if there is one
 abbrev pub answer_by_slot : Option (Result Advanced StreamFault) → Answer

@@ -8,35 +8,35 @@ use Rattle.mt_model.specs.declared.faults.PrimaryFault.TheVariants as primary
 use Rattle.mt_model.specs.declared.faults.TopologyFault.{TopologyFault}
 use Rattle.mt_model.specs.declared.faults.TopologyFault.TheVariants as topology
 use Rattle.mt_model.specs.Topology.{TopologyState, has_place, is_present, keyspace_at, with_entry, with_keyspace_state, without_table_place}
-use Rattle.mt_event.specs.declared.refusal.Refusal.{Refusal}
-use Rattle.mt_event.specs.declared.refusal.Refusal.TheVariants as refusal
-use Rattle.mt_event.specs.Events.{refusal_from}
+use Rattle.mt_event.specs.declared.reason.Reason.{Reason}
+use Rattle.mt_event.specs.declared.reason.Reason.TheVariants as reason
+use Rattle.mt_event.specs.Reasons.{reason_from}
 use Rattle.mt_model.specs.Rows.{RowValue}
 use Rattle.mt_plain.specs.Events.{Answer, refused, row}
 use Rattle.mt_primary.specs.Primary.{has_table}
 use Rattle.mt_primary.specs.Writes.{with_new_table}
 use Rattle.mt_site_state.specs.Core.{Primaries, primary_at, primary_of, with_primary}
 
-abbrev pub refusal_by_topology : TopologyFault → Refusal
-refusal_by_topology topology.Memory = refusal.Memory
-refusal_by_topology topology.NoKeyspace = refusal.NoKeyspace
-refusal_by_topology topology.NoTable = refusal.NoTable
-refusal_by_topology topology.Exists = refusal.Exists
-refusal_by_topology other = refusal.Full
+abbrev pub refusal_by_topology : TopologyFault → Reason
+refusal_by_topology topology.Memory = reason.Memory
+refusal_by_topology topology.NoKeyspace = reason.NoKeyspace
+refusal_by_topology topology.NoTable = reason.NoTable
+refusal_by_topology topology.Exists = reason.Exists
+refusal_by_topology other = reason.Full
 
-abbrev pub refusal_by_primary : PrimaryFault → Refusal
-refusal_by_primary primary.Memory = refusal.Memory
-refusal_by_primary primary.NoTable = refusal.NoTable
-refusal_by_primary primary.Denied = refusal.Denied
-refusal_by_primary primary.RowExists = refusal.RowExists
-refusal_by_primary primary.NoRow = refusal.NoRow
-refusal_by_primary primary.TooLong = refusal.TooLong
-refusal_by_primary primary.LogFull = refusal.Full
+abbrev pub refusal_by_primary : PrimaryFault → Reason
+refusal_by_primary primary.Memory = reason.Memory
+refusal_by_primary primary.NoTable = reason.NoTable
+refusal_by_primary primary.Denied = reason.Denied
+refusal_by_primary primary.RowExists = reason.RowExists
+refusal_by_primary primary.NoRow = reason.NoRow
+refusal_by_primary primary.TooLong = reason.TooLong
+refusal_by_primary primary.LogFull = reason.Full
 
 -- the answer of a row that is read, or not
-abbrev pub read_from : Result (Option RowValue) Refusal → Answer
+abbrev pub read_from : Result (Option RowValue) Reason → Answer
 read_from (Ok r) = row r
-read_from (Err r) = refused (refusal_from r)
+read_from (Err r) = refused (reason_from r)
 
 -- a table is made at the primary of its keyspace, or all is as it was
 abbrev pub CreatesTable : Primaries → (keyspace table : List ℕ) → Result ⊤ PrimaryFault → Primaries → Type 0

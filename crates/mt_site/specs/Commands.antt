@@ -1,6 +1,6 @@
 -- A command, as the event that it is (this profile's own).
 use Rattle.std.specs.Option.{option_copied}
-use Rattle.mt_plain.specs.Events.{Event, add_keyspace, add_table, begin_reverse, begin_switch, cancel, complete, create, edit_rule, step, undo}
+use Rattle.mt_plain.specs.Events.{Event, add_keyspace, add_table, begin_reverse, begin_switch, cancel, complete, edit_rule, step, undo}
 use Rattle.mt_site.specs.declared.controller.commands.Command.{Command}
 use Rattle.mt_site.specs.declared.controller.commands.Command.TheVariants as command
 
@@ -8,7 +8,6 @@ abbrev pub event_of_command : Command → Event
 event_of_command (command.AddKeyspace keyspace) = add_keyspace keyspace.now
 event_of_command (command.AddTable keyspace table) = add_table keyspace.now table.now
 event_of_command (command.EditRule key target) = edit_rule key.now (option_copied target)
-event_of_command (command.Create workflow source target tables) = create workflow.now source.now target.now tables.now.items
 event_of_command (command.BeginSwitch workflow types) = begin_switch workflow.now types
 event_of_command (command.BeginReverse workflow types) = begin_reverse workflow.now types
 event_of_command (command.Step workflow at) = step workflow.now at

@@ -8,7 +8,7 @@ ghost use Rattle.mt_workflow.specs.Workflows.{live_of, slot_of, stream_name};
 ghost use Rattle.mt_site.specs.Advance.{AdvancesBetween, AdvancesOne, CanAdvance, IsBetween, advanced_from, answer_by_slot, refusal_by_stream};
 
 use crate::{Primaries, Workflows};
-use mt_event::Refusal;
+use mt_event::Reason;
 use mt_names::{KeyspaceName, Position, WorkflowName};
 use mt_primary::Primary;
 use mt_site_switch::{exchange_at, place_of};
@@ -17,23 +17,23 @@ use mt_workflow::{Slot, Workflow};
 use std::alloc::Global;
 
 /// The refusal of the controller for one of a stream.
-fn refusal_by_stream(fault: StreamFault) -> Refusal
+fn refusal_by_stream(fault: StreamFault) -> Reason
     ensures { result ≡ refusal_by_stream fault }
 {
     match fault {
-        StreamFault::Memory => Refusal::Memory,
-        StreamFault::Stale(position) => Refusal::Stale(position),
-        StreamFault::Stopped | StreamFault::Frozen => Refusal::StreamStopped,
-        StreamFault::LogFull => Refusal::Full,
+        StreamFault::Memory => Reason::Memory,
+        StreamFault::Stale(position) => Reason::Stale(position),
+        StreamFault::Stopped | StreamFault::Frozen => Reason::StreamStopped,
+        StreamFault::LogFull => Reason::Full,
     }
 }
 
 /// What is told of an advance of a stream, if there is one.
-fn told(done: Option<Result<Advanced, StreamFault>>) -> Result<Advanced, Refusal>
+fn told(done: Option<Result<Advanced, StreamFault>>) -> Result<Advanced, Reason>
     ensures { advanced_from result ≡ answer_by_slot done }
 {
     match done {
-        None => Err(Refusal::StreamStopped),
+        None => Err(Reason::StreamStopped),
         Some(Ok(counts)) => Ok(counts),
         Some(Err(fault)) => Err(refusal_by_stream(fault)),
     }
@@ -89,12 +89,12 @@ fn advance_stream(
     slot: Slot,
     at: Position,
     max: u16,
-) -> Result<Advanced, Refusal>
+) -> Result<Advanced, Reason>
     requires { (s : StreamValue) → slot_of workflow.old (stream_name slot) ≡ Some s → IsBetween primaries.old.entries workflow.old (stream_name slot) s }
     ensures { AdvancesOne (slot_of workflow.old (stream_name slot)) primaries.old.entries workflow.old (stream_name slot) at max (advanced_from result) workflow.new primaries.new.entries }
 {
     if workflow.slot(slot).is_none() {
-        return Err(Refusal::StreamStopped);
+        return Err(Reason::StreamStopped);
     }
     told(advance_between(alloc, primaries, workflow, slot, at, max))
 }
@@ -108,13 +108,13 @@ pub(crate) fn advance(
     slot: Slot,
     at: Position,
     max: u16,
-) -> Result<Advanced, Refusal>
+) -> Result<Advanced, Reason>
     requires { CanAdvance primaries.old.entries workflows.old.entries name.now (stream_name slot) }
     ensures { (topology : TopologyState) → AdvancesWorkflow (record { topology = topology; primaries = primaries.old.entries; workflows = workflows.old.entries }) name.now (stream_name slot) at max (advanced_from result)
         (record { topology = topology; primaries = primaries.new.entries; workflows = workflows.new.entries }) }
 {
     match mt_few::get_mut(workflows, name) {
-        None => Err(Refusal::NoWorkflow),
+        None => Err(Reason::NoWorkflow),
         Some(workflow) => advance_stream(alloc, primaries, workflow, slot, at, max),
     }
 }

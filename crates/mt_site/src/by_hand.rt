@@ -6,14 +6,14 @@ ghost use Rattle.mt_names.specs.Keys.{IsRuleKey};
 ghost use Rattle.mt_plain.specs.Plain.{has_part};
 ghost use Rattle.mt_primary.specs.Primary.{has_table};
 ghost use Rattle.mt_workflow.specs.Workflows.{live_of};
-ghost use Rattle.mt_event.specs.Events.{done_from};
+ghost use Rattle.mt_event.specs.Reasons.{done_by};
 ghost use Rattle.mt_site_state.specs.Core.{primary_at, primary_of};
 ghost use Rattle.mt_site_state.specs.ByHand.{AddsKeyspace, AddsTable, EditsRule, is_owned};
 ghost use Rattle.mt_site_state.specs.Core as core;
 ghost use Rattle.mt_site.specs.ByHand.{AreTables, CreatesTable, refusal_by_topology, without_table};
 
 use crate::{Primaries, Workflows};
-use mt_event::Refusal;
+use mt_event::Reason;
 use mt_model::{Entry, EntryKey, MAX_KEYSPACES, PrimaryFault, TopologyFault};
 use mt_names::{KeyspaceName, RuleKey, RuleTarget, TableName};
 use mt_primary::Primary;
@@ -22,15 +22,15 @@ use mt_workflow::Workflow;
 use std::alloc::Global;
 
 /// The refusal of the core for one of the topology.
-pub(crate) fn refusal_by_topology(fault: TopologyFault) -> Refusal
+pub(crate) fn refusal_by_topology(fault: TopologyFault) -> Reason
     ensures { result ≡ refusal_by_topology fault }
 {
     match fault {
-        TopologyFault::Memory => Refusal::Memory,
-        TopologyFault::NoKeyspace => Refusal::NoKeyspace,
-        TopologyFault::NoTable => Refusal::NoTable,
-        TopologyFault::Exists => Refusal::Exists,
-        TopologyFault::Ambiguous | TopologyFault::Full | TopologyFault::BadDump => Refusal::Full,
+        TopologyFault::Memory => Reason::Memory,
+        TopologyFault::NoKeyspace => Reason::NoKeyspace,
+        TopologyFault::NoTable => Reason::NoTable,
+        TopologyFault::Exists => Reason::Exists,
+        TopologyFault::Ambiguous | TopologyFault::Full | TopologyFault::BadDump => Reason::Full,
     }
 }
 
@@ -40,19 +40,19 @@ pub(crate) fn add_keyspace(
     topology: &mut Topology,
     primaries: &mut Primaries,
     name: &KeyspaceName,
-) -> Result<(), Refusal>
+) -> Result<(), Reason>
     requires { AreTables topology.old primaries.old.entries }
-    ensures { (workflows : core.Workflows) → AddsKeyspace (record { topology = topology.old; primaries = primaries.old.entries; workflows = workflows }) name.now (done_from result)
+    ensures { (workflows : core.Workflows) → AddsKeyspace (record { topology = topology.old; primaries = primaries.old.entries; workflows = workflows }) name.now (done_by result)
         (record { topology = topology.new; primaries = primaries.new.entries; workflows = workflows }) }
 {
     if primaries.contains_key(name) {
-        return Err(Refusal::Exists);
+        return Err(Reason::Exists);
     }
     if primaries.len() == MAX_KEYSPACES {
-        return Err(Refusal::Full);
+        return Err(Reason::Full);
     }
     if primaries.reserve(1).is_err() {
-        return Err(Refusal::Memory);
+        return Err(Reason::Memory);
     }
     if let Err(fault) = topology.add_keyspace(name) {
         return Err(refusal_by_topology(fault));
@@ -96,9 +96,9 @@ pub(crate) fn add_table(
     primaries: &mut Primaries,
     keyspace: &KeyspaceName,
     table: &TableName,
-) -> Result<(), Refusal>
+) -> Result<(), Reason>
     requires { AreTables topology.old primaries.old.entries }
-    ensures { (workflows : core.Workflows) → AddsTable (record { topology = topology.old; primaries = primaries.old.entries; workflows = workflows }) keyspace.now table.now (done_from result)
+    ensures { (workflows : core.Workflows) → AddsTable (record { topology = topology.old; primaries = primaries.old.entries; workflows = workflows }) keyspace.now table.now (done_by result)
         (record { topology = topology.new; primaries = primaries.new.entries; workflows = workflows }) }
 {
     if let Err(fault) = topology.add_table(keyspace, table) {
@@ -106,7 +106,7 @@ pub(crate) fn add_table(
     }
     if create_table(primaries, keyspace, table).is_err() {
         take_table(topology, keyspace, table);
-        return Err(Refusal::Memory);
+        return Err(Reason::Memory);
     }
     Ok(())
 }
@@ -152,14 +152,14 @@ pub(crate) fn edit_rule(
     workflows: &Workflows,
     key: &RuleKey,
     target: Option<RuleTarget>,
-) -> Result<(), Refusal>
-    ensures edits { (primaries : core.Primaries) → EditsRule (record { topology = topology.old; primaries = primaries; workflows = workflows.now.entries }) key.now target (done_from result)
+) -> Result<(), Reason>
+    ensures edits { (primaries : core.Primaries) → EditsRule (record { topology = topology.old; primaries = primaries; workflows = workflows.now.entries }) key.now target (done_by result)
         (record { topology = topology.new; primaries = primaries; workflows = workflows.now.entries }) }
     ensures named { IsRuleKey key.now }
 {
     key_is_named(key);
     if is_owned(workflows, key) {
-        return Err(Refusal::RuleOwned);
+        return Err(Reason::RuleOwned);
     }
     match topology.edit_rule(key, target) {
         Ok(()) => Ok(()),

@@ -3,6 +3,7 @@ ghost use Rattle.std.specs.Prelude.{◌≡◌, ◌≤◌, ℕ, IfErr, IfOk, List
 ghost use Rattle.mt_names.specs.Tables.{most_tables};
 ghost use Rattle.mt_primary.specs.Primary.{IsPrimary};
 ghost use Rattle.mt_event.specs.Events.{answer_from, done_from, event_of};
+ghost use Rattle.mt_event.specs.Reasons.{done_by};
 ghost use Rattle.mt_model.specs.declared.entries.Scope.{Scope};
 ghost use Rattle.mt_model.specs.Documents.{dump_text, rules_text};
 ghost use Rattle.mt_model.specs.Topology.{resolution};
@@ -34,7 +35,7 @@ use crate::rows::{Hint, NOWHERE};
 use crate::{OpenWays, Primaries, Workflows, advance, by_hand, owed, rows, show};
 pub use commands::Command;
 use indexmap::IndexMap;
-use mt_event::{Event, Refusal, Reply, ShownOf};
+use mt_event::{Event, Reason, Refusal, Reply, ShownOf};
 use mt_journal::Journal;
 use mt_laws::every_run_keeps_the_headline;
 use mt_model::{Op, TopologyFault};
@@ -171,8 +172,9 @@ impl Core {
     }
 
     /// Adds a keyspace without tables: `F30 Exists`, `F27 Full`, `F0 Memory`.
-    fn add_keyspace(&mut self, name: &KeyspaceName) -> Result<(), Refusal>
-        ensures does { AddsKeyspace self.old.core name.now (done_from result) self.new.core }
+    #[inline(never)]
+    fn add_keyspace(&mut self, name: &KeyspaceName) -> Result<(), Reason>
+        ensures does { AddsKeyspace self.old.core name.now (done_by result) self.new.core }
         ensures ways { self.new.ways ≡ self.old.ways }
         ensures unchanged { OnErr result (self.new ≡ self.old) }
     {
@@ -184,8 +186,9 @@ impl Core {
     }
 
     /// Adds a table without rows: `F1 NoKeyspace`, `F30 Exists`, `F27 Full`, `F0 Memory`.
-    fn add_table(&mut self, keyspace: &KeyspaceName, table: &TableName) -> Result<(), Refusal>
-        ensures does { AddsTable self.old.core keyspace.now table.now (done_from result) self.new.core }
+    #[inline(never)]
+    fn add_table(&mut self, keyspace: &KeyspaceName, table: &TableName) -> Result<(), Reason>
+        ensures does { AddsTable self.old.core keyspace.now table.now (done_by result) self.new.core }
         ensures ways { self.new.ways ≡ self.old.ways }
         ensures unchanged { OnErr result (self.new ≡ self.old) }
     {
@@ -197,14 +200,20 @@ impl Core {
     }
 
     /// Sets the rule of a key, or takes it away: `F22 RuleOwned`, `F27 Full`, `F0 Memory`.
-    fn edit_rule(&mut self, key: &RuleKey, target: Option<RuleTarget>) -> Result<(), Refusal>
-        ensures does { EditsRule self.old.core key.now target (done_from result) self.new.core }
+    #[inline(never)]
+    fn edit_rule(&mut self, key: &RuleKey, target: Option<&RuleTarget>) -> Result<(), Reason>
+        ensures does { EditsRule self.old.core key.now (option_copied target.entry) (done_by result) self.new.core }
         ensures ways { self.new.ways ≡ self.old.ways }
         ensures unchanged { OnErr result (self.new ≡ self.old) }
     {
         a_site_stays_one();
         events_by_hand_step_and_leave_the_ways();
-        by_hand::edit_rule(&mut self.topology, &self.workflows, key, target)
+        by_hand::edit_rule(
+            &mut self.topology,
+            &self.workflows,
+            key,
+            target.map(RuleTarget::copied),
+        )
     }
 
     /// Writes a row of a table, for the core alone.
@@ -215,8 +224,8 @@ impl Core {
         keyspace: &KeyspaceName,
         table: &TableName,
         op: Op,
-    ) -> Result<(), Refusal>
-        ensures does { WritesRow self.old.core keyspace.now table.now op (done_from result) self.new.core }
+    ) -> Result<(), Reason>
+        ensures does { WritesRow self.old.core keyspace.now table.now op (done_by result) self.new.core }
         ensures ways { self.new.ways ≡ self.old.ways }
         ensures unchanged { OnErr result (self.new ≡ self.old) }
     {
@@ -238,7 +247,7 @@ impl Core {
     {
         match self.write_at(NOWHERE, keyspace, table, op) {
             Ok(()) => Ok(Reply::Done),
-            Err(refusal) => Err(refusal),
+            Err(reason) => Err(Refusal::from(reason)),
         }
     }
 
@@ -254,12 +263,12 @@ impl Core {
     {
         match rows::read_row(&self.primaries, NOWHERE, keyspace, table, key, tablet_type) {
             Ok(row) => Ok(Reply::Row(row)),
-            Err(refusal) => Err(refusal),
+            Err(reason) => Err(Refusal::from(reason)),
         }
     }
 
     /// Creates a workflow, as `create` of mt_site_parts tells.
-    fn create<W: Asks>(
+    fn do_create<W: Asks>(
         &mut self,
         watchers: &W,
         name: &WorkflowName,
@@ -296,7 +305,7 @@ impl Core {
         slot: Slot,
         at: Position,
         max: u16,
-    ) -> Result<Advanced, Refusal>
+    ) -> Result<Advanced, Reason>
         ensures does { AdvancesWorkflow self.old.core name.now (stream_name slot) at max (advanced_from result) self.new.core }
         ensures ways { self.new.ways ≡ self.old.ways }
         ensures unchanged { OnErr result (self.new ≡ self.old) }
@@ -319,8 +328,8 @@ impl Core {
     }
 
     /// Cancels a workflow: `F7 NoWorkflow`, `F13 UnderWay`, `F20 TrafficSwitched`. It takes no memory, and asks nobody.
-    fn cancel(&mut self, name: &WorkflowName) -> Result<(), Refusal>
-        ensures does { Cancels self.old.core name.now (done_from result) self.new.core }
+    fn cancel(&mut self, name: &WorkflowName) -> Result<(), Reason>
+        ensures does { Cancels self.old.core name.now (done_by result) self.new.core }
         ensures ways { self.new.ways ≡ self.old.ways }
         ensures unchanged { OnErr result (self.new ≡ self.old) }
         ensures primaries { (keyspace : List ℕ) → IsPrimary (primary_of self.old.core.primaries keyspace) }
@@ -338,7 +347,7 @@ impl Core {
     }
 
     /// Tells of a workflow: `F7 NoWorkflow`. It takes no memory.
-    fn do_show(&self, name: &WorkflowName) -> Result<ShownOf<'_>, Refusal>
+    fn do_show(&self, name: &WorkflowName) -> Result<ShownOf<'_>, Reason>
         ensures { ShowsWorkflow self.now.core name.now (shown_answer result) self.now.core }
     {
         a_site_stays_one();
@@ -352,14 +361,14 @@ impl Core {
     {
         match self.do_show(name) {
             Ok(shown) => Ok(Reply::Shown(shown.owned())),
-            Err(refusal) => Err(refusal),
+            Err(reason) => Err(Refusal::from(reason)),
         }
     }
 
     /// Begins a way forward on a workflow: `F7 NoWorkflow`, `F13 UnderWay`, `F15 NothingToSwitch`, `F17 Copying`, `F27 Full`,
     /// `F0 Memory`.
-    fn begin_switch(&mut self, name: &WorkflowName, types: TypeSet) -> Result<(), Refusal>
-        ensures does { BeginsSwitch self.old name.now types (done_from result) self.new }
+    fn begin_switch(&mut self, name: &WorkflowName, types: TypeSet) -> Result<(), Reason>
+        ensures does { BeginsSwitch self.old name.now types (done_by result) self.new }
         ensures unchanged { OnErr result (self.new ≡ self.old) }
     {
         a_site_stays_one();
@@ -377,8 +386,8 @@ impl Core {
     }
 
     /// Begins a way back on a workflow: `F7 NoWorkflow`, `F13 UnderWay`, `F16 NothingToReverse`, `F27 Full`, `F0 Memory`.
-    fn begin_reverse(&mut self, name: &WorkflowName, types: TypeSet) -> Result<(), Refusal>
-        ensures does { BeginsReverse self.old name.now types (done_from result) self.new }
+    fn begin_reverse(&mut self, name: &WorkflowName, types: TypeSet) -> Result<(), Reason>
+        ensures does { BeginsReverse self.old name.now types (done_by result) self.new }
         ensures unchanged { OnErr result (self.new ≡ self.old) }
     {
         a_site_stays_one();
@@ -397,8 +406,8 @@ impl Core {
 
     /// Does the next step of the way that is open on a workflow: `F7 NoWorkflow`, `F14 NothingUnderWay`, `F28 Undoing`,
     /// `F25 Stale`, and what the step itself is refused by.
-    fn step<W: Asks>(&mut self, watchers: &W, name: &WorkflowName, at: u64) -> Result<(), Refusal>
-        ensures does { StepsWorkflow self.old (W.scopes watchers.now) (W.may_answer watchers.now) name.now at (done_from result) self.new }
+    fn step<W: Asks>(&mut self, watchers: &W, name: &WorkflowName, at: u64) -> Result<(), Reason>
+        ensures does { StepsWorkflow self.old (W.scopes watchers.now) (W.may_answer watchers.now) name.now at (done_by result) self.new }
         ensures unchanged { OnErr result (self.new ≡ self.old) }
     {
         a_site_stays_one();
@@ -420,8 +429,8 @@ impl Core {
 
     /// Undoes the last step of the way that is open on a workflow: `F7 NoWorkflow`, `F14 NothingUnderWay`, `F19 PastJournal`,
     /// `F25 Stale`. It takes no memory, and asks nobody.
-    fn undo<W: Asks>(&mut self, watchers: &W, name: &WorkflowName, at: u64) -> Result<(), Refusal>
-        ensures does { UndoesWorkflow self.old name.now at (done_from result) self.new }
+    fn undo<W: Asks>(&mut self, watchers: &W, name: &WorkflowName, at: u64) -> Result<(), Reason>
+        ensures does { UndoesWorkflow self.old name.now at (done_by result) self.new }
         ensures unchanged { OnErr result (self.new ≡ self.old) }
     {
         a_site_stays_one();
@@ -442,8 +451,8 @@ impl Core {
     }
 
     /// Completes a workflow: `F7 NoWorkflow`, `F13 UnderWay`, `F21 NotAllSwitched`. It takes no memory, and asks nobody.
-    fn complete(&mut self, name: &WorkflowName) -> Result<(), Refusal>
-        ensures does { Completes self.old name.now (done_from result) self.new }
+    fn complete(&mut self, name: &WorkflowName) -> Result<(), Reason>
+        ensures does { Completes self.old name.now (done_by result) self.new }
         ensures unchanged { OnErr result (self.new ≡ self.old) }
         ensures primaries { (keyspace : List ℕ) → IsPrimary (primary_of self.old.core.primaries keyspace) }
     {
@@ -498,7 +507,10 @@ impl Core {
                 source,
                 target,
                 tables,
-            } => Command::Create(workflow, source, target, tables),
+            } => match self.create(watchers, workflow, source, target, tables) {
+                Ok(()) => return Ok(Reply::Done),
+                Err(refusal) => return Err(refusal),
+            },
             Event::BeginSwitch { workflow, types } => Command::BeginSwitch(workflow, *types),
             Event::BeginReverse { workflow, types } => Command::BeginReverse(workflow, *types),
             Event::Step { workflow, at } => Command::Step(workflow, *at),
@@ -523,13 +535,13 @@ impl Core {
                 max,
             } => match self.do_advance(workflow, *stream, *at, *max) {
                 Ok(counts) => return Ok(Reply::Advanced(counts)),
-                Err(refusal) => return Err(refusal),
+                Err(reason) => return Err(Refusal::from(reason)),
             },
             Event::Show { workflow } => return self.show(workflow),
         };
         match self.do_command(watchers, command) {
             Ok(()) => Ok(Reply::Done),
-            Err(refusal) => Err(refusal),
+            Err(reason) => Err(Refusal::from(reason)),
         }
     }
 }

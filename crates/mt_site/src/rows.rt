@@ -1,6 +1,6 @@
 //! Clients' rows: they are written and read at the primary of a keyspace.
 ghost use Rattle.std.specs.Prelude.{◌≡◌, true, None, Some, MatchOption, slice_get, option_copied};
-ghost use Rattle.mt_event.specs.Events.{done_from};
+ghost use Rattle.mt_event.specs.Reasons.{done_by};
 ghost use Rattle.std.specs.List.{IsDistinct};
 ghost use Rattle.std.specs.Map.{keys_of};
 ghost use Rattle.mt_model.specs.Topology.{TopologyState};
@@ -11,7 +11,7 @@ ghost use Rattle.mt_site_state.specs.Core as core;
 ghost use Rattle.mt_site.specs.ByHand.{read_from, refusal_by_primary};
 
 use crate::Primaries;
-use mt_event::Refusal;
+use mt_event::Reason;
 use mt_model::{Op, PrimaryFault};
 use mt_names::{KeyspaceName, TableName, TabletType, Value};
 use mt_primary::Primary;
@@ -34,17 +34,17 @@ pub(crate) const NOWHERE: Hint = Hint {
 
 /// The refusal of the core for one of a primary.
 #[inline(always)]
-fn refusal_by_primary(fault: PrimaryFault) -> Refusal
+fn refusal_by_primary(fault: PrimaryFault) -> Reason
     ensures { result ≡ refusal_by_primary fault }
 {
     match fault {
-        PrimaryFault::Memory => Refusal::Memory,
-        PrimaryFault::NoTable => Refusal::NoTable,
-        PrimaryFault::Denied => Refusal::Denied,
-        PrimaryFault::RowExists => Refusal::RowExists,
-        PrimaryFault::NoRow => Refusal::NoRow,
-        PrimaryFault::TooLong => Refusal::TooLong,
-        PrimaryFault::LogFull => Refusal::Full,
+        PrimaryFault::Memory => Reason::Memory,
+        PrimaryFault::NoTable => Reason::NoTable,
+        PrimaryFault::Denied => Reason::Denied,
+        PrimaryFault::RowExists => Reason::RowExists,
+        PrimaryFault::NoRow => Reason::NoRow,
+        PrimaryFault::TooLong => Reason::TooLong,
+        PrimaryFault::LogFull => Reason::Full,
     }
 }
 
@@ -80,13 +80,13 @@ pub(crate) fn write_row(
     keyspace: &KeyspaceName,
     table: &TableName,
     op: Op,
-) -> Result<(), Refusal>
+) -> Result<(), Reason>
     ensures { (topology : TopologyState) (workflows : core.Workflows)
-        → WritesRow (record { topology = topology; primaries = primaries.old.entries; workflows = workflows }) keyspace.now table.now op (done_from result)
+        → WritesRow (record { topology = topology; primaries = primaries.old.entries; workflows = workflows }) keyspace.now table.now op (done_by result)
         (record { topology = topology; primaries = primaries.new.entries; workflows = workflows }) }
 {
     let Some(place) = place_of(primaries, hint.primary, keyspace) else {
-        return Err(Refusal::NoKeyspace);
+        return Err(Reason::NoKeyspace);
     };
     let primary = &mut primaries[place];
     match primary.write_placed(hint.table, table, op) {
@@ -119,11 +119,11 @@ pub(crate) fn read_row(
     table: &TableName,
     key: u64,
     tablet_type: TabletType,
-) -> Result<Option<Value>, Refusal>
+) -> Result<Option<Value>, Reason>
     ensures { read_from result ≡ read_at (primary_at primaries.now.entries keyspace.now) table.now key tablet_type }
 {
     let Some(primary) = primary_at(primaries, hint.primary, keyspace) else {
-        return Err(Refusal::NoKeyspace);
+        return Err(Reason::NoKeyspace);
     };
     match primary.read_placed(hint.table, table, key, tablet_type) {
         Ok(row) => Ok(row),

@@ -8,7 +8,7 @@ ghost use Rattle.std.specs.Prelude.{Some};
 ghost use Rattle.mt_site.specs.Show.{shown_answer};
 
 use crate::Workflows;
-use mt_event::{Refusal, ShownOf, ShownStream, Tables};
+use mt_event::{Reason, ShownOf, ShownStream, Tables};
 use mt_names::WorkflowName;
 use mt_stream::Stream;
 use mt_workflow::{Slot, Workflow};
@@ -54,15 +54,12 @@ fn shown_back(workflow: &Workflow) -> Option<ShownStream>
 }
 
 /// Tells of a live workflow: `F7 NoWorkflow`. It takes no memory.
-pub(crate) fn show<'a>(
-    workflows: &'a Workflows,
-    name: &WorkflowName,
-) -> Result<ShownOf<'a>, Refusal>
+pub(crate) fn show<'a>(workflows: &'a Workflows, name: &WorkflowName) -> Result<ShownOf<'a>, Reason>
     requires { (w : WorkflowState) → workflow_at workflows.now.entries name.now ≡ Some w → is_some w.forward ≡ true }
     ensures { shown_answer result ≡ show_at (workflow_at workflows.now.entries name.now) }
 {
     match mt_few::get(workflows, name) {
-        None => Err(Refusal::NoWorkflow),
+        None => Err(Reason::NoWorkflow),
         Some(workflow) => Ok(shown(workflow)),
     }
 }

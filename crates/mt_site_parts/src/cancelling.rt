@@ -1,6 +1,6 @@
 //! Cancel: a workflow is taken back.
 ghost use Rattle.std.specs.Prelude.{◌≡◌, true, All, Some, None, is_some, option_map};
-ghost use Rattle.mt_event.specs.Events.{done_from, refusal_from};
+ghost use Rattle.mt_event.specs.Reasons.{done_by, reason_from};
 ghost use Rattle.mt_model.specs.Topology.{has_place};
 ghost use Rattle.mt_plain.specs.Refuse.{cancel_refusal};
 ghost use Rattle.mt_primary.specs.Writes.{without_table};
@@ -15,21 +15,21 @@ ghost use Rattle.std.specs.Prelude.{fold};
 use crate::parts::write_kept;
 use crate::target::drop_tables;
 use crate::{Primaries, Workflows};
-use mt_event::Refusal;
+use mt_event::Reason;
 use mt_names::{TypeSet, WorkflowName};
 use mt_topology::Topology;
 use mt_workflow::Workflow;
 
 /// What refuses a Cancel of a workflow: `F13 UnderWay`, `F20 TrafficSwitched`.
-fn cancel_refusal(workflow: &Workflow) -> Option<Refusal>
-    ensures { option_map refusal_from result ≡ cancel_refusal (live_of workflow.now) }
+fn cancel_refusal(workflow: &Workflow) -> Option<Reason>
+    ensures { option_map reason_from result ≡ cancel_refusal (live_of workflow.now) }
 {
     if workflow.way().is_some() {
-        return Some(Refusal::UnderWay);
+        return Some(Reason::UnderWay);
     }
     let switched = workflow.switched();
     if switched.primary || switched.replica || switched.rdonly {
-        return Some(Refusal::TrafficSwitched);
+        return Some(Reason::TrafficSwitched);
     }
     None
 }
@@ -66,13 +66,13 @@ pub fn cancel(
     primaries: &mut Primaries,
     workflows: &mut Workflows,
     name: &WorkflowName,
-) -> Result<(), Refusal>
+) -> Result<(), Reason>
     requires { CanCancel topology.old primaries.old.entries workflows.old.entries name.now }
-    ensures { Cancels (record { topology = topology.old; primaries = primaries.old.entries; workflows = workflows.old.entries }) name.now (done_from result)
+    ensures { Cancels (record { topology = topology.old; primaries = primaries.old.entries; workflows = workflows.old.entries }) name.now (done_by result)
         (record { topology = topology.new; primaries = primaries.new.entries; workflows = workflows.new.entries }) }
 {
     let Some(workflow) = mt_few::get(workflows, name) else {
-        return Err(Refusal::NoWorkflow);
+        return Err(Reason::NoWorkflow);
     };
     if let Some(refusal) = cancel_refusal(workflow) {
         return Err(refusal);

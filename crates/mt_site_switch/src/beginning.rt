@@ -1,6 +1,6 @@
 //! The begin of a way: a switch of traffic, or its reversal.
 ghost use Rattle.std.specs.Prelude.{◌≡◌, false, not, nat_le, List, None, option_map};
-ghost use Rattle.mt_event.specs.Events.{done_from, refusal_from};
+ghost use Rattle.mt_event.specs.Reasons.{done_by, reason_from};
 ghost use Rattle.mt_journal.specs.declared.entry.JournalEntry.{JournalEntry};
 ghost use Rattle.mt_model.specs.Topology.{TopologyState};
 ghost use Rattle.mt_plain.specs.Events as plain;
@@ -12,7 +12,7 @@ ghost use Rattle.mt_site_switch.specs.Ways.{CanBegin, OpensWay};
 ghost use Rattle.mt_workflow.specs.Workflows.{live_of, way_from};
 
 use crate::{OpenWays, Workflows};
-use mt_event::Refusal;
+use mt_event::Reason;
 use mt_names::{TypeSet, WorkflowName};
 use mt_steps::{OpenWay, UndoLog};
 use mt_workflow::{Slot, Way, Workflow};
@@ -50,38 +50,38 @@ fn is_copying(workflow: &Workflow) -> bool
 }
 
 /// What refuses a way forward: `F13 UnderWay`, `F15 NothingToSwitch`, `F17 Copying`, `F27 Full`.
-fn switch_refusal(workflow: &Workflow, types: TypeSet, begun: u64) -> Option<Refusal>
-    ensures { option_map refusal_from result ≡ at_rest (live_of workflow.now) (or_else (refuse_if (not (has_more types workflow.now.switched)) plain.nothing_to_switch)
+fn switch_refusal(workflow: &Workflow, types: TypeSet, begun: u64) -> Option<Reason>
+    ensures { option_map reason_from result ≡ at_rest (live_of workflow.now) (or_else (refuse_if (not (has_more types workflow.now.switched)) plain.nothing_to_switch)
         (or_else (refuse_if (is_copying workflow.now) plain.copying) (refuse_if (nat_le most_ways begun) plain.full))) }
 {
     if workflow.way().is_some() {
-        return Some(Refusal::UnderWay);
+        return Some(Reason::UnderWay);
     }
     if !has_more(types, workflow.switched()) {
-        return Some(Refusal::NothingToSwitch);
+        return Some(Reason::NothingToSwitch);
     }
     if is_copying(workflow) {
-        return Some(Refusal::Copying);
+        return Some(Reason::Copying);
     }
     if begun >= MAX_WAYS {
-        return Some(Refusal::Full);
+        return Some(Reason::Full);
     }
     None
 }
 
 /// What refuses a way back: `F13 UnderWay`, `F16 NothingToReverse`, `F27 Full`.
-fn reverse_refusal(workflow: &Workflow, types: TypeSet, begun: u64) -> Option<Refusal>
-    ensures { option_map refusal_from result ≡ at_rest (live_of workflow.now) (or_else (refuse_if (not (share_type types workflow.now.switched)) plain.nothing_to_reverse)
+fn reverse_refusal(workflow: &Workflow, types: TypeSet, begun: u64) -> Option<Reason>
+    ensures { option_map reason_from result ≡ at_rest (live_of workflow.now) (or_else (refuse_if (not (share_type types workflow.now.switched)) plain.nothing_to_reverse)
         (refuse_if (nat_le most_ways begun) plain.full)) }
 {
     if workflow.way().is_some() {
-        return Some(Refusal::UnderWay);
+        return Some(Reason::UnderWay);
     }
     if !share_type(types, workflow.switched()) {
-        return Some(Refusal::NothingToReverse);
+        return Some(Reason::NothingToReverse);
     }
     if begun >= MAX_WAYS {
-        return Some(Refusal::Full);
+        return Some(Reason::Full);
     }
     None
 }
@@ -94,13 +94,13 @@ fn open_way(
     opened: &mut OpenWays,
     begun: &mut u64,
     way: Way,
-) -> Result<(), Refusal>
+) -> Result<(), Reason>
     requires absent { open_at opened.old.entries workflow.old.name ≡ None }
     requires few { nat_le most_ways begun.old ≡ false }
-    ensures { OpensWay workflow.old (way_from way) opened.old.entries begun.old (done_from result) workflow.new opened.new.entries begun.new }
+    ensures { OpensWay workflow.old (way_from way) opened.old.entries begun.old (done_by result) workflow.new opened.new.entries begun.new }
 {
     let Ok(log) = UndoLog::reserve(alloc, workflow) else {
-        return Err(Refusal::Memory);
+        return Err(Reason::Memory);
     };
     let kept = OpenWay {
         number: *begun,
@@ -112,7 +112,7 @@ fn open_way(
             *begun += 1;
             Ok(())
         }
-        Err(_) => Err(Refusal::Memory),
+        Err(_) => Err(Reason::Memory),
     }
 }
 
@@ -125,14 +125,14 @@ pub fn begin_switch(
     begun: &mut u64,
     name: &WorkflowName,
     types: TypeSet,
-) -> Result<(), Refusal>
+) -> Result<(), Reason>
     requires { CanBegin workflows.old.entries opened.old.entries name.now }
     ensures { (topology : TopologyState) (primaries : Primaries) (journal : List JournalEntry)
-        → BeginsSwitch (record { core = record { topology = topology; primaries = primaries; workflows = workflows.old.entries }; ways = record { opened = opened.old.entries; journal = journal; begun = begun.old } }) name.now types (done_from result)
+        → BeginsSwitch (record { core = record { topology = topology; primaries = primaries; workflows = workflows.old.entries }; ways = record { opened = opened.old.entries; journal = journal; begun = begun.old } }) name.now types (done_by result)
         (record { core = record { topology = topology; primaries = primaries; workflows = workflows.new.entries }; ways = record { opened = opened.new.entries; journal = journal; begun = begun.new } }) }
 {
     let Some(workflow) = mt_few::get_mut(workflows, name) else {
-        return Err(Refusal::NoWorkflow);
+        return Err(Reason::NoWorkflow);
     };
     if let Some(refusal) = switch_refusal(workflow, types, *begun) {
         return Err(refusal);
@@ -157,14 +157,14 @@ pub fn begin_reverse(
     begun: &mut u64,
     name: &WorkflowName,
     types: TypeSet,
-) -> Result<(), Refusal>
+) -> Result<(), Reason>
     requires { CanBegin workflows.old.entries opened.old.entries name.now }
     ensures { (topology : TopologyState) (primaries : Primaries) (journal : List JournalEntry)
-        → BeginsReverse (record { core = record { topology = topology; primaries = primaries; workflows = workflows.old.entries }; ways = record { opened = opened.old.entries; journal = journal; begun = begun.old } }) name.now types (done_from result)
+        → BeginsReverse (record { core = record { topology = topology; primaries = primaries; workflows = workflows.old.entries }; ways = record { opened = opened.old.entries; journal = journal; begun = begun.old } }) name.now types (done_by result)
         (record { core = record { topology = topology; primaries = primaries; workflows = workflows.new.entries }; ways = record { opened = opened.new.entries; journal = journal; begun = begun.new } }) }
 {
     let Some(workflow) = mt_few::get_mut(workflows, name) else {
-        return Err(Refusal::NoWorkflow);
+        return Err(Reason::NoWorkflow);
     };
     if let Some(refusal) = reverse_refusal(workflow, types, *begun) {
         return Err(refusal);

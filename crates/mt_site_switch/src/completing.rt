@@ -1,6 +1,6 @@
 //! Complete: a workflow is finished.
 ghost use Rattle.std.specs.Prelude.{◌≡◌, ◌≢◌, true, false, All, map, is_some, option_map, fold};
-ghost use Rattle.mt_event.specs.Events.{done_from, refusal_from};
+ghost use Rattle.mt_event.specs.Reasons.{done_by, reason_from};
 ghost use Rattle.mt_model.specs.declared.entries.EntryKey.{EntryKey};
 ghost use Rattle.mt_model.specs.Part.{with_entries, without_place, without_places};
 ghost use Rattle.mt_model.specs.declared.entries.Entry.TheVariants as entry;
@@ -16,7 +16,7 @@ ghost use Rattle.mt_site_topology.specs.Keys.{end_entries, end_entry, end_keys, 
 ghost use Rattle.mt_workflow.specs.Workflows.{live_of};
 
 use crate::{Primaries, Workflows};
-use mt_event::Refusal;
+use mt_event::Reason;
 use mt_model::{Entry, EntryKey};
 use mt_names::{KeyspaceName, TableName, WorkflowName};
 use mt_primary::Primary;
@@ -24,15 +24,15 @@ use mt_topology::Topology;
 use mt_workflow::Workflow;
 
 /// What refuses Complete of a workflow: `F13 UnderWay`, `F21 NotAllSwitched`.
-fn complete_refusal(workflow: &Workflow) -> Option<Refusal>
-    ensures { option_map refusal_from result ≡ complete_refusal (live_of workflow.now) }
+fn complete_refusal(workflow: &Workflow) -> Option<Reason>
+    ensures { option_map reason_from result ≡ complete_refusal (live_of workflow.now) }
 {
     if workflow.way().is_some() {
-        return Some(Refusal::UnderWay);
+        return Some(Reason::UnderWay);
     }
     let switched = workflow.switched();
     if !(switched.primary && switched.replica && switched.rdonly) {
-        return Some(Refusal::NotAllSwitched);
+        return Some(Reason::NotAllSwitched);
     }
     None
 }
@@ -132,13 +132,13 @@ pub fn complete(
     primaries: &mut Primaries,
     workflows: &mut Workflows,
     name: &WorkflowName,
-) -> Result<(), Refusal>
+) -> Result<(), Reason>
     requires { CanComplete topology.old primaries.old.entries workflows.old.entries name.now }
-    ensures { (ways : WaysState) → Completes (record { core = record { topology = topology.old; primaries = primaries.old.entries; workflows = workflows.old.entries }; ways = ways }) name.now (done_from result)
+    ensures { (ways : WaysState) → Completes (record { core = record { topology = topology.old; primaries = primaries.old.entries; workflows = workflows.old.entries }; ways = ways }) name.now (done_by result)
         (record { core = record { topology = topology.new; primaries = primaries.new.entries; workflows = workflows.new.entries }; ways = ways }) }
 {
     let Some(workflow) = mt_few::get(workflows, name) else {
-        return Err(Refusal::NoWorkflow);
+        return Err(Reason::NoWorkflow);
     };
     if let Some(refusal) = complete_refusal(workflow) {
         return Err(refusal);

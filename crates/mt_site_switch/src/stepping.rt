@@ -1,6 +1,6 @@
 //! The next step of a way.
 ghost use Rattle.std.specs.Prelude.{◌≡◌, ◌≢◌, ℕ, ◌<◌, true, false, All, [], Some, is_some, option_map};
-ghost use Rattle.mt_event.specs.Events.{done_from, refusal_from};
+ghost use Rattle.mt_event.specs.Reasons.{done_by, reason_from};
 ghost use Rattle.mt_model.specs.Topology.{has_place};
 ghost use Rattle.mt_plain.specs.Plain.{next_step};
 ghost use Rattle.mt_site_state.specs.Core.{primary_at};
@@ -13,7 +13,7 @@ ghost use Rattle.mt_workflow.specs.Workflows.{way_from};
 
 use crate::primaries::{exchange_at, place_of, primary_of};
 use crate::{OpenWays, Primaries, Workflows};
-use mt_event::Refusal;
+use mt_event::Reason;
 use mt_journal::Journal;
 use mt_names::WorkflowName;
 use mt_primary::Primary;
@@ -24,21 +24,21 @@ use mt_workflow::{Way, Workflow};
 use std::alloc::Global;
 
 /// The refusal of the controller for one of a step.
-fn refusal_by_step(fault: StepFault) -> Refusal
-    ensures { refusal_from result ≡ refusal_of fault }
+fn refusal_by_step(fault: StepFault) -> Reason
+    ensures { reason_from result ≡ refusal_of fault }
 {
     match fault {
-        StepFault::Memory => Refusal::Memory,
-        StepFault::NotLevel => Refusal::NotLevel,
-        StepFault::WatcherRefused(index) => Refusal::WatcherRefused(index),
-        StepFault::NoWatcher => Refusal::NoWatcher,
-        StepFault::Full => Refusal::Full,
+        StepFault::Memory => Reason::Memory,
+        StepFault::NotLevel => Reason::NotLevel,
+        StepFault::WatcherRefused(index) => Reason::WatcherRefused(index),
+        StepFault::NoWatcher => Reason::NoWatcher,
+        StepFault::Full => Reason::Full,
     }
 }
 
 /// What the controller answers to a step.
-fn answer_by_step(done: Result<(), StepFault>) -> Result<(), Refusal>
-    ensures { done_from result ≡ answer_by_step done }
+fn answer_by_step(done: Result<(), StepFault>) -> Result<(), Reason>
+    ensures { done_by result ≡ answer_by_step done }
 {
     match done {
         Ok(()) => Ok(()),
@@ -59,14 +59,14 @@ pub(crate) fn close(opened: &mut OpenWays, name: &WorkflowName, way: Option<Way>
 }
 
 /// What refuses a step before it is tried: `F28 Undoing`, `F25 Stale`.
-fn step_refusal(way: Way, at: u64) -> Option<Refusal>
-    ensures { option_map refusal_from result ≡ step_refusal at (way_from way) }
+fn step_refusal(way: Way, at: u64) -> Option<Reason>
+    ensures { option_map reason_from result ≡ step_refusal at (way_from way) }
 {
     if way.undoing {
-        return Some(Refusal::Undoing);
+        return Some(Reason::Undoing);
     }
     if at != u64::from(way.done) {
-        return Some(Refusal::Stale(u64::from(way.done)));
+        return Some(Reason::Stale(u64::from(way.done)));
     }
     None
 }
@@ -104,27 +104,27 @@ fn reading_step_between(
     )
 }
 
-/// Does the step that is next between the primaries of a workflow's sides. A refresh takes both out of their places meanwhile, and
-/// leaves empty ones there, which takes no memory.
-fn step_between<W: Asks>(
+/// Does the step that is next between the primaries of a workflow's sides, wherever they stand: it takes both out of their places
+/// meanwhile, and leaves empty ones there, which takes no memory.
+#[inline(never)]
+fn moving_step_between<W: Asks>(
     alloc: Global,
     topology: &mut Topology,
     primaries: &mut Primaries,
     workflow: &mut Workflow,
     way: Way,
+    step: Step,
     journal: &mut Journal,
     kept: &mut OpenWay,
     watchers: &W,
 ) -> Result<(), StepFault>
+    requires next { step ≡ step_at (next_step (way_from way)) }
+    requires number { number step ≡ next_step (way_from way) }
     requires way { workflow.old.way ≡ Some (way_from way) }
     requires stands { IsUnderWay topology.old primaries.old.entries journal.old workflow.old.name workflow.old (way_from way) kept.old }
     ensures { StepsBetween (W.scopes watchers.now) (W.may_answer watchers.now) topology.old primaries.old.entries workflow.old (way_from way) journal.old kept.old result
         topology.new primaries.new.entries workflow.new journal.new kept.new }
 {
-    let step = next_step(way);
-    if step.leaves_primaries() {
-        return reading_step_between(topology, primaries, workflow, way, step, journal, kept);
-    }
     let at_source = place_of(primaries, workflow.source());
     let at_target = place_of(primaries, workflow.target());
     let mut source = exchange_at(primaries, at_source, Primary::new(alloc));
@@ -144,6 +144,31 @@ fn step_between<W: Asks>(
     result
 }
 
+/// Does the step that is next between the primaries of a workflow's sides: a refresh moves both.
+fn step_between<W: Asks>(
+    alloc: Global,
+    topology: &mut Topology,
+    primaries: &mut Primaries,
+    workflow: &mut Workflow,
+    way: Way,
+    journal: &mut Journal,
+    kept: &mut OpenWay,
+    watchers: &W,
+) -> Result<(), StepFault>
+    requires way { workflow.old.way ≡ Some (way_from way) }
+    requires stands { IsUnderWay topology.old primaries.old.entries journal.old workflow.old.name workflow.old (way_from way) kept.old }
+    ensures { StepsBetween (W.scopes watchers.now) (W.may_answer watchers.now) topology.old primaries.old.entries workflow.old (way_from way) journal.old kept.old result
+        topology.new primaries.new.entries workflow.new journal.new kept.new }
+{
+    let step = next_step(way);
+    if step.leaves_primaries() {
+        return reading_step_between(topology, primaries, workflow, way, step, journal, kept);
+    }
+    moving_step_between(
+        alloc, topology, primaries, workflow, way, step, journal, kept, watchers,
+    )
+}
+
 /// Does the next step of the way that is open on a live workflow, and closes the way behind its last one: `F7 NoWorkflow`,
 /// `F14 NothingUnderWay`, `F28 Undoing`, `F25 Stale`, and what the step itself is refused by: `F18 NotLevel`, `F24 NoWatcher`,
 /// `F27 Full`, `F0 Memory`, `F23 WatcherRefused`. A refusal leaves all as it was. (Vitess: SwitchTraffic, ReverseTraffic)
@@ -157,17 +182,17 @@ pub fn step<W: Asks>(
     watchers: &W,
     name: &WorkflowName,
     at: u64,
-) -> Result<(), Refusal>
+) -> Result<(), Reason>
     requires { CanStep topology.old primaries.old.entries workflows.old.entries journal.old opened.old.entries name.now }
     ensures { (begun : ℕ) → StepsWorkflow (record { core = record { topology = topology.old; primaries = primaries.old.entries; workflows = workflows.old.entries }; ways = record { opened = opened.old.entries; journal = journal.old; begun = begun } })
-        (W.scopes watchers.now) (W.may_answer watchers.now) name.now at (done_from result)
+        (W.scopes watchers.now) (W.may_answer watchers.now) name.now at (done_by result)
         (record { core = record { topology = topology.new; primaries = primaries.new.entries; workflows = workflows.new.entries }; ways = record { opened = opened.new.entries; journal = journal.new; begun = begun } }) }
 {
     let Some(workflow) = mt_few::get_mut(workflows, name) else {
-        return Err(Refusal::NoWorkflow);
+        return Err(Reason::NoWorkflow);
     };
     let Some(way) = workflow.way() else {
-        return Err(Refusal::NothingUnderWay);
+        return Err(Reason::NothingUnderWay);
     };
     if let Some(refusal) = step_refusal(way, at) {
         return Err(refusal);

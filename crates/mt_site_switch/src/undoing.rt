@@ -1,6 +1,6 @@
 //! The undo of the last step of a way.
 ghost use Rattle.std.specs.Prelude.{◌≡◌, ◌==◌, ℕ, ◌<◌, false, Some, option_map};
-ghost use Rattle.mt_event.specs.Events.{done_from, refusal_from};
+ghost use Rattle.mt_event.specs.Reasons.{done_by, reason_from};
 ghost use Rattle.mt_plain.specs.Plain.{next_step, stands_done, write_journal};
 ghost use Rattle.mt_site_state.specs.Switching.{UndoesWorkflow, undo_refusal};
 ghost use Rattle.mt_site_switch.specs.Ways.{CanStep, IsUnderWay, UndoesBetween};
@@ -9,7 +9,7 @@ ghost use Rattle.mt_workflow.specs.Workflows.{way_from};
 use crate::primaries::{exchange_at, place_of};
 use crate::stepping::close;
 use crate::{OpenWays, Primaries, Workflows};
-use mt_event::Refusal;
+use mt_event::Reason;
 use mt_journal::Journal;
 use mt_names::WorkflowName;
 use mt_primary::Primary;
@@ -28,21 +28,58 @@ fn is_past_journal(way: Way) -> bool
 }
 
 /// What refuses an undo: `F19 PastJournal`, `F25 Stale`.
-fn undo_refusal(way: Way, at: u64) -> Option<Refusal>
+fn undo_refusal(way: Way, at: u64) -> Option<Reason>
     requires { next_step (way_from way) < 12 }
-    ensures { option_map refusal_from result ≡ undo_refusal at (way_from way) }
+    ensures { option_map reason_from result ≡ undo_refusal at (way_from way) }
 {
     if is_past_journal(way) {
-        return Some(Refusal::PastJournal);
+        return Some(Reason::PastJournal);
     }
     if at != u64::from(way.done) {
-        return Some(Refusal::Stale(u64::from(way.done)));
+        return Some(Reason::Stale(u64::from(way.done)));
     }
     None
 }
 
-/// Undoes the step that was done last between the primaries of a workflow's sides. That of the source's refresh takes both out of their
-/// places meanwhile, and leaves empty ones there, which takes no memory.
+/// Undoes the step that was done last between the primaries of a workflow's sides, wherever they stand: it takes both out of their places
+/// meanwhile, and leaves empty ones there, which takes no memory.
+#[inline(never)]
+fn undo_moving<W: Asks>(
+    alloc: Global,
+    topology: &mut Topology,
+    primaries: &mut Primaries,
+    workflow: &mut Workflow,
+    way: Way,
+    journal: &mut Journal,
+    kept: &mut OpenWay,
+    watchers: &W,
+)
+    requires way { workflow.old.way ≡ Some (way_from way) }
+    requires stands { IsUnderWay topology.old primaries.old.entries journal.old workflow.old.name workflow.old (way_from way) kept.old }
+    requires before { stands_done (way_from way) write_journal ≡ false }
+    requires some { (way.done == 0) ≡ false }
+    ensures { UndoesBetween topology.old primaries.old.entries workflow.old (way_from way) journal.old kept.old
+        topology.new primaries.new.entries workflow.new journal.new kept.new }
+{
+    let at_source = place_of(primaries, workflow.source());
+    let at_target = place_of(primaries, workflow.target());
+    let mut source = exchange_at(primaries, at_source, Primary::new(alloc));
+    let mut target = exchange_at(primaries, at_target, Primary::new(alloc));
+    let mut sides = Sides {
+        topology,
+        source: &mut source,
+        target: &mut target,
+        workflow,
+        journal,
+        watchers,
+        number: kept.number,
+    };
+    undo_last(&mut sides, &mut kept.log);
+    exchange_at(primaries, at_source, source);
+    exchange_at(primaries, at_target, target);
+}
+
+/// Undoes the step that was done last between the primaries of a workflow's sides: that of the source's refresh moves both.
 fn undo_done<W: Asks>(
     alloc: Global,
     topology: &mut Topology,
@@ -65,22 +102,9 @@ fn undo_done<W: Asks>(
         undo_reading_step(way, step, topology, workflow, &mut kept.log);
         return;
     }
-    let at_source = place_of(primaries, workflow.source());
-    let at_target = place_of(primaries, workflow.target());
-    let mut source = exchange_at(primaries, at_source, Primary::new(alloc));
-    let mut target = exchange_at(primaries, at_target, Primary::new(alloc));
-    let mut sides = Sides {
-        topology,
-        source: &mut source,
-        target: &mut target,
-        workflow,
-        journal,
-        watchers,
-        number: kept.number,
-    };
-    undo_last(&mut sides, &mut kept.log);
-    exchange_at(primaries, at_source, source);
-    exchange_at(primaries, at_target, target);
+    undo_moving(
+        alloc, topology, primaries, workflow, way, journal, kept, watchers,
+    );
 }
 
 /// The same, or closes the way, if none of its steps stands done.
@@ -122,16 +146,16 @@ pub fn undo<W: Asks>(
     watchers: &W,
     name: &WorkflowName,
     at: u64,
-) -> Result<(), Refusal>
+) -> Result<(), Reason>
     requires { CanStep topology.old primaries.old.entries workflows.old.entries journal.old opened.old.entries name.now }
-    ensures { (begun : ℕ) → UndoesWorkflow (record { core = record { topology = topology.old; primaries = primaries.old.entries; workflows = workflows.old.entries }; ways = record { opened = opened.old.entries; journal = journal.old; begun = begun } }) name.now at (done_from result)
+    ensures { (begun : ℕ) → UndoesWorkflow (record { core = record { topology = topology.old; primaries = primaries.old.entries; workflows = workflows.old.entries }; ways = record { opened = opened.old.entries; journal = journal.old; begun = begun } }) name.now at (done_by result)
         (record { core = record { topology = topology.new; primaries = primaries.new.entries; workflows = workflows.new.entries }; ways = record { opened = opened.new.entries; journal = journal.new; begun = begun } }) }
 {
     let Some(workflow) = mt_few::get_mut(workflows, name) else {
-        return Err(Refusal::NoWorkflow);
+        return Err(Reason::NoWorkflow);
     };
     let Some(way) = workflow.way() else {
-        return Err(Refusal::NothingUnderWay);
+        return Err(Reason::NothingUnderWay);
     };
     if let Some(refusal) = undo_refusal(way, at) {
         return Err(refusal);

@@ -2,7 +2,7 @@
 
 use crate::events::value_of;
 use crate::play::{BOTH, watchers_of};
-use mt_event::Refusal;
+use mt_event::Reason;
 use mt_model::Op;
 use mt_names::{
     KeyspaceName, NameFault, RuleKey, RuleTarget, TableName, TypeSet, WorkflowName, table_list,
@@ -34,7 +34,7 @@ fn begins(core: &mut Core, watchers: &Watchers) -> Result<[bool; 5], NameFault> 
             .is_ok(),
         matches!(
             core.command(watchers, Command::AddTable(&commerce, &table)),
-            Err(Refusal::Exists)
+            Err(Reason::Exists)
         ),
         matches!(
             core.write_through(&key, Op::Insert(1, value_of("a"))),
@@ -55,14 +55,11 @@ fn moves(
     );
     let tables = table_list("corder")?;
     Ok([
-        core.command(
-            watchers,
-            Command::Create(name, &commerce, &customer, &tables),
-        )
-        .is_ok(),
+        core.create(watchers, name, &commerce, &customer, &tables)
+            .is_ok(),
         matches!(
             core.advance(name, Slot::Forward, 0, 100),
-            Err(Refusal::Stale(1))
+            Err(Reason::Stale(1))
         ),
         core.advance(name, Slot::Forward, 1, 100) == Ok(ONE_ROW),
     ])
@@ -83,11 +80,11 @@ fn switches(
         core.command(watchers, Command::Step(name, 0)).is_ok(),
         matches!(
             core.command(watchers, Command::Cancel(name)),
-            Err(Refusal::UnderWay)
+            Err(Reason::UnderWay)
         ),
         matches!(
             core.command(watchers, Command::EditRule(&key, Some(&target))),
-            Err(Refusal::RuleOwned)
+            Err(Reason::RuleOwned)
         ),
         core.command(watchers, Command::Undo(name, 1)).is_ok(),
         core.command(watchers, Command::Undo(name, 0)).is_err(),
@@ -99,16 +96,16 @@ fn ends(core: &mut Core, watchers: &Watchers, name: &WorkflowName) -> [bool; 4] 
     [
         matches!(
             core.command(watchers, Command::BeginReverse(name, TypeSet::ALL)),
-            Err(Refusal::NothingToReverse)
+            Err(Reason::NothingToReverse)
         ),
         matches!(
             core.command(watchers, Command::Complete(name)),
-            Err(Refusal::NotAllSwitched)
+            Err(Reason::NotAllSwitched)
         ),
         core.command(watchers, Command::Cancel(name)).is_ok(),
         matches!(
             core.command(watchers, Command::Cancel(name)),
-            Err(Refusal::NoWorkflow)
+            Err(Reason::NoWorkflow)
         ),
     ]
 }

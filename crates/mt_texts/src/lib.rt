@@ -6,6 +6,6 @@ mod texts;
 
 pub use shown::{LineText, write_shown};
 pub use texts::{
-    put_look_up, put_row, put_row_refused, put_written, write_advanced, write_answer, write_driven,
-    write_line,
+    put_look_up, put_reason, put_row, put_written, write_advanced, write_answer, write_created,
+    write_driven, write_line,
 };

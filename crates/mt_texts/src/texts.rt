@@ -6,12 +6,13 @@ ghost use Rattle.mt_plain.specs.Events.{advanced, done, refused};
 ghost use Rattle.mt_plain.specs.Output.{answer_text, driven_text, ended_text, line_feed, refused_text, spaced};
 ghost use Rattle.mt_event.specs.Drives.{ended_from};
 ghost use Rattle.mt_event.specs.declared.reply.Reply.TheVariants as reply;
-ghost use Rattle.mt_event.specs.Events.{answer_from, refusal_from};
+ghost use Rattle.mt_event.specs.Events.{answer_from, done_from, refusal_from};
+ghost use Rattle.mt_event.specs.Reasons.{reason_from};
 ghost use Rattle.mt_model.specs.Faults.{topology_fault_text};
 
 use crate::shown::{LineText, number, spaced, write_shown};
 use arrayvec::ArrayVec;
-use mt_event::{Driven, Refusal, Reply};
+use mt_event::{Driven, Reason, Refusal, Reply};
 use mt_io::LONGEST_LINE;
 use mt_model::TopologyFault;
 use mt_names::Value;
@@ -75,6 +76,16 @@ pub fn write_answer(text: &mut LineText, answer: &Result<Reply, Refusal>)
     }
 }
 
+/// Writes the line that tells that a workflow is created, or why it isn't, in place of the text that was there.
+pub fn write_created(text: &mut LineText, told: &Result<(), Refusal>)
+    ensures { text.new.items ≡ answer_text (done_from told.now) ++ line_feed }
+{
+    match told {
+        Ok(()) => write_line(text, b"ok", b""),
+        Err(refusal) => write_line(text, b"refused ", refusal.as_str().as_bytes()),
+    }
+}
+
 /// Writes the line that tells of a refusal behind the journal, and how many steps are done.
 fn write_stopped(text: &mut LineText, refusal: &Refusal, steps: u64)
     ensures { text.new.items ≡ driven_text (stopped (refusal_from refusal.now) steps) ++ line_feed }
@@ -117,12 +128,12 @@ pub fn put_row<const N: usize>(text: &mut ArrayVec<u8, N>, row: &Option<Value>)
     }
 }
 
-/// Adds the line that tells why a row is refused.
-pub fn put_row_refused<const N: usize>(text: &mut ArrayVec<u8, N>, refusal: &Refusal)
+/// Adds the line that tells why a row or a command is refused.
+pub fn put_reason<const N: usize>(text: &mut ArrayVec<u8, N>, reason: Reason)
     requires room { length text.old.items + LONGEST_LINE ≤ N }
-    ensures { text.new.items ≡ text.old.items ++ answer_text (refused (refusal_from refusal.now)) ++ line_feed }
+    ensures { text.new.items ≡ text.old.items ++ answer_text (refused (reason_from reason)) ++ line_feed }
 {
-    put_line(text, b"refused ", refusal.as_str().as_bytes());
+    put_line(text, b"refused ", reason.as_str().as_bytes());
 }
 
 /// Adds the line that tells why a look-up is refused.

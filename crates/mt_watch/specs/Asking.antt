@@ -45,7 +45,7 @@ AsksEach scopes may_answer scope change (Err Full) = ⊥
 abbrev pub AlwaysTell : List Scope → Answering → Scope → Type 0
 AlwaysTell scopes may_answer scope = (change : List Entry) → IsTold scopes may_answer scope change (notice_of scope change)
 
--- what a watcher of a scope that has no callback may answer: the notice, or a refusal for which alone memory is the cause
+-- what a watcher of a scope that has no callback may answer: the notice, or a refusal, of whatever cause
 abbrev pub TellsPlainly : Scope → List Entry → Result (List Entry) WatchFault → Type 0
 TellsPlainly scope change (Ok notice) = notice ≡ notice_of scope change
 TellsPlainly scope change (Err fault) = ⊤

@@ -3,12 +3,10 @@ ghost use Rattle.std.specs.Prelude.{◌≡◌, ◌≤◌, [], IfErr, IfOk, lengt
 ghost use Rattle.mt_watch.specs.Lists.{Adds, most_watchers};
 ghost use Rattle.mt_watch.specs.Notices.{notice_of};
 
+use crate::watchers::MAX_WATCHERS;
 use crate::{Asks, Change, Notice, WatchersFault};
 use mt_model::Scope;
 use std::alloc::Global;
-
-/// How many watchers there are at most.
-const MAX_WATCHERS: usize = 32;
 
 /// Watchers without callbacks, at most 32, in the order in which they were added: each answers a change with its notice
 /// for its scope, and refuses only if there is no memory for that. (Vitess: routers that watch the serving VSchema, and

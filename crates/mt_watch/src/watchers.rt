@@ -8,7 +8,7 @@ use mt_model::Scope;
 use std::alloc::Global;
 
 /// How many watchers there are at most.
-const MAX_WATCHERS: usize = 32;
+pub(crate) const MAX_WATCHERS: usize = 32;
 
 /// Watchers in the order in which they were added, at most 32.
 #[derive(Drop)]

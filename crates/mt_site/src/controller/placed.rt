@@ -1,6 +1,6 @@
 //! Rows of a table that a name was found to lead to: an event in one call, without a look-up.
 ghost use Rattle.std.specs.Prelude.{◌≡◌, List, [], ◌∷◌, OnErr};
-ghost use Rattle.mt_event.specs.Events.{done_from};
+ghost use Rattle.mt_event.specs.Reasons.{done_by};
 ghost use Rattle.mt_model.specs.declared.entries.Scope.{Scope};
 ghost use Rattle.mt_plain.specs.Events as plain;
 ghost use Rattle.mt_site_state.specs.ByHand.{ReadsRow, WritesRow};
@@ -10,7 +10,7 @@ ghost use Rattle.mt_site.specs.Headline.{KeepsTheHeadline};
 
 use crate::controller::Core;
 use crate::rows::{self, Hint, NOWHERE};
-use mt_event::Refusal;
+use mt_event::Reason;
 use mt_laws::every_run_keeps_the_headline;
 use mt_model::Op;
 use mt_names::{RuleTarget, TabletType, Value};
@@ -45,15 +45,15 @@ impl Core {
     /// a name: `F1 NoKeyspace`, `F2 NoTable`, `F3 Denied`, `F4 RowExists` or `F5 NoRow`, `F29 TooLong`, `F27 Full`, `F0 Memory`.
     /// Each leaves the core as it was, and the topology stays whatever is answered.
     #[inline(always)]
-    pub fn write_placed(&mut self, place: &Place, op: Op) -> Result<(), Refusal>
-        ensures does { WritesRow self.old.core place.now.target.keyspace place.now.target.table op (done_from result) self.new.core }
+    pub fn write_placed(&mut self, place: &Place, op: Op) -> Result<(), Reason>
+        ensures does { WritesRow self.old.core place.now.target.keyspace place.now.target.table op (done_by result) self.new.core }
         ensures topology { self.new.core.topology ≡ self.old.core.topology }
         ensures ways { self.new.ways ≡ self.old.ways }
         ensures steps { (scopes : List Scope)
-            → SiteSteps scopes self.old (plain.write place.now.target.keyspace place.now.target.table op) (done_from result) self.new }
+            → SiteSteps scopes self.old (plain.write place.now.target.keyspace place.now.target.table op) (done_by result) self.new }
         ensures unchanged { OnErr result (self.new ≡ self.old) }
         ensures headline { (scopes : List Scope)
-            → KeepsTheHeadline scopes self.old (plain.write place.now.target.keyspace place.now.target.table op ∷ []) (done_from result ∷ []) self.new }
+            → KeepsTheHeadline scopes self.old (plain.write place.now.target.keyspace place.now.target.table op ∷ []) (done_by result ∷ []) self.new }
     {
         events_by_hand_step_and_leave_the_ways();
         every_run_keeps_the_headline();
@@ -69,7 +69,7 @@ impl Core {
         place: &Place,
         key: u64,
         tablet_type: TabletType,
-    ) -> Result<Option<Value>, Refusal>
+    ) -> Result<Option<Value>, Reason>
         ensures does { ReadsRow self.now.core place.now.target.keyspace place.now.target.table key tablet_type (read_from result) self.now.core }
         ensures steps { (scopes : List Scope)
             → SiteSteps scopes self.now (plain.read place.now.target.keyspace place.now.target.table key tablet_type) (read_from result) self.now }

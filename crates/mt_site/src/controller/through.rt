@@ -1,6 +1,6 @@
 //! Rows of a table that a name leads to: a look-up and an event in one call.
 ghost use Rattle.std.specs.Prelude.{◌≡◌, ⊤, IfOk, List, [], ◌∷◌, OnErr};
-ghost use Rattle.mt_event.specs.Events.{done_from};
+ghost use Rattle.mt_event.specs.Reasons.{done_by};
 ghost use Rattle.mt_model.specs.declared.entries.Scope.{Scope};
 ghost use Rattle.mt_model.specs.Topology.{resolution};
 ghost use Rattle.mt_plain.specs.Events as plain;
@@ -14,7 +14,7 @@ ghost use Rattle.mt_site.specs.Through.{IsThrough};
 
 use crate::controller::Core;
 use crate::rows::{self, NOWHERE};
-use mt_event::Refusal;
+use mt_event::Reason;
 use mt_laws::every_run_keeps_the_headline;
 use mt_model::{Op, TopologyFault};
 use mt_names::{RuleKey, TabletType, Value};
@@ -30,17 +30,17 @@ impl Core {
         &mut self,
         name: &RuleKey,
         op: Op,
-    ) -> Result<Result<(), Refusal>, TopologyFault>
+    ) -> Result<Result<(), Reason>, TopologyFault>
         ensures does { IsThrough (resolution self.old.core.topology name.now TabletType.Primary) (self.new.core ≡ self.old.core)
-            (λ target told. WritesRow self.old.core target.keyspace target.table op (done_from told) self.new.core) result }
+            (λ target told. WritesRow self.old.core target.keyspace target.table op (done_by told) self.new.core) result }
         ensures ways { self.new.ways ≡ self.old.ways }
         ensures served { (p : Plain) (scopes : List Scope) → SiteStands p scopes self.old
             → resolution self.old.core.topology name.now TabletType.Primary ≡ resolution (served p) name.now TabletType.Primary }
         ensures steps { (scopes : List Scope) → IsThrough (resolution self.old.core.topology name.now TabletType.Primary) (self.new ≡ self.old)
-            (λ target told. SiteSteps scopes self.old (plain.write target.keyspace target.table op) (done_from told) self.new) result }
+            (λ target told. SiteSteps scopes self.old (plain.write target.keyspace target.table op) (done_by told) self.new) result }
         ensures unchanged { IfOk result (λ told. OnErr told (self.new ≡ self.old)) }
         ensures headline { (scopes : List Scope) → IsThrough (resolution self.old.core.topology name.now TabletType.Primary) (self.new ≡ self.old)
-            (λ target told. KeepsTheHeadline scopes self.old (plain.write target.keyspace target.table op ∷ []) (done_from told ∷ []) self.new) result }
+            (λ target told. KeepsTheHeadline scopes self.old (plain.write target.keyspace target.table op ∷ []) (done_by told ∷ []) self.new) result }
     {
         events_by_hand_step_and_leave_the_ways();
         every_run_keeps_the_headline();
@@ -49,20 +49,16 @@ impl Core {
     }
 
     /// The same, for the core alone.
-    fn write_led(&mut self, name: &RuleKey, op: Op) -> Result<Result<(), Refusal>, TopologyFault>
+    fn write_led(&mut self, name: &RuleKey, op: Op) -> Result<Result<(), Reason>, TopologyFault>
         ensures does { IsThrough (resolution self.old.core.topology name.now TabletType.Primary) (self.new.core ≡ self.old.core)
-            (λ target told. WritesRow self.old.core target.keyspace target.table op (done_from told) self.new.core) result }
+            (λ target told. WritesRow self.old.core target.keyspace target.table op (done_by told) self.new.core) result }
         ensures ways { self.new.ways ≡ self.old.ways }
         ensures unchanged { IfOk result (λ told. OnErr told (self.new ≡ self.old)) }
     {
         a_site_stays_one();
         events_by_hand_step_and_leave_the_ways();
         let (keyspace, table) = self.topology.look_up(name, TabletType::Primary)?;
-        // (a refusal has 176 bytes, and is moved only if there is one)
-        match rows::write_row(&mut self.primaries, NOWHERE, keyspace, table, op) {
-            Ok(()) => Ok(Ok(())),
-            Err(refusal) => Ok(Err(refusal)),
-        }
+        Ok(rows::write_row(&mut self.primaries, NOWHERE, keyspace, table, op))
     }
 
     /// Reads a row, or none, of the table that a name leads to for a type. It is a look-up, as `resolve` answers it, and then the
@@ -73,7 +69,7 @@ impl Core {
         name: &RuleKey,
         key: u64,
         tablet_type: TabletType,
-    ) -> Result<Result<Option<Value>, Refusal>, TopologyFault>
+    ) -> Result<Result<Option<Value>, Reason>, TopologyFault>
         ensures does { IsThrough (resolution self.now.core.topology name.now tablet_type) ⊤
             (λ target told. ReadsRow self.now.core target.keyspace target.table key tablet_type (read_from told) self.now.core) result }
         ensures served { (p : Plain) (scopes : List Scope) → SiteStands p scopes self.now
@@ -95,7 +91,7 @@ impl Core {
         name: &RuleKey,
         key: u64,
         tablet_type: TabletType,
-    ) -> Result<Result<Option<Value>, Refusal>, TopologyFault>
+    ) -> Result<Result<Option<Value>, Reason>, TopologyFault>
         ensures { IsThrough (resolution self.now.core.topology name.now tablet_type) ⊤
             (λ target told. ReadsRow self.now.core target.keyspace target.table key tablet_type (read_from told) self.now.core) result }
     {

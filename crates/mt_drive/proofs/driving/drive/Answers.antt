@@ -3,7 +3,8 @@ use Rattle.std.proofs.Common.{◌≡◌, ◌+◌, ◌-◌, suc, Ok, Err, Result,
 use Rattle.std.proofs.lemmas.Result.{err_from_is_err_and}
 use Rattle.mt_event.specs.declared.refusal.Refusal.{Refusal}
 use Rattle.mt_event.specs.declared.refusal.Refusal.TheVariants as refusal
-use Rattle.mt_event.specs.Events.{done_from, refusal_from}
+use Rattle.mt_event.specs.Events.{refusal_from}
+use Rattle.mt_event.specs.Reasons.{done_by}
 use Rattle.mt_plain.specs.Drive as plain
 use Rattle.mt_plain.specs.Drive.{begins, most_turns}
 use Rattle.mt_event.specs.declared.driven.Driven.{Driven}
@@ -22,13 +23,10 @@ returns-in_err-command-clause-drives g c =
     let old = c.args.core.now in
     let new = c.command.new.self in
     let e = err_from_is_err_and c.from_residual.result c.from_residual.ensures.1 in
-    let same : e.0 ≡ c.in_err-command.field-0.0 = search (e.2) in
-    let ended : Result Driven Refusal = c.from_residual.result in
-    let is : ended ≡ Err c.in_err-command.field-0.0 = e.1 ∙ ap (λ r. Err r) same in
-    subst (λ r. DrivesFrom scopes old c.args.workflow.now c.args.types c.args.back r new) (sym is)
-    (refused_begin scopes old new c.args.workflow.now c.args.types c.args.back c.in_err-command.field-0.0 399
-    (turn_taken scopes old new start (plain.ends (Err (refusal_from c.in_err-command.field-0.0))) (event_of_command c.begin_of.result) (done_from c.command.result) c.command.ensures.steps
-    (λ p stands. c.begin_of.ensures p) (λ q stands. ap (λ r. plain.heard q start (done_from r)) c.in_err-command.was)))
+    subst (λ r. DrivesFrom scopes old c.args.workflow.now c.args.types c.args.back r new) (sym e.1)
+    (refused_begin scopes old new c.args.workflow.now c.args.types c.args.back e.0 399
+    (turn_taken scopes old new start (plain.ends (Err (refusal_from e.0))) (event_of_command c.begin_of.result) (done_by c.command.result) c.command.ensures.steps
+    (λ p stands. c.begin_of.ensures p) (λ q stands. ap (λ r. plain.heard q start (done_by r)) c.in_err-command.was ∙ ap (λ r. plain.ends (Err r)) (sym e.2))))
 
 pub returns-in_err-command-clause-headline : goal.returns-in_err-command-clause-headline
 returns-in_err-command-clause-headline g c =
@@ -44,9 +42,9 @@ loop-init g c =
     let law = c.a_drive_fits_in_the_turns_that_are_left.ensures in
     goes_further scopes old old new start start (plain.steps c.args.workflow.now 64) 399 law.goes_on
     (starts scopes old start (λ p. law.begins p c.args.workflow.now c.args.types c.args.back))
-    (turn_taken scopes old new start (plain.goes_on (plain.steps c.args.workflow.now 64)) (event_of_command c.begin_of.result) (done_from c.command.result) c.command.ensures.steps
+    (turn_taken scopes old new start (plain.goes_on (plain.steps c.args.workflow.now 64)) (event_of_command c.begin_of.result) (done_by c.command.result) c.command.ensures.steps
     (λ p stands. c.begin_of.ensures p)
-    (λ q stands. ap (λ r. plain.heard q start (done_from r)) c.in_ok-command.was))
+    (λ q stands. ap (λ r. plain.heard q start (done_by r)) c.in_ok-command.was))
 
 pub returns-in-Ends-clause-drives : goal.returns-in-Ends-clause-drives
 returns-in-Ends-clause-drives g c =
@@ -57,15 +55,15 @@ returns-in-Ends-clause-drives g c =
     let now = c.loop.core in
     let new = c.take.new.core in
     let driving = turn_from name c.loop.turn in
-    let turn : Turns scopes now driving (plain.ends (Ok (driven_from c.in-Ends.driven))) new
-    = c.in-Ends.ensures in
+    let turn : Turns scopes now driving (plain.ends (Ok (driven_from c.driven.result))) new
+    = subst (λ d. Turns scopes now driving (plain.ends (Ok d)) new) (sym c.driven.ensures) c.in-Ends.ensures in
     let left : 400 - c.loop.counter ≡ suc (399 - c.loop.counter) = omega (arith, c.loop-test.true) in
-    ends_so scopes old now new start driving c.in-Ends.driven (399 - c.loop.counter)
+    ends_so scopes old now new start driving c.driven.result (399 - c.loop.counter)
     (subst (λ n. IsOnItsWay scopes old start n driving now) left c.loop.invariant) turn
 
 pub returns-in-Ends-clause-headline : goal.returns-in-Ends-clause-headline
 returns-in-Ends-clause-headline g c =
-    drive_keeps (g.W.Asks.scopes c.args.watchers.now) c.args.core.now c.take.new.core c.args.workflow.now c.args.types c.args.back (Ok c.in-Ends.driven) most_turns
+    drive_keeps (g.W.Asks.scopes c.args.watchers.now) c.args.core.now c.take.new.core c.args.workflow.now c.args.types c.args.back (Ok c.driven.result) most_turns
     (returns-in-Ends-clause-drives g c) c.every_run_keeps_the_headline.ensures.with_earlier_lines
 
 pub loop-preserved : goal.loop-preserved

@@ -1,6 +1,6 @@
 -- The answer is that of the core that is lent.
 use Rattle.std.proofs.Common.{subst}
-use Rattle.mt_event.specs.Events.{done_from}
+use Rattle.mt_event.specs.Reasons.{done_by}
 use Rattle.mt_site.specs.Commands.{event_of_command}
 use Rattle.mt_site_state.specs.Ways.{SiteSteps}
 use Rattle.mt_run.proofs.RunLemmas.{asks_told}
@@ -10,6 +10,6 @@ pub returns : goal.returns
 returns g c =
     let scopes = g.A.Asks.scopes c.args.watchers.now in
     let event = event_of_command c.args.asked in
-    let answer = done_from c.command.result in
+    let answer = done_by c.command.result in
     asks_told scopes c.args.core.now c.command.new.self event answer c.tell_done.new.text.items c.tell_done.ensures
     (subst (λ s. SiteSteps scopes s event answer c.command.new.self) c.core_mut.ensures.value c.command.ensures.steps)

@@ -1,6 +1,6 @@
 -- The workflow, and what is kept of its way, take their places.
 use Rattle.std.proofs.Common.{◌≡◌, Some, ap, option_map, sym, ◌∙◌, ℕ}
-use Rattle.mt_event.specs.Events.{refusal_from}
+use Rattle.mt_event.specs.Reasons.{reason_from}
 use Rattle.mt_site_state.specs.Ways.{SiteState}
 use Rattle.mt_workflow.specs.Workflows.{way_from}
 use Rattle.mt_site_switch.proofs.StepLemmas.{has-undone, kept-whole, not-undoing, under-way, undo-refused, within}
@@ -24,9 +24,9 @@ returns-in-Some-undo_refusal g c = λ (begun : ℕ).
     let w = c.in-Some.workflow.now in
     let old : SiteState = record { core = record { topology = c.args.topology.now; primaries = c.args.primaries.now.entries; workflows = c.args.workflows.now.entries }; ways = record { opened = c.args.opened.now.entries; journal = c.args.journal.now; begun = begun } } in
     undo-refused old c.args.name.now c.args.at w (sym c.in-Some.ensures.value)
-    (way_from c.in-Some-way.way) (refusal_from c.in-Some-undo_refusal.refusal) _
+    (way_from c.in-Some-way.way) (reason_from c.in-Some-undo_refusal.refusal) _
     (sym c.way.ensures ∙ ap (option_map way_from) c.in-Some-way.is)
-    (sym c.undo_refusal.ensures ∙ ap (option_map refusal_from) c.in-Some-undo_refusal.is)
+    (sym c.undo_refusal.ensures ∙ ap (option_map reason_from) c.in-Some-undo_refusal.is)
     (kept-whole old c.args.name.now w (c.get_mut.follows.lender w).entries (sym c.in-Some.ensures.value) (c.get_mut.follows.holds w).0)
 
 pub undo_between-requires-clause-stands : goal.undo_between-requires-clause-stands
@@ -48,5 +48,5 @@ returns g c = λ (begun : ℕ).
     way kept after.kept after.workflow after.topology after.primaries.entries
     (c.get_mut.follows.lender after.workflow).entries (c.get_mut-2.follows.lender after.kept).entries c.close.new.opened.entries (option_map way_from c.way-2.result) after.journal
     (c.requires.each w way kept found has_way (sym c.in-Some-get_mut.ensures.value)).named has_way
-    (sym c.undo_refusal.ensures ∙ ap (option_map refusal_from) c.in_default-undo_refusal.is) (sym c.in-Some-get_mut.ensures.value) c.undo_between.ensures
+    (sym c.undo_refusal.ensures ∙ ap (option_map reason_from) c.in_default-undo_refusal.is) (sym c.in-Some-get_mut.ensures.value) c.undo_between.ensures
     (c.get_mut.follows.holds after.workflow).0 (c.get_mut-2.follows.holds after.kept).0 c.way-2.ensures c.close.ensures

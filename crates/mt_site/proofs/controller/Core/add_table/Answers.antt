@@ -1,7 +1,7 @@
 -- The table is made in each state that the controller stands for.
 use Rattle.std.proofs.Common.{◌≡◌, [], subst}
 use Rattle.std.specs.Result.{OnErr}
-use Rattle.mt_event.specs.Events.{done_from}
+use Rattle.mt_event.specs.Reasons.{done_by}
 use Rattle.mt_site_state.specs.Core.{CoreState}
 use Rattle.mt_site_state.specs.Ways.{SiteState, WaysState}
 use Rattle.mt_site.proofs.SiteLemmas.{lifted, site, whole}
@@ -25,13 +25,13 @@ pub invariant_of-self : goal.invariant_of-self
 invariant_of-self c =
     let old : SiteState = site c.self.inside.topology c.self.inside.primaries.entries c.self.inside.workflows.entries c.self.inside.opened.entries c.self.inside.journal c.self.inside.begun in
     let core : CoreState = record { topology = c.add_table.new.topology; primaries = c.add_table.new.primaries.entries; workflows = c.self.inside.workflows.entries } in
-    c.a_site_stays_one.ensures.stays [] old (record old { core = core }) (add_table c.args.keyspace.now c.args.table.now) (done_from c.add_table.result) tt
-    (λ more. c.events_by_hand_step_and_leave_the_ways.ensures.table _ old core c.args.keyspace.now c.args.table.now (done_from c.add_table.result) (c.add_table.ensures c.self.inside.workflows.entries)) c.self.invariant
+    c.a_site_stays_one.ensures.stays [] old (record old { core = core }) (add_table c.args.keyspace.now c.args.table.now) (done_by c.add_table.result) tt
+    (λ more. c.events_by_hand_step_and_leave_the_ways.ensures.table _ old core c.args.keyspace.now c.args.table.now (done_by c.add_table.result) (c.add_table.ensures c.self.inside.workflows.entries)) c.self.invariant
 
 pub returns-clause-does : goal.returns-clause-does
 returns-clause-does c =
     let core : CoreState = record { topology = c.add_table.new.topology; primaries = c.add_table.new.primaries.entries; workflows = c.self.inside.workflows.entries } in
-    subst (λ s. AddsTable s.core c.args.keyspace.now c.args.table.now (done_from c.add_table.result) core) c.self.view_is (c.add_table.ensures c.self.inside.workflows.entries)
+    subst (λ s. AddsTable s.core c.args.keyspace.now c.args.table.now (done_by c.add_table.result) core) c.self.view_is (c.add_table.ensures c.self.inside.workflows.entries)
 
 pub returns-clause-unchanged : goal.returns-clause-unchanged
 returns-clause-unchanged c =

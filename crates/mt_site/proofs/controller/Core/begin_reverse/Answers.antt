@@ -1,7 +1,7 @@
 -- A workflow at rest has no record, and the next state is stood for.
 use Rattle.std.proofs.Common.{◌≡◌, [], subst}
 use Rattle.std.specs.Result.{OnErr}
-use Rattle.mt_event.specs.Events.{done_from}
+use Rattle.mt_event.specs.Reasons.{done_by}
 use Rattle.mt_plain.specs.Events.{begin_reverse}
 use Rattle.mt_site_state.specs.Core.{workflow_at}
 use Rattle.mt_site_state.specs.Switching.{BeginsReverse}
@@ -22,13 +22,13 @@ pub invariant_of-self : goal.invariant_of-self
 invariant_of-self c =
     let old : SiteState = site c.self.inside.topology c.self.inside.primaries.entries c.self.inside.workflows.entries c.self.inside.opened.entries c.self.inside.journal c.self.inside.begun in
     let new : SiteState = site c.self.inside.topology c.self.inside.primaries.entries c.begin_reverse.new.workflows.entries c.begin_reverse.new.opened.entries c.self.inside.journal c.begin_reverse.new.begun in
-    c.a_site_stays_one.ensures.stays [] old new (begin_reverse c.args.name.now c.args.types) (done_from c.begin_reverse.result) tt
-    (λ more. c.a_begin_steps.ensures.reverse _ old new c.args.name.now c.args.types (done_from c.begin_reverse.result) (c.begin_reverse.ensures c.self.inside.topology c.self.inside.primaries.entries c.self.inside.journal)) c.self.invariant
+    c.a_site_stays_one.ensures.stays [] old new (begin_reverse c.args.name.now c.args.types) (done_by c.begin_reverse.result) tt
+    (λ more. c.a_begin_steps.ensures.reverse _ old new c.args.name.now c.args.types (done_by c.begin_reverse.result) (c.begin_reverse.ensures c.self.inside.topology c.self.inside.primaries.entries c.self.inside.journal)) c.self.invariant
 
 pub returns-clause-does : goal.returns-clause-does
 returns-clause-does c =
     let new : SiteState = site c.self.inside.topology c.self.inside.primaries.entries c.begin_reverse.new.workflows.entries c.begin_reverse.new.opened.entries c.self.inside.journal c.begin_reverse.new.begun in
-    subst (λ s. BeginsReverse s c.args.name.now c.args.types (done_from c.begin_reverse.result) new) c.self.view_is (c.begin_reverse.ensures c.self.inside.topology c.self.inside.primaries.entries c.self.inside.journal)
+    subst (λ s. BeginsReverse s c.args.name.now c.args.types (done_by c.begin_reverse.result) new) c.self.view_is (c.begin_reverse.ensures c.self.inside.topology c.self.inside.primaries.entries c.self.inside.journal)
 
 pub returns-clause-unchanged : goal.returns-clause-unchanged
 returns-clause-unchanged c =

@@ -1,7 +1,7 @@
 -- The workflow is cancelled in each state that the controller stands for.
 use Rattle.std.proofs.Common.{◌≡◌, [], refl, subst}
 use Rattle.std.specs.Result.{OnErr}
-use Rattle.mt_event.specs.Events.{done_from}
+use Rattle.mt_event.specs.Reasons.{done_by}
 use Rattle.mt_site_state.specs.Core.{CoreState}
 use Rattle.mt_site_state.specs.Ways.{SiteState, WaysState}
 use Rattle.mt_site.proofs.SiteLemmas.{lifted, site, whole}
@@ -26,13 +26,13 @@ pub invariant_of-self : goal.invariant_of-self
 invariant_of-self c =
     let old : SiteState = site c.self.inside.topology c.self.inside.primaries.entries c.self.inside.workflows.entries c.self.inside.opened.entries c.self.inside.journal c.self.inside.begun in
     let core : CoreState = record { topology = c.cancel.new.topology; primaries = c.cancel.new.primaries.entries; workflows = c.cancel.new.workflows.entries } in
-    c.a_site_stays_one.ensures.stays [] old (record old { core = core }) (cancel c.args.name.now) (done_from c.cancel.result) tt
-    (λ more. c.events_on_workflows_step_and_leave_the_ways.ensures.cancel _ old core c.args.name.now (done_from c.cancel.result) c.cancel.ensures c.each_is_a_primary.ensures) c.self.invariant
+    c.a_site_stays_one.ensures.stays [] old (record old { core = core }) (cancel c.args.name.now) (done_by c.cancel.result) tt
+    (λ more. c.events_on_workflows_step_and_leave_the_ways.ensures.cancel _ old core c.args.name.now (done_by c.cancel.result) c.cancel.ensures c.each_is_a_primary.ensures) c.self.invariant
 
 pub returns-clause-does : goal.returns-clause-does
 returns-clause-does c =
     let core : CoreState = record { topology = c.cancel.new.topology; primaries = c.cancel.new.primaries.entries; workflows = c.cancel.new.workflows.entries } in
-    subst (λ s. Cancels s.core c.args.name.now (done_from c.cancel.result) core) c.self.view_is c.cancel.ensures
+    subst (λ s. Cancels s.core c.args.name.now (done_by c.cancel.result) core) c.self.view_is c.cancel.ensures
 
 pub returns-clause-unchanged : goal.returns-clause-unchanged
 returns-clause-unchanged c =

@@ -1,7 +1,7 @@
 -- What Complete writes has places, and the next state is stood for.
 use Rattle.std.proofs.Common.{◌≡◌, [], subst}
 use Rattle.std.specs.Result.{OnErr}
-use Rattle.mt_event.specs.Events.{done_from}
+use Rattle.mt_event.specs.Reasons.{done_by}
 use Rattle.mt_plain.specs.Events.{complete}
 use Rattle.mt_site_state.specs.Core.{workflow_at}
 use Rattle.mt_site_state.specs.Switching.{Completes}
@@ -23,13 +23,13 @@ pub invariant_of-self : goal.invariant_of-self
 invariant_of-self c =
     let old : SiteState = site c.self.inside.topology c.self.inside.primaries.entries c.self.inside.workflows.entries c.self.inside.opened.entries c.self.inside.journal c.self.inside.begun in
     let new : SiteState = site c.complete.new.topology c.complete.new.primaries.entries c.complete.new.workflows.entries c.self.inside.opened.entries c.self.inside.journal c.self.inside.begun in
-    c.a_site_stays_one.ensures.stays [] old new (complete c.args.name.now) (done_from c.complete.result) tt
-    (λ more. c.a_complete_steps.ensures _ old new c.args.name.now (done_from c.complete.result) (c.complete.ensures (record { opened = c.self.inside.opened.entries; journal = c.self.inside.journal; begun = c.self.inside.begun })) c.each_is_a_primary.ensures) c.self.invariant
+    c.a_site_stays_one.ensures.stays [] old new (complete c.args.name.now) (done_by c.complete.result) tt
+    (λ more. c.a_complete_steps.ensures _ old new c.args.name.now (done_by c.complete.result) (c.complete.ensures (record { opened = c.self.inside.opened.entries; journal = c.self.inside.journal; begun = c.self.inside.begun })) c.each_is_a_primary.ensures) c.self.invariant
 
 pub returns-clause-does : goal.returns-clause-does
 returns-clause-does c =
     let new : SiteState = site c.complete.new.topology c.complete.new.primaries.entries c.complete.new.workflows.entries c.self.inside.opened.entries c.self.inside.journal c.self.inside.begun in
-    subst (λ s. Completes s c.args.name.now (done_from c.complete.result) new) c.self.view_is (c.complete.ensures (record { opened = c.self.inside.opened.entries; journal = c.self.inside.journal; begun = c.self.inside.begun }))
+    subst (λ s. Completes s c.args.name.now (done_by c.complete.result) new) c.self.view_is (c.complete.ensures (record { opened = c.self.inside.opened.entries; journal = c.self.inside.journal; begun = c.self.inside.begun }))
 
 pub returns-clause-unchanged : goal.returns-clause-unchanged
 returns-clause-unchanged c =

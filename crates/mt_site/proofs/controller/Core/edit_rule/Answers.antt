@@ -1,7 +1,8 @@
 -- The rule is edited in each state that the controller stands for.
-use Rattle.std.proofs.Common.{◌≡◌, [], subst}
+use Rattle.std.proofs.Common.{◌≡◌, [], rules, subst}
+use Rattle.std.specs.Option.{option_copied}
 use Rattle.std.specs.Result.{OnErr}
-use Rattle.mt_event.specs.Events.{done_from}
+use Rattle.mt_event.specs.Reasons.{done_by}
 use Rattle.mt_site_state.specs.Core.{CoreState}
 use Rattle.mt_site_state.specs.Ways.{SiteState, WaysState}
 use Rattle.mt_site.proofs.SiteLemmas.{lifted, site, whole}
@@ -14,13 +15,15 @@ pub invariant_of-self : goal.invariant_of-self
 invariant_of-self c =
     let old : SiteState = site c.self.inside.topology c.self.inside.primaries.entries c.self.inside.workflows.entries c.self.inside.opened.entries c.self.inside.journal c.self.inside.begun in
     let core : CoreState = record { topology = c.edit_rule.new.topology; primaries = c.self.inside.primaries.entries; workflows = c.self.inside.workflows.entries } in
-    c.a_site_stays_one.ensures.stays [] old (record old { core = core }) (edit_rule c.args.key.now c.args.target) (done_from c.edit_rule.result) c.edit_rule.ensures.named
-    (λ more. c.events_by_hand_step_and_leave_the_ways.ensures.rule _ old core c.args.key.now c.args.target (done_from c.edit_rule.result) (c.edit_rule.ensures.edits c.self.inside.primaries.entries)) c.self.invariant
+    c.a_site_stays_one.ensures.stays [] old (record old { core = core }) (edit_rule c.args.key.now c.map.result) (done_by c.edit_rule.result) c.edit_rule.ensures.named
+    (λ more. c.events_by_hand_step_and_leave_the_ways.ensures.rule _ old core c.args.key.now c.map.result (done_by c.edit_rule.result) (c.edit_rule.ensures.edits c.self.inside.primaries.entries)) c.self.invariant
 
 pub returns-clause-does : goal.returns-clause-does
 returns-clause-does c =
     let core : CoreState = record { topology = c.edit_rule.new.topology; primaries = c.self.inside.primaries.entries; workflows = c.self.inside.workflows.entries } in
-    subst (λ s. EditsRule s.core c.args.key.now c.args.target (done_from c.edit_rule.result) core) c.self.view_is (c.edit_rule.ensures.edits c.self.inside.primaries.entries)
+    let same : c.map.result ≡ option_copied c.args.target = search rules in
+    subst (λ t. EditsRule c.args.self.now.core c.args.key.now t (done_by c.edit_rule.result) core) same
+    (subst (λ s. EditsRule s.core c.args.key.now c.map.result (done_by c.edit_rule.result) core) c.self.view_is (c.edit_rule.ensures.edits c.self.inside.primaries.entries))
 
 pub returns-clause-unchanged : goal.returns-clause-unchanged
 returns-clause-unchanged c =

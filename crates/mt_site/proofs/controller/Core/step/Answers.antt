@@ -1,7 +1,7 @@
 -- The workflow stands in its place, with a record of its open way; and the next state is stood for.
 use Rattle.std.proofs.Common.{◌≡◌, subst}
 use Rattle.std.specs.Result.{OnErr}
-use Rattle.mt_event.specs.Events.{done_from}
+use Rattle.mt_event.specs.Reasons.{done_by}
 use Rattle.mt_site_state.specs.Switching.{StepsWorkflow}
 use Rattle.mt_site_state.specs.Ways.{SiteState}
 use Rattle.mt_site.proofs.SiteLemmas.{can_step, steps_leave, site}
@@ -21,12 +21,12 @@ pub invariant_of-self : goal.invariant_of-self
 invariant_of-self g c =
     let old : SiteState = site c.self.inside.topology c.self.inside.primaries.entries c.self.inside.workflows.entries c.self.inside.opened.entries c.self.inside.journal c.self.inside.begun in
     let new : SiteState = site c.step.new.topology c.step.new.primaries.entries c.step.new.workflows.entries c.step.new.opened.entries c.step.new.journal c.self.inside.begun in
-    c.a_step_steps.ensures.leaves old new c.args.name.now c.args.at (done_from c.step.result) tt (c.step.ensures c.self.inside.begun) c.self.invariant
+    c.a_step_steps.ensures.leaves old new c.args.name.now c.args.at (done_by c.step.result) tt (c.step.ensures c.self.inside.begun) c.self.invariant
 
 pub returns-clause-does : goal.returns-clause-does
 returns-clause-does g c =
     let new : SiteState = site c.step.new.topology c.step.new.primaries.entries c.step.new.workflows.entries c.step.new.opened.entries c.step.new.journal c.self.inside.begun in
-    subst (λ s. StepsWorkflow s (g.W.Asks.scopes c.args.watchers.now) (g.W.Asks.may_answer c.args.watchers.now) c.args.name.now c.args.at (done_from c.step.result) new) c.self.view_is (c.step.ensures c.self.inside.begun)
+    subst (λ s. StepsWorkflow s (g.W.Asks.scopes c.args.watchers.now) (g.W.Asks.may_answer c.args.watchers.now) c.args.name.now c.args.at (done_by c.step.result) new) c.self.view_is (c.step.ensures c.self.inside.begun)
 
 pub returns-clause-unchanged : goal.returns-clause-unchanged
 returns-clause-unchanged g c =

@@ -1,7 +1,7 @@
 -- The workflow stands in its place, with a record of its open way; and the next state is stood for.
 use Rattle.std.proofs.Common.{◌≡◌, [], subst}
 use Rattle.std.specs.Result.{OnErr}
-use Rattle.mt_event.specs.Events.{done_from}
+use Rattle.mt_event.specs.Reasons.{done_by}
 use Rattle.mt_plain.specs.Events.{undo}
 use Rattle.mt_site_state.specs.Switching.{UndoesWorkflow}
 use Rattle.mt_site_state.specs.Ways.{SiteState}
@@ -22,13 +22,13 @@ pub invariant_of-self : goal.invariant_of-self
 invariant_of-self g c =
     let old : SiteState = site c.self.inside.topology c.self.inside.primaries.entries c.self.inside.workflows.entries c.self.inside.opened.entries c.self.inside.journal c.self.inside.begun in
     let new : SiteState = site c.undo.new.topology c.undo.new.primaries.entries c.undo.new.workflows.entries c.undo.new.opened.entries c.undo.new.journal c.self.inside.begun in
-    c.a_site_stays_one.ensures.stays [] old new (undo c.args.name.now c.args.at) (done_from c.undo.result) tt
-    (λ more. c.an_undo_steps.ensures _ old new c.args.name.now c.args.at (done_from c.undo.result) (c.undo.ensures c.self.inside.begun)) c.self.invariant
+    c.a_site_stays_one.ensures.stays [] old new (undo c.args.name.now c.args.at) (done_by c.undo.result) tt
+    (λ more. c.an_undo_steps.ensures _ old new c.args.name.now c.args.at (done_by c.undo.result) (c.undo.ensures c.self.inside.begun)) c.self.invariant
 
 pub returns-clause-does : goal.returns-clause-does
 returns-clause-does g c =
     let new : SiteState = site c.undo.new.topology c.undo.new.primaries.entries c.undo.new.workflows.entries c.undo.new.opened.entries c.undo.new.journal c.self.inside.begun in
-    subst (λ s. UndoesWorkflow s c.args.name.now c.args.at (done_from c.undo.result) new) c.self.view_is (c.undo.ensures c.self.inside.begun)
+    subst (λ s. UndoesWorkflow s c.args.name.now c.args.at (done_by c.undo.result) new) c.self.view_is (c.undo.ensures c.self.inside.begun)
 
 pub returns-clause-unchanged : goal.returns-clause-unchanged
 returns-clause-unchanged g c =

@@ -1,6 +1,6 @@
 -- The write is made in each state that the controller stands for.
 use Rattle.std.proofs.Common.{◌≡◌, [], refl, subst}
-use Rattle.mt_event.specs.Events.{done_from}
+use Rattle.mt_event.specs.Reasons.{done_by}
 use Rattle.std.specs.Result.{OnErr}
 use Rattle.mt_site_state.specs.Core.{CoreState}
 use Rattle.mt_site_state.specs.Ways.{SiteState, WaysState}
@@ -15,13 +15,13 @@ pub invariant_of-self : goal.invariant_of-self
 invariant_of-self c =
     let old : SiteState = site c.self.inside.topology c.self.inside.primaries.entries c.self.inside.workflows.entries c.self.inside.opened.entries c.self.inside.journal c.self.inside.begun in
     let core : CoreState = record { topology = c.self.inside.topology; primaries = c.write_row.new.primaries.entries; workflows = c.self.inside.workflows.entries } in
-    c.a_site_stays_one.ensures.stays [] old (record old { core = core }) (write c.args.keyspace.now c.args.table.now c.args.op) (done_from c.write_row.result) tt
-    (λ more. c.events_by_hand_step_and_leave_the_ways.ensures.write _ old core c.args.keyspace.now c.args.table.now c.args.op (done_from c.write_row.result) (c.write_row.ensures c.self.inside.topology c.self.inside.workflows.entries)) c.self.invariant
+    c.a_site_stays_one.ensures.stays [] old (record old { core = core }) (write c.args.keyspace.now c.args.table.now c.args.op) (done_by c.write_row.result) tt
+    (λ more. c.events_by_hand_step_and_leave_the_ways.ensures.write _ old core c.args.keyspace.now c.args.table.now c.args.op (done_by c.write_row.result) (c.write_row.ensures c.self.inside.topology c.self.inside.workflows.entries)) c.self.invariant
 
 pub returns-clause-does : goal.returns-clause-does
 returns-clause-does c =
     let core : CoreState = record { topology = c.self.inside.topology; primaries = c.write_row.new.primaries.entries; workflows = c.self.inside.workflows.entries } in
-    subst (λ s. WritesRow s.core c.args.keyspace.now c.args.table.now c.args.op (done_from c.write_row.result) core) c.self.view_is (c.write_row.ensures c.self.inside.topology c.self.inside.workflows.entries)
+    subst (λ s. WritesRow s.core c.args.keyspace.now c.args.table.now c.args.op (done_by c.write_row.result) core) c.self.view_is (c.write_row.ensures c.self.inside.topology c.self.inside.workflows.entries)
 
 pub returns-clause-unchanged : goal.returns-clause-unchanged
 returns-clause-unchanged c =
