@@ -1,19 +1,16 @@
 //! The entries that a step writes, and what stood before them.
-ghost use Rattle.std.specs.Prelude.{◌≡◌, ◌≢◌, ℕ, true, false, List, None, fold, map, option_copied};
+ghost use Rattle.std.specs.Prelude.{◌≡◌, ◌≢◌, ℕ, true, false, List, fold, if◌then◌else◌, map, not, option_copied};
 ghost use Rattle.mt_model.specs.declared.entries.Entry.{Entry};
 ghost use Rattle.mt_model.specs.declared.entries.EntryKey.{EntryKey};
 ghost use Rattle.mt_model.specs.Part.{keys_of_name};
-ghost use Rattle.mt_model.specs.Topology.{has_place, key_of, rule_at, with_entry};
-ghost use Rattle.mt_places.specs.Places.{of_type};
-ghost use Rattle.mt_places.specs.Rules.{lent_rule};
-ghost use Rattle.mt_workflow.specs.Workflows.{WorkflowState, wanted};
+ghost use Rattle.mt_model.specs.Topology.{has_place, key_of};
+ghost use Rattle.mt_workflow.specs.Workflows.{WorkflowState};
 ghost use Rattle.mt_steps.specs.Entries.{HavePlaces, is_of_step, swept, with_recorded, with_wanted};
-ghost use Rattle.mt_steps.specs.declared.records.RuleRecord.{RuleRecord};
 ghost use Rattle.mt_steps.specs.Records.{denial_step, denied_after, entries_of, name_entries, table_entries};
 
-use crate::records::{NameRecord, RuleRecord, TableRecord};
+use crate::records::{NameMarks, NameRules, RuleMark, TableRecord, rule_names};
 use mt_model::key_of_name;
-use mt_names::{KeyspaceName, RuleKey, TableName, TabletType, TypeSet};
+use mt_names::{KeyspaceName, TableName, TabletType, TypeSet};
 use mt_topology::Topology;
 use mt_workflow::Workflow;
 
@@ -22,6 +19,29 @@ fn denial_step(workflow: &Workflow, side: &KeyspaceName) -> u8
     ensures { result ≡ denial_step workflow.now side.now }
 {
     if workflow.owned_before(side) { 1 } else { 7 }
+}
+
+/// The same of the target, or of the source, for which no name is read.
+fn denial_step_of_side(workflow: &Workflow, is_target: bool) -> u8
+    requires { workflow.now.source ≢ workflow.now.target }
+    ensures { result ≡ denial_step workflow.now (if is_target then workflow.now.target else workflow.now.source) }
+{
+    let before = match workflow.way() {
+        Some(way) => way.before,
+        None => workflow.switched(),
+    };
+    if before.primary == is_target { 1 } else { 7 }
+}
+
+/// Whether the target, or the source, is to refuse the tables once some types are switched: the one that is not the owner.
+fn is_side_denied(types: TypeSet, is_target: bool) -> bool
+    ensures { result ≡ (if is_target then not types.primary else types.primary) }
+{
+    if is_target {
+        !types.primary
+    } else {
+        types.primary
+    }
 }
 
 /// Whether any entry may change with a step: 0 the reads, 1 the denial of the tables at the old owner, 7 their release at the new
@@ -33,25 +53,24 @@ fn writes_entries(step: u8) -> bool
 }
 
 /// Writes each entry of the records that changes with a step as it is to be once these types are switched, and records of it what the
-/// topology said there. The records are of tables between these sides.
+/// topology said there. The records are of tables between the workflow's sides.
 pub(crate) fn exchange_step(
     topology: &mut Topology,
     workflow: &Workflow,
     types: TypeSet,
     step: u8,
-    source: &KeyspaceName,
-    target: &KeyspaceName,
     records: &mut [TableRecord],
 )
-    requires places { HavePlaces topology.old (map key_of (entries_of source.now target.now records.old)) }
-    ensures recorded { entries_of source.now target.now records.new ≡ swept workflow.now types step topology.old (entries_of source.now target.now records.old) }
-    ensures written { topology.new ≡ fold (with_wanted workflow.now types step) topology.old (map key_of (entries_of source.now target.now records.old)) }
+    requires apart { workflow.now.source ≢ workflow.now.target }
+    requires places { HavePlaces topology.old (map key_of (entries_of workflow.now.source workflow.now.target records.old)) }
+    ensures recorded { entries_of workflow.now.source workflow.now.target records.new ≡ swept workflow.now types step topology.old (entries_of workflow.now.source workflow.now.target records.old) }
+    ensures written { topology.new ≡ fold (with_wanted workflow.now types step) topology.old (map key_of (entries_of workflow.now.source workflow.now.target records.old)) }
 {
     if !writes_entries(step) {
         return;
     }
     for noted in records.iter_mut() {
-        exchange_table(topology, workflow, types, step, source, target, noted);
+        exchange_table(topology, workflow, types, step, noted);
     }
 }
 
@@ -61,18 +80,17 @@ fn exchange_table(
     workflow: &Workflow,
     types: TypeSet,
     step: u8,
-    source: &KeyspaceName,
-    target: &KeyspaceName,
     noted: &mut TableRecord,
 )
-    requires places { HavePlaces topology.old (map key_of (table_entries source.now target.now noted.old)) }
-    ensures recorded { table_entries source.now target.now noted.new ≡ swept workflow.now types step topology.old (table_entries source.now target.now noted.old) }
-    ensures written { topology.new ≡ fold (with_wanted workflow.now types step) topology.old (map key_of (table_entries source.now target.now noted.old)) }
+    requires apart { workflow.now.source ≢ workflow.now.target }
+    requires places { HavePlaces topology.old (map key_of (table_entries workflow.now.source workflow.now.target noted.old)) }
+    ensures recorded { table_entries workflow.now.source workflow.now.target noted.new ≡ swept workflow.now types step topology.old (table_entries workflow.now.source workflow.now.target noted.old) }
+    ensures written { topology.new ≡ fold (with_wanted workflow.now types step) topology.old (map key_of (table_entries workflow.now.source workflow.now.target noted.old)) }
 {
     match step {
-        0 => exchange_reads(topology, workflow, types, source, target, noted),
-        9 => exchange_writes(topology, workflow, types, source, target, noted),
-        _ => exchange_denials(topology, workflow, types, step, source, target, noted),
+        0 => exchange_reads(topology, workflow, types, noted),
+        9 => exchange_writes(topology, workflow, types, noted),
+        _ => exchange_denials(topology, workflow, types, step, noted),
     }
 }
 
@@ -81,33 +99,41 @@ fn exchange_reads(
     topology: &mut Topology,
     workflow: &Workflow,
     types: TypeSet,
-    source: &KeyspaceName,
-    target: &KeyspaceName,
     noted: &mut TableRecord,
 )
-    requires places { HavePlaces topology.old (map key_of (table_entries source.now target.now noted.old)) }
-    ensures recorded { table_entries source.now target.now noted.new ≡ swept workflow.now types 0 topology.old (table_entries source.now target.now noted.old) }
-    ensures written { topology.new ≡ fold (with_wanted workflow.now types 0) topology.old (map key_of (table_entries source.now target.now noted.old)) }
+    requires places { HavePlaces topology.old (map key_of (table_entries workflow.now.source workflow.now.target noted.old)) }
+    ensures recorded { table_entries workflow.now.source workflow.now.target noted.new ≡ swept workflow.now types 0 topology.old (table_entries workflow.now.source workflow.now.target noted.old) }
+    ensures written { topology.new ≡ fold (with_wanted workflow.now types 0) topology.old (map key_of (table_entries workflow.now.source workflow.now.target noted.old)) }
 {
     let table = &noted.table;
-    exchange_reads_of(topology, workflow, types, None, table, &mut noted.alone);
     exchange_reads_of(
         topology,
         workflow,
         types,
-        Some(source),
+        None,
+        table,
+        &mut noted.alone,
+        &mut noted.found_alone,
+    );
+    exchange_reads_of(
+        topology,
+        workflow,
+        types,
+        Some(workflow.source()),
         table,
         &mut noted.at_source,
+        &mut noted.found_at_source,
     );
     exchange_reads_of(
         topology,
         workflow,
         types,
-        Some(target),
+        Some(workflow.target()),
         table,
         &mut noted.at_target,
+        &mut noted.found_at_target,
     );
-    noted.is_present = topology.exchange_present(target, table, true);
+    noted.is_present = topology.exchange_present(workflow.target(), table, true);
 }
 
 /// The same of a name, which is looked up once.
@@ -117,10 +143,11 @@ fn exchange_reads_of(
     types: TypeSet,
     keyspace: Option<&KeyspaceName>,
     table: &TableName,
-    noted: &mut NameRecord,
+    marks: &mut NameMarks,
+    found: &mut NameRules,
 )
     requires { HavePlaces topology.old (map EntryKey.Rule (keys_of_name (option_copied keyspace) table.now)) }
-    ensures recorded { (source target : List ℕ) → name_entries source target (option_copied keyspace.entry) table.now noted.new ≡ swept workflow.now types 0 topology.old (name_entries source target (option_copied keyspace.entry) table.now noted.old) }
+    ensures recorded { (source target : List ℕ) → name_entries source target (option_copied keyspace.entry) table.now marks.new found.new ≡ swept workflow.now types 0 topology.old (name_entries source target (option_copied keyspace.entry) table.now marks.old found.old) }
     ensures written { topology.new ≡ fold (with_wanted workflow.now types 0) topology.old (map EntryKey.Rule (keys_of_name (option_copied keyspace.entry) table.now)) }
 {
     let name = key_of_name(keyspace, table, None);
@@ -129,14 +156,9 @@ fn exchange_reads_of(
         Some((workflow.side(types.replica), table)),
         Some((workflow.side(types.rdonly), table)),
     );
-    exchange_two(
-        topology,
-        &name,
-        reads,
-        rules,
-        &mut noted.replica,
-        &mut noted.rdonly,
-    );
+    marks.replica = RuleMark::Found;
+    marks.rdonly = RuleMark::Found;
+    topology.exchange_two(&name, reads, rules, &mut found.replica, &mut found.rdonly);
 }
 
 /// The same with step 9: the rules for all types, and those of primary.
@@ -144,31 +166,39 @@ fn exchange_writes(
     topology: &mut Topology,
     workflow: &Workflow,
     types: TypeSet,
-    source: &KeyspaceName,
-    target: &KeyspaceName,
     noted: &mut TableRecord,
 )
-    requires places { HavePlaces topology.old (map key_of (table_entries source.now target.now noted.old)) }
-    ensures recorded { table_entries source.now target.now noted.new ≡ swept workflow.now types 9 topology.old (table_entries source.now target.now noted.old) }
-    ensures written { topology.new ≡ fold (with_wanted workflow.now types 9) topology.old (map key_of (table_entries source.now target.now noted.old)) }
+    requires places { HavePlaces topology.old (map key_of (table_entries workflow.now.source workflow.now.target noted.old)) }
+    ensures recorded { table_entries workflow.now.source workflow.now.target noted.new ≡ swept workflow.now types 9 topology.old (table_entries workflow.now.source workflow.now.target noted.old) }
+    ensures written { topology.new ≡ fold (with_wanted workflow.now types 9) topology.old (map key_of (table_entries workflow.now.source workflow.now.target noted.old)) }
 {
     let table = &noted.table;
-    exchange_writes_of(topology, workflow, types, None, table, &mut noted.alone);
     exchange_writes_of(
         topology,
         workflow,
         types,
-        Some(source),
+        None,
         table,
-        &mut noted.at_source,
+        &mut noted.alone,
+        &mut noted.found_alone,
     );
     exchange_writes_of(
         topology,
         workflow,
         types,
-        Some(target),
+        Some(workflow.source()),
+        table,
+        &mut noted.at_source,
+        &mut noted.found_at_source,
+    );
+    exchange_writes_of(
+        topology,
+        workflow,
+        types,
+        Some(workflow.target()),
         table,
         &mut noted.at_target,
+        &mut noted.found_at_target,
     );
 }
 
@@ -179,51 +209,19 @@ fn exchange_writes_of(
     types: TypeSet,
     keyspace: Option<&KeyspaceName>,
     table: &TableName,
-    noted: &mut NameRecord,
+    marks: &mut NameMarks,
+    found: &mut NameRules,
 )
     requires { HavePlaces topology.old (map EntryKey.Rule (keys_of_name (option_copied keyspace) table.now)) }
-    ensures recorded { (source target : List ℕ) → name_entries source target (option_copied keyspace.entry) table.now noted.new ≡ swept workflow.now types 9 topology.old (name_entries source target (option_copied keyspace.entry) table.now noted.old) }
+    ensures recorded { (source target : List ℕ) → name_entries source target (option_copied keyspace.entry) table.now marks.new found.new ≡ swept workflow.now types 9 topology.old (name_entries source target (option_copied keyspace.entry) table.now marks.old found.old) }
     ensures written { topology.new ≡ fold (with_wanted workflow.now types 9) topology.old (map EntryKey.Rule (keys_of_name (option_copied keyspace.entry) table.now)) }
 {
     let name = key_of_name(keyspace, table, None);
     let writes = (None, Some(TabletType::Primary));
     let rules = (workflow.wanted_names(&name, types), None);
-    exchange_two(
-        topology,
-        &name,
-        writes,
-        rules,
-        &mut noted.plain,
-        &mut noted.primary,
-    );
-}
-
-/// Writes two rules of a name, one after the other, and records which stood before.
-#[inline(always)]
-fn exchange_two(
-    topology: &mut Topology,
-    name: &RuleKey,
-    types: (Option<TabletType>, Option<TabletType>),
-    rules: (
-        Option<(&KeyspaceName, &TableName)>,
-        Option<(&KeyspaceName, &TableName)>,
-    ),
-    first: &mut RuleRecord,
-    second: &mut RuleRecord,
-)
-    requires first { has_place topology.old (EntryKey.Rule (of_type name.now types.0)) ≡ true }
-    requires second { has_place topology.old (EntryKey.Rule (of_type name.now types.1)) ≡ true }
-    ensures first { first.new ≡ RuleRecord.Found (rule_at topology.old.rules (of_type name.now types.0)) }
-    ensures second { second.new ≡ RuleRecord.Found (rule_at (with_entry topology.old (Entry.Rule (of_type name.now types.0) (lent_rule rules.entry.0))).rules (of_type name.now types.1)) }
-    ensures after { topology.new ≡ with_entry (with_entry topology.old (Entry.Rule (of_type name.now types.0) (lent_rule rules.entry.0))) (Entry.Rule (of_type name.now types.1) (lent_rule rules.entry.1)) }
-{
-    *first = RuleRecord::Found(None);
-    *second = RuleRecord::Found(None);
-    if let RuleRecord::Found(first) = first {
-        if let RuleRecord::Found(second) = second {
-            topology.exchange_two(name, types, rules, first, second);
-        }
-    }
+    marks.plain = RuleMark::Found;
+    marks.primary = RuleMark::Found;
+    topology.exchange_two(&name, writes, rules, &mut found.plain, &mut found.primary);
 }
 
 /// The same with another step: the denials that change with it.
@@ -232,39 +230,40 @@ fn exchange_denials(
     workflow: &Workflow,
     types: TypeSet,
     step: u8,
-    source: &KeyspaceName,
-    target: &KeyspaceName,
     noted: &mut TableRecord,
 )
-    requires places { HavePlaces topology.old (map key_of (table_entries source.now target.now noted.old)) }
+    requires apart { workflow.now.source ≢ workflow.now.target }
+    requires places { HavePlaces topology.old (map key_of (table_entries workflow.now.source workflow.now.target noted.old)) }
     requires reads { step ≢ 0 }
     requires rules { step ≢ 9 }
-    ensures recorded { table_entries source.now target.now noted.new ≡ swept workflow.now types step topology.old (table_entries source.now target.now noted.old) }
-    ensures written { topology.new ≡ fold (with_wanted workflow.now types step) topology.old (map key_of (table_entries source.now target.now noted.old)) }
+    ensures recorded { table_entries workflow.now.source workflow.now.target noted.new ≡ swept workflow.now types step topology.old (table_entries workflow.now.source workflow.now.target noted.old) }
+    ensures written { topology.new ≡ fold (with_wanted workflow.now types step) topology.old (map key_of (table_entries workflow.now.source workflow.now.target noted.old)) }
 {
     let table = &noted.table;
     let denied = &mut noted.is_denied_at_source;
-    exchange_denial(topology, workflow, types, step, source, table, denied);
+    exchange_denial(topology, workflow, types, step, false, table, denied);
     let denied = &mut noted.is_denied_at_target;
-    exchange_denial(topology, workflow, types, step, target, table, denied);
+    exchange_denial(topology, workflow, types, step, true, table, denied);
 }
 
-/// The same of the denial at a side.
+/// The same of the denial at the target, or at the source.
 fn exchange_denial(
     topology: &mut Topology,
     workflow: &Workflow,
     types: TypeSet,
     step: u8,
-    side: &KeyspaceName,
+    is_target: bool,
     table: &TableName,
     denied: &mut bool,
 )
-    requires { has_place topology.old (EntryKey.Denied side.now table.now) ≡ true }
-    ensures recorded { denied.new ≡ denied_after workflow.now step topology.old side.now table.now denied.old }
-    ensures written { topology.new ≡ with_wanted workflow.now types step topology.old (EntryKey.Denied side.now table.now) }
+    requires apart { workflow.now.source ≢ workflow.now.target }
+    requires place { has_place topology.old (EntryKey.Denied (if is_target then workflow.now.target else workflow.now.source) table.now) ≡ true }
+    ensures recorded { denied.new ≡ denied_after workflow.now step topology.old (if is_target then workflow.now.target else workflow.now.source) table.now denied.old }
+    ensures written { topology.new ≡ with_wanted workflow.now types step topology.old (EntryKey.Denied (if is_target then workflow.now.target else workflow.now.source) table.now) }
 {
-    if denial_step(workflow, side) == step {
-        *denied = topology.exchange_denied(side, table, workflow.is_denied_at(side, types));
+    if denial_step_of_side(workflow, is_target) == step {
+        let side = workflow.side(is_target);
+        *denied = topology.exchange_denied(side, table, is_side_denied(types, is_target));
     }
 }
 
@@ -318,7 +317,15 @@ fn write_back_reads(
     ensures { (w : WorkflowState) → topology.new ≡ fold (with_recorded w 0) topology.old (table_entries source.now target.now noted.now) }
 {
     let table = &noted.table;
-    write_back_reads_of(topology, source, target, None, table, &noted.alone);
+    write_back_reads_of(
+        topology,
+        source,
+        target,
+        None,
+        table,
+        &noted.alone,
+        &noted.found_alone,
+    );
     write_back_reads_of(
         topology,
         source,
@@ -326,6 +333,7 @@ fn write_back_reads(
         Some(source),
         table,
         &noted.at_source,
+        &noted.found_at_source,
     );
     write_back_reads_of(
         topology,
@@ -334,6 +342,7 @@ fn write_back_reads(
         Some(target),
         table,
         &noted.at_target,
+        &noted.found_at_target,
     );
     topology.put_present(target, table, noted.is_present);
 }
@@ -345,16 +354,19 @@ fn write_back_reads_of(
     target: &KeyspaceName,
     keyspace: Option<&KeyspaceName>,
     table: &TableName,
-    noted: &NameRecord,
+    marks: &NameMarks,
+    found: &NameRules,
 )
     requires { HavePlaces topology.old (map EntryKey.Rule (keys_of_name (option_copied keyspace) table.now)) }
-    ensures { (w : WorkflowState) → topology.new ≡ fold (with_recorded w 0) topology.old (name_entries source.now target.now (option_copied keyspace.entry) table.now noted.now) }
+    ensures { (w : WorkflowState) → topology.new ≡ fold (with_recorded w 0) topology.old (name_entries source.now target.now (option_copied keyspace.entry) table.now marks.now found.now) }
 {
     let mut key = key_of_name(keyspace, table, None);
     key.tablet_type = Some(TabletType::Replica);
-    topology.put_rule(&key, noted.replica.names(source, target, table));
+    let rule = rule_names(marks.replica, &found.replica, source, target, table);
+    topology.put_rule(&key, rule);
     key.tablet_type = Some(TabletType::Rdonly);
-    topology.put_rule(&key, noted.rdonly.names(source, target, table));
+    let rule = rule_names(marks.rdonly, &found.rdonly, source, target, table);
+    topology.put_rule(&key, rule);
 }
 
 /// The same with step 9: the rules for all types, and those of primary.
@@ -368,7 +380,15 @@ fn write_back_writes(
     ensures { (w : WorkflowState) → topology.new ≡ fold (with_recorded w 9) topology.old (table_entries source.now target.now noted.now) }
 {
     let table = &noted.table;
-    write_back_writes_of(topology, source, target, None, table, &noted.alone);
+    write_back_writes_of(
+        topology,
+        source,
+        target,
+        None,
+        table,
+        &noted.alone,
+        &noted.found_alone,
+    );
     write_back_writes_of(
         topology,
         source,
@@ -376,6 +396,7 @@ fn write_back_writes(
         Some(source),
         table,
         &noted.at_source,
+        &noted.found_at_source,
     );
     write_back_writes_of(
         topology,
@@ -384,6 +405,7 @@ fn write_back_writes(
         Some(target),
         table,
         &noted.at_target,
+        &noted.found_at_target,
     );
 }
 
@@ -394,15 +416,18 @@ fn write_back_writes_of(
     target: &KeyspaceName,
     keyspace: Option<&KeyspaceName>,
     table: &TableName,
-    noted: &NameRecord,
+    marks: &NameMarks,
+    found: &NameRules,
 )
     requires { HavePlaces topology.old (map EntryKey.Rule (keys_of_name (option_copied keyspace) table.now)) }
-    ensures { (w : WorkflowState) → topology.new ≡ fold (with_recorded w 9) topology.old (name_entries source.now target.now (option_copied keyspace.entry) table.now noted.now) }
+    ensures { (w : WorkflowState) → topology.new ≡ fold (with_recorded w 9) topology.old (name_entries source.now target.now (option_copied keyspace.entry) table.now marks.now found.now) }
 {
     let mut key = key_of_name(keyspace, table, None);
-    topology.put_rule(&key, noted.plain.names(source, target, table));
+    let rule = rule_names(marks.plain, &found.plain, source, target, table);
+    topology.put_rule(&key, rule);
     key.tablet_type = Some(TabletType::Primary);
-    topology.put_rule(&key, noted.primary.names(source, target, table));
+    let rule = rule_names(marks.primary, &found.primary, source, target, table);
+    topology.put_rule(&key, rule);
 }
 
 /// The same with another step: the denials that change with it.

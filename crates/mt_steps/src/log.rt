@@ -7,7 +7,7 @@ ghost use Rattle.mt_steps.specs.Undo.{IsLogOf, new_log};
 
 use crate::entries::{exchange_step, write_back};
 use crate::fault::StepFault;
-use crate::records::{TableRecord, table_at_rest};
+use crate::records::{TableRecord, push_at_rest};
 use crate::step::Step;
 use mt_model::part_keys_are_distinct;
 use mt_names::{KeyspaceName, TypeSet};
@@ -22,20 +22,22 @@ use std::mem;
 /// What is kept of a way for its undo: an entry for each key of the workflow's part, as it stood before its step; what stood on a
 /// primary's own list before the last refresh; and the stream that a new one was put in place of. It is made before the first step,
 /// and no step and no undo takes memory for it. The entries are recorded table by table, in the order of the part, without the names of
-/// their keys: the sides stand here once, and each table once in its record. (this profile's own)
+/// their keys: the sides stand once, and each table once in its record. (this profile's own)
 #[derive(Drop)]
 pub struct UndoLog {
-    source: KeyspaceName,
-    target: KeyspaceName,
     pub(crate) records: Vec<TableRecord>,
     pub(crate) late: Box<Late>,
 }
 
-/// What a step puts aside, in memory of its own.
+/// The sides, and what a step puts aside, in memory of their own.
 #[derive(Drop)]
 pub(crate) struct Late {
     /// What stood on a primary's own list before the last refresh.
     pub listed: Option<Before>,
+    /// The keyspace that the tables move from.
+    source: KeyspaceName,
+    /// The keyspace that they move to.
+    target: KeyspaceName,
     /// The stream that a new one was put in place of.
     pub slot: Option<Stream>,
 }
@@ -56,7 +58,7 @@ impl Model for UndoLog {
 
     ghost Value = { UndoState };
 
-    ghost view = { λ log. record { entries = entries_of log.source log.target log.records.items; listed = log.late.value.listed; slot = log.late.value.slot } };
+    ghost view = { λ log. record { entries = entries_of log.late.value.source log.late.value.target log.records.items; listed = log.late.value.listed; slot = log.late.value.slot } };
 }
 
 impl UndoLog {
@@ -70,21 +72,16 @@ impl UndoLog {
             return Err(StepFault::Memory);
         };
         for table in workflow.tables() {
-            if records.push(table_at_rest(workflow, table)).is_err() {
-                return Err(StepFault::Memory);
-            }
+            push_at_rest(&mut records, workflow, table);
         }
         let late = Late {
             listed: None,
+            source: workflow.source().copied(),
+            target: workflow.target().copied(),
             slot: None,
         };
         match Box::new(alloc, late) {
-            Ok(late) => Ok(UndoLog {
-                source: workflow.source().copied(),
-                target: workflow.target().copied(),
-                records,
-                late,
-            }),
+            Ok(late) => Ok(UndoLog { records, late }),
             Err(_) => Err(StepFault::Memory),
         }
     }
@@ -105,17 +102,7 @@ impl UndoLog {
     {
         workflow.facts();
         part_keys_are_distinct();
-        let source = &self.source;
-        let target = &self.target;
-        exchange_step(
-            topology,
-            workflow,
-            types,
-            step,
-            source,
-            target,
-            &mut self.records,
-        );
+        exchange_step(topology, workflow, types, step, &mut self.records);
     }
 
     /// Writes back what is recorded of each entry of a workflow's part that changes with a step. It takes no memory.
@@ -128,8 +115,8 @@ impl UndoLog {
             topology,
             workflow,
             step,
-            &self.source,
-            &self.target,
+            &self.late.source,
+            &self.late.target,
             &self.records,
         );
     }

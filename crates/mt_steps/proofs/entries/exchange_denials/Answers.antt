@@ -6,8 +6,8 @@ use Rattle.mt_steps.proofs.entries.exchange_denials.Goals as goal
 
 pub exchange_denial-requires-2 : goal.exchange_denial-requires-2
 exchange_denial-requires-2 c =
-    let s = c.args.source.now in
-    let g = c.args.target.now in
+    let s = c.args.workflow.now.source in
+    let g = c.args.workflow.now.target in
     let table = c.args.noted.now.table in
     let places = places_of c.args.topology.now s g table c.requires.places in
-    (still_placed c.args.workflow.now c.args.types c.args.step c.args.topology.now c.exchange_denial.new.topology (about.Denied s table ∷ []) (about.Denied g table ∷ []) c.exchange_denial.ensures.written (places.denied_there, tt)).0
+    record { apart = c.requires.apart; place = (still_placed c.args.workflow.now c.args.types c.args.step c.args.topology.now c.exchange_denial.new.topology (about.Denied s table ∷ []) (about.Denied g table ∷ []) c.exchange_denial.ensures.written (places.denied_there, tt)).0 }

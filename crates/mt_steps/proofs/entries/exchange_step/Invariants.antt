@@ -6,6 +6,6 @@ use Rattle.mt_steps.proofs.entries.exchange_step.Given as goal
 
 abbrev pub invariant-loop-noted : goal.invariant-loop-noted
 invariant-loop-noted l = record {
-  swept : AreSwept l.source l.target l.workflow l.types l.step l.initial.topology l.noted-index l.initial.records l.records;
-  written : l.topology ≡ fold (λ u r. over l.workflow l.types l.step u (table_entries l.source l.target r)) l.initial.topology (take l.noted-index l.initial.records);
+  swept : AreSwept l.workflow.source l.workflow.target l.workflow l.types l.step l.initial.topology l.noted-index l.initial.records l.records;
+  written : l.topology ≡ fold (λ u r. over l.workflow l.types l.step u (table_entries l.workflow.source l.workflow.target r)) l.initial.topology (take l.noted-index l.initial.records);
 }

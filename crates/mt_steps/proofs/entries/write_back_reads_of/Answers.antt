@@ -11,4 +11,4 @@ use Rattle.mt_steps.proofs.entries.write_back_reads_of.Goals as goal
 pub put_rule-requires-2 : goal.put_rule-requires-2
 put_rule-requires-2 c =
     let p0 = subst (λ k. HavePlaces c.args.topology.now (names k.keyspace k.table)) (sym c.key_of_name-key.ensures) c.requires in
-    placed_still c.args.topology.now c.put_rule.new.self (entry.Rule (record c.key_of_name-key.result { tablet_type = Some Replica }) (lent_rule c.names.result)) (about.Rule (record c.key_of_name-key.result { tablet_type = Some Rdonly })) c.put_rule.ensures p0.1.1.1.0
+    placed_still c.args.topology.now c.put_rule.new.self (entry.Rule (record c.key_of_name-key.result { tablet_type = Some Replica }) (lent_rule c.rule_names-rule.result)) (about.Rule (record c.key_of_name-key.result { tablet_type = Some Rdonly })) c.put_rule.ensures p0.1.1.1.0

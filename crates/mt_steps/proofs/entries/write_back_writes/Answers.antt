@@ -11,7 +11,7 @@ write_back_writes_of-requires-2 c =
     let g = c.args.target.now in
     let r = c.args.noted.now in
     let places = places_of c.args.topology.now s g r.table c.requires.places in
-    still_placed_back any_workflow 9 c.args.topology.now c.write_back_writes_of.new.topology (name_entries s g None r.table r.alone) (names (Some s) r.table) (c.write_back_writes_of.ensures any_workflow) places.at_source
+    still_placed_back any_workflow 9 c.args.topology.now c.write_back_writes_of.new.topology (name_entries s g None r.table r.alone r.found_alone) (names (Some s) r.table) (c.write_back_writes_of.ensures any_workflow) places.at_source
 
 pub write_back_writes_of-requires-3 : goal.write_back_writes_of-requires-3
 write_back_writes_of-requires-3 c =
@@ -19,8 +19,8 @@ write_back_writes_of-requires-3 c =
     let g = c.args.target.now in
     let r = c.args.noted.now in
     let places = places_of c.args.topology.now s g r.table c.requires.places in
-    still_placed_back any_workflow 9 c.write_back_writes_of.new.topology c.write_back_writes_of-2.new.topology (name_entries s g (Some s) r.table r.at_source) (names (Some g) r.table) (c.write_back_writes_of-2.ensures any_workflow)
-    (still_placed_back any_workflow 9 c.args.topology.now c.write_back_writes_of.new.topology (name_entries s g None r.table r.alone) (names (Some g) r.table) (c.write_back_writes_of.ensures any_workflow) places.at_target)
+    still_placed_back any_workflow 9 c.write_back_writes_of.new.topology c.write_back_writes_of-2.new.topology (name_entries s g (Some s) r.table r.at_source r.found_at_source) (names (Some g) r.table) (c.write_back_writes_of-2.ensures any_workflow)
+    (still_placed_back any_workflow 9 c.args.topology.now c.write_back_writes_of.new.topology (name_entries s g None r.table r.alone r.found_alone) (names (Some g) r.table) (c.write_back_writes_of.ensures any_workflow) places.at_target)
 
 pub returns : goal.returns
 returns c = λ w.
@@ -28,7 +28,7 @@ returns c = λ w.
     let g = c.args.target.now in
     let r = c.args.noted.now in
     four_back w 9 c.args.topology.now c.write_back_writes_of.new.topology c.write_back_writes_of-2.new.topology c.write_back_writes_of-3.new.topology c.write_back_writes_of-3.new.topology
-    (name_entries s g None r.table r.alone) (name_entries s g (Some s) r.table r.at_source) (name_entries s g (Some g) r.table r.at_target)
+    (name_entries s g None r.table r.alone r.found_alone) (name_entries s g (Some s) r.table r.at_source r.found_at_source) (name_entries s g (Some g) r.table r.at_target r.found_at_target)
     (entry.Denied s r.table r.is_denied_at_source ∷ entry.Denied g r.table r.is_denied_at_target ∷ entry.Present g r.table r.is_present ∷ [])
     (c.write_back_writes_of.ensures w) (c.write_back_writes_of-2.ensures w) (c.write_back_writes_of-3.ensures w)
     (sym (writes_rest w c.write_back_writes_of-3.new.topology s g r.table r.is_denied_at_source r.is_denied_at_target r.is_present))

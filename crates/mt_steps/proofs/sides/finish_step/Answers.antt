@@ -27,18 +27,18 @@ pub returns-clause-recorded : goal.returns-clause-recorded
 returns-clause-recorded c =
     let log = c.args.log.now in
     let away = put_away c.args.workflow.now (way_from c.args.way) c.args.step in
-    let entries = entries_of c.log.inside.source c.log.inside.target c.log.inside.records.items in
-    let late = c.log.inside.late.value in
-    let lent : c.deref_mut.result.now ≡ late = search rules in
-    ap (λ s. record { entries = entries; listed = c.deref_mut.result.now.listed; slot = s }) c.step_streams.ensures.kept
-    ∙ ap (λ l. record { entries = entries; listed = l.listed; slot = away l.slot }) lent
+    let records = c.log.inside.records.items in
+    let late = c.deref_mut.result.now in
+    let lent : late ≡ c.log.inside.late.value = search rules in
+    ap (λ s. record { entries = entries_of late.source late.target records; listed = late.listed; slot = s }) c.step_streams.ensures.kept
+    ∙ ap (λ l. record { entries = entries_of l.source l.target records; listed = l.listed; slot = away l.slot }) lent
     ∙ ap (λ (l : UndoState). record l { slot = away l.slot }) (c.log.view_is ∙ c.exchange.ensures.recorded)
     ∙ ap (λ n. record { entries = recorded c.args.workflow.now n c.args.topology.now log.entries; listed = log.listed; slot = away log.slot }) c.number.ensures.value
 
 pub returns-clause-log : goal.returns-clause-log
 returns-clause-log c =
     stepped_log (way_from c.args.way) c.args.step c.args.topology.now c.exchange.new.topology c.args.workflow.now c.count_step.new.workflow c.args.log.now
-    (record { entries = entries_of c.log.inside.source c.log.inside.target c.log.inside.records.items; listed = c.deref_mut.result.now.listed; slot = c.step_streams.new.kept }) c.args.end
+    (record { entries = entries_of c.deref_mut.result.now.source c.deref_mut.result.now.target c.log.inside.records.items; listed = c.deref_mut.result.now.listed; slot = c.step_streams.new.kept }) c.args.end
     (step_entries c.args.workflow.now (way_from c.args.way).after (number c.args.step)) (returns-clause-topology c) (returns-clause-workflow c)
     (ap (λ (l : UndoState). l.entries) (returns-clause-recorded c)) c.requires.log
 

@@ -11,7 +11,9 @@ use Rattle.mt_steps.specs.Undo.{UndoState}
 use Rattle.mt_steps.proofs.sides.step_of_way.Goals as goal
 
 pub finish_step-requires-clause-log : goal.finish_step-requires-clause-log
-finish_step-requires-clause-log g c = ap (λ (l : UndoState). map key_of l.entries) c.log.view_is ∙ c.requires.log
+finish_step-requires-clause-log g c =
+    let lent : c.deref_mut.result.now ≡ c.log.inside.late.value = search rules in
+    ap (λ l. map key_of (entries_of l.source l.target c.log.inside.records.items)) lent ∙ ap (λ (l : UndoState). map key_of l.entries) c.log.view_is ∙ c.requires.log
 
 pub returns-clause-steps : goal.returns-clause-steps
 returns-clause-steps g c =
@@ -25,7 +27,7 @@ returns-clause-steps g c =
     let behind : UndoState → UndoState = λ l. record { entries = recorded w (number step) t l.entries; listed = later; slot = put_away w way step l.slot } in
     let kept : c.finish_step.new.log ≡ behind log =
     c.finish_step.ensures.recorded
-    ∙ ap (λ l. behind (record { entries = entries_of c.log.inside.source c.log.inside.target c.log.inside.records.items; listed = later; slot = l.slot })) lent
+    ∙ ap (λ l. behind (record { entries = entries_of l.source l.target c.log.inside.records.items; listed = later; slot = l.slot })) lent
     ∙ ap behind c.log.view_is in
     let stood : c.deref_mut.result.now.listed ≡ log.listed = ap (λ l. l.listed) lent ∙ ap (λ (l : UndoState). l.listed) c.log.view_is in
     let attempted : Option Marks → Option Marks → Type 0 = λ before after.

@@ -1,9 +1,8 @@
 -- One table more.
-use Rattle.std.proofs.Common.{◌≡◌, ◌<◌, ◌++◌, ◌∷◌, [], List, ℕ, get_or, length, map, rules, subst, ap, ◌∙◌}
+use Rattle.std.proofs.Common.{◌≡◌, ◌<◌, ◌≤◌, ◌+◌, ◌++◌, List, ℕ, get_or, length, map, subst, sym, ap, ◌∙◌}
 use Rattle.mt_model.specs.Part.{table_part_keys}
 use Rattle.mt_workflow.specs.Workflows.{wanted}
-use Rattle.mt_steps.specs.Records.{entries_of}
-use Rattle.mt_steps.proofs.SweepLemmas.{pushed, table_next}
+use Rattle.mt_steps.proofs.SweepLemmas.{table_next}
 use Rattle.mt_steps.proofs.log.UndoLog.reserve.Goals as goal
 
 pub loop-table-preserved : goal.loop-table-preserved
@@ -12,8 +11,10 @@ loop-table-preserved c =
     let i = c.loop-table.table-index in
     let x : List ℕ = c.table-item.result in
     let all : c.tables-table-items.result.now ≡ w.tables = c.tables-table-items.ensures in
-    let items : c.push.new.self.items ≡ c.loop-table.records.items ++ c.table_at_rest.result ∷ [] = search rules in
-    ap (entries_of w.source w.target) items ∙ pushed w.source w.target c.loop-table.records.items c.table_at_rest.result
-    ∙ ap (λ es. entries_of w.source w.target c.loop-table.records.items ++ es) c.table_at_rest.ensures
-    ∙ ap (λ es. es ++ map (wanted w w.switched) (table_part_keys w.source w.target x)) c.loop-table.invariant
-    ∙ table_next (wanted w w.switched) (table_part_keys w.source w.target) w.tables i x (subst (λ l. i < length l) all c.loop-table-test.true) (subst (λ l. x ≡ get_or l i x) all c.table-item.is)
+    record {
+      room = subst (λ n. length w.tables ≤ n) (sym c.push_at_rest.ensures.capacity) c.loop-table.invariant.room;
+      len = c.push_at_rest.ensures.len ∙ ap (λ n. n + 1) c.loop-table.invariant.len;
+      entries =
+          c.push_at_rest.ensures.entries ∙ ap (λ es. es ++ map (wanted w w.switched) (table_part_keys w.source w.target x)) c.loop-table.invariant.entries
+          ∙ table_next (wanted w w.switched) (table_part_keys w.source w.target) w.tables i x (subst (λ l. i < length l) all c.loop-table-test.true) (subst (λ l. x ≡ get_or l i x) all c.table-item.is);
+    }
