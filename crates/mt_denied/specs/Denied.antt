@@ -1,9 +1,10 @@
 -- Denied lists: how a place is reserved, which list of names are the members in order, how a refusal is printed.
-use Rattle.std.specs.Prelude.{◌≡◌, ℕ, ◌<◌, Bool, true, false, List, length, codes, is_some, ◌⊎◌, Result, Ok, Err}
+use Rattle.std.specs.Prelude.{◌≡◌, ℕ, ◌-◌, ◌<◌, Bool, true, false, List, length, slice_get, codes, is_some, ◌⊎◌, Result, Ok, Err}
 use Rattle.std.specs.List.{list_any}
 use Rattle.std.specs.List.Sorted.{IsStrictlySortedBy}
 use Rattle.std.specs.Cmp.Lexicographic.{slice_cmp}
 use Rattle.std.specs.Map.{lookup}
+use Rattle.std.specs.Option.{option_map_or}
 use Rattle.std.specs.Ordering.{nat_cmp}
 use Rattle.mt_names.specs.Names.{same_text}
 use Rattle.mt_model.specs.Limits.{most_tables_in_keyspace}
@@ -32,3 +33,12 @@ Reserves old name (Err Memory) new = (has_mark_place old name ≡ false) × (len
 pub record AreMembersInOrder (marks : Marks) (names : List (List ℕ)) : Type 0 where
   pub members : (name : List ℕ) → list_any (same_text name) names ≡ is_marked marks name
   pub ascending : IsStrictlySortedBy (slice_cmp nat_cmp) names
+
+-- an answer without what it tells
+abbrev pub done : Result Bool DeniedFault → Result Unit DeniedFault
+done (Ok told) = Ok tt
+done (Err fault) = Err fault
+
+-- the table has the last place (this profile's own)
+abbrev pub is_last : Marks → List ℕ → Bool
+is_last marks name = option_map_or (λ m. same_text m.0 name) (slice_get marks (length marks - 1)) false

@@ -1,11 +1,11 @@
 //! Tables that are marked or not: the denied tables, and those that are there.
-ghost use Rattle.std.specs.Prelude.{◌≡◌, ◌≤◌, [], true, length, IfOk, IfErr};
+ghost use Rattle.std.specs.Prelude.{◌≡◌, ◌≤◌, [], true, length, not, IfOk, IfErr};
 ghost use Rattle.std.specs.List.{IsDistinct};
 ghost use Rattle.std.specs.Map.{keys_of, remove_entry, set_value};
 ghost use Rattle.mt_names.specs.Names.{same_text};
 ghost use Rattle.mt_model.specs.Limits.{most_tables_in_keyspace};
 ghost use Rattle.mt_model.specs.Topology.{is_marked, without_mark_place};
-ghost use Rattle.mt_denied.specs.Denied.{AreMembersInOrder, Reserves, has_mark_place};
+ghost use Rattle.mt_denied.specs.Denied.{AreMembersInOrder, Reserves, done, has_mark_place, is_last};
 
 use crate::DeniedFault;
 use indexmap::IndexMap;
@@ -104,15 +104,40 @@ impl TableMarks {
     pub fn reserve(&mut self, table: &TableName) -> Result<(), DeniedFault>
         ensures { Reserves self.old table.now result self.new }
     {
-        if self.has_place(table) {
-            return Ok(());
+        match self.make_place(table) {
+            Ok(_) => Ok(()),
+            Err(fault) => Err(fault),
         }
+    }
+
+    /// The same, and answers whether it made one: not if the table had one. It looks a table that has none up once, and another twice.
+    pub fn make_place(&mut self, table: &TableName) -> Result<bool, DeniedFault>
+        ensures made { IfOk result (λ made. made ≡ not (has_mark_place self.old table.now)) }
+        ensures reserves { Reserves self.old table.now (done result) self.new }
+    {
         if self.len() == MAX_TABLES_IN_KEYSPACE {
-            return Err(DeniedFault::Full);
+            return self.place_when_full(table);
         }
         match self.places.insert(table.copied(), false) {
-            Ok(_) => Ok(()),
+            Ok(None) => Ok(true),
+            Ok(Some(mark)) => {
+                self.set(table, mark);
+                Ok(false)
+            }
             Err(_) => Err(DeniedFault::Memory),
+        }
+    }
+
+    /// The answer of `make_place` where there are as many places as there may be: `L1 Full`, unless the table has one.
+    fn place_when_full(&self, table: &TableName) -> Result<bool, DeniedFault>
+        requires { length self.now ≡ most_tables_in_keyspace }
+        ensures made { IfOk result (λ made. made ≡ not (has_mark_place self.now table.now)) }
+        ensures reserves { Reserves self.now table.now (done result) self.now }
+    {
+        if self.has_place(table) {
+            Ok(false)
+        } else {
+            Err(DeniedFault::Full)
         }
     }
 
@@ -137,11 +162,26 @@ impl TableMarks {
         }
     }
 
-    /// Drops the place of a table, with its mark. It takes no memory.
+    /// Drops the place of a table, with its mark. It takes no memory, and where the place is the last one it looks no table up.
     pub fn drop_place(&mut self, table: &TableName)
         ensures { self.new ≡ remove_entry (same_text table.now) self.old }
     {
-        self.places.shift_remove(table);
+        if self.is_last(table) {
+            let others = self.places.len().saturating_sub(1);
+            self.places.truncate(others);
+        } else {
+            self.places.shift_remove(table);
+        }
+    }
+
+    /// Whether a table has the last place.
+    fn is_last(&self, table: &TableName) -> bool
+        ensures { result ≡ is_last self.now table.now }
+    {
+        match self.places.last() {
+            Some((last, _)) => last == table,
+            None => false,
+        }
     }
 
     /// The marked tables in the order of their bytes, each once. `L0 Memory`.

@@ -1,5 +1,5 @@
 //! One keyspace of a topology.
-ghost use Rattle.std.specs.Prelude.{◌≡◌, ◌&&◌, ◌==◌, ◌≤◌, ◌++◌, [], Some, true, false, length, is_some, map, slice_get, OnOk, string_bytes};
+ghost use Rattle.std.specs.Prelude.{◌≡◌, ◌&&◌, ◌==◌, ◌≤◌, ◌++◌, [], Some, true, false, length, is_some, map, slice_get, IfOk, OnOk, string_bytes};
 ghost use Rattle.std.specs.List.{AllByRecursion, IsDistinct};
 ghost use Rattle.std.specs.Map.{keys_of, lookup};
 ghost use Rattle.mt_names.specs.Keys.{qualifier_text};
@@ -7,6 +7,7 @@ ghost use Rattle.mt_names.specs.Names.{IsTableName, same_text};
 ghost use Rattle.mt_model.specs.Limits.{most_tables_in_keyspace};
 ghost use Rattle.mt_model.specs.Part.{table_routes};
 ghost use Rattle.mt_model.specs.Topology.{is_marked, with_table_mark, with_denied_mark, with_new_table, with_table_place, without_table_place, with_denied_place, without_denied_place};
+ghost use Rattle.mt_denied.specs.Denied.{done};
 ghost use Rattle.mt_keyspace.specs.Drops.{without_denial, without_table};
 ghost use Rattle.mt_keyspace.specs.Edits.{Edits, answer_of, new_table_refusal, lacks_table_place};
 ghost use Rattle.mt_keyspace.specs.Room.{has_mark_room, lacking_marks, lacks_mark_place, mark_place_refusal};
@@ -125,20 +126,22 @@ impl Keyspace {
         has_room(&self.denied, tables)
     }
 
-    /// Makes a place for a table, which isn't there by it. Where the table has one nothing changes. `L1 Full` at a 257th
-    /// place, `L0 Memory`.
-    pub(crate) fn reserve_table(&mut self, table: &TableName) -> Result<(), DeniedFault>
-        ensures { Edits self.old (mark_place_refusal self.old.tables table.now) (lacks_mark_place self.old.tables table.now) (with_table_place table.now self.old) (answer_of result) self.new }
+    /// Makes a place for a table, which isn't there by it, and answers whether it made one. Where the table has one nothing
+    /// changes. `L1 Full` at a 257th place, `L0 Memory`.
+    pub(crate) fn make_place(&mut self, table: &TableName) -> Result<bool, DeniedFault>
+        ensures made { IfOk result (λ made. made ≡ lacks_mark_place self.old.tables table.now) }
+        ensures edits { Edits self.old (mark_place_refusal self.old.tables table.now) (lacks_mark_place self.old.tables table.now) (with_table_place table.now self.old) (answer_of (done result)) self.new }
     {
-        self.tables.reserve(table)
+        self.tables.make_place(table)
     }
 
-    /// Makes a place for the denial of a table, which isn't denied by it. Where the denial has one nothing changes.
-    /// `L1 Full` at a 257th place, `L0 Memory`.
-    pub(crate) fn reserve_denial(&mut self, table: &TableName) -> Result<(), DeniedFault>
-        ensures { Edits self.old (mark_place_refusal self.old.denied table.now) (lacks_mark_place self.old.denied table.now) (with_denied_place table.now self.old) (answer_of result) self.new }
+    /// Makes a place for the denial of a table, which isn't denied by it, and answers whether it made one. Where the denial
+    /// has one nothing changes. `L1 Full` at a 257th place, `L0 Memory`.
+    pub(crate) fn make_denied_place(&mut self, table: &TableName) -> Result<bool, DeniedFault>
+        ensures made { IfOk result (λ made. made ≡ lacks_mark_place self.old.denied table.now) }
+        ensures edits { Edits self.old (mark_place_refusal self.old.denied table.now) (lacks_mark_place self.old.denied table.now) (with_denied_place table.now self.old) (answer_of (done result)) self.new }
     {
-        self.denied.reserve(table)
+        self.denied.make_place(table)
     }
 
     /// Drops the place of a table that isn't there. It takes no memory.

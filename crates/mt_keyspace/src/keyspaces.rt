@@ -8,6 +8,7 @@ ghost use Rattle.mt_model.specs.Documents.{array, denied_sorted, denied_texts, k
 ghost use Rattle.mt_model.specs.Limits.{most_keyspaces, most_tables_in_keyspace};
 ghost use Rattle.mt_model.specs.Part.{table_routes};
 ghost use Rattle.mt_model.specs.Topology.{holders, is_denied, is_present, keyspace_at, sole_holder, with_denied_mark, with_denied_place, with_keyspace_state, with_new_table, with_table_mark, with_table_place, without_denied_place, without_table_place};
+ghost use Rattle.mt_denied.specs.Denied.{done};
 ghost use Rattle.mt_keyspace.specs.Drops.{without_denial, without_table};
 ghost use Rattle.mt_keyspace.specs.Edits.{Edits, add_keyspace_refusal, add_table_grows, add_table_refusal, answer_of, denied_place_grows, denied_place_refusal, table_place_grows, table_place_refusal};
 ghost use Rattle.mt_keyspace.specs.Keyspaces.{AreKeyspaces, held_there};
@@ -196,10 +197,10 @@ impl Keyspaces {
         ensures { Edits self.old (table_place_refusal self.old keyspace.now table.now) (table_place_grows self.old keyspace.now table.now)
             (with_keyspace_state (with_table_place table.now) self.old keyspace.now) (answer_of result) self.new }
     {
-        let Some(keyspace) = mt_few::get_mut(&mut self.places, keyspace) else {
-            unreachable!();
-        };
-        keyspace.reserve_table(table)
+        match self.make_place(keyspace, table) {
+            Ok(_) => Ok(()),
+            Err(fault) => Err(fault),
+        }
     }
 
     /// Makes a place for the denial of a table in a keyspace that is there. Where the denial has one nothing changes.
@@ -213,10 +214,46 @@ impl Keyspaces {
         ensures { Edits self.old (denied_place_refusal self.old keyspace.now table.now) (denied_place_grows self.old keyspace.now table.now)
             (with_keyspace_state (with_denied_place table.now) self.old keyspace.now) (answer_of result) self.new }
     {
+        match self.make_denied_place(keyspace, table) {
+            Ok(_) => Ok(()),
+            Err(fault) => Err(fault),
+        }
+    }
+
+    /// Makes a place for a table as `reserve_table` does, and answers whether it made one: not where the table had one. It looks
+    /// a table that has none up once.
+    pub fn make_place(
+        &mut self,
+        keyspace: &KeyspaceName,
+        table: &TableName,
+    ) -> Result<bool, DeniedFault>
+        requires { is_some (keyspace_at self.old keyspace.now) ≡ true }
+        ensures made { IfOk result (λ made. made ≡ table_place_grows self.old keyspace.now table.now) }
+        ensures edits { Edits self.old (table_place_refusal self.old keyspace.now table.now) (table_place_grows self.old keyspace.now table.now)
+            (with_keyspace_state (with_table_place table.now) self.old keyspace.now) (answer_of (done result)) self.new }
+    {
         let Some(keyspace) = mt_few::get_mut(&mut self.places, keyspace) else {
             unreachable!();
         };
-        keyspace.reserve_denial(table)
+        keyspace.make_place(table)
+    }
+
+    /// Makes a place for the denial of a table as `reserve_denial` does, and answers whether it made one: not where the denial
+    /// had one. It looks a denial that has none up once.
+    pub fn make_denied_place(
+        &mut self,
+        keyspace: &KeyspaceName,
+        table: &TableName,
+    ) -> Result<bool, DeniedFault>
+        requires { is_some (keyspace_at self.old keyspace.now) ≡ true }
+        ensures made { IfOk result (λ made. made ≡ denied_place_grows self.old keyspace.now table.now) }
+        ensures edits { Edits self.old (denied_place_refusal self.old keyspace.now table.now) (denied_place_grows self.old keyspace.now table.now)
+            (with_keyspace_state (with_denied_place table.now) self.old keyspace.now) (answer_of (done result)) self.new }
+    {
+        let Some(keyspace) = mt_few::get_mut(&mut self.places, keyspace) else {
+            unreachable!();
+        };
+        keyspace.make_denied_place(table)
     }
 
     /// Drops the place of a table that isn't there.

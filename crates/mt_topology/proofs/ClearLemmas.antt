@@ -1,5 +1,5 @@
 -- To write of each key of a part that nothing is said there, and then to drop its places, is to drop them with what they hold.
-use Rattle.std.proofs.Common.{◌≡◌, ℕ, Bool, true, false, List, [], ◌∷◌, map, Option, None, Some, unwrap_or, refl, sym, ap, ◌∙◌}
+use Rattle.std.proofs.Common.{◌≡◌, ℕ, Bool, true, false, cond, List, [], ◌∷◌, map, Option, None, Some, unwrap_or, refl, sym, ap, ◌∙◌}
 use Rattle.std.proofs.lemmas.List.Elements.{recursion_from_All}
 use Rattle.std.specs.Bool.{Decides}
 use Rattle.std.specs.List.{AllByRecursion, IsDistinct}
@@ -19,7 +19,7 @@ use Rattle.mt_keyspace.specs.Drops.{without_denial, without_table}
 use Rattle.mt_keyspace.proofs.DropLemmas.{distinct-without_denial, distinct-without_table}
 use Rattle.mt_topology.specs.Clear.{cleared_entry, without_entries, without_entry}
 use Rattle.mt_topology.proofs.EditLemmas.{remove_entry-set_value}
-use Rattle.mt_topology.proofs.ReleaseLemmas.{changed, is_changed}
+use Rattle.mt_topology.proofs.ReleaseLemmas.{changed, dropped, dropped_turned, is_changed, keyspaces_turned}
 
 -- ---- a value set and an entry removed
 
@@ -200,6 +200,37 @@ gone_turned t (about.Present k u) (about.Present l v) distinct =
     (keyspace-turned (λ state. IsDistinct same_text (keys_of state.tables)) (with_table_mark v false) (without_table u)
     (λ state d. ap (λ marks. record state { tables = marks }) (removed-set same_text same_text_decides state.tables u v false d)) t.keyspaces l k
     (recursion_from_All (λ s. IsDistinct same_text (keys_of s.1.tables)) t.keyspaces distinct.tables))
+
+-- two entries that go, in either order
+module _ {K V : Type 0} (same : K → K → Bool) (decides : (a b : K) → Decides (same a b) (a ≡ b)) where
+  abbrev gone : List (K × V) → K → List (K × V)
+  gone es k = dropped same decides (λ value. false) es k
+
+  is_gone : (es : List (K × V)) (k : K) → remove_entry (same k) es ≡ gone es k
+  is_gone [] k = refl
+  is_gone (e ∷ es) k = ap (λ l. cond (same k e.0) es (e ∷ l)) (is_gone es k)
+
+  removed_turned : (es : List (K × V)) (a b : K) → remove_entry (same b) (remove_entry (same a) es) ≡ remove_entry (same a) (remove_entry (same b) es)
+  removed_turned es a b =
+      is_gone (remove_entry (same a) es) b ∙ ap (λ l. gone l b) (is_gone es a) ∙ dropped_turned same decides (λ value. false) es a b
+      ∙ ap (λ l. gone l a) (sym (is_gone es b)) ∙ sym (is_gone (remove_entry (same b) es) a)
+
+pub both_gone : (t : TopologyState) (x y : EntryKey) → without_entry (without_entry t x) y ≡ without_entry (without_entry t y) x
+both_gone t (about.Rule a) (about.Rule b) = ap (λ rules. record t { rules = rules }) (removed_turned same_key same_key_decides t.rules a b)
+both_gone t (about.Rule a) (about.Denied l v) = refl
+both_gone t (about.Rule a) (about.Present l v) = refl
+both_gone t (about.Denied k u) (about.Rule b) = refl
+both_gone t (about.Denied k u) (about.Denied l v) =
+    ap (λ keyspaces. record t { keyspaces = keyspaces })
+    (keyspaces_turned (without_denial u) (without_denial v) (λ state. ap (λ marks. record state { denied = marks }) (removed_turned same_text same_text_decides state.denied u v)) t.keyspaces k l)
+both_gone t (about.Denied k u) (about.Present l v) =
+    ap (λ keyspaces. record t { keyspaces = keyspaces }) (keyspaces_turned (without_denial u) (without_table v) (λ state. refl) t.keyspaces k l)
+both_gone t (about.Present k u) (about.Rule b) = refl
+both_gone t (about.Present k u) (about.Denied l v) =
+    ap (λ keyspaces. record t { keyspaces = keyspaces }) (keyspaces_turned (without_table u) (without_denial v) (λ state. refl) t.keyspaces k l)
+both_gone t (about.Present k u) (about.Present l v) =
+    ap (λ keyspaces. record t { keyspaces = keyspaces })
+    (keyspaces_turned (without_table u) (without_table v) (λ state. ap (λ marks. record state { tables = marks }) (removed_turned same_text same_text_decides state.tables u v)) t.keyspaces k l)
 
 distinct-gone : (t : TopologyState) (x : EntryKey) → HasDistinctPlaces t → HasDistinctPlaces (without_entry t x)
 distinct-gone t (about.Rule a) distinct = distinct-rules t (remove_entry (same_key a) t.rules) (IsDistinct-remove_entry same_key same_key_decides (same_key a) t.rules distinct.rules) distinct

@@ -4,6 +4,7 @@ use Rattle.std.proofs.lemmas.Grind.{flat_map-append}
 use Rattle.std.proofs.lemmas.List.{append-nil, reverse-append}
 use Rattle.std.proofs.lemmas.List.Sums.{fold-append}
 use Rattle.std.specs.Bool.{Decides}
+use Rattle.std.specs.List.{flat_map}
 use Rattle.std.specs.Map.{remove_entry, set_value}
 use Rattle.std.specs.Option.{option_map_or}
 use Rattle.mt_names.specs.declared.keys.RuleKey.{RuleKey}
@@ -23,11 +24,11 @@ module _ {A B : Type 0} (f : B → A → B) (turned : (b : B) (x y : A) → f (f
   one_last b x [] = refl
   one_last b x (y ∷ ys) = ap (λ c. fold f c ys) (turned b x y) ∙ one_last (f b y) x ys
 
-  all_last : (b : B) (xs ys : List A) → fold f (fold f b xs) ys ≡ fold f (fold f b ys) xs
+  pub all_last : (b : B) (xs ys : List A) → fold f (fold f b xs) ys ≡ fold f (fold f b ys) xs
   all_last b [] ys = refl
   all_last b (x ∷ xs) ys = all_last (f b x) xs ys ∙ ap (λ c. fold f c xs) (one_last b x ys)
 
-  in_reverse : (b : B) (xs : List A) → fold f b (reverse xs) ≡ fold f b xs
+  pub in_reverse : (b : B) (xs : List A) → fold f b (reverse xs) ≡ fold f b xs
   in_reverse b [] = refl
   in_reverse b (x ∷ xs) =
       ap (fold f b) (reverse-append (x ∷ []) xs) ∙ fold-append f b (reverse xs) (x ∷ []) ∙ ap (λ c. f c x) (in_reverse b xs) ∙ sym (one_last b x xs)
@@ -36,11 +37,11 @@ module _ {A B : Type 0} (f : B → A → B) (turned : (b : B) (x y : A) → f (f
 
 module _ {K V : Type 0} (same : K → K → Bool) (decides : (a b : K) → Decides (same a b) (a ≡ b)) (keeps : V → Bool) where
   -- without the first entry of the key, unless its value is kept
-  abbrev dropped : List (K × V) → K → List (K × V)
+  abbrev pub dropped : List (K × V) → K → List (K × V)
   dropped [] k = []
   dropped (e ∷ es) k = cond (same k e.0) (cond (keeps e.1) (e ∷ es) es) (e ∷ dropped es k)
 
-  dropped_turned : (es : List (K × V)) (a b : K) → dropped (dropped es a) b ≡ dropped (dropped es b) a
+  pub dropped_turned : (es : List (K × V)) (a b : K) → dropped (dropped es a) b ≡ dropped (dropped es b) a
   dropped_turned [] a b = refl
   dropped_turned (e ∷ es) a b = by (dropped_turned es a b) (same a e.0) refl (same b e.0) refl (keeps e.1) refl
     where
@@ -124,7 +125,7 @@ module _ (f g : KeyspaceState → KeyspaceState) (turned : (state : KeyspaceStat
       by again false s true t = rw (s, t, s) refl
       by again false s false t = rw (s, t, s) (ap (λ l. k ∷ l) again)
 
-  keyspaces_turned : (ks : Keyspaces) (a b : List ℕ) → with_keyspace_state g (with_keyspace_state f ks a) b ≡ with_keyspace_state f (with_keyspace_state g ks b) a
+  pub keyspaces_turned : (ks : Keyspaces) (a b : List ℕ) → with_keyspace_state g (with_keyspace_state f ks a) b ≡ with_keyspace_state f (with_keyspace_state g ks b) a
   keyspaces_turned ks a b =
       is_changed g (with_keyspace_state f ks a) b ∙ ap (λ l. changed g l b) (is_changed f ks a) ∙ changed_turned ks a b
       ∙ ap (λ l. changed f l a) (sym (is_changed g ks b)) ∙ sym (is_changed f (with_keyspace_state g ks b) a)
@@ -148,18 +149,35 @@ place_turned t (about.Present k u) (about.Present l v) =
     ap (λ keyspaces. record t { keyspaces = keyspaces })
     (keyspaces_turned (without_table_place u) (without_table_place v) (λ state. ap (λ marks. record state { tables = marks }) (marks_turned state.tables u v)) t.keyspaces k l)
 
--- those of the last of some tables first
-last_first : (t new : TopologyState) (keys last : List EntryKey) → new ≡ without_places t (reverse last) → without_places new keys ≡ without_places t (keys ++ last)
-last_first t new keys last is =
-    ap (λ u. without_places u keys) (is ∙ in_reverse without_place place_turned t last)
-    ∙ all_last without_place place_turned t last keys ∙ sym (fold-append without_place t keys last)
+-- ---- the keys of tables, those of the last of them first
 
--- the last table that is left, and those before it
+module _ (f : TopologyState → EntryKey → TopologyState) (turned : (t : TopologyState) (x y : EntryKey) → f (f t x) y ≡ f (f t y) x) where
+  last_first : (t new : TopologyState) (keys last : List EntryKey) → new ≡ fold f t last → fold f new keys ≡ fold f t (keys ++ last)
+  last_first t new keys last is = ap (λ u. fold f u keys) is ∙ all_last f turned t last keys ∙ sym (fold-append f t keys last)
+
+  -- the last table that is left, and those before it
+  pub keys_less : (keys_of : List ℕ → List EntryKey) (t now new : TopologyState) (tables left less : List (List ℕ)) (table : List ℕ) (keys : List EntryKey) → left ≡ less ++ table ∷ [] → keys ≡ keys_of table
+      → new ≡ fold f now keys → fold f now (flat_map keys_of left) ≡ fold f t (flat_map keys_of tables) → fold f new (flat_map keys_of less) ≡ fold f t (flat_map keys_of tables)
+  keys_less keys_of t now new tables left less table keys split all is before =
+      let more : flat_map keys_of left ≡ flat_map keys_of less ++ keys =
+      ap (flat_map keys_of) split ∙ flat_map-append keys_of less (table ∷ []) ∙ ap (λ k. flat_map keys_of less ++ k) (append-nil (keys_of table) ∙ sym all) in
+      last_first now new (flat_map keys_of less) keys is ∙ ap (fold f now) (sym more) ∙ before
+
+  -- of keys in two parts, all of the first before all of the second
+  pub parts_apart : {X : Type 0} (one other : X → List EntryKey) (t : TopologyState) (xs : List X) → fold f (fold f t (flat_map one xs)) (flat_map other xs) ≡ fold f t (flat_map (λ x. one x ++ other x) xs)
+  parts_apart one other t [] = refl
+  parts_apart one other t (x ∷ xs) =
+      let u = fold f t (one x) in
+      ap (λ w. fold f w (other x ++ flat_map other xs)) (fold-append f t (one x) (flat_map one xs))
+      ∙ fold-append f (fold f u (flat_map one xs)) (other x) (flat_map other xs)
+      ∙ ap (λ w. fold f w (flat_map other xs)) (all_last f turned u (flat_map one xs) (other x))
+      ∙ parts_apart one other (fold f u (other x)) xs
+      ∙ ap (λ w. fold f w (flat_map (λ y. one y ++ other y) xs)) (sym (fold-append f t (one x) (other x)))
+      ∙ sym (fold-append f t (one x ++ other x) (flat_map (λ y. one y ++ other y) xs))
+
+-- the places of the last table that is left, and of those before it
 pub table_less : (t now new : TopologyState) (source target : List ℕ) (tables left less : List (List ℕ)) (table : List ℕ) (keys : List EntryKey) → left ≡ less ++ table ∷ [] → keys ≡ table_part_keys source target table
     → new ≡ without_places now (reverse keys) → without_places now (part_keys source target left) ≡ without_places t (part_keys source target tables)
     → without_places new (part_keys source target less) ≡ without_places t (part_keys source target tables)
 table_less t now new source target tables left less table keys split all is before =
-    let more : part_keys source target left ≡ part_keys source target less ++ keys =
-    ap (part_keys source target) split ∙ flat_map-append (table_part_keys source target) less (table ∷ [])
-    ∙ ap (λ k. part_keys source target less ++ k) (append-nil (table_part_keys source target table) ∙ sym all) in
-    last_first now new (part_keys source target less) keys is ∙ ap (without_places now) (sym more) ∙ before
+    keys_less without_place place_turned (table_part_keys source target) t now new tables left less table keys split all (is ∙ in_reverse without_place place_turned now keys) before

@@ -111,18 +111,18 @@ no_room most all over = ap not (sym (lt-ltb most all over))
 
 -- ---- the tables of a part, one after the other
 
-pub part_keys-more : (source target : List ℕ) (tables : List (List ℕ)) (i : ℕ) (table : List ℕ) (keys : List EntryKey) → i < length tables → table ≡ slice_index_or tables i table → keys ≡ table_part_keys source target table
-    → part_keys source target (take (i + 1) tables) ≡ part_keys source target (take i tables) ++ keys
-part_keys-more source target tables i table keys inside is all =
-    ap (part_keys source target) (take_more tables i table inside)
-    ∙ ap (λ t. part_keys source target (take i tables ++ t ∷ [])) (sym is)
-    ∙ flat_map-append (table_part_keys source target) (take i tables) (table ∷ [])
-    ∙ ap (λ k. part_keys source target (take i tables) ++ k) (append-nil (table_part_keys source target table) ∙ sym all)
+keys-more : (keys_of : List ℕ → List EntryKey) (tables : List (List ℕ)) (i : ℕ) (table : List ℕ) (keys : List EntryKey) → i < length tables → table ≡ slice_index_or tables i table → keys ≡ keys_of table
+    → flat_map keys_of (take (i + 1) tables) ≡ flat_map keys_of (take i tables) ++ keys
+keys-more keys_of tables i table keys inside is all =
+    ap (flat_map keys_of) (take_more tables i table inside)
+    ∙ ap (λ t. flat_map keys_of (take i tables ++ t ∷ [])) (sym is)
+    ∙ flat_map-append keys_of (take i tables) (table ∷ [])
+    ∙ ap (λ k. flat_map keys_of (take i tables) ++ k) (append-nil (keys_of table) ∙ sym all)
 
-pub part-more : (f : TopologyState → EntryKey → TopologyState) (t now new : TopologyState) (source target : List ℕ) (tables : List (List ℕ)) (i : ℕ) (table : List ℕ) (keys : List EntryKey) → i < length tables → table ≡ slice_index_or tables i table → keys ≡ table_part_keys source target table
-    → now ≡ fold f t (part_keys source target (take i tables)) → new ≡ fold f now keys → new ≡ fold f t (part_keys source target (take (i + 1) tables))
-part-more f t now new source target tables i table keys inside is all before after =
-    after ∙ ap (λ u. fold f u keys) before ∙ sym (fold-append f t (part_keys source target (take i tables)) keys) ∙ ap (fold f t) (sym (part_keys-more source target tables i table keys inside is all))
+pub fold-more : (f : TopologyState → EntryKey → TopologyState) (keys_of : List ℕ → List EntryKey) (t now new : TopologyState) (tables : List (List ℕ)) (i : ℕ) (table : List ℕ) (keys : List EntryKey) → i < length tables → table ≡ slice_index_or tables i table → keys ≡ keys_of table
+    → now ≡ fold f t (flat_map keys_of (take i tables)) → new ≡ fold f now keys → new ≡ fold f t (flat_map keys_of (take (i + 1) tables))
+fold-more f keys_of t now new tables i table keys inside is all before after =
+    after ∙ ap (λ u. fold f u keys) before ∙ sym (fold-append f t (flat_map keys_of (take i tables)) keys) ∙ ap (fold f t) (sym (keys-more keys_of tables i table keys inside is all))
 
 pub part_keys-left : (source target : List ℕ) (tables : List (List ℕ)) (i : ℕ) (table : List ℕ) (keys : List EntryKey) → i < length tables → table ≡ slice_index_or tables i table → keys ≡ table_part_keys source target table
     → part_keys source target (drop i tables) ≡ keys ++ part_keys source target (drop (i + 1) tables)

@@ -1,20 +1,20 @@
 -- When the part of a workflow is reserved: what its places lack, and when it is refused.
-use Rattle.std.specs.Prelude.{ℕ, ◌+◌, ◌&&◌, not, nat_lt, Bool, List, [], ◌∷◌, length, filter, map, if◌then◌else◌, Option, None, Some, is_some}
+use Rattle.std.specs.Prelude.{ℕ, ◌+◌, ◌&&◌, not, nat_lt, Bool, List, [], ◌∷◌, length, filter, map, if◌then◌else◌, Option, None, Some, is_some, option_copied}
 use Rattle.std.specs.List.{flat_map, list_any}
 use Rattle.std.specs.Map.{lookup}
 use Rattle.std.specs.Option.{option_map_or, option_or}
 use Rattle.mt_names.specs.declared.keys.RuleKey.{RuleKey}
+use Rattle.mt_names.specs.declared.types.TabletType.{TabletType}
 use Rattle.mt_names.specs.Same.{same_key}
 use Rattle.mt_model.specs.declared.entries.EntryKey.{EntryKey}
 use Rattle.mt_model.specs.declared.entries.EntryKey.TheVariants as about
 use Rattle.mt_model.specs.declared.faults.TopologyFault.{TopologyFault}
 use Rattle.mt_model.specs.declared.faults.TopologyFault.TheVariants.{NoKeyspace, Full}
 use Rattle.mt_model.specs.Limits.{most_rules}
-use Rattle.mt_model.specs.Part.{table_rule_keys, with_place}
+use Rattle.mt_model.specs.Part.{keys_of_name, table_rule_keys, with_place}
 use Rattle.mt_model.specs.Topology.{TopologyState, KeyspaceState, Rules, has_place, keyspace_at}
 use Rattle.mt_keyspace.specs.Edits.{denied_place_grows, denied_place_refusal, table_place_grows, table_place_refusal}
 use Rattle.mt_keyspace.specs.Room.{has_mark_room}
-use Rattle.mt_places.specs.Rules.{four_keys}
 use Rattle.mt_topology.specs.Edits.{lacks_rule_place, rule_place_refusal}
 use Rattle.mt_topology.specs.declared.made.Made.{Made}
 use Rattle.mt_topology.specs.declared.made.Made.TheVariants as together
@@ -60,10 +60,16 @@ abbrev pub places_refusal : TopologyState → List EntryKey → Option TopologyF
 places_refusal t [] = None
 places_refusal t (key ∷ keys) = option_or (place_refusal t key) (places_refusal (with_place t key) keys)
 
+-- the rule key of a name for a type, or for all types (this profile's own)
+abbrev pub name_key : Option (List ℕ) → List ℕ → Option TabletType → RuleKey
+name_key keyspace table tablet_type = record { keyspace = keyspace; table = table; tablet_type = tablet_type }
+
 -- the keys whose places were made together (this profile's own)
 abbrev pub keys_made : Made → List EntryKey
-keys_made (together.Key key) = key ∷ []
-keys_made (together.Name name) = map about.Rule (four_keys name)
+keys_made (together.Name keyspace table) = map about.Rule (keys_of_name (option_copied keyspace) table.now)
+keys_made (together.Rule keyspace table tablet_type) = about.Rule (name_key (option_copied keyspace) table.now tablet_type) ∷ []
+keys_made (together.Denied keyspace table) = about.Denied keyspace.now table.now ∷ []
+keys_made (together.Present keyspace table) = about.Present keyspace.now table.now ∷ []
 
 -- all keys whose places were made, in their order (this profile's own)
 abbrev pub all_made : List Made → List EntryKey

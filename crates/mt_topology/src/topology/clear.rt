@@ -1,7 +1,7 @@
 //! A workflow's part of which nothing is to be said any more: its places go with what they hold.
-ghost use Rattle.std.specs.Prelude.{◌≡◌, map};
-ghost use Rattle.mt_model.specs.Part.{part_keys, table_part_keys, with_entries, without_places};
-ghost use Rattle.mt_topology.specs.Clear.{cleared_entry, without_entries};
+ghost use Rattle.std.specs.Prelude.{◌≡◌, flat_map, map};
+ghost use Rattle.mt_model.specs.Part.{part_keys, with_entries, without_places};
+ghost use Rattle.mt_topology.specs.Clear.{cleared_entry, mark_keys, rule_keys, without_entries};
 
 use crate::rules::drop_name;
 use crate::topology::Topology;
@@ -16,18 +16,42 @@ impl Topology {
         ensures { self.new ≡ without_places (with_entries self.old (map cleared_entry (part_keys source.now target.now tables.now))) (part_keys source.now target.now tables.now) }
     {
         self.facts();
+        self.clear_rules(source, target, tables);
+        self.clear_marks(source, target, tables);
+    }
+
+    /// Drops the places of the rule keys of a part's tables, with their rules.
+    fn clear_rules(&mut self, source: &KeyspaceName, target: &KeyspaceName, tables: &[TableName])
+        ensures { self.new ≡ without_entries self.old (flat_map (rule_keys source.now target.now) tables.now) }
+    {
         for table in tables {
-            self.clear_table_part(source, target, table);
+            self.clear_table_rules(source, target, table);
         }
     }
 
-    /// Drops the places of a table's keys, with what they hold.
-    fn clear_table_part(&mut self, source: &KeyspaceName, target: &KeyspaceName, table: &TableName)
-        ensures { self.new ≡ without_entries self.old (table_part_keys source.now target.now table.now) }
+    /// Drops the places of a part's denials and presences, with their marks, those of the last table first: a place that is the last
+    /// of its list goes without a look-up.
+    fn clear_marks(&mut self, source: &KeyspaceName, target: &KeyspaceName, tables: &[TableName])
+        ensures { self.new ≡ without_entries self.old (flat_map (mark_keys source.now target.now) tables.now) }
+    {
+        for table in tables.iter().rev() {
+            self.clear_table_marks(source, target, table);
+        }
+    }
+
+    /// Drops the places of a table's rule keys, with their rules.
+    fn clear_table_rules(&mut self, source: &KeyspaceName, target: &KeyspaceName, table: &TableName)
+        ensures { self.new ≡ without_entries self.old (rule_keys source.now target.now table.now) }
     {
         drop_name(&mut self.rules, None, table);
         drop_name(&mut self.rules, Some(source), table);
         drop_name(&mut self.rules, Some(target), table);
+    }
+
+    /// Drops the places of a table's denials and of its presence, with their marks.
+    fn clear_table_marks(&mut self, source: &KeyspaceName, target: &KeyspaceName, table: &TableName)
+        ensures { self.new ≡ without_entries self.old (mark_keys source.now target.now table.now) }
+    {
         self.keyspaces.drop_denial(source, table);
         self.keyspaces.drop_denial(target, table);
         self.keyspaces.drop_table(target, table);

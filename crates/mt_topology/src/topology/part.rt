@@ -3,20 +3,19 @@ ghost use Rattle.std.specs.Prelude.{◌≡◌, ◌≢◌, true, false, None, IfE
 ghost use Rattle.std.specs.List.{AllByRecursion};
 ghost use Rattle.mt_model.specs.Part.{keys_of_name, part_keys, table_part_keys, table_rule_keys, with_place, with_places, without_place, without_places};
 ghost use Rattle.mt_model.specs.Topology.{has_place};
-ghost use Rattle.mt_keyspace.specs.Edits.{Edits, answer_of};
+ghost use Rattle.mt_keyspace.specs.Edits.{Edits};
 ghost use Rattle.mt_places.specs.Rules.{four_keys};
-ghost use Rattle.mt_topology.specs.Part.{all_made, keys_made, lacks_a_place, place_grows, place_refusal, places_refusal, reserve_refusal};
+ghost use Rattle.mt_topology.specs.Part.{all_made, keys_made, lacks_a_place, name_key, place_grows, place_refusal, places_refusal, reserve_refusal};
 
 use crate::made::Made;
 use crate::room;
 use crate::rules::{add_rule, lacks_name, release_name};
 use crate::topology::Topology;
-use mt_denied::DeniedFault;
 use mt_model::{EntryKey, TopologyFault, key_of_name};
 use mt_names::{KeyspaceName, RuleKey, TableName, TabletType};
 
-/// How many keys each table adds to a part.
-const KEYS_OF_TABLE: usize = 15;
+/// How many notes are made of a table of which nothing has a place: of its three names, of its denial at both sides, and of its presence.
+const NOTES_OF_TABLE: usize = 6;
 
 impl Topology {
     /// Makes a place for every entry of a workflow's part, as MoveTables moves the tables from the source to the target:
@@ -42,7 +41,7 @@ impl Topology {
         if !self.lacks_a_place(source, target, tables) {
             return Ok(());
         }
-        let most = tables.len().saturating_mul(KEYS_OF_TABLE);
+        let most = tables.len().saturating_mul(NOTES_OF_TABLE);
         let Ok(mut made) = Vec::with_capacity(self.alloc, most) else {
             return Err(TopologyFault::Memory);
         };
@@ -125,12 +124,12 @@ impl Topology {
     }
 
     /// Makes the places of a part, for which there is room, and notes those that it made. It stops at `T0 Memory`.
-    fn make_part(
+    fn make_part<'a>(
         &mut self,
-        source: &KeyspaceName,
-        target: &KeyspaceName,
-        tables: &[TableName],
-        made: &mut Vec<Made>,
+        source: &'a KeyspaceName,
+        target: &'a KeyspaceName,
+        tables: &'a [TableName],
+        made: &mut Vec<Made<'a>>,
     ) -> Result<(), TopologyFault>
         requires { places_refusal self.old (part_keys source.now target.now tables.now) ≡ None }
         ensures all { OnOk result (self.new ≡ with_places self.old (part_keys source.now target.now tables.now)) }
@@ -144,12 +143,12 @@ impl Topology {
     }
 
     /// Makes the places of a table's keys, for which there is room, and notes those that it made. It stops at `T0 Memory`.
-    fn make_table_part(
+    fn make_table_part<'a>(
         &mut self,
-        source: &KeyspaceName,
-        target: &KeyspaceName,
-        table: &TableName,
-        made: &mut Vec<Made>,
+        source: &'a KeyspaceName,
+        target: &'a KeyspaceName,
+        table: &'a TableName,
+        made: &mut Vec<Made<'a>>,
     ) -> Result<(), TopologyFault>
         requires { places_refusal self.old (table_part_keys source.now target.now table.now) ≡ None }
         ensures all { OnOk result (self.new ≡ with_places self.old (table_part_keys source.now target.now table.now)) }
@@ -163,12 +162,12 @@ impl Topology {
     }
 
     /// Makes the places of a table's rule keys, for which there is room, and notes those that it made. It stops at `T0 Memory`.
-    fn make_rules(
+    fn make_rules<'a>(
         &mut self,
-        source: &KeyspaceName,
-        target: &KeyspaceName,
-        table: &TableName,
-        made: &mut Vec<Made>,
+        source: &'a KeyspaceName,
+        target: &'a KeyspaceName,
+        table: &'a TableName,
+        made: &mut Vec<Made<'a>>,
     ) -> Result<(), TopologyFault>
         requires { places_refusal self.old (map EntryKey.Rule (table_rule_keys source.now target.now table.now)) ≡ None }
         ensures all { OnOk result (self.new ≡ with_places self.old (map EntryKey.Rule (table_rule_keys source.now target.now table.now))) }
@@ -183,12 +182,12 @@ impl Topology {
     }
 
     /// The same, name by name.
-    fn make_names(
+    fn make_names<'a>(
         &mut self,
-        source: &KeyspaceName,
-        target: &KeyspaceName,
-        table: &TableName,
-        made: &mut Vec<Made>,
+        source: &'a KeyspaceName,
+        target: &'a KeyspaceName,
+        table: &'a TableName,
+        made: &mut Vec<Made<'a>>,
     ) -> Result<(), TopologyFault>
         requires { places_refusal self.old (map EntryKey.Rule (table_rule_keys source.now target.now table.now)) ≡ None }
         ensures all { OnOk result (self.new ≡ with_places self.old (map EntryKey.Rule (table_rule_keys source.now target.now table.now))) }
@@ -201,12 +200,12 @@ impl Topology {
     }
 
     /// The same, where no key of the table has a place: none is looked for.
-    fn make_new_names(
+    fn make_new_names<'a>(
         &mut self,
-        source: &KeyspaceName,
-        target: &KeyspaceName,
-        table: &TableName,
-        made: &mut Vec<Made>,
+        source: &'a KeyspaceName,
+        target: &'a KeyspaceName,
+        table: &'a TableName,
+        made: &mut Vec<Made<'a>>,
     ) -> Result<(), TopologyFault>
         requires free { places_refusal self.old (map EntryKey.Rule (table_rule_keys source.now target.now table.now)) ≡ None }
         requires apart { source.now ≢ target.now }
@@ -222,11 +221,11 @@ impl Topology {
 
     /// The same of a name's four rule keys, none of which has a place: the name is looked up once, and noted once.
     #[inline(always)]
-    fn make_new_name(
+    fn make_new_name<'a>(
         &mut self,
-        keyspace: Option<&KeyspaceName>,
-        table: &TableName,
-        made: &mut Vec<Made>,
+        keyspace: Option<&'a KeyspaceName>,
+        table: &'a TableName,
+        made: &mut Vec<Made<'a>>,
     ) -> Result<(), TopologyFault>
         requires free { places_refusal self.old (map EntryKey.Rule (keys_of_name (option_copied keyspace) table.now)) ≡ None }
         requires lacks { AllByRecursion (λ key. has_place self.old (EntryKey.Rule key) ≡ false) (keys_of_name (option_copied keyspace) table.now) }
@@ -234,17 +233,12 @@ impl Topology {
         ensures memory { IfErr result (λ fault. fault ≡ TopologyFault.Memory) }
         ensures back { without_places self.new (reverse (all_made made.new.items)) ≡ without_places self.old (reverse (all_made made.old.items)) }
     {
-        let name = key_of_name(keyspace, table, None);
-        if made.push(Made::Name(name.copied())).is_err() {
+        if made.reserve(1).is_err() {
             return Err(TopologyFault::Memory);
         }
-        match self.make_new_rules(&name) {
-            Ok(()) => Ok(()),
-            Err(fault) => {
-                made.pop();
-                Err(fault)
-            }
-        }
+        self.make_new_rules(&key_of_name(keyspace, table, None))?;
+        made.push_reserved(Made::Name(keyspace, table));
+        Ok(())
     }
 
     /// Makes the places of a name's four rule keys, none of which has one, for which there is room. `T0 Memory`, which leaves all as it
@@ -262,59 +256,47 @@ impl Topology {
         Ok(())
     }
 
-    /// The same of a name's four rule keys. One key is made, whose type then changes.
-    fn make_name(
+    /// The same of a name's four rule keys, one by one.
+    fn make_name<'a>(
         &mut self,
-        keyspace: Option<&KeyspaceName>,
-        table: &TableName,
-        made: &mut Vec<Made>,
+        keyspace: Option<&'a KeyspaceName>,
+        table: &'a TableName,
+        made: &mut Vec<Made<'a>>,
     ) -> Result<(), TopologyFault>
         requires { places_refusal self.old (map EntryKey.Rule (keys_of_name (option_copied keyspace) table.now)) ≡ None }
         ensures all { OnOk result (self.new ≡ with_places self.old (map EntryKey.Rule (keys_of_name (option_copied keyspace.entry) table.now))) }
         ensures memory { IfErr result (λ fault. fault ≡ TopologyFault.Memory) }
         ensures back { without_places self.new (reverse (all_made made.new.items)) ≡ without_places self.old (reverse (all_made made.old.items)) }
     {
-        let mut key = key_of_name(keyspace, table, None);
-        self.make_noted_rule(&key, made)?;
-        key.tablet_type = Some(TabletType::Primary);
-        self.make_noted_rule(&key, made)?;
-        key.tablet_type = Some(TabletType::Replica);
-        self.make_noted_rule(&key, made)?;
-        key.tablet_type = Some(TabletType::Rdonly);
-        self.make_noted_rule(&key, made)
+        self.make_noted_rule(keyspace, table, None, made)?;
+        self.make_noted_rule(keyspace, table, Some(TabletType::Primary), made)?;
+        self.make_noted_rule(keyspace, table, Some(TabletType::Replica), made)?;
+        self.make_noted_rule(keyspace, table, Some(TabletType::Rdonly), made)
     }
 
-    /// Makes the place of a rule key that lacks it, for which there is room, and notes the key. `T0 Memory`.
-    fn make_noted_rule(&mut self, key: &RuleKey, made: &mut Vec<Made>) -> Result<(), TopologyFault>
-        requires { place_refusal self.old (EntryKey.Rule key.now) ≡ None }
-        ensures all { OnOk result (self.new ≡ with_place self.old (EntryKey.Rule key.now)) }
+    /// Makes the place of one of them where it lacks it, for which there is room, and notes it. `T0 Memory`.
+    fn make_noted_rule<'a>(
+        &mut self,
+        keyspace: Option<&'a KeyspaceName>,
+        table: &'a TableName,
+        tablet_type: Option<TabletType>,
+        made: &mut Vec<Made<'a>>,
+    ) -> Result<(), TopologyFault>
+        requires { place_refusal self.old (EntryKey.Rule (name_key (option_copied keyspace) table.now tablet_type)) ≡ None }
+        ensures all { OnOk result (self.new ≡ with_place self.old (EntryKey.Rule (name_key (option_copied keyspace.entry) table.now tablet_type))) }
         ensures memory { IfErr result (λ fault. fault ≡ TopologyFault.Memory) }
         ensures back { without_places self.new (reverse (all_made made.new.items)) ≡ without_places self.old (reverse (all_made made.old.items)) }
     {
-        if self.rules.has_place(key) {
+        let key = key_of_name(keyspace, table, tablet_type);
+        if self.rules.has_place(&key) {
             return Ok(());
         }
-        self.make_new_noted(key, made)
-    }
-
-    /// Makes the place of a rule key that has none, for which there is room, and notes the key. `T0 Memory`.
-    fn make_new_noted(&mut self, key: &RuleKey, made: &mut Vec<Made>) -> Result<(), TopologyFault>
-        requires lacks { has_place self.old (EntryKey.Rule key.now) ≡ false }
-        requires room { place_refusal self.old (EntryKey.Rule key.now) ≡ None }
-        ensures all { OnOk result (self.new ≡ with_place self.old (EntryKey.Rule key.now)) }
-        ensures memory { IfErr result (λ fault. fault ≡ TopologyFault.Memory) }
-        ensures back { without_places self.new (reverse (all_made made.new.items)) ≡ without_places self.old (reverse (all_made made.old.items)) }
-    {
-        if made.push(Made::Key(EntryKey::Rule(key.copied()))).is_err() {
+        if made.reserve(1).is_err() {
             return Err(TopologyFault::Memory);
         }
-        match self.make_new_rule(key) {
-            Ok(()) => Ok(()),
-            Err(fault) => {
-                made.pop();
-                Err(fault)
-            }
-        }
+        self.make_new_rule(&key)?;
+        made.push_reserved(Made::Rule(keyspace, table, tablet_type));
+        Ok(())
     }
 
     /// Makes the place of a rule key that has none, for which there is room. `T0 Memory`.
@@ -326,77 +308,55 @@ impl Topology {
         add_rule(&mut self.rules, key)
     }
 
-    /// Makes the place of a denial that lacks it, for which there is room, and notes its key. `T0 Memory`.
+    /// Makes the place of a denial that lacks it, for which there is room, and notes it. `T0 Memory`.
     #[inline(always)]
-    fn make_denial(
+    fn make_denial<'a>(
         &mut self,
-        keyspace: &KeyspaceName,
-        table: &TableName,
-        made: &mut Vec<Made>,
+        keyspace: &'a KeyspaceName,
+        table: &'a TableName,
+        made: &mut Vec<Made<'a>>,
     ) -> Result<(), TopologyFault>
         requires { place_refusal self.old (EntryKey.Denied keyspace.now table.now) ≡ None }
         ensures all { OnOk result (self.new ≡ with_place self.old (EntryKey.Denied keyspace.now table.now)) }
         ensures memory { IfErr result (λ fault. fault ≡ TopologyFault.Memory) }
         ensures back { without_places self.new (reverse (all_made made.new.items)) ≡ without_places self.old (reverse (all_made made.old.items)) }
     {
-        if self.keyspaces.has_denied_place(keyspace, table) {
-            return Ok(());
-        }
         if made.reserve(1).is_err() {
             return Err(TopologyFault::Memory);
         }
-        self.make_denial_place(keyspace, table)?;
-        let key = EntryKey::Denied(keyspace.copied(), table.copied());
-        made.push_reserved(Made::Key(key));
-        Ok(())
+        match self.keyspaces.make_denied_place(keyspace, table) {
+            Ok(true) => {
+                made.push_reserved(Made::Denied(keyspace, table));
+                Ok(())
+            }
+            Ok(false) => Ok(()),
+            Err(_) => Err(TopologyFault::Memory),
+        }
     }
 
     /// The same of a table's presence.
-    fn make_presence(
+    fn make_presence<'a>(
         &mut self,
-        keyspace: &KeyspaceName,
-        table: &TableName,
-        made: &mut Vec<Made>,
+        keyspace: &'a KeyspaceName,
+        table: &'a TableName,
+        made: &mut Vec<Made<'a>>,
     ) -> Result<(), TopologyFault>
         requires { place_refusal self.old (EntryKey.Present keyspace.now table.now) ≡ None }
         ensures all { OnOk result (self.new ≡ with_place self.old (EntryKey.Present keyspace.now table.now)) }
         ensures memory { IfErr result (λ fault. fault ≡ TopologyFault.Memory) }
         ensures back { without_places self.new (reverse (all_made made.new.items)) ≡ without_places self.old (reverse (all_made made.old.items)) }
     {
-        if self.keyspaces.has_place(keyspace, table) {
-            return Ok(());
-        }
         if made.reserve(1).is_err() {
             return Err(TopologyFault::Memory);
         }
-        self.make_presence_place(keyspace, table)?;
-        let key = EntryKey::Present(keyspace.copied(), table.copied());
-        made.push_reserved(Made::Key(key));
-        Ok(())
-    }
-
-    /// Makes the place of a denial, for which there is room. Where it has one nothing changes. `T0 Memory`.
-    fn make_denial_place(
-        &mut self,
-        keyspace: &KeyspaceName,
-        table: &TableName,
-    ) -> Result<(), TopologyFault>
-        requires { place_refusal self.old (EntryKey.Denied keyspace.now table.now) ≡ None }
-        ensures { Edits self.old (place_refusal self.old (EntryKey.Denied keyspace.now table.now)) (place_grows self.old (EntryKey.Denied keyspace.now table.now)) (with_place self.old (EntryKey.Denied keyspace.now table.now)) result self.new }
-    {
-        topology_answer(self.keyspaces.reserve_denial(keyspace, table))
-    }
-
-    /// The same of a table's presence.
-    fn make_presence_place(
-        &mut self,
-        keyspace: &KeyspaceName,
-        table: &TableName,
-    ) -> Result<(), TopologyFault>
-        requires { place_refusal self.old (EntryKey.Present keyspace.now table.now) ≡ None }
-        ensures { Edits self.old (place_refusal self.old (EntryKey.Present keyspace.now table.now)) (place_grows self.old (EntryKey.Present keyspace.now table.now)) (with_place self.old (EntryKey.Present keyspace.now table.now)) result self.new }
-    {
-        topology_answer(self.keyspaces.reserve_table(keyspace, table))
+        match self.keyspaces.make_place(keyspace, table) {
+            Ok(true) => {
+                made.push_reserved(Made::Present(keyspace, table));
+                Ok(())
+            }
+            Ok(false) => Ok(()),
+            Err(_) => Err(TopologyFault::Memory),
+        }
     }
 
     /// Drops the places that were made and hold nothing, the last first.
@@ -413,36 +373,13 @@ impl Topology {
         ensures { self.new ≡ without_places self.old (reverse (keys_made made.now)) }
     {
         match made {
-            Made::Key(key) => self.drop_place(key),
-            Made::Name(name) => {
-                release_name(&mut self.rules, name.keyspace.as_ref(), &name.table);
+            Made::Name(keyspace, table) => release_name(&mut self.rules, *keyspace, table),
+            Made::Rule(keyspace, table, tablet_type) => {
+                self.rules
+                    .release_key(&key_of_name(*keyspace, table, *tablet_type));
             }
+            Made::Denied(keyspace, table) => self.keyspaces.release_denial(keyspace, table),
+            Made::Present(keyspace, table) => self.keyspaces.release_table(keyspace, table),
         }
-    }
-
-    /// Drops the place of a key that holds nothing.
-    fn drop_place(&mut self, key: &EntryKey)
-        ensures { self.new ≡ without_place self.old key.now }
-    {
-        match key {
-            EntryKey::Rule(key) => self.rules.release_key(key),
-            EntryKey::Denied(keyspace, table) => {
-                self.keyspaces.release_denial(keyspace, table);
-            }
-            EntryKey::Present(keyspace, table) => {
-                self.keyspaces.release_table(keyspace, table);
-            }
-        }
-    }
-}
-
-/// The answer of a keyspace's list of places as one of the topology.
-fn topology_answer(answer: Result<(), DeniedFault>) -> Result<(), TopologyFault>
-    ensures { result ≡ answer_of answer }
-{
-    match answer {
-        Ok(()) => Ok(()),
-        Err(DeniedFault::Memory) => Err(TopologyFault::Memory),
-        Err(DeniedFault::Full) => Err(TopologyFault::Full),
     }
 }

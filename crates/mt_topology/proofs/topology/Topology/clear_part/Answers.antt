@@ -1,20 +1,18 @@
--- One table more; at the end no place of the part is left, as if all had been written and released.
-use Rattle.std.proofs.Common.{ap, refl, ◌∙◌}
-use Rattle.std.proofs.lemmas.List.{take_all}
-use Rattle.mt_model.specs.Part.{part_keys, table_part_keys}
-use Rattle.mt_topology.specs.Clear.{without_entries, without_entry}
-use Rattle.mt_topology.proofs.ClearLemmas.{part_cleared}
-use Rattle.mt_topology.proofs.ReserveLemmas.{part-more}
+-- At the end no place of the part is left, as if all had been written and released.
+use Rattle.std.proofs.Common.{ap, ◌∙◌}
+use Rattle.std.specs.List.{flat_map}
+use Rattle.mt_model.specs.Part.{part_keys}
+use Rattle.mt_topology.specs.Clear.{mark_keys, rule_keys, without_entries, without_entry}
+use Rattle.mt_topology.proofs.ClearLemmas.{both_gone, part_cleared}
+use Rattle.mt_topology.proofs.ReleaseLemmas.{parts_apart}
 use Rattle.mt_topology.proofs.topology.Topology.clear_part.Goals as goal
-
-pub loop-table-preserved : goal.loop-table-preserved
-loop-table-preserved c =
-    let keys = table_part_keys c.args.source.now c.args.target.now c.table-item.result in
-    part-more without_entry c.args.self.now c.loop-table.self c.clear_table_part.new.self c.args.source.now c.args.target.now c.args.tables.now c.loop-table.table-index c.table-item.result keys
-    c.loop-table-test.true c.table-item.is refl c.loop-table.invariant c.clear_table_part.ensures
 
 pub returns : goal.returns
 returns c =
-    c.loop-table.invariant
-    ∙ ap (λ tables. without_entries c.args.self.now (part_keys c.args.source.now c.args.target.now tables)) (take_all c.loop-table.table-index c.args.tables.now c.loop-table-test.false)
-    ∙ part_cleared c.args.self.now (part_keys c.args.source.now c.args.target.now c.args.tables.now) c.facts.ensures.distinct
+    let source = c.args.source.now in
+    let target = c.args.target.now in
+    let tables = c.args.tables.now in
+    c.clear_marks.ensures
+    ∙ ap (λ t. without_entries t (flat_map (mark_keys source target) tables)) c.clear_rules.ensures
+    ∙ parts_apart without_entry both_gone (rule_keys source target) (mark_keys source target) c.args.self.now tables
+    ∙ part_cleared c.args.self.now (part_keys source target tables) c.facts.ensures.distinct
