@@ -7,5 +7,5 @@ use Rattle.mt_run.proofs.asking.create.Goals as goal
 
 pub returns : goal.returns
 returns g c =
-    subst (λ tables. IsRequestOutput (g.A.Asks.scopes c.args.watchers.now) c.args.core.now (event (plain.create c.args.workflow c.args.source c.args.target tables)) c.command.new.text.items c.command.result c.command.new.core)
-    c.tables-tables.ensures c.command.ensures
+    subst (λ tables. IsRequestOutput (g.A.Asks.scopes c.args.watchers.now) c.args.core.now (event (plain.create c.args.workflow c.args.source c.args.target tables)) c.create_of.new.text.items c.create_of.result c.create_of.new.core)
+    c.tables.ensures c.create_of.ensures

@@ -14,4 +14,4 @@ returns-in-Ok g c = λ p stands.
     let means = subst (λ found. IfSome found (λ request. (tables : List (List ℕ)) → read_table_list request.tables.now ≡ Ok tables
     → Some (Ok (event (create request.workflow request.source request.target tables))) ≡ meaning_of (read_line line))) c.in-Some.is c.create_line.ensures in
     let reads = sym c.table_list.ensures.value ∙ ap names_of c.in-Ok.is in
-    line_outputs (g.A.Asks.scopes c.args.watchers.now) p line (event (create r.workflow r.source r.target c.in-Ok.tables.items)) c.command.new.text.items c.command.result c.command.new.core (means c.in-Ok.tables.items reads) (c.command.ensures p stands)
+    line_outputs (g.A.Asks.scopes c.args.watchers.now) p line (event (create r.workflow r.source r.target c.in-Ok.tables.items)) c.create_of.new.text.items c.create_of.result c.create_of.new.core (means c.in-Ok.tables.items reads) (c.create_of.ensures p stands)
