@@ -21,6 +21,7 @@ import tempfile
 import whole
 
 BEHIND, LINES, MANY = 1000, 12, 9000
+CACHES = ["--cache-sim=yes", "--I1=32768,8,64", "--D1=32768,8,64"]
 GROUPS = (
     ("copies, by calls", r"memcpy|memmove"),
     ("fills with zeros, by calls", r"memset"),
@@ -61,7 +62,7 @@ def shares(program, text):
     """Prints the shares of some kinds of functions, and the misses of the first-level caches."""
     with tempfile.TemporaryDirectory() as folder:
         for tool in ("callgrind", "cachegrind"):
-            command = ["valgrind", f"--tool={tool}", f"--{tool}-out-file={folder}/{tool}", *["--cache-sim=yes"] * (tool == "cachegrind"), program, *whole.SCRIPT]
+            command = ["valgrind", f"--tool={tool}", f"--{tool}-out-file={folder}/{tool}", *CACHES * (tool == "cachegrind"), program, *whole.SCRIPT]
             done = subprocess.run(command, input=text, stdout=subprocess.DEVNULL, stderr=subprocess.PIPE, check=True)
         listed = subprocess.run(["callgrind_annotate", "--threshold=100", f"{folder}/callgrind"], stdout=subprocess.PIPE, check=True, text=True).stdout
     taken = collections.Counter()
