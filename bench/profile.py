@@ -21,7 +21,7 @@ import tempfile
 import whole
 
 BEHIND, LINES, MANY = 1000, 12, 9000
-CACHES = ["--cache-sim=yes", "--I1=32768,8,64", "--D1=32768,8,64"]
+CACHES = ["--cache-sim=yes", *(f"--{kind}1=32768,8,64" for kind in "ID")]  # of code, and of data
 GROUPS = (
     ("copies, by calls", r"memcpy|memmove"),
     ("fills with zeros, by calls", r"memset"),
