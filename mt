@@ -1,28 +1,33 @@
 #!/bin/bash
-# Proves and builds the program `mt` where that is due, and then runs it with the words given.
-# Standard input and output are the program's own; what this script says goes to standard error.
+# Runs the program `mt` with the words given. It is the one that a proof run built, if no source is newer; if there is none, one that is built
+# without running the proofs, which is done first if it is due. `./mt --build-proved WORD ..` has it proved and built first, if that is due; with
+# no word behind it, that is all. Standard input and output are the program's own; what this script says goes to standard error.
+shopt -s execfail # a proof run may take the program away before it is started here
 top=$(cd "$(dirname "$0")" && pwd) || exit 1
-crate=$top/crates/mt_program
-program=$crate/out/mt_program
+proved=$top/crates/mt_program/out/mt_program
+unproved=$top/out/mt_unproved
 
-if ! command -v rt >/dev/null 2>&1; then
-    echo "mt: the command rt is not on the path; it comes with the Rattle kit that README.md names" >&2
-    exit 1
-fi
-
-# whether a file of a crate is newer than the program
-is_stale() {
-    [ -n "$(find "$top/crates" "$top/crates.txt" -name out -prune -o -type f -newer "$program" -print | head -n 1)" ]
+# is_new PROGRAM PATH ..: whether it is there, and no source is newer, those paths among them
+is_new() {
+    [ -x "$1" ] && [ -z "$(find "$top"/crates/*/{src,specs,proofs} "$top/crates.txt" "${@:2}" -newer "$1" -print -quit)" ]
 }
 
-mkdir -p "$top/out" || exit 1
-if [ ! -x "$program" ] || is_stale; then
-    echo "mt: proving and building the program; a first build takes some ninety minutes, a later one less" >&2
-    (cd "$crate" && rt run -- run) </dev/null 2>&1 | tee "$top/out/mt.log" | sed -un 's/^rt: chose .* for /mt: proving /p' >&2
-    if [ "${PIPESTATUS[0]}" != 0 ]; then
-        echo "mt: the build failed; out/mt.log has its messages" >&2
-        exit 1
+# build WORD PROGRAM PATH ..: has tools/build make it, unless another ./mt makes it meanwhile
+build() {
+    mkdir -p "$top/out" && exec 9> "$top/out/$1.lock" || exit 1
+    if ! flock --nonblock 9; then
+        echo "mt: waiting for another ./mt, which builds the program" >&2
+        flock 9
     fi
-    touch "$program"
+    is_new "${@:2}" || "$top/tools/build" "$1" < /dev/null >&2 || exit
+    exec 9>&-
+}
+
+if [ "$1" = --build-proved ]; then
+    shift
+    is_new "$proved" || build proved "$proved"
+    [ $# -gt 0 ] || exit 0
 fi
-exec -a mt "$program" "$@"
+is_new "$proved" && exec -a mt "$proved" "$@"
+is_new "$unproved" "$top/tools" || build unproved "$unproved" "$top/tools"
+exec -a mt "$unproved" "$@"

@@ -1,11 +1,12 @@
 #!/usr/bin/env python3
-"""Builds the program of these sources without proofs, to be measured by `bench/whole.py`: two minutes in place of an hour.
+"""Builds the program of these sources without running the proofs: in minutes, where the proofs take an hour.
 
-bench/unproved.py [--no-fills] [--no-hints] PROGRAM
+    tools/unproved.py [--no-fills] [--no-hints] PROGRAM
 
-It is no build to use: nothing is proved, and whoever measures it says so. `rt try` compiles the program with checks of its own, for LLVM; of
-that module the checks are taken out, and clang and the kit's linker make a program of it, with the flags of the kit. The sources' hints
-on inlining are set as they are in a proved build (`--no-hints` leaves them out). The instructions of the two builds differ by less than one in a hundred.
+It is the same code as that of a proved build, but nobody has proved it: whoever runs it or measures it says so. `rt try` compiles the program with
+checks of its own, for LLVM; of that module the checks are taken out, and clang and the kit's linker make a program of it, with the flags of the
+kit. The sources' hints on inlining are set as they are in a proved build (`--no-hints` leaves them out). The instructions of the two builds
+differ by less than one in a hundred. `./mt` has `tools/build` call this; `bench/` measures such programs.
 
 `--no-fills` also takes out the zeros with which each local that a function begins with is filled, to measure what they cost. A program may
 rest on them, so its outputs have to be compared: `bench/whole.py --beside` does.
@@ -20,14 +21,17 @@ import sys
 import tempfile
 
 TOP = pathlib.Path(__file__).resolve().parent.parent
+# A kit's clang that keeps the program's module, which alone is compiled with a sanitizer, beside its flags, and ends there: `rt try` runs nothing.
 RECORDER = """#!/bin/sh
+case " $* " in *" -fsanitize=address "*) ;; *) exec {clang} "$@" ;; esac
+printf '%s\\n' "$@" > {flags} || exit
 for word in "$@"; do
-    case "$word" in *.bc) cp "$word" {module} ;; esac
+    case "$word" in *.bc) cp "$word" {module}.part && mv {module}.part {module} ;; esac
 done
-printf '%s\\n' "$@" > {flags}
-exec {clang} "$@"
+exit 1
 """
 CHECK = re.compile(r'^  call void @"rattle-(llvm-checks|try)::|^  call void @llvm\.memset\.[^(]*\(ptr [^,]*, i8 -86,')
+LEFT = re.compile(r'^ .*@"rattle-(llvm-checks|try)::')
 FILL = re.compile(r"^  call void @llvm\.memset\.[^(]*\(ptr [^%]*(%[\w.]+), i8 0, i64 \d+, i1 false\)")
 LOCAL = re.compile(r"^  (%[\w.]+) = alloca ")
 DEFINED = re.compile(r'^define .*?@"((mt_\w+)::[^"]*)"\(')
@@ -35,12 +39,43 @@ OWNER = re.compile(r"^impl(?:<[^{]*>)? (?:[^{]*? for )?(\w+)")
 HINT = re.compile(r"^\s*#\[inline\((always|never)\)\]")
 FUNCTION = re.compile(r"^\s*(?:pub(?:\([^)]*\))? )?(?:const )?fn (\w+)")
 GENERICS = re.compile(r"::<[^:]*>$")
+TARGET = "x86_64-unknown-linux-gnu"
+NOT_PASSED_ON = ("-O", "-fsanitize", "-Werror", "--sysroot", "-o", "-c", "-x")
+
+
+class CannotBuild(Exception):
+    """Why there is no program: what was done, and what the tool said of it."""
+
+
+class OtherKit(CannotBuild):
+    """The kit's module isn't of the form that is taken apart here."""
 
 
 def kit():
     """The folder of the kit whose `rt` is called."""
     told = subprocess.run(["rt", "doc"], stdout=subprocess.PIPE, check=True, text=True).stdout
     return pathlib.Path(told.strip()).parent
+
+
+def called(words, room, **how):
+    """What a tool said, and its status. It keeps its files in the room; if this program is told to stop, so is the tool."""
+    variables = dict(os.environ, TMPDIR=str(room))
+    tool = subprocess.Popen(words, stdin=subprocess.DEVNULL, stdout=subprocess.PIPE, stderr=subprocess.STDOUT, text=True, errors="replace", env=variables, **how)
+    try:
+        said, _ = tool.communicate()
+    except BaseException:
+        # `rt` ends what it started, if it is asked to end
+        tool.terminate()
+        tool.communicate()
+        raise
+    return said, tool.returncode
+
+
+def done(what, words, room):
+    """Calls a tool, which has to end well."""
+    said, status = called(words, room)
+    if status:
+        raise CannotBuild(f"{what}: {said.strip()[-800:] or f'status {status}'}")
 
 
 def with_recorder(own, room):
@@ -64,12 +99,14 @@ def with_recorder(own, room):
 
 
 def compiled(top, own, room):
-    """The text of the module of the program that `rt try` compiles. Whatever it then runs ends with a usage error, which is of no account."""
+    """The lines of the module of the program that `rt try` compiles."""
     rt = with_recorder(own, room) / "bin/rt"
-    subprocess.run([sys.executable, rt, "try"], cwd=top / "crates/mt_program", stdin=subprocess.DEVNULL, capture_output=True)
-    words = ["--target=x86_64-unknown-linux-gnu", "-S", "-emit-llvm", "-x", "ir", "-Xclang", "-disable-llvm-passes", "-w"]
-    subprocess.run([own / "toolchain/bin/clang", *words, room / "module.bc", "-o", room / "module.ll"], check=True)
-    return (room / "module.ll").read_text()
+    said, _ = called([sys.executable, rt, "try"], room, cwd=top / "crates/mt_program")
+    if not (room / "module.bc").exists():
+        raise CannotBuild(f"`rt try` compiled no program: {said.strip()[-800:]}")
+    words = [f"--target={TARGET}", "-S", "-emit-llvm", "-x", "ir", "-Xclang", "-disable-llvm-passes", "-w", room / "module.bc", "-o", room / "module.ll"]
+    done("the module isn't read", [own / "toolchain/bin/clang", *words], room)
+    return (room / "module.ll").read_text().splitlines()
 
 
 def hints(top):
@@ -100,9 +137,18 @@ def hinted(line, words):
     return re.sub(r" (#\d+) \{", {"always": r" alwaysinline \1 {", "never": r" noinline \1 {"}.get(word, r" \1 {"), line, count=1)
 
 
+def unchecked(lines):
+    """The lines of a module without the checks of a try."""
+    kept = [line for line in lines if not CHECK.match(line)]
+    left = next(filter(LEFT.match, kept), None)
+    if len(kept) == len(lines) or left:
+        raise OtherKit(f"the checks of a try can't be told apart from the program: {left.strip()[:200] if left else 'there are none'}")
+    return kept
+
+
 def stripped(lines, words):
-    """The lines of a module without the checks of a try, its functions with these hints."""
-    lines = [hinted(line, words) for line in lines if not CHECK.match(line)]
+    """The lines of a module as in a proved build, its functions with these hints."""
+    lines = [hinted(line, words) for line in unchecked(lines)]
     return [it.replace(" sanitize_address", "").replace('"frame-pointer"="all"', '"frame-pointer"="none"') if it.startswith("attributes") else it for it in lines]
 
 
@@ -125,21 +171,30 @@ def without_fills(lines):
 def linked(own, room, program):
     """Compiles the module's text with the kit's flags, and links it."""
     flags = (room / "flags").read_text().splitlines()
-    flags = [it for it in flags if it.startswith("-") and not it.startswith(("-O", "-fsanitize", "-Werror", "--sysroot", "-o", "-c", "-x"))]
+    flags = [it for it in flags if it.startswith("-") and not it.startswith(NOT_PASSED_ON)]
     clang = [own / "toolchain/bin/clang", f"--sysroot={own}/toolchain", *flags, "-w", "-O3", "-fPIE", "-c", "-x", "ir"]
-    subprocess.run([*clang, room / "stripped.ll", "-o", room / "program.o"], check=True)
-    words = ["--target", "x86_64-unknown-linux-gnu", "--toolchain", own / "toolchain", "-o", program, room / "program.o"]
-    subprocess.run([own / "bin/rattle-link", *words, own / "c/libos_c.a", own / "c/liblibc_c.a"], check=True)
+    done("the module isn't compiled", [*clang, room / "stripped.ll", "-o", room / "program.o"], room)
+    words = ["--target", TARGET, "--toolchain", own / "toolchain", "-o", program, room / "program.o"]
+    done("the program isn't linked", [own / "bin/rattle-link", *words, own / "c/libos_c.a", own / "c/liblibc_c.a"], room)
 
 
-def build(top, program, with_hints=True, with_fills=True):
-    """Builds the program of the sources in a folder."""
-    with tempfile.TemporaryDirectory() as folder:
-        own, room = kit(), pathlib.Path(folder)
-        lines = stripped(compiled(top, own, room).splitlines(), hints(top) if with_hints else {})
-        lines = lines if with_fills else without_fills(lines)
-        (room / "stripped.ll").write_text("\n".join(lines) + "\n")
-        linked(own, room, os.path.abspath(program))
+def build_in(room, top, program, stage, with_hints=True, with_fills=True):
+    """Builds the program of the sources in a folder, in a room that is empty; each stage is told as it begins."""
+    own = kit()
+    stage("1 of 3: compiling the sources")
+    lines = compiled(top, own, room)
+    stage("2 of 3: taking out the checks of a try")
+    lines = stripped(lines, hints(top) if with_hints else {})
+    lines = lines if with_fills else without_fills(lines)
+    (room / "stripped.ll").write_text("\n".join(lines) + "\n")
+    stage("3 of 3: making the program")
+    linked(own, room, os.path.abspath(program))
+
+
+def build(top, program, **which):
+    """Builds the program of the sources in a folder, and says nothing."""
+    with tempfile.TemporaryDirectory() as room:
+        build_in(pathlib.Path(room), top, program, lambda stage: None, **which)
 
 
 def main():
@@ -148,7 +203,7 @@ def main():
     asked.add_argument("--no-hints", action="store_true")
     asked.add_argument("program")
     given = asked.parse_args()
-    build(TOP, given.program, not given.no_hints, not given.no_fills)
+    build(TOP, given.program, with_hints=not given.no_hints, with_fills=not given.no_fills)
 
 
 if __name__ == "__main__":
