@@ -29,5 +29,5 @@ if [ "$1" = --build-proved ]; then
     [ $# -gt 0 ] || exit 0
 fi
 is_new "$proved" && exec -a mt "$proved" "$@"
-is_new "$unproved" "$top/tools" || build unproved "$unproved" "$top/tools"
+is_new "$unproved" "$top/tools/unproved.py" || build unproved "$unproved" "$top/tools/unproved.py"
 exec -a mt "$unproved" "$@"

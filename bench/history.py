@@ -2,7 +2,7 @@
 """Tells what changes of the sources brought, in instructions.
 
 bench/history.py [--jobs N] [--keep FOLDER] REVISION ..: of each revision of this repository the program is built without proofs
-(`bench/unproved.py`), and its instructions on the inputs of `bench/whole.py` are counted, the input whole, less those of an empty script.
+(`tools/unproved.py`), and its instructions on the inputs of `bench/whole.py` are counted, the input whole, less those of an empty script.
 For each revision a row is printed: what its commit says, and millions of instructions. A change is measured by the revision before it and by
 its own. A build takes some three minutes and a count less than one; N of each are made at once, one if none is told. `--keep` keeps the
 programs in a folder, under the names of their revisions.
@@ -15,12 +15,15 @@ import hashlib
 import pathlib
 import random
 import subprocess
+import sys
 import tempfile
 
-import unproved
 import whole
 
 TOP = pathlib.Path(__file__).resolve().parent.parent
+sys.path.append(str(TOP / "tools"))
+sys.dont_write_bytecode = True
+import unproved
 
 
 def said(revision):
