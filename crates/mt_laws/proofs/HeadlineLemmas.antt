@@ -24,7 +24,7 @@ use Rattle.mt_laws.proofs.RunLemmas.{row-run}
 use Rattle.mt_laws.proofs.StreamLemmas.{runs_at_the_owner}
 use Rattle.mt_laws.proofs.TrafficLemmas.{abandon_back}
 use Rattle.mt_laws.proofs.WayBackLemmas.{cancel_back, cancel_touches_no_other}
-use Rattle.mt_laws.proofs.WritableLemmas.{never_writable_in_two}
+use Rattle.mt_laws.proofs.WritableLemmas.{never_writable_in_two, writable_at_the_owner}
 
 -- ---- a line
 
@@ -252,6 +252,7 @@ module _ (p : Plain) (events : List Event) (answers : List Answer) (reached : Is
     undo_gives_back = λ name begin at i j is way.
         abandon_back name begin at (at_line i) (at_line (suc j)) (reached_at i) is (way_from name begin (undo name at) i j way);
     never_writable_in_two = λ i table w found. never_writable_in_two (at_line i) (reached_at i) table w found;
+    writable_at_rest = λ i table w found rests keyspace side. writable_at_the_owner (at_line i) (reached_at i) table w found rests keyspace side;
     writes_at_the_owner = λ i keyspace table op w is found side. writes_at_the_owner (at_line i) (reached_at i) table w found keyspace side op (here i (write keyspace table op) done is).0;
     others_answer_what_was_fed = λ i keyspace table key tablet_type r w is found side other.
         is_answer (at_line i) table w found keyspace side other key tablet_type r (here i (read keyspace table key tablet_type) (row r) is).0;

@@ -1,6 +1,6 @@
 -- What is promised of a run from each state that is reached, an opening among them. Its lines are counted from 0: each asks for an event, and
 -- has the answer to it.
-use Rattle.std.specs.Prelude.{◌≡◌, ◌≢◌, ◌⊎◌, ℕ, suc, ◌+◌, ◌<◌, ◌≤◌, true, false, List, count_by, fold, length, take, slice_get, Option, None, Some, is_some, option_map}
+use Rattle.std.specs.Prelude.{◌≡◌, ◌≢◌, ◌↔◌, ◌⊎◌, ℕ, suc, ◌+◌, ◌<◌, ◌≤◌, true, false, List, count_by, fold, length, take, slice_get, Option, None, Some, is_some, option_map}
 use Rattle.mt_names.specs.declared.types.TabletType.{TabletType}
 use Rattle.mt_names.specs.declared.types.TabletType.TheVariants.{Primary}
 use Rattle.mt_names.specs.declared.types.TypeSet.{TypeSet}
@@ -76,6 +76,9 @@ pub record Headline (p : Plain) (events : List Event) (answers : List Answer) : 
   -- no moved table is ever writable in two keyspaces
   pub never_writable_in_two : (i : ℕ) (table : List ℕ) (w : Live) → mover (state_at p events answers i) table ≡ Some w
       → IsWritable (state_at p events answers i) w.source table → IsWritable (state_at p events answers i) w.target table → ⊥
+  -- and where no way of its workflow is open, it is writable in the owner, and not in the other side
+  pub writable_at_rest : (i : ℕ) (table : List ℕ) (w : Live) → mover (state_at p events answers i) table ≡ Some w → w.way ≡ None
+      → (keyspace : List ℕ) → is_side w keyspace ≡ true → IsWritable (state_at p events answers i) keyspace table ↔ (keyspace ≡ owner w)
   -- each write to a moved table is acknowledged at the owner
   pub writes_at_the_owner : (i : ℕ) (keyspace table : List ℕ) (op : Op) (w : Live) → IsLine events answers i (write keyspace table op) done
       → mover (state_at p events answers i) table ≡ Some w → is_side w keyspace ≡ true → keyspace ≡ owner w

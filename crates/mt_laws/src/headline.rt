@@ -42,7 +42,8 @@ pub fn the_way_back_and_the_rows_stand_in_every_run()
 {}
 
 /// The same of the lines of a run, as a call that runs events can state it of its own run: line by line, each of the five
-/// as `Headline` says it, and that a Cancel leaves every other entry as it was just before. With them stand the rows of a
+/// as `Headline` says it, that a Cancel leaves every other entry as it was just before, and that a moved table is writable in the
+/// owner, and not in the other side, where no way is open. With them stand the rows of a
 /// move: each write to a moved table is acknowledged at the owner; the other side answers what the writes that were fed
 /// leave; as many were not fed yet as stand past the position of the stream that runs; where reads are switched to
 /// the other side, and where the journal hands the tables over, that side has every row of the owner; and Complete leaves

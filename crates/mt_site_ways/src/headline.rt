@@ -1,5 +1,5 @@
 //! The headline, said of cores: what Cancel gives back, what reads answer, and where a moved table can be written.
-ghost use Rattle.std.specs.Prelude.{◌≡◌, ℕ, false, true, List, Some, option_map};
+ghost use Rattle.std.specs.Prelude.{◌≡◌, ◌↔◌, ℕ, false, true, List, None, Some, option_map};
 ghost use Rattle.mt_laws.specs.Acknowledged.{acknowledged, row_by};
 ghost use Rattle.mt_laws.specs.WayBack.{IsBegin, NoWayBetween, SinceCreate, WayFrom, in_part};
 ghost use Rattle.mt_model.specs.declared.entries.EntryKey.{EntryKey};
@@ -12,12 +12,12 @@ ghost use Rattle.mt_plain.specs.Answers.{Answers, Run, after};
 ghost use Rattle.mt_plain.specs.Drive.{way_of};
 ghost use Rattle.mt_plain.specs.Events.{Event, begin_reverse, begin_switch, cancel, step, undo, Answer, done, row};
 ghost use Rattle.mt_plain.specs.Next.{next};
-ghost use Rattle.mt_plain.specs.Plain.{Plain, among, changed_types, opening};
+ghost use Rattle.mt_plain.specs.Plain.{Plain, among, changed_types, is_side, opening, owner};
 ghost use Rattle.mt_plain.specs.Writes.{client_number, client_row};
 ghost use Rattle.mt_site_state.specs.ByHand.{ReadsRow};
 ghost use Rattle.mt_site_state.specs.Core.{CoreState, workflow_at};
 ghost use Rattle.mt_site_state.specs.Stands.{IsCore, StandsWith};
-ghost use Rattle.mt_workflow.specs.Workflows.{WorkflowState};
+ghost use Rattle.mt_workflow.specs.Workflows.{WorkflowState, live_of};
 ghost use Rattle.mt_site_ways.specs.Writable.{TakesWrites};
 
 use mt_laws::{
@@ -81,7 +81,7 @@ pub fn reads_of_a_core_answer_the_acknowledged_writes()
 }
 
 /// The primaries of the two keyspaces of a live workflow never both take writes to a table that it moves, whatever steps
-/// stand done.
+/// stand done; and where no way is open, that of the owner does, and the other one doesn't.
 pub fn a_moved_table_of_a_core_is_never_writable_in_two()
     ensures stands { (scopes : List Scope) (p : Plain) (core : CoreState) → StandsWith p scopes core
         → (name : List ℕ) (w : WorkflowState) → workflow_at core.workflows name ≡ Some w → (table : List ℕ)
@@ -89,6 +89,10 @@ pub fn a_moved_table_of_a_core_is_never_writable_in_two()
     ensures each_core { (core : CoreState) → IsCore core
         → (name : List ℕ) (w : WorkflowState) → workflow_at core.workflows name ≡ Some w → (table : List ℕ)
         → among w.tables table ≡ true → TakesWrites core w.source table → TakesWrites core w.target table → ⊥ }
+    ensures at_rest { (core : CoreState) → IsCore core
+        → (name : List ℕ) (w : WorkflowState) → workflow_at core.workflows name ≡ Some w → w.way ≡ None → (table : List ℕ)
+        → among w.tables table ≡ true → (keyspace : List ℕ) → is_side (live_of w) keyspace ≡ true
+        → TakesWrites core keyspace table ↔ (keyspace ≡ owner (live_of w)) }
 {
     a_live_workflow_is_found_by_its_part();
     a_moved_table_is_never_writable_in_two();
