@@ -44,12 +44,12 @@ with_workflow core w = record core { workflows = set_value (same_text w.name) co
 abbrev pub way_to : WorkflowState → (backward : Bool) → (types : TypeSet) → Way
 way_to w backward types = record { back = backward; before = w.switched; after = types; done = 0; undoing = false }
 
--- it is open on the workflow, and gets the next number; what is kept for its undo is kept from now on
+-- it is open on the workflow, and gets the next number, the first one 1; what is kept for its undo is kept from now on
 abbrev pub with_way : SiteState → WorkflowState → Way → SiteState
 with_way s w way = record {
   core = with_workflow s.core (record w { way = Some way });
   ways = record s.ways {
-    opened = s.ways.opened ++ (w.name, record { number = s.ways.begun; log = new_log w }) ∷ [];
+    opened = s.ways.opened ++ (w.name, record { number = suc s.ways.begun; log = new_log w }) ∷ [];
     begun = suc s.ways.begun;
   };
 }

@@ -1,6 +1,6 @@
 -- The whole state of the controller: its core, and what it keeps of the ways. Which state of the definitions it stands for. All of this
 -- page is this profile's own, unless a comment names a page of Vitess's documentation.
-use Rattle.std.specs.Prelude.{◌≡◌, ℕ, ◌<◌, Bool, true, false, List, [], length, map, Option, None, Some, is_some, option_map}
+use Rattle.std.specs.Prelude.{◌≡◌, ℕ, ◌≤◌, Bool, true, false, List, [], length, map, Option, None, Some, is_some, option_map}
 use Rattle.std.specs.List.{AllByRecursion, IsDistinct}
 use Rattle.std.specs.Map.{keys_of, lookup}
 use Rattle.std.specs.Option.{option_map_or}
@@ -28,8 +28,8 @@ use Rattle.mt_site_state.specs.Stands.{Stands, StandsWith}
 abbrev pub OpenWays : Type 0
 OpenWays = List (List ℕ × OpenWay)
 
--- what is kept of the ways: those that are open, the journal, and how many were begun, which is the number of the next one
--- (How traffic is switched)
+-- what is kept of the ways: those that are open, the journal, and how many were begun, which is the number of the last one, since numbers
+-- count from 1 (How traffic is switched)
 pub record WaysState : Type 0 where
   pub opened : OpenWays
   pub journal : List JournalEntry
@@ -56,6 +56,10 @@ open_at ways name = lookup (same_text name) ways
 abbrev pub is_under_way : Workflows → List ℕ → Bool
 is_under_way workflows name = option_map_or (λ w. is_some w.way) (workflow_at workflows name) false
 
+-- numbers count the ways from 1: one that was given is at most as many as were begun
+abbrev pub IsGiven : (begun : ℕ) → (number : ℕ) → Type 0
+IsGiven begun number = (1 ≤ number) × (number ≤ begun)
+
 -- ---- what is kept of an open way
 
 -- as long as the journal isn't written, what is kept gives back what stood before each step that stands done: the entries of the step as
@@ -72,7 +76,7 @@ pub record IsOpenOn (journal : List JournalEntry) (live : Live) (w : WorkflowSta
   pub undo : stands_done way write_journal ≡ false → GivesBack live w way o.log
 
 -- what is kept of the ways stands for a state: as many were begun, and the journal has as many entries; something is kept for just those
--- workflows on which a way is open, and once for each; and no number was given twice
+-- workflows on which a way is open, and once for each; each number of an entry or an open way was given, and none twice
 pub record WaysStand (p : Plain) (core : CoreState) (ways : WaysState) : Type 0 where
   pub begun : ways.begun ≡ p.ways
   pub journal : length ways.journal ≡ p.journal
@@ -81,8 +85,8 @@ pub record WaysStand (p : Plain) (core : CoreState) (ways : WaysState) : Type 0 
   pub each : (name : List ℕ) (live : Live) (w : WorkflowState) (way : Way) (o : OpenWay) → live_at p name ≡ Some live
       → workflow_at core.workflows name ≡ Some w → w.way ≡ Some way → open_at ways.opened name ≡ Some o
       → IsOpenOn ways.journal live w way o
-  pub below : AllByRecursion (λ e. e.id < ways.begun) ways.journal
-  pub numbers : (name : List ℕ) (o : OpenWay) → open_at ways.opened name ≡ Some o → o.number < ways.begun
+  pub written : AllByRecursion (λ e. IsGiven ways.begun e.id) ways.journal
+  pub numbers : (name : List ℕ) (o : OpenWay) → open_at ways.opened name ≡ Some o → IsGiven ways.begun o.number
   pub apart : (name other : List ℕ) (o u : OpenWay) → open_at ways.opened name ≡ Some o → open_at ways.opened other ≡ Some u
       → o.number ≡ u.number → name ≡ other
 

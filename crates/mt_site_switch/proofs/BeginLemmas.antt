@@ -1,5 +1,5 @@
 -- A way that begins: what is kept of it, and the workflow that takes its place again.
-use Rattle.std.proofs.Common.{◌≡◌, ℕ, Bool, true, false, not, ◌||◌, ◌&&◌, List, [], ◌∷◌, ◌++◌, Option, None, Some, refl, ap, sym, subst, ◌∙◌}
+use Rattle.std.proofs.Common.{◌≡◌, ℕ, suc, Bool, true, false, not, ◌||◌, ◌&&◌, List, [], ◌∷◌, ◌++◌, Option, None, Some, refl, ap, sym, subst, ◌∙◌}
 use Rattle.std.proofs.lemmas.Map.Steps.{set_value_same}
 use Rattle.std.specs.Map.{lookup, set_value}
 use Rattle.indexmap.proofs.CallerLemmas.{insert_entry-new}
@@ -47,7 +47,7 @@ opened-way old w after name way refusal done later opened begun named found put 
     put ∙ ap (set_value (same_text name) old.core.workflows) set ∙ ap (λ n. set_value (same_text n) old.core.workflows there) (sym named) in
     let by_workflows : Workflows → SiteState = λ ws. record { core = record old.core { workflows = ws }; ways = record old.ways { opened = opened; begun = begun } } in
     let by_opened : OpenWays → SiteState = λ o. record { core = with_workflow old.core there; ways = record old.ways { opened = o; begun = begun } } in
-    let by_begun : ℕ → SiteState = λ n. record { core = with_workflow old.core there; ways = record old.ways { opened = old.ways.opened ++ (w.name, record { number = old.ways.begun; log = new_log w }) ∷ []; begun = n } } in
+    let by_begun : ℕ → SiteState = λ n. record { core = with_workflow old.core there; ways = record old.ways { opened = old.ways.opened ++ (w.name, record { number = suc old.ways.begun; log = new_log w }) ∷ []; begun = n } } in
     (none, ap by_workflows here ∙ ap by_opened kept ∙ ap by_begun number)
 opened-way old w after name way refusal (refused memory) later opened begun named found put none (same, kept, number) =
     let here : later ≡ old.core.workflows = put ∙ ap (set_value (same_text name) old.core.workflows) same ∙ set_value_same (same_text name) old.core.workflows w found in

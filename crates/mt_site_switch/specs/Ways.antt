@@ -64,7 +64,7 @@ pub record CanComplete (t : TopologyState) (primaries : Primaries) (workflows : 
 -- the way is open on the workflow, and has the next number; or no memory was left, and nothing changed
 abbrev pub OpensWay : WorkflowState → Way → OpenWays → (begun : ℕ) → Answer → WorkflowState → OpenWays → (later : ℕ) → Type 0
 OpensWay w way opened begun done after new later =
-    (after ≡ record w { way = Some way }) × (new ≡ opened ++ (w.name, record { number = begun; log = new_log w }) ∷ []) × (later ≡ suc begun)
+    (after ≡ record w { way = Some way }) × (new ≡ opened ++ (w.name, record { number = suc begun; log = new_log w }) ∷ []) × (later ≡ suc begun)
 OpensWay w way opened begun (refused memory) after new later = (after ≡ w) × (new ≡ opened) × (later ≡ begun)
 OpensWay w way opened begun other after new later = ⊥
 

@@ -86,8 +86,8 @@ fn reverse_refusal(workflow: &Workflow, types: TypeSet, begun: u64) -> Option<Re
     None
 }
 
-/// Opens a way on a workflow, which gets the next number; all that its undo will need finds its memory first: `F0 Memory`, which
-/// leaves all as it was.
+/// Opens a way on a workflow, which gets the next number, the first one 1; all that its undo will need finds its memory first:
+/// `F0 Memory`, which leaves all as it was.
 fn open_way(
     alloc: Global,
     workflow: &mut Workflow,
@@ -103,7 +103,7 @@ fn open_way(
         return Err(Reason::Memory);
     };
     let kept = OpenWay {
-        number: *begun,
+        number: *begun + 1,
         log,
     };
     match opened.insert(workflow.name().copied(), kept) {

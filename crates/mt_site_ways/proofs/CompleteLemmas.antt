@@ -147,7 +147,7 @@ module _ (p : Plain) (apart : Apart p.lives) (live : Live) (elsewhere : (n : Lis
       distinct = stands.distinct;
       there = there_now;
       each = each_now;
-      below = stands.below;
+      written = stands.written;
       numbers = stands.numbers;
       apart = stands.apart;
     }

@@ -29,7 +29,7 @@ module _ (p q : Plain) (scopes : List Scope) (s : SiteState) (stands : SiteStand
   v = record w { way = Some fresh }
 
   abbrev u : OpenWay
-  u = record { number = s.ways.begun; log = new_log w }
+  u = record { number = suc s.ways.begun; log = new_log w }
 
   workflows_now : now.core.workflows ≡ set_value (same_text name) s.core.workflows v
   workflows_now = ap (λ k. set_value (same_text k) s.core.workflows v) w_named

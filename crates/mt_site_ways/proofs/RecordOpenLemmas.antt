@@ -14,7 +14,7 @@ use Rattle.mt_plain.specs.Events.{Way}
 use Rattle.mt_plain.specs.Plain.{Live, Plain, live_at}
 use Rattle.mt_site_state.specs.Core.{CoreState, Workflows, workflow_at}
 use Rattle.mt_site_state.specs.Switching.{open_after}
-use Rattle.mt_site_state.specs.Ways.{IsOpenOn, WaysState, WaysStand, is_under_way, open_at}
+use Rattle.mt_site_state.specs.Ways.{IsGiven, IsOpenOn, WaysState, WaysStand, is_under_way, open_at}
 use Rattle.mt_steps.specs.declared.log.OpenWay.{OpenWay}
 use Rattle.mt_workflow.specs.Workflows.{WorkflowState}
 use Rattle.mt_site_ways.proofs.TopologyLemmas.{one_some}
@@ -24,21 +24,22 @@ same_or j k = same_or_other same_text same_text_decides j k
 
 -- ---- journals
 
--- numbers below one are below a greater one
-later : (a b : ℕ) (es : List JournalEntry) → a ≤ b → AllByRecursion (λ e. e.id < a) es → AllByRecursion (λ e. e.id < b) es
+-- a number that was given stays so as more are
+later : (a b : ℕ) (es : List JournalEntry) → a ≤ b → AllByRecursion (λ e. IsGiven a e.id) es → AllByRecursion (λ e. IsGiven b e.id) es
 later a b [] le all = tt
-later a b (e ∷ es) le all = (omega (arith, le, all.0), later a b es le all.1)
+later a b (e ∷ es) le all = let was = all.0.1 in ((all.0.0, omega (arith, le, was)), later a b es le all.1)
 
-pub below-push : (n : ℕ) (es : List JournalEntry) (e : JournalEntry) → AllByRecursion (λ x. x.id < n) es → e.id < n → AllByRecursion (λ x. x.id < n) (es ++ e ∷ [])
-below-push n [] e all lt = (lt, tt)
-below-push n (x ∷ es) e all lt = (all.0, below-push n es e all.1 lt)
+pub written-push : (n : ℕ) (es : List JournalEntry) (e : JournalEntry) → AllByRecursion (λ x. IsGiven n x.id) es → IsGiven n e.id
+    → AllByRecursion (λ x. IsGiven n x.id) (es ++ e ∷ [])
+written-push n [] e all given = (given, tt)
+written-push n (x ∷ es) e all given = (all.0, written-push n es e all.1 given)
 
--- a number that isn't below the next one has no entry
-none_yet : (n m : ℕ) (es : List JournalEntry) → n ≤ m → AllByRecursion (λ e. e.id < n) es → entry_of es m ≡ None
-none_yet n m [] le all = refl
-none_yet n m (e ∷ es) le all =
-    let differs : eqb m e.id ≡ false = false_from_ne_true (eqb m e.id) (λ t. let same = eqb-true m e.id t in let lt = all.0 in absurd (omega (arith, same, lt, le))) in
-    rw differs (none_yet n m es le all.1)
+-- a number that wasn't given yet has no entry
+none_yet : (n m : ℕ) (es : List JournalEntry) → n < m → AllByRecursion (λ e. IsGiven n e.id) es → entry_of es m ≡ None
+none_yet n m [] lt all = refl
+none_yet n m (e ∷ es) lt all =
+    let differs : eqb m e.id ≡ false = false_from_ne_true (eqb m e.id) (λ t. let same = eqb-true m e.id t in let le = all.0.1 in absurd (omega (arith, same, lt, le))) in
+    rw differs (none_yet n m es lt all.1)
 
 -- an entry of another number gives it none
 pub none_pushed : (es : List JournalEntry) (e : JournalEntry) (n : ℕ) → n ≢ e.id → entry_of es n ≡ None → entry_of (es ++ e ∷ []) n ≡ None
@@ -136,22 +137,26 @@ module _ (p q : Plain) (old new : CoreState) (ways now : WaysState) (stands : Wa
               undo = before.undo;
             }
 
-    pub goes_on : now.begun ≡ ways.begun → q.ways ≡ p.ways → length now.journal ≡ q.journal → AllByRecursion (λ e. e.id < ways.begun) now.journal → WaysStand q new now
-    goes_on as_begun as_many count below = record {
+    pub goes_on : now.begun ≡ ways.begun → q.ways ≡ p.ways → length now.journal ≡ q.journal → AllByRecursion (λ e. IsGiven ways.begun e.id) now.journal → WaysStand q new now
+    goes_on as_begun as_many count written = record {
       begun = as_begun ∙ stands.begun ∙ sym as_many;
       journal = count;
       distinct = distinct;
       there = there;
       each = each;
-      below = subst (λ n. AllByRecursion (λ (e : JournalEntry). e.id < n) now.journal) (sym as_begun) below;
-      numbers = λ n a is. let r = was_kept n a is in let lt = stands.numbers n r.0 r.1 in let same = r.2 in omega (arith, lt, same, as_begun);
+      written = subst (λ n. AllByRecursion (λ (e : JournalEntry). IsGiven n e.id) now.journal) (sym as_begun) written;
+      numbers = λ n a is.
+          let r = was_kept n a is in
+          let given = stands.numbers n r.0 r.1 in
+          let same = r.2 in
+          (omega (arith, given.0, same), omega (arith, given.1, same, as_begun));
       apart = λ n m a b is_a is_b same. let r = was_kept n a is_a in let s = was_kept m b is_b in stands.apart n m r.0 s.0 r.1 s.1 (sym r.2 ∙ same ∙ s.2);
     }
 
 -- ---- a way that begins
 
 module _ (p q : Plain) (old new : CoreState) (ways now : WaysState) (stands : WaysStand p old ways) (name : List ℕ) (w v : WorkflowState) (fresh : Way) (u : OpenWay)
-    (found : workflow_at old.workflows name ≡ Some w) (rests : w.way ≡ None) (fresh_is : v.way ≡ Some fresh) (number : u.number ≡ ways.begun)
+    (found : workflow_at old.workflows name ≡ Some w) (rests : w.way ≡ None) (fresh_is : v.way ≡ Some fresh) (number : u.number ≡ suc ways.begun)
     (workflows : new.workflows ≡ set_value (same_text name) old.workflows v) (opened : now.opened ≡ ways.opened ++ (name, u) ∷ []) (journal : now.journal ≡ ways.journal)
     (one_more : now.begun ≡ suc ways.begun) where
   none_open : open_at ways.opened name ≡ None
@@ -174,29 +179,29 @@ module _ (p q : Plain) (old new : CoreState) (ways now : WaysState) (stands : Wa
       elsewhere other = ap is_some (begun_elsewhere n other) ∙ stands.there n ∙ sym (ap under_way (workflow_elsewhere old.workflows new.workflows name w v found workflows n other))
 
   -- the one that is kept at a name is the new one, or was kept before
-  which : (n : List ℕ) (a : OpenWay) → open_at now.opened n ≡ Some a → ((name ≡ n) × (a.number ≡ ways.begun)) ⊎ (open_at ways.opened n ≡ Some a)
+  which : (n : List ℕ) (a : OpenWay) → open_at now.opened n ≡ Some a → ((name ≡ n) × (a.number ≡ suc ways.begun)) ⊎ (open_at ways.opened n ≡ Some a)
   which n a is = ⊎_elim here elsewhere (same_or name n)
     where
-      here : name ≡ n → ((name ≡ n) × (a.number ≡ ways.begun)) ⊎ (open_at ways.opened n ≡ Some a)
+      here : name ≡ n → ((name ≡ n) × (a.number ≡ suc ways.begun)) ⊎ (open_at ways.opened n ≡ Some a)
       here e = inl (e, ap (λ (y : OpenWay). y.number) (sym (one_some u a (sym begun_here ∙ ap (open_at now.opened) e ∙ is))) ∙ number)
 
-      elsewhere : name ≢ n → ((name ≡ n) × (a.number ≡ ways.begun)) ⊎ (open_at ways.opened n ≡ Some a)
+      elsewhere : name ≢ n → ((name ≡ n) × (a.number ≡ suc ways.begun)) ⊎ (open_at ways.opened n ≡ Some a)
       elsewhere other = inr (sym (begun_elsewhere n other) ∙ is)
 
-  numbers_begun : (n : List ℕ) (a : OpenWay) → ((name ≡ n) × (a.number ≡ ways.begun)) ⊎ (open_at ways.opened n ≡ Some a) → a.number < now.begun
-  numbers_begun n a (inl at) = let same = at.1 in omega (arith, same, one_more)
-  numbers_begun n a (inr was) = let lt = stands.numbers n a was in omega (arith, lt, one_more)
+  numbers_begun : (n : List ℕ) (a : OpenWay) → ((name ≡ n) × (a.number ≡ suc ways.begun)) ⊎ (open_at ways.opened n ≡ Some a) → IsGiven now.begun a.number
+  numbers_begun n a (inl at) = let same = at.1 in (omega (arith, same), omega (arith, same, one_more))
+  numbers_begun n a (inr was) = let given = stands.numbers n a was in (given.0, omega (arith, given.1, one_more))
 
-  apart_begun : (n m : List ℕ) (a b : OpenWay) → a.number ≡ b.number → ((name ≡ n) × (a.number ≡ ways.begun)) ⊎ (open_at ways.opened n ≡ Some a)
-      → ((name ≡ m) × (b.number ≡ ways.begun)) ⊎ (open_at ways.opened m ≡ Some b) → n ≡ m
+  apart_begun : (n m : List ℕ) (a b : OpenWay) → a.number ≡ b.number → ((name ≡ n) × (a.number ≡ suc ways.begun)) ⊎ (open_at ways.opened n ≡ Some a)
+      → ((name ≡ m) × (b.number ≡ suc ways.begun)) ⊎ (open_at ways.opened m ≡ Some b) → n ≡ m
   apart_begun n m a b same (inl at) (inl to) = sym at.0 ∙ to.0
-  apart_begun n m a b same (inl at) (inr was) = let lt = stands.numbers m b was in let is = at.1 in absurd (omega (arith, lt, is, same))
-  apart_begun n m a b same (inr was) (inl to) = let lt = stands.numbers n a was in let is = to.1 in absurd (omega (arith, lt, is, same))
+  apart_begun n m a b same (inl at) (inr was) = let given = stands.numbers m b was in let is = at.1 in absurd (omega (arith, given.1, is, same))
+  apart_begun n m a b same (inr was) (inl to) = let given = stands.numbers n a was in let is = to.1 in absurd (omega (arith, given.1, is, same))
   apart_begun n m a b same (inr was) (inr too) = stands.apart n m a b was too same
 
   pub unused_yet : entry_of now.journal u.number ≡ None
   unused_yet =
-      ap (λ es. entry_of es u.number) journal ∙ ap (entry_of ways.journal) number ∙ none_yet ways.begun ways.begun ways.journal (omega arith) stands.below
+      ap (λ es. entry_of es u.number) journal ∙ ap (entry_of ways.journal) number ∙ none_yet ways.begun (suc ways.begun) ways.journal (omega arith) stands.written
 
   module _ (live_elsewhere : (n : List ℕ) → name ≢ n → live_at q n ≡ live_at p n) (here : (live : Live) → IsOpenOn now.journal live v fresh u) where
     each_begun : (n : List ℕ) (live : Live) (x : WorkflowState) (way : Way) (a : OpenWay) → live_at q n ≡ Some live → workflow_at new.workflows n ≡ Some x → x.way ≡ Some way
@@ -224,7 +229,7 @@ module _ (p q : Plain) (old new : CoreState) (ways now : WaysState) (stands : Wa
       distinct = subst (λ es. IsDistinct same_text (keys_of es)) (sym opened) (IsDistinct-push same_text same_text_decides ways.opened name u none_open stands.distinct);
       there = there_begun;
       each = each_begun;
-      below = subst (λ es. AllByRecursion (λ (e : JournalEntry). e.id < now.begun) es) (sym journal) (later ways.begun now.begun ways.journal (omega (arith, one_more)) stands.below);
+      written = subst (λ es. AllByRecursion (λ (e : JournalEntry). IsGiven now.begun e.id) es) (sym journal) (later ways.begun now.begun ways.journal (omega (arith, one_more)) stands.written);
       numbers = λ n a is. numbers_begun n a (which n a is);
       apart = λ n m a b is_a is_b same. apart_begun n m a b same (which n a is_a) (which m b is_b);
     }

@@ -1,5 +1,5 @@
 -- What is kept of a way behind a step of it.
-use Rattle.std.proofs.Common.{◌≡◌, ◌≢◌, ℕ, suc, ◌<◌, Bool, true, false, cond, eqb, length, List, [], ◌∷◌, ◌++◌, map, None, Some, option_map, refl, sym, ap, ◌∙◌, subst, arith, eqb-true}
+use Rattle.std.proofs.Common.{◌≡◌, ◌≢◌, ℕ, suc, Bool, true, false, cond, eqb, length, List, [], ◌∷◌, ◌++◌, map, None, Some, option_map, refl, sym, ap, ◌∙◌, subst, arith, eqb-true}
 use Rattle.std.proofs.lemmas.Bool.{eq-eqb, false_from_ne_true, true≢false}
 use Rattle.std.proofs.lemmas.List.{length_push}
 use Rattle.std.specs.List.{AllByRecursion}
@@ -27,7 +27,7 @@ use Rattle.mt_site_rows.specs.Rows.{stream_of}
 use Rattle.mt_site_state.specs.Core.{primary_of, workflow_at}
 use Rattle.mt_site_state.specs.Stands.{StandsFor}
 use Rattle.mt_site_state.specs.Switching.{open_after, sides_of, with_sides}
-use Rattle.mt_site_state.specs.Ways.{GivesBack, IsOpenOn, SiteStands, SiteState, WaysStand, open_at}
+use Rattle.mt_site_state.specs.Ways.{GivesBack, IsGiven, IsOpenOn, SiteStands, SiteState, WaysStand, open_at}
 use Rattle.mt_steps.proofs.StepLemmas.{stepped_log}
 use Rattle.mt_steps.specs.declared.log.OpenWay.{OpenWay}
 use Rattle.mt_steps.specs.declared.step.Step.{Step}
@@ -41,7 +41,7 @@ use Rattle.mt_workflow.specs.Workflows.{WorkflowState, live_of, slot_of}
 use Rattle.mt_site_ways.proofs.AttemptLemmas.{all_among, attempt_journal, attempt_listed, none_marked, open_stepped, owner_allowed, put_away_is, saved_stays, slot_stood}
 use Rattle.mt_site_ways.proofs.EntryLemmas.{recorded_before, recorded_elsewhere}
 use Rattle.mt_site_ways.proofs.KeepLemmas.{Keeps, entries_keep, recorded_keeps, step_keeps}
-use Rattle.mt_site_ways.proofs.RecordOpenLemmas.{below-push, goes_on, none_pushed}
+use Rattle.mt_site_ways.proofs.RecordOpenLemmas.{goes_on, none_pushed, written-push}
 use Rattle.mt_site_ways.proofs.TopologyLemmas.{one_some}
 
 -- ---- own lists
@@ -239,13 +239,13 @@ module _ (p : Plain) (scopes asked : List Scope) (may_answer : Answering) (s : S
       by true = none_pushed s.ways.journal (journal_entry o.number w way (sides_of s w).source (sides_of s w).target) x other none
       by false = none
 
-  below_now : AllByRecursion (λ (e : JournalEntry). e.id < s.ways.begun) sides.journal
-  below_now = subst (λ es. AllByRecursion (λ (e : JournalEntry). e.id < s.ways.begun) es) (sym journal_now) (by (eqb (next_step way) write_journal))
+  written_now : AllByRecursion (λ (e : JournalEntry). IsGiven s.ways.begun e.id) sides.journal
+  written_now = subst (λ es. AllByRecursion (λ (e : JournalEntry). IsGiven s.ways.begun e.id) es) (sym journal_now) (by (eqb (next_step way) write_journal))
     where
-      by : (b : Bool) → AllByRecursion (λ (e : JournalEntry). e.id < s.ways.begun)
+      by : (b : Bool) → AllByRecursion (λ (e : JournalEntry). IsGiven s.ways.begun e.id)
           (cond b (s.ways.journal ++ journal_entry o.number w way (sides_of s w).source (sides_of s w).target ∷ []) s.ways.journal)
-      by true = below-push s.ways.begun s.ways.journal (journal_entry o.number w way (sides_of s w).source (sides_of s w).target) stands.ways.below (stands.ways.numbers name o is_open)
-      by false = stands.ways.below
+      by true = written-push s.ways.begun s.ways.journal (journal_entry o.number w way (sides_of s w).source (sides_of s w).target) stands.ways.written (stands.ways.numbers name o is_open)
+      by false = stands.ways.written
 
   as_long : (at : ℕ) → length sides.journal ≡ (next p (step name at) done).journal
   as_long at =
@@ -263,7 +263,7 @@ module _ (p : Plain) (scopes asked : List Scope) (may_answer : Answering) (s : S
       → WaysStand (next p (step name at) done) (with_sides s w sides u).core (with_sides s w sides u).ways
   step_stays at elsewhere =
       goes_on p (next p (step name at) done) s.core (with_sides s w sides u).core s.ways (with_sides s w sides u).ways stands.ways name w now o u found is_open refl
-      (ap (λ k. set_value (same_text k) s.core.workflows now) w_named) (ap (λ k. open_after s.ways.opened k u now.way) w_named) elsewhere unused_else (here at) refl refl (as_long at) below_now
+      (ap (λ k. set_value (same_text k) s.core.workflows now) w_named) (ap (λ k. open_after s.ways.opened k u now.way) w_named) elsewhere unused_else (here at) refl refl (as_long at) written_now
     where
       w_named : w.name ≡ name
       w_named = sym for.sides.name ∙ named

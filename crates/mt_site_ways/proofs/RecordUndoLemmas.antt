@@ -1,5 +1,5 @@
 -- What is kept of a way behind an undo of a step of it, and behind its close where no step stands done.
-use Rattle.std.proofs.Common.{◌≡◌, ◌≢◌, ℕ, ◌-◌, ◌<◌, Bool, true, false, cond, eqb, length, List, map, None, Some, option_map, refl, sym, ap, ◌∙◌, subst, arith, eqb-true}
+use Rattle.std.proofs.Common.{◌≡◌, ◌≢◌, ℕ, ◌-◌, Bool, true, false, cond, eqb, length, List, map, None, Some, option_map, refl, sym, ap, ◌∙◌, subst, arith, eqb-true}
 use Rattle.std.proofs.lemmas.Bool.{eqb-false, false_from_ne_true, true≢false}
 use Rattle.std.specs.List.{AllByRecursion}
 use Rattle.std.specs.Map.{set_value}
@@ -23,7 +23,7 @@ use Rattle.mt_site_rows.specs.Rows.{stream_of}
 use Rattle.mt_site_state.specs.Core.{workflow_at}
 use Rattle.mt_site_state.specs.Stands.{StandsFor}
 use Rattle.mt_site_state.specs.Switching.{open_after, sides_of, with_sides}
-use Rattle.mt_site_state.specs.Ways.{GivesBack, IsOpenOn, SiteStands, SiteState, WaysStand, open_at}
+use Rattle.mt_site_state.specs.Ways.{GivesBack, IsGiven, IsOpenOn, SiteStands, SiteState, WaysStand, open_at}
 use Rattle.mt_steps.specs.declared.log.OpenWay.{OpenWay}
 use Rattle.mt_steps.specs.declared.step.Step.{Step}
 use Rattle.mt_steps.specs.Entries.{recorded_of, step_entries}
@@ -146,7 +146,7 @@ module _ (p : Plain) (scopes : List Scope) (s : SiteState) (stands : SiteStands 
         goes_on p (next p (undo name at) done) s.core (with_sides s w sides u).core s.ways (with_sides s w sides u).ways stands.ways name w now o u found is_open refl
         (ap (λ k. set_value (same_text k) s.core.workflows now) w_named) (ap (λ k. open_after s.ways.opened k u now.way) w_named) elsewhere
         (λ x other none. ap (λ es. entry_of es x) is.journal ∙ none) here refl refl (ap length is.journal ∙ stands.ways.journal)
-        (subst (λ es. AllByRecursion (λ (e : JournalEntry). e.id < s.ways.begun) es) (sym is.journal) stands.ways.below)
+        (subst (λ es. AllByRecursion (λ (e : JournalEntry). IsGiven s.ways.begun e.id) es) (sym is.journal) stands.ways.written)
 
   -- ---- a way that is closed
 
@@ -157,4 +157,4 @@ module _ (p : Plain) (scopes : List Scope) (s : SiteState) (stands : SiteStands 
   close_stays =
       goes_on p (next p (undo name at) done) s.core (with_sides s w shut o).core s.ways (with_sides s w shut o).ways stands.ways name w (record w { way = None }) o o found is_open refl
       (ap (λ k. set_value (same_text k) s.core.workflows (record w { way = None })) w_named) (ap (λ k. open_after s.ways.opened k o None) w_named) elsewhere
-      (λ x other none. none) (λ live x is_now now_opens. absurd cc) refl refl stands.ways.journal stands.ways.below
+      (λ x other none. none) (λ live x is_now now_opens. absurd cc) refl refl stands.ways.journal stands.ways.written

@@ -36,7 +36,7 @@ site_opening scopes core = record {
     distinct = none_twice;
     there = λ name. refl;
     each = λ name live w way o is_live found on opened. absurd cc;
-    below = tt;
+    written = tt;
     numbers = λ name o opened. absurd cc;
     apart = λ name other o u opened opened_too same. absurd cc;
   };
@@ -59,7 +59,7 @@ ways_wide more p s stand = record {
   distinct = stand.distinct;
   there = stand.there;
   each = stand.each;
-  below = stand.below;
+  written = stand.written;
   numbers = stand.numbers;
   apart = stand.apart;
 }

@@ -72,7 +72,7 @@ ways_stay p q old new ways same_begun same_journal keeps stand = record {
   each = λ name live v way o is_live found on opened.
       let was = (keeps name).each live v way is_live found on in
       was.stays ways.journal o (stand.each name was.before was.w way o was.is_live was.found was.on opened);
-  below = stand.below;
+  written = stand.written;
   numbers = stand.numbers;
   apart = stand.apart;
 }

@@ -6,6 +6,7 @@ mod answers;
 mod completing;
 mod events;
 mod headline;
+mod numbers;
 mod primaries;
 mod records;
 mod rows;
@@ -27,6 +28,7 @@ pub use headline::{
     an_abandoned_way_gives_back_what_its_begin_found, cancel_gives_back_what_create_found,
     reads_of_a_core_answer_the_acknowledged_writes,
 };
+pub use numbers::numbers_count_the_ways_from_one;
 pub use primaries::{
     a_begin_leaves_the_primaries, a_log_ends_where_the_definitions_say,
     a_refresh_records_an_empty_list, a_step_leaves_the_primaries, an_undo_leaves_the_primaries,
