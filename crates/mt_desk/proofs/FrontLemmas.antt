@@ -80,7 +80,7 @@ module _ (view : (p : Plain) (t : TopologyState) → IsServed p t → IsView p (
     is_newest : Leads scopes opening lines now → (p : Plain) → SiteStands p scopes opening → IsPublication p (history_from lines) (publication_from newest)
     is_newest leads p stands = (
       (let long = length-map lines line_from in omega (arith, long)),
-      subst (λ q. IsView q (routes_of now.core.topology)) (sym (after_all p lines)) (view (after p (asked lines) (answered lines)) now.core.topology ((leads p stands).1.core.topology.served)),
+      subst (λ q. IsView q (routes_of now.core.topology)) (sym (after_all p lines)) (view (after p (asked lines) (answered lines)) now.core.topology ((leads.each p stands).1.core.topology.served)),
     )
 
     module _ (list : List Publication) where

@@ -4,12 +4,14 @@ use Rattle.std.proofs.Common.{◌≡◌, inl, inr, Option, None, Some, ◌==◌,
 use Rattle.std.proofs.Math.Seq.{take-suc}
 use Rattle.std.proofs.lemmas.List.Elements.{All-push}
 use Rattle.std.proofs.lemmas.Bool.Decides.{nat_tests}
-use Rattle.std.proofs.Math.Logic.{∥∥₁_elim}
+use Rattle.std.proofs.Math.Logic.{∥∥₁_elim, ∥∥₁_map}
 use Rattle.mt_model.specs.declared.entries.Scope.{Scope}
-use Rattle.mt_site_state.specs.Ways.{SiteState}
+use Rattle.mt_plain.specs.Answers.{IsLegal}
+use Rattle.mt_plain.specs.Plain.{Plain}
+use Rattle.mt_site_state.specs.Ways.{SiteStands, SiteState}
 use Rattle.mt_desk.specs.declared.history.Call.{Call}
 use Rattle.mt_desk.specs.declared.history.Line.{Line}
-use Rattle.mt_desk.specs.Histories.{Leads, calls_of}
+use Rattle.mt_desk.specs.Histories.{Leads, calls_of, history_from}
 use Rattle.mt_desk.specs.Passes.{Differs, HaveOneHistory, IsCaused, IsOf, IsStranger, ListsOthers, has_pass}
 use Rattle.mt_desk.specs.declared.fault.DeskFault.TheVariants.{HistoryDiffers}
 
@@ -68,6 +70,12 @@ has_at f (y ∷ ys) (suc i) x client inside is same =
 pub one_history : (scopes : List Scope) (opening now : SiteState) (passes : List (ℕ × List Call)) (lines : List Line) → ∥ Leads scopes opening lines now ∥₁ → IsOf passes lines
     → HaveOneHistory scopes opening passes
 one_history scopes opening now passes lines leads is = ∥∥₁_elim leads (hlevel) (λ l. ∣ (lines, now, l, is) ∣₁)
+
+-- it is legal from a state that the controller stood for at the opening
+pub one_legal_history : (scopes : List Scope) (opening : SiteState) (passes : List (ℕ × List Call)) → HaveOneHistory scopes opening passes
+    → ∥ ((p : Plain) × (lines : List Line) × SiteStands p scopes opening × IsLegal p (history_from lines) × IsOf passes lines) ∥₁
+one_legal_history scopes opening passes one =
+    ∥∥₁_elim one (hlevel) (λ (lines, now, leads, is). ∥∥₁_map leads.stood (λ (p, stands). (p, lines, stands, (leads.each p stands).0, is)))
 
 -- ---- why a history isn't that of some passes
 

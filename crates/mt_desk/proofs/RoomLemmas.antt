@@ -8,7 +8,7 @@ use Rattle.std.specs.Option.{option_map_or}
 use Rattle.std.specs.Prelude.{◌==◌, ◌&&◌, ◌||◌, if◌then◌else◌}
 use Rattle.mt_laws.specs.WayBack.{IsReached}
 use Rattle.mt_model.specs.declared.entries.Scope.{Scope}
-use Rattle.mt_plain.specs.Answers.{Answers, after}
+use Rattle.mt_plain.specs.Answers.{Answers}
 use Rattle.mt_plain.specs.Events.{Answer, Event, Way, cancel, done, undo}
 use Rattle.mt_plain.specs.Next.{next}
 use Rattle.mt_plain.specs.Plain.{Live, Plain, stands_done, write_journal}
@@ -16,11 +16,10 @@ use Rattle.mt_plain.specs.Refuse.{owed, owed_by}
 use Rattle.mt_workflow.specs.Workflows.{WorkflowState, live_of}
 use Rattle.mt_site.specs.GivenUp.{CanBeGivenUp}
 use Rattle.mt_site.specs.Owed.{owed_to}
+use Rattle.mt_site.specs.Stood.{IsSiteWith}
 use Rattle.mt_site_state.specs.Core.{CoreState, Workflows, workflow_at}
 use Rattle.mt_site_state.specs.Stands.{StandsWith}
 use Rattle.mt_site_state.specs.Ways.{SiteStands, SiteState, SiteSteps}
-use Rattle.mt_desk.specs.declared.history.Line.{Line}
-use Rattle.mt_desk.specs.Histories.{Leads, answered, asked}
 use Rattle.mt_desk.specs.Room.{HasRoom, can_cancel, can_undo, gives_up}
 
 -- ---- what gives a move up
@@ -86,10 +85,8 @@ something_owed s (cancel workflow) (w, found, rests, none) = one_is_owed s.core.
 something_owed s other can = absurd can
 
 -- so there is a place for its line
-pub finds_place : (scopes : List Scope) (opening now : SiteState) (lines places : ℕ) → ∥ HasRoom scopes opening lines now places ∥₁ → (p : Plain) → SiteStands p scopes opening
-    → (e : Event) → CanBeGivenUp now e → lines < places
-finds_place scopes opening now lines places room p stands e can =
-    ∥∥₁_elim room (hlevel props) (λ r. let a = r p stands in let b = something_owed now e can in omega (arith, a, b))
+pub finds_place : (now : SiteState) (lines places : ℕ) → HasRoom lines now places → (e : Event) → CanBeGivenUp now e → lines < places
+finds_place now lines places room e can = let b = something_owed now e can in omega (arith, room, b)
 
 -- ---- what is owed behind an event
 
@@ -105,56 +102,45 @@ owes_less laws s p reached (undo workflow at) can given = laws.undone p reached 
 owes_less laws s p reached (cancel workflow) can given = laws.cancelled p reached workflow given
 owes_less laws s p reached other can given = absurd can
 
-module _ (laws : Owing) (scopes : List Scope) (opening now later : SiteState) (lines : List Line) (leads : ∥ Leads scopes opening lines now ∥₁) where
+module _ (laws : Owing) (scopes : List Scope) (now later : SiteState) (stood : IsSiteWith scopes now) where
   module _ (event : Event) (answer : Answer) (step : SiteSteps scopes now event answer later) where
     -- behind any event
-    behind : Leads scopes opening lines now → (p : Plain) → SiteStands p scopes opening → owed_to later.core.workflows ≤ owed_to now.core.workflows + 1
-    behind l p stands =
-        let q = after p (asked lines) (answered lines) in
-        let was = (l p stands).1 in
+    behind : (q : Plain) → SiteStands q scopes now → owed_to later.core.workflows ≤ owed_to now.core.workflows + 1
+    behind q was =
         let stepped = step q was in
         let grows = laws.any q was.core.reached event answer stepped.0 in
         let a = laws.same scopes q now.core was.core in
         let b = laws.same scopes (next q event answer) later.core stepped.1.core in
         omega (arith, grows, a, b)
 
-    pub room_behind : (n places : ℕ) → n + owed_to now.core.workflows + 2 ≤ places → ∥ HasRoom scopes opening (n + 1) later places ∥₁
-    room_behind n places room = ∥∥₁_elim leads (hlevel) (λ l. ∣ (λ p stands. let b = behind l p stands in omega (arith, b, room)) ∣₁)
+    pub room_behind : (n places : ℕ) → n + owed_to now.core.workflows + 2 ≤ places → HasRoom (n + 1) later places
+    room_behind n places room = ∥∥₁_elim stood (hlevel props) (λ (q, was). let b = behind q was in omega (arith, b, room))
 
   module _ (event : Event) (step : SiteSteps scopes now event done later) (can : CanBeGivenUp now event) where
     -- behind one that gives a move up
-    behind_given_up : Leads scopes opening lines now → (p : Plain) → SiteStands p scopes opening → owed_to later.core.workflows + 1 ≤ owed_to now.core.workflows
-    behind_given_up l p stands =
-        let q = after p (asked lines) (answered lines) in
-        let was = (l p stands).1 in
+    behind_given_up : (q : Plain) → SiteStands q scopes now → owed_to later.core.workflows + 1 ≤ owed_to now.core.workflows
+    behind_given_up q was =
         let stepped = step q was in
         let less = owes_less laws now q was.core.reached event can stepped.0 in
         let a = laws.same scopes q now.core was.core in
         let b = laws.same scopes (next q event done) later.core stepped.1.core in
         omega (arith, less, a, b)
 
-    both : (n places : ℕ) → HasRoom scopes opening n now places → Leads scopes opening lines now → HasRoom scopes opening (n + 1) later places
-    both n places room l = λ p stands. let b = behind_given_up l p stands in let r = room p stands in omega (arith, b, r)
-
-    pub room_given_up : (n places : ℕ) → ∥ HasRoom scopes opening n now places ∥₁ → ∥ HasRoom scopes opening (n + 1) later places ∥₁
-    room_given_up n places room = ∥∥₁_elim leads (hlevel) (λ l. ∥∥₁_elim room (hlevel) (λ r. ∣ both n places r l ∣₁))
+    pub room_given_up : (n places : ℕ) → HasRoom n now places → HasRoom (n + 1) later places
+    room_given_up n places room = ∥∥₁_elim stood (hlevel props) (λ (q, was). let b = behind_given_up q was in omega (arith, b, room))
 
 -- the same with more places
-pub with_more_places : (scopes : List Scope) (opening now : SiteState) (lines places more : ℕ) → places ≤ more → ∥ HasRoom scopes opening lines now places ∥₁ → ∥ HasRoom scopes opening lines now more ∥₁
-with_more_places scopes opening now lines places more le room = ∥∥₁_elim room (hlevel) (λ r. ∣ (λ p stands. let a = r p stands in omega (arith, a, le)) ∣₁)
+pub with_more_places : (now : SiteState) (lines places more : ℕ) → places ≤ more → HasRoom lines now places → HasRoom lines now more
+with_more_places now lines places more le room = omega (arith, room, le)
 
 -- behind an event for which the places were made
-pub room_taken : (laws : Owing) (scopes : List Scope) (opening now later : SiteState) (lines : List Line) → ∥ Leads scopes opening lines now ∥₁ → (event : Event) (answer : Answer)
-    → SiteSteps scopes now event answer later → (CanBeGivenUp now event → answer ≡ done) → (n places more : ℕ) → ∥ HasRoom scopes opening n now places ∥₁ → places ≤ more
-    → (gives_up now event ≡ false → n + owed_to now.core.workflows + 2 ≤ more) → ∥ HasRoom scopes opening (n + 1) later more ∥₁
-room_taken laws scopes opening now later lines leads event answer step is_done n places more room le others = by (gives_up now event) refl
+pub room_taken : (laws : Owing) (scopes : List Scope) (now later : SiteState) → IsSiteWith scopes now → (event : Event) (answer : Answer)
+    → SiteSteps scopes now event answer later → (CanBeGivenUp now event → answer ≡ done) → (n places more : ℕ) → HasRoom n now places → places ≤ more
+    → (gives_up now event ≡ false → n + owed_to now.core.workflows + 2 ≤ more) → HasRoom (n + 1) later more
+room_taken laws scopes now later stood event answer step is_done n places more room le others = by (gives_up now event) refl
   where
-    by : (b : Bool) → gives_up now event ≡ b → ∥ HasRoom scopes opening (n + 1) later more ∥₁
+    by : (b : Bool) → gives_up now event ≡ b → HasRoom (n + 1) later more
     by true is =
         let can = can_from now event is in
-        room_given_up laws scopes opening now later lines leads event (subst (λ a. SiteSteps scopes now event a later) (is_done can) step) can n more (with_more_places scopes opening now n places more le room)
-    by false is = room_behind laws scopes opening now later lines leads event answer step n more (others is)
-
--- at the opening
-pub room_at_opening : (scopes : List Scope) (opening now : SiteState) (lines places : ℕ) → lines + owed_to now.core.workflows ≤ places → ∥ HasRoom scopes opening lines now places ∥₁
-room_at_opening scopes opening now lines places le = ∣ (λ p stands. le) ∣₁
+        room_given_up laws scopes now later stood event (subst (λ a. SiteSteps scopes now event a later) (is_done can) step) can n more (with_more_places now n places more le room)
+    by false is = room_behind laws scopes now later stood event answer step n more (others is)

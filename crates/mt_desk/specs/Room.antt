@@ -1,13 +1,12 @@
 -- The places that the history keeps free, so that each move can always be given up (this profile's own).
 use Rattle.std.specs.Prelude.{ℕ, ◌+◌, ◌≤◌, Bool, false, not, ◌==◌, ◌&&◌, ◌||◌, List, is_some}
 use Rattle.std.specs.Option.{option_map_or}
-use Rattle.mt_model.specs.declared.entries.Scope.{Scope}
 use Rattle.mt_plain.specs.Events.{Event, cancel, undo, Way}
-use Rattle.mt_plain.specs.Plain.{Plain, stands_done, write_journal}
+use Rattle.mt_plain.specs.Plain.{stands_done, write_journal}
 use Rattle.mt_workflow.specs.Workflows.{WorkflowState}
 use Rattle.mt_site.specs.Owed.{owed_to}
 use Rattle.mt_site_state.specs.Core.{workflow_at}
-use Rattle.mt_site_state.specs.Ways.{SiteStands, SiteState}
+use Rattle.mt_site_state.specs.Ways.{SiteState}
 
 -- an undo has the right number, and the journal isn't written
 abbrev pub can_undo : (at : ℕ) → Way → Bool
@@ -23,6 +22,6 @@ gives_up s (undo workflow at) = option_map_or (λ w. option_map_or (can_undo at)
 gives_up s (cancel workflow) = option_map_or can_cancel (workflow_at s.core.workflows workflow) false
 gives_up s other = false
 
--- beside the lines there is a place for each event that is owed, if the controller stood for any state at the opening
-abbrev pub HasRoom : List Scope → (opening : SiteState) → (lines : ℕ) → (now : SiteState) → (places : ℕ) → Type 0
-HasRoom scopes opening lines now places = (p : Plain) → SiteStands p scopes opening → lines + owed_to now.core.workflows ≤ places
+-- beside the lines there is a place for each event that is owed
+abbrev pub HasRoom : (lines : ℕ) → (now : SiteState) → (places : ℕ) → Type 0
+HasRoom lines now places = lines + owed_to now.core.workflows ≤ places

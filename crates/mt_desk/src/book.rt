@@ -9,6 +9,7 @@ ghost use Rattle.mt_laws.specs.Headline.{Headline};
 ghost use Rattle.mt_site.specs.Applies.{Applies};
 ghost use Rattle.mt_site.specs.GivenUp.{CanBeGivenUp};
 ghost use Rattle.mt_site.specs.Owed.{owed_to};
+ghost use Rattle.mt_site.specs.Stood.{IsSiteWith};
 ghost use Rattle.mt_site_state.specs.Ways.{SiteStands, SiteSteps};
 ghost use Rattle.mt_model.specs.declared.entries.Scope.TheVariants.{Routes};
 ghost use Rattle.mt_model.specs.Topology.{routes_of};
@@ -49,7 +50,7 @@ pub struct Book<D: DeskName> {
     head: Head<D>,
     told: Told<D>,
     ghost legal: { ∥ Leads D.scopes D.opening history.items core ∥₁ },
-    ghost room: { ∥ HasRoom D.scopes D.opening (vec_len history) core (vec_capacity history) ∥₁ },
+    ghost room: { HasRoom (vec_len history) core (vec_capacity history) },
     ghost fronts: { ∥ AreFronts D.scopes D.opening history.items told ∥₁ },
 }
 
@@ -65,6 +66,7 @@ impl<D: DeskName> Book<D> {
         requires name { (blank.name ≡ D.name) × (blank.parts ≡ D.parts) }
         requires list { opened.seen.book ≡ D.book }
         requires opening { core ≡ D.opening }
+        requires stood { IsSiteWith D.scopes core }
         ensures core { IfOk result (λ r. r.0.core ≡ core) }
         ensures history { IfOk result (λ r. r.0.history.items ≡ []) }
         ensures clients { IfOk result (λ r. r.0.clients.items ≡ []) }
@@ -114,6 +116,7 @@ impl<D: DeskName> Book<D> {
         told: Told<D>,
     ) -> Self
         requires opening { core ≡ D.opening }
+        requires stood { IsSiteWith D.scopes core }
         requires none { history.items ≡ [] }
         requires room { vec_len history + owed_to core.core.workflows ≤ vec_capacity history }
         requires first { told ≡ publication 0 (routes_of core.core.topology) ∷ [] }
@@ -207,8 +210,8 @@ impl<D: DeskName> Book<D> {
     }
 
     /// Applies an event, as `Core::apply` tells, and adds its line to the history. `K0 Memory` where the history found no place
-    /// for the line and for the events that are owed: then no event was taken. An undo with the right number before the journal, and a
-    /// Cancel where nothing is switched and no way is open, take no memory and are done, if the core stood for any state at the opening.
+    /// for the line and for the events that are owed: then no event was taken. Nothing is published. An undo with the right number before the journal, and a
+    /// Cancel where nothing is switched and no way is open, take no memory and are done.
     pub fn take<W: Asks>(
         &mut self,
         watchers: &W,
@@ -221,8 +224,9 @@ impl<D: DeskName> Book<D> {
         ensures steps { IfOk result (λ r. SiteSteps (W.scopes watchers.now) self.old.core (event_of event) (answer_from r) self.new.core) }
         ensures none { OnErr result ((self.new.history.items ≡ self.old.history.items) × (self.new.core ≡ self.old.core)) }
         ensures clients { self.new.clients.items ≡ self.old.clients.items }
+        ensures told { self.new.told ≡ self.old.told }
         ensures memory { IfErr result (λ fault. fault ≡ DeskFault.Memory) }
-        ensures given_up { (p : Plain) → SiteStands p D.scopes D.opening → CanBeGivenUp self.old.core (event_of event) → result ≡ Ok (Ok Done) }
+        ensures given_up { CanBeGivenUp self.old.core (event_of event) → result ≡ Ok (Ok Done) }
         ensures places { CanBeGivenUp self.old.core (event_of event) → vec_capacity self.new.history ≡ vec_capacity self.old.history }
     {
         each_event_owes_one_at_most();
@@ -242,11 +246,12 @@ impl<D: DeskName> Book<D> {
     }
 
     /// Lists a client among those to whom a pass was given: `K6 ClientTaken` exactly where it is there, and `K0 Memory`, which leave
-    /// all as it was. No event is taken.
+    /// all as it was. No event is taken, and nothing is published.
     pub(crate) fn admit(&mut self, client: u16) -> Result<(), DeskFault>
         ensures admits { Admits self.old.clients.items client result self.new.clients.items }
         ensures history { self.new.history.items ≡ self.old.history.items }
         ensures core { self.new.core ≡ self.old.core }
+        ensures told { self.new.told ≡ self.old.told }
     {
         let Book { clients, .. } = self;
         if clients.contains(&client) {

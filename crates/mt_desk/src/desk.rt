@@ -6,6 +6,7 @@ ghost use Rattle.mt_watch.specs.Scopes.{has_scope};
 ghost use Rattle.mt_desk.specs.Fronts.{Published, Tells, TellsNone};
 ghost use Rattle.mt_desk.specs.Histories.{call};
 ghost use Rattle.mt_desk.specs.Passes.{HaveOneHistory, IsCaused};
+ghost use Rattle.mt_site.specs.Stood.{IsSiteWith};
 
 use crate::account::counted_by_client;
 use crate::history::copied_answer;
@@ -13,7 +14,7 @@ use crate::locked::Locked;
 use crate::{Account, Answer, Book, Call, DeskFault, DeskName, Pass};
 use mt_event::Event;
 use mt_routes::{Ends, Opened, Router, Told};
-use mt_site::Core;
+use mt_site::Site;
 use mt_watch::Asks;
 use std::alloc::Global;
 use std::sync::ledger::Blank;
@@ -30,21 +31,22 @@ pub struct Desk<D: DeskName, W: Asks + Drop, R: Wait + Drop> {
 impl<D: DeskName, W: Asks + Drop, R: Wait + Drop> Desk<D, W, R> {
     /// A desk for a controller, under the name of its blank, whose routers are shown the routes of the controller's topology. Two
     /// copies of them are made, each with room for 4,096 rules and 8,192 tables, so that showing others needs no larger ones. `K0 Memory`;
-    /// then the controller and the watchers are gone.
+    /// then the controller is gone.
     pub fn open(
         alloc: Global,
         rt: R,
         blank: Blank,
         opened: Opened,
-        core: Core,
-        watchers: W,
+        site: Site<W>,
     ) -> Result<Self, DeskFault>
         requires name { (blank.name ≡ D.name) × (blank.parts ≡ D.parts) }
         requires list { opened.seen.book ≡ D.book }
-        requires opening { core ≡ D.opening }
-        requires scopes { W.scopes watchers ≡ D.scopes }
+        requires opening { site.core ≡ D.opening }
+        requires scopes { W.scopes site.watchers ≡ D.scopes }
+        requires stood { IsSiteWith D.scopes site.core }
         ensures memory { IfErr result (λ fault. fault ≡ DeskFault.Memory) }
     {
+        let (core, watchers) = site.into_parts();
         let (book, first) = match Book::open(alloc, blank, opened, core) {
             Ok(made) => made,
             Err(fault) => return Err(fault),

@@ -2,11 +2,12 @@
 ghost use Rattle.std.specs.Prelude.{◌≡◌, [], ◌∷◌, true, IfSome};
 ghost use Rattle.mt_desk.specs.Histories.{call};
 ghost use Rattle.mt_desk.specs.Passes.{HaveOneHistory};
+ghost use Rattle.mt_site.specs.Stood.{IsSiteWith};
 
 use mt_desk::{Answer, Desk, DeskFault, DeskName, Pass};
 use mt_event::Event;
 use mt_routes::Opened;
-use mt_site::Core;
+use mt_site::Site;
 use mt_watch::Asks;
 use std::alloc::Global;
 use std::marker::Brand;
@@ -72,20 +73,18 @@ fn ask_both_anew<D: DeskName, W: Asks + Drop, R: Wait + Drop + Copy>(
     alloc: Global,
     blank: Blank,
     opened: Opened,
-    core: Core,
-    watchers: W,
+    site: Site<W>,
     first: Event,
     second: Event,
 ) -> Option<(Answer, Answer)>
     requires name { (blank.name ≡ D.name) × (blank.parts ≡ D.parts) }
     requires list { opened.seen.book ≡ D.book }
-    requires opening { core ≡ D.opening }
-    requires scopes { W.scopes watchers ≡ D.scopes }
+    requires opening { site.core ≡ D.opening }
+    requires scopes { W.scopes site.watchers ≡ D.scopes }
+    requires stood { IsSiteWith D.scopes site.core }
     ensures { IfSome result (λ answers. HaveOneHistory D.scopes D.opening ((1, call first answers.0 ∷ []) ∷ (2, call second answers.1 ∷ []) ∷ [])) }
 {
-    let made: Result<Desk<D, W, R>, DeskFault> = Desk::open(
-        alloc, rt, blank, opened, core, watchers,
-    );
+    let made: Result<Desk<D, W, R>, DeskFault> = Desk::open(alloc, rt, blank, opened, site);
     let Ok(desk) = made else {
         return None;
     };
@@ -99,13 +98,13 @@ fn ask_both_anew<D: DeskName, W: Asks + Drop, R: Wait + Drop + Copy>(
 pub fn two_calls<W: Asks + Drop, R: Wait + Drop + Copy>(
     rt: R,
     alloc: Global,
-    core: Core,
-    watchers: W,
+    site: Site<W>,
     first: Event,
     second: Event,
 ) -> Option<(Answer, Answer)>
-    ensures { IfSome result (λ answers. HaveOneHistory (W.scopes watchers) core ((1, call first answers.0 ∷ []) ∷ (2, call second answers.1 ∷ []) ∷ [])) }
+    requires { IsSiteWith (W.scopes site.watchers) site.core }
+    ensures { IfSome result (λ answers. HaveOneHistory (W.scopes site.watchers) site.core ((1, call first answers.0 ∷ []) ∷ (2, call second answers.1 ∷ []) ∷ [])) }
 {
     let (blank, opened) = (Blank::new(1), Opened::new());
-    ask_both_anew::<Brand, W, R>(rt, alloc, blank, opened, core, watchers, first, second)
+    ask_both_anew::<Brand, W, R>(rt, alloc, blank, opened, site, first, second)
 }

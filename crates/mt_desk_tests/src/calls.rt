@@ -1,7 +1,7 @@
 //! Passes, what they are answered with, and what is gathered.
 
 use crate::acts::{Act, Played};
-use crate::opened::{Trial, Watch, core_of, tried, two_watchers};
+use crate::opened::{Trial, Watch, site_of, tried, two_watchers};
 use crate::texts::{event_of, is_written};
 use crate::two_calls;
 use mt_desk::{Answer, DeskFault};
@@ -59,8 +59,8 @@ fn both_answers<R: Wait + Drop + Copy>(rt: R, alloc: Global) -> Option<(Answer, 
     let insert = event_of("at commerce.corder insert 1 a")?;
     let get = event_of("at commerce.corder get 1")?;
     let watchers = two_watchers(alloc)?;
-    match core_of(alloc, &watchers, &TABLE) {
-        Some(core) => two_calls(rt, alloc, core, watchers, insert, get),
+    match site_of(alloc, watchers, &TABLE) {
+        Some(site) => two_calls(rt, alloc, site, insert, get),
         None => None,
     }
 }

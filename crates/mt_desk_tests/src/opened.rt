@@ -1,5 +1,6 @@
 //! A desk for a test: its watchers, what was applied before it was opened, and what is tried at it.
-ghost use Rattle.std.specs.Prelude.{◌≡◌, IfOk};
+ghost use Rattle.std.specs.Prelude.{◌≡◌, IfOk, IfSome};
+ghost use Rattle.mt_site.specs.Stood.{IsSiteWith};
 ghost use Rattle.mt_watch.specs.Notices.{notice_of};
 
 use crate::acts::{Act, Played, play};
@@ -13,7 +14,7 @@ use mt_desk::{Desk, DeskFault, DeskName};
 use mt_event::Refusal;
 use mt_names::KeyspaceName;
 use mt_routes::Opened;
-use mt_site::Core;
+use mt_site::Site;
 use mt_watch::{Asks, Callback, Change, Notice, Scope, WatchFault, Watcher, Watchers};
 use std::alloc::Global;
 use std::marker::Brand;
@@ -116,34 +117,40 @@ fn watchers_of(alloc: Global, watch: Watch) -> Option<Watchers> {
 }
 
 /// Whether an event is done, at once or at a second try where memory was short.
-fn applies<W: Asks>(core: &mut Core, watchers: &W, line: &str) -> bool {
+fn applies<W: Asks>(site: &mut Site<W>, line: &str) -> bool
+    ensures { IsSiteWith (W.scopes site.old.watchers) site.old.core → IsSiteWith (W.scopes site.new.watchers) site.new.core }
+{
     let Some(event) = event_of(line) else {
         return false;
     };
-    match core.apply(watchers, &event) {
+    match site.apply(&event) {
         Ok(_) => true,
-        Err(Refusal::Memory) => core.apply(watchers, &event).is_ok(),
+        Err(Refusal::Memory) => site.apply(&event).is_ok(),
         Err(_) => false,
     }
 }
 
 /// Whether events are done, one after the other.
-fn apply_all<W: Asks>(core: &mut Core, watchers: &W, lines: &[&str]) -> bool {
+fn apply_all<W: Asks>(site: &mut Site<W>, lines: &[&str]) -> bool
+    ensures { IsSiteWith (W.scopes site.old.watchers) site.old.core → IsSiteWith (W.scopes site.new.watchers) site.new.core }
+{
     for line in lines {
-        if !applies(core, watchers, line) {
+        if !applies(site, line) {
             return false;
         }
     }
     true
 }
 
-/// A core to which events were applied.
-pub fn core_of<W: Asks>(alloc: Global, watchers: &W, lines: &[&str]) -> Option<Core> {
-    let mut core = Core::new(alloc);
-    if apply_all(&mut core, watchers, lines) {
-        return Some(core);
+/// A controller to which events were applied.
+pub fn site_of<W: Asks + Drop>(alloc: Global, watchers: W, lines: &[&str]) -> Option<Site<W>>
+    ensures { IfSome result (λ site. IsSiteWith (W.scopes site.watchers) site.core) }
+{
+    let mut site = Site::open(alloc, watchers);
+    if apply_all(&mut site, lines) {
+        return Some(site);
     }
-    drop(core);
+    drop(site);
     None
 }
 
@@ -170,18 +177,16 @@ fn at_a_desk<D: DeskName + Send + Sync, W: Asks + Drop + Send, R: Threads + Wait
     alloc: Global,
     blank: Blank,
     opened: Opened,
-    core: Core,
-    watchers: W,
+    site: Site<W>,
     trial: Trial<'_>,
 ) -> Played
     requires name { (blank.name ≡ D.name) × (blank.parts ≡ D.parts) }
     requires list { opened.seen.book ≡ D.book }
-    requires opening { core ≡ D.opening }
-    requires scopes { W.scopes watchers ≡ D.scopes }
+    requires opening { site.core ≡ D.opening }
+    requires scopes { W.scopes site.watchers ≡ D.scopes }
+    requires stood { IsSiteWith D.scopes site.core }
 {
-    let made: Result<Desk<D, W, &R>, DeskFault> = Desk::open(
-        alloc, rt, blank, opened, core, watchers,
-    );
+    let made: Result<Desk<D, W, &R>, DeskFault> = Desk::open(alloc, rt, blank, opened, site);
     let Ok(desk) = made else {
         return Played::NotMade;
     };
@@ -198,11 +203,11 @@ fn watched<W: Asks + Drop + Send, R: Threads + Wait + Sync>(
     before: &[&str],
     trial: Trial<'_>,
 ) -> Played {
-    let Some(core) = core_of(alloc, &watchers, before) else {
+    let Some(site) = site_of(alloc, watchers, before) else {
         return Played::NotMade;
     };
     let (blank, opened) = (Blank::new(1), Opened::new());
-    at_a_desk::<Brand, W, R>(rt, alloc, blank, opened, core, watchers, trial)
+    at_a_desk::<Brand, W, R>(rt, alloc, blank, opened, site, trial)
 }
 
 /// The same, where whoever watches is made first.

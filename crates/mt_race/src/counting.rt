@@ -1,75 +1,57 @@
-//! What the clients of a race were told.
+//! What the workers of a race were told.
+ghost use Rattle.std.specs.Prelude.{◌≡◌, IfSome, map};
+ghost use Rattle.mt_race.specs.Agreements.{acknowledged_in, is_done, is_row, rows_found, writes_acknowledged};
 
-use crate::RaceFault;
-use crossbeam_channel::Receiver;
-use mt_desk::Answer;
+use mt_desk::{Answer, Call, DeskName, Pass};
 use mt_event::Reply;
-use mt_messages::{Collector, Message};
-use std::alloc::Global;
-use std::sync::Wait;
 
-/// An answer that is counted.
-#[derive(Clone, Copy, Debug, Eq, PartialEq)]
-pub(crate) enum Counted {
-    /// A write is acknowledged.
-    Done,
-    /// A row is found.
-    Found,
+/// Whether a write is acknowledged.
+fn is_done(answer: &Answer) -> bool
+    ensures { result ≡ is_done answer.now }
+{
+    matches!(answer, Ok(Reply::Done))
 }
 
-/// Whether an answer is counted.
-fn is_counted(answer: &Answer, counted: Counted) -> bool {
-    match (answer, counted) {
-        (Ok(Reply::Done), Counted::Done) => true,
-        (Ok(Reply::Row(Some(_))), Counted::Found) => true,
-        _ => false,
-    }
+/// Whether a read finds a row.
+fn is_row(answer: &Answer) -> bool
+    ensures { result ≡ is_row answer.now }
+{
+    matches!(answer, Ok(Reply::Row(Some(_))))
 }
 
-/// Takes all messages of workers that have ended, each of which has so many lines: `Memory`, also where one ended before its last line.
-pub(crate) fn collect(
-    rt: &impl Wait,
-    alloc: Global,
-    receiver: Receiver<Message>,
-    workers: u16,
-    lines: u16,
-) -> Result<Collector, RaceFault> {
-    let Ok(counts) = Vec::from_elem(alloc, u64::from(lines), usize::from(workers)) else {
-        return Err(RaceFault::Memory);
-    };
-    let Ok(mut collector) = Collector::new(alloc, counts.as_slice()) else {
-        return Err(RaceFault::Memory);
-    };
-    for message in receiver.iter(rt) {
-        if collector.add(message).is_err() {
-            return Err(RaceFault::Memory);
-        }
-    }
-    if collector.whole() {
-        Ok(collector)
-    } else {
-        Err(RaceFault::Memory)
-    }
-}
-
-/// How many answers to a worker's first lines are counted.
-fn count_of(collector: &Collector, worker: u16, lines: u16, counted: Counted) -> u64 {
-    let mut count: u64 = 0;
-    for line in 0..lines {
-        if let Some(answer) = collector.reply_to(worker, u64::from(line)) {
-            if is_counted(answer, counted) {
-                count = count.saturating_add(1);
-            }
+/// How many writes of some calls were acknowledged.
+fn writes_acknowledged(calls: &[Call]) -> u64
+    ensures { result ≡ writes_acknowledged calls.now }
+{
+    let mut count = 0;
+    for call in calls {
+        if is_done(&call.answer) {
+            count += 1;
         }
     }
     count
 }
 
-/// How many answers to the first workers' first lines are counted.
-pub(crate) fn count(collector: &Collector, workers: u16, lines: u16, counted: Counted) -> u64 {
-    let mut all: u64 = 0;
-    for worker in 0..workers {
-        all = all.saturating_add(count_of(collector, worker, lines, counted));
+/// How many reads of some calls found a row.
+pub(crate) fn rows_found(calls: &[Call]) -> u64
+    ensures { result ≡ rows_found calls.now }
+{
+    let mut count = 0;
+    for call in calls {
+        if is_row(&call.answer) {
+            count += 1;
+        }
     }
-    all
+    count
+}
+
+/// How many writes of some passes were acknowledged, if that fits into the number.
+pub(crate) fn acknowledged_in<D: DeskName>(passes: &[Pass<D>]) -> Option<u64>
+    ensures { IfSome result (λ count. count ≡ acknowledged_in (map (λ pass. (pass.client, pass.calls.items)) passes.now)) }
+{
+    let mut count: u64 = 0;
+    for pass in passes {
+        count = count.checked_add(writes_acknowledged(pass.calls()))?;
+    }
+    Some(count)
 }

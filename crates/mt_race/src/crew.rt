@@ -1,4 +1,6 @@
 //! Who races: what each worker has before its thread starts, and what it does there.
+ghost use Rattle.std.specs.Prelude.{◌≡◌, ◌+◌, ◌++◌, true, [], IfOk, IfSome, OnOk};
+ghost use Rattle.mt_race.specs.Agreements.{AreAsked, all_reads, reads_of, row_key, written, writes_of};
 
 use crate::RaceFault;
 use crate::moving::{name, workflow};
@@ -26,23 +28,29 @@ const TURNS: u64 = 200;
 /// How many tries the controller has.
 const TRIES: u64 = 256;
 
-/// The key of a client's row, of which the first has the number 1.
-fn key_of(worker: u16, number: u64) -> u64 {
-    (u64::from(worker) * KEYS).saturating_add(number)
+/// The key of a row of a client, both counted from 0.
+fn row_key(worker: u16, row: u16) -> u64
+    ensures { result ≡ row_key worker row }
+{
+    u64::from(worker) * KEYS + u64::from(row) + 1
 }
 
 /// The value that each row gets.
-fn value() -> Value {
+fn value() -> Value
+    ensures { result ≡ written }
+{
     let mut value = Value::new();
     value.push(b'a');
     value
 }
 
 /// An insert of each of a client's rows: `Memory`.
-fn inserts(alloc: Global, worker: u16, writes: u16) -> Result<Vec<Line>, RaceFault> {
+fn inserts(alloc: Global, worker: u16, writes: u16) -> Result<Vec<Line>, RaceFault>
+    ensures { IfOk result (λ lines. lines.items ≡ writes_of writes worker) }
+{
     let mut lines = Vec::new(alloc);
-    for number in 1..=writes {
-        let op = Op::Insert(key_of(worker, u64::from(number)), value());
+    for row in 0..writes {
+        let op = Op::Insert(row_key(worker, row), value());
         if lines.push(Line::Put(name(), op)).is_err() {
             return Err(RaceFault::Memory);
         }
@@ -51,9 +59,11 @@ fn inserts(alloc: Global, worker: u16, writes: u16) -> Result<Vec<Line>, RaceFau
 }
 
 /// Adds a read of each of a client's rows: `Memory`.
-fn add_gets(lines: &mut Vec<Line>, worker: u16, writes: u16) -> Result<(), RaceFault> {
-    for number in 1..=writes {
-        let line = Line::Get(name(), key_of(worker, u64::from(number)));
+fn add_gets(lines: &mut Vec<Line>, worker: u16, writes: u16) -> Result<(), RaceFault>
+    ensures { OnOk result (lines.new.items ≡ lines.old.items ++ reads_of writes worker) }
+{
+    for row in 0..writes {
+        let line = Line::Get(name(), row_key(worker, row));
         if lines.push(line).is_err() {
             return Err(RaceFault::Memory);
         }
@@ -62,7 +72,9 @@ fn add_gets(lines: &mut Vec<Line>, worker: u16, writes: u16) -> Result<(), RaceF
 }
 
 /// A read of each client's rows: `Memory`.
-pub(crate) fn gets(alloc: Global, clients: u16, writes: u16) -> Result<Vec<Line>, RaceFault> {
+pub(crate) fn gets(alloc: Global, clients: u16, writes: u16) -> Result<Vec<Line>, RaceFault>
+    ensures { IfOk result (λ lines. lines.items ≡ all_reads clients writes) }
+{
     let mut lines = Vec::new(alloc);
     for worker in 0..clients {
         add_gets(&mut lines, worker, writes)?;
@@ -70,7 +82,7 @@ pub(crate) fn gets(alloc: Global, clients: u16, writes: u16) -> Result<Vec<Line>
     Ok(lines)
 }
 
-/// A client before its thread starts.
+/// A client before it asks.
 #[derive(Drop)]
 pub(crate) struct Client<D: DeskName> {
     /// Its number among the workers.
@@ -79,18 +91,52 @@ pub(crate) struct Client<D: DeskName> {
     pub router: Router<D>,
     /// What it asks with.
     pub pass: Pass<D>,
+    ghost fresh: { pass.calls.items ≡ [] },
 }
 
-/// What a worker leaves.
+/// The pass of a client that asked for all of its rows.
 #[derive(Drop)]
-pub(crate) struct Left<D: DeskName> {
+pub(crate) struct Wrote<D: DeskName> {
+    worker: u16,
+    writes: u16,
+    pass: Pass<D>,
+    ghost asked: { AreAsked (writes_of writes worker) pass.calls.items },
+}
+
+impl<D: DeskName> Wrote<D> {
+    /// Whether it is of the worker of this number, who is the client of the next, and so many rows.
+    fn is_of(&self, worker: usize, writes: u16) -> bool
+        ensures worker { result ≡ true → self.now.worker ≡ worker }
+        ensures writes { result ≡ true → self.now.writes ≡ writes }
+        ensures client { result ≡ true → self.now.pass.client ≡ worker + 1 }
+    {
+        let own = usize::from(self.worker);
+        own == worker && self.writes == writes && usize::from(self.pass.client()) == own + 1
+    }
+
+    /// The pass, if it is of the worker of this number, who is the client of the next, and so many rows.
+    pub(crate) fn into_pass(self, worker: usize, writes: u16) -> Option<Pass<D>>
+        ensures client { IfSome result (λ pass. pass.client ≡ worker + 1) }
+        ensures asked { IfSome result (λ pass. AreAsked (writes_of writes worker) pass.calls.items) }
+    {
+        if self.is_of(worker, writes) {
+            Some(self.pass)
+        } else {
+            None
+        }
+    }
+}
+
+/// What the controller leaves.
+#[derive(Drop)]
+pub(crate) struct Controlled<D: DeskName> {
     /// Its pass.
     pub pass: Pass<D>,
-    /// Why the desk refused a call of it, if it tells.
+    /// Why the desk refused a call of it, if it did.
     pub fault: Option<DeskFault>,
 }
 
-/// Asks for some lines as a client.
+/// Asks for some lines as a client. Answers its pass, if it told the answers to all.
 pub(crate) fn query<R: Wait, G: Gate, D: DeskName, W: Asks + Drop, H: Wait + Drop>(
     rt: &R,
     gate: &G,
@@ -98,16 +144,23 @@ pub(crate) fn query<R: Wait, G: Gate, D: DeskName, W: Asks + Drop, H: Wait + Dro
     sender: &Sender<Message>,
     client: Client<D>,
     lines: &[Line],
-) -> Pass<D> {
+) -> Option<Pass<D>>
+    ensures { IfSome result (λ pass. AreAsked lines.now pass.calls.items) }
+{
     let Client {
         worker,
         router,
         pass,
     } = client;
-    query_worker(rt, gate, desk, router, pass, worker, lines, sender).0
+    let (pass, told) = query_worker(rt, gate, desk, router, pass, worker, lines, sender);
+    if told == lines.len() as u64 {
+        Some(pass)
+    } else {
+        None
+    }
 }
 
-/// Inserts a client's rows; none, if there is no memory for what it is to ask.
+/// Inserts a client's rows. Answers its pass, if it was told the answers to all.
 pub(crate) fn insert<R: Wait, G: Gate, D: DeskName, W: Asks + Drop, H: Wait + Drop>(
     rt: &R,
     alloc: Global,
@@ -116,12 +169,19 @@ pub(crate) fn insert<R: Wait, G: Gate, D: DeskName, W: Asks + Drop, H: Wait + Dr
     sender: &Sender<Message>,
     client: Client<D>,
     writes: u16,
-) -> Left<D> {
-    let pass = match inserts(alloc, client.worker, writes) {
-        Ok(lines) => query(rt, gate, desk, sender, client, lines.as_slice()),
-        Err(_) => client.pass,
+) -> Option<Wrote<D>> {
+    let worker = client.worker;
+    let Ok(lines) = inserts(alloc, worker, writes) else {
+        return None;
     };
-    Left { pass, fault: None }
+    match query(rt, gate, desk, sender, client, lines.as_slice()) {
+        Some(pass) => Some(Wrote {
+            worker,
+            writes,
+            pass,
+        }),
+        None => None,
+    }
 }
 
 /// Advances the forward stream.
@@ -131,7 +191,7 @@ pub(crate) fn feed<R: Wait, G: Gate, D: DeskName, W: Asks + Drop, H: Wait + Drop
     desk: &Desk<D, W, H>,
     worker: u16,
     pass: Pass<D>,
-) -> Left<D> {
+) -> Pass<D> {
     let (pass, _taken) = stream_worker(
         rt,
         gate,
@@ -143,7 +203,7 @@ pub(crate) fn feed<R: Wait, G: Gate, D: DeskName, W: Asks + Drop, H: Wait + Drop
         MOST_AT_ONCE,
         TURNS,
     );
-    Left { pass, fault: None }
+    pass
 }
 
 /// The desk's fault, if that ended a controller.
@@ -161,7 +221,7 @@ pub(crate) fn control<R: Wait, G: Gate, D: DeskName, W: Asks + Drop, H: Wait + D
     desk: &Desk<D, W, H>,
     worker: u16,
     pass: Pass<D>,
-) -> Left<D> {
+) -> Controlled<D> {
     let workflow = workflow();
     let (pass, switched) = controller(
         rt,
@@ -175,7 +235,7 @@ pub(crate) fn control<R: Wait, G: Gate, D: DeskName, W: Asks + Drop, H: Wait + D
         TRIES,
     );
     if !matches!(switched, Ok(Driven::Done)) {
-        return Left {
+        return Controlled {
             pass,
             fault: fault_of(switched),
         };
@@ -191,7 +251,7 @@ pub(crate) fn control<R: Wait, G: Gate, D: DeskName, W: Asks + Drop, H: Wait + D
         true,
         TRIES,
     );
-    Left {
+    Controlled {
         pass,
         fault: fault_of(reversed),
     }

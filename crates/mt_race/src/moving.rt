@@ -1,25 +1,34 @@
 //! The move that a race is about: the table `corder` goes from `commerce` to `customer` by the workflow `mv`.
+ghost use Rattle.std.specs.Prelude.{◌≡◌, codes};
+ghost use Rattle.mt_site.specs.Stood.{IsSiteWith};
+ghost use Rattle.mt_race.specs.Agreements.{corder};
 
 use crate::RaceFault;
 use arrayvec::ArrayVec;
 use mt_event::Event;
 use mt_names::{KeyspaceName, RuleKey, TableName, WorkflowName};
-use mt_site::Core;
+use mt_site::Site;
 use mt_watch::Asks;
 use mt_workflow::Slot;
 
 /// The keyspace that the table moves from.
-pub(crate) fn source() -> KeyspaceName {
+pub(crate) fn source() -> KeyspaceName
+    ensures { result ≡ codes "commerce" }
+{
     KeyspaceName::parse("commerce").unwrap()
 }
 
 /// The keyspace that it moves to.
-pub(crate) fn target() -> KeyspaceName {
+pub(crate) fn target() -> KeyspaceName
+    ensures { result ≡ codes "customer" }
+{
     KeyspaceName::parse("customer").unwrap()
 }
 
 /// The table.
-fn table() -> TableName {
+fn table() -> TableName
+    ensures { result ≡ codes "corder" }
+{
     TableName::parse("corder").unwrap()
 }
 
@@ -29,7 +38,9 @@ pub(crate) fn workflow() -> WorkflowName {
 }
 
 /// The name by which clients ask for the table, wherever it is.
-pub(crate) fn name() -> RuleKey {
+pub(crate) fn name() -> RuleKey
+    ensures { result ≡ corder }
+{
     RuleKey {
         keyspace: None,
         table: table(),
@@ -64,9 +75,12 @@ fn events() -> [Event; 5] {
 }
 
 /// Applies what comes before a race: `Setup` with the first refusal.
-pub(crate) fn set_up<W: Asks>(core: &mut Core, watchers: &W) -> Result<(), RaceFault> {
+pub(crate) fn set_up<W: Asks>(site: &mut Site<W>) -> Result<(), RaceFault>
+    ensures watchers { site.new.watchers ≡ site.old.watchers }
+    ensures stood { IsSiteWith (W.scopes site.old.watchers) site.old.core → IsSiteWith (W.scopes site.new.watchers) site.new.core }
+{
     for event in &events() {
-        if let Err(refusal) = core.apply(watchers, event) {
+        if let Err(refusal) = site.apply(event) {
             return Err(RaceFault::Setup(refusal));
         }
     }

@@ -1,16 +1,19 @@
 //! The race.
-ghost use Rattle.std.specs.Prelude.{◌≡◌, ◌≤◌, true, IfOk};
+ghost use Rattle.std.specs.Prelude.{◌≡◌, ◌+◌, ◌≤◌, ◌++◌, true, [], ◌∷◌, IfOk, length, map};
+ghost use Rattle.mt_desk.specs.Passes.{HaveOneHistory};
+ghost use Rattle.mt_site.specs.Stood.{IsSiteWith};
+ghost use Rattle.mt_race.specs.Agreements.{AreAsked, AreWriters, RacedAt, RacedFrom, acknowledged_in, all_reads, rows_found};
 
 use crate::RaceFault;
-use crate::counting::{Counted, collect, count};
-use crate::crew::{Client, Left, gets, query};
+use crate::counting::{acknowledged_in, rows_found};
+use crate::crew::{Client, Wrote, gets, query};
 use crate::moving::set_up;
-use crate::threads::{Crew, run};
+use crate::threads::{Crew, Ended, run};
 use crossbeam_channel::unbounded;
 use mt_desk::{Desk, DeskFault, DeskName, Pass};
 use mt_messages::{Gate, NoGate};
 use mt_routes::Opened;
-use mt_site::Core;
+use mt_site::Site;
 use mt_watch::Asks;
 use std::alloc::Global;
 use std::marker::Brand;
@@ -51,7 +54,9 @@ fn pass_of<R: Wait, D: DeskName, W: Asks + Drop, H: Wait + Drop>(
     rt: &R,
     desk: &Desk<D, W, H>,
     worker: u16,
-) -> Result<Pass<D>, RaceFault> {
+) -> Result<Pass<D>, RaceFault>
+    ensures { IfOk result (λ pass. pass.calls.items ≡ []) }
+{
     match desk.pass(rt, worker.saturating_add(1)) {
         Ok(pass) => Ok(pass),
         Err(fault) => Err(RaceFault::Desk(fault)),
@@ -75,7 +80,7 @@ fn clients_of<R: Wait, D: DeskName, W: Asks + Drop, H: Wait + Drop>(
     Ok(all)
 }
 
-/// Has all workers ask at once, and answers their passes with how many writes were acknowledged.
+/// Has all workers ask at once, and answers what they leave.
 fn write_all<
     R: Threads + Wait + Sync,
     G: Gate + Sync,
@@ -89,7 +94,7 @@ fn write_all<
     desk: &Desk<D, W, H>,
     clients: u16,
     writes: u16,
-) -> Result<(Vec<Left<D>>, u64), RaceFault> {
+) -> Result<Ended<D>, RaceFault> {
     let Ok((sender, receiver)) = unbounded(alloc) else {
         return Err(RaceFault::Memory);
     };
@@ -100,55 +105,156 @@ fn write_all<
         feeder: (feeder, pass_of(rt, desk, feeder)?),
         switcher: (switcher, pass_of(rt, desk, switcher)?),
     };
-    let left = run(rt, alloc, gate, desk, &sender, crew)?;
-    drop(sender);
-    let told = collect(rt, alloc, receiver, clients, writes)?;
-    Ok((left, count(&told, clients, writes, Counted::Done)))
+    let ended = run(rt, alloc, gate, desk, &sender, crew);
+    drop(receiver);
+    ended
 }
 
-/// Reads each row as one more client, and answers its pass with how many rows there are.
+/// Reads each row as one more client: `Memory`, also where it ended before its last line, and `Desk`.
 fn read_all<R: Wait, D: DeskName, W: Asks + Drop, H: Wait + Drop>(
     rt: &R,
     alloc: Global,
     desk: &Desk<D, W, H>,
     clients: u16,
     writes: u16,
-) -> Result<(Pass<D>, u64), RaceFault> {
+) -> Result<Pass<D>, RaceFault>
+    ensures { IfOk result (λ reader. AreAsked (all_reads clients writes) reader.calls.items) }
+{
     let Ok((sender, receiver)) = unbounded(alloc) else {
         return Err(RaceFault::Memory);
     };
     let lines = gets(alloc, clients, writes)?;
-    let client = client_of(rt, desk, clients.saturating_add(2))?;
-    let client = Client {
-        worker: 0,
-        ..client
-    };
-    let pass = query(rt, &NoGate, desk, &sender, client, lines.as_slice());
-    drop(sender);
-    let all = clients.saturating_mul(writes);
-    let told = collect(rt, alloc, receiver, 1, all)?;
-    Ok((pass, count(&told, 1, all, Counted::Found)))
+    let reader = client_of(rt, desk, clients.saturating_add(2))?;
+    let read = query(rt, &NoGate, desk, &sender, reader, lines.as_slice());
+    drop(receiver);
+    match read {
+        Some(pass) => Ok(pass),
+        None => Err(RaceFault::Memory),
+    }
 }
 
-/// The passes of all workers: `Desk` where the desk refused a call of one that tells it, and `Memory`.
-fn passes_of<D: DeskName>(
-    alloc: Global,
-    left: Vec<Left<D>>,
+/// The passes of all workers of a race.
+#[derive(Drop)]
+struct Passes<D: DeskName> {
+    /// Those of the clients that write.
+    writers: Vec<Pass<D>>,
+    /// That of the stream worker.
+    stream: Pass<D>,
+    /// That of the controller.
+    controller: Pass<D>,
+    /// That of the client that reads.
     reader: Pass<D>,
-) -> Result<Vec<Pass<D>>, RaceFault> {
-    let mut passes = Vec::new(alloc);
-    for Left { pass, fault } in left {
-        if let Some(fault) = fault {
-            return Err(RaceFault::Desk(fault));
-        }
-        if passes.push(pass).is_err() {
+}
+
+/// The passes of clients that wrote so many rows each: `K7 PassMissing` where one isn't in its place, and `Memory`. A thread says nothing of
+/// which worker it was, so that is looked at here.
+fn writers_of<D: DeskName>(
+    alloc: Global,
+    wrote: Vec<Wrote<D>>,
+    writes: u16,
+) -> Result<Vec<Pass<D>>, RaceFault>
+    ensures { IfOk result (λ writers. AreWriters writes 0 (map (λ pass. (pass.client, pass.calls.items)) writers.items)) }
+{
+    let mut writers = Vec::new(alloc);
+    for one in wrote {
+        let Some(pass) = one.into_pass(writers.len(), writes) else {
+            return Err(RaceFault::Desk(DeskFault::PassMissing));
+        };
+        if writers.push(pass).is_err() {
             return Err(RaceFault::Memory);
         }
     }
-    match passes.push(reader) {
-        Ok(()) => Ok(passes),
-        Err(_) => Err(RaceFault::Memory),
+    Ok(writers)
+}
+
+/// The passes of all workers: `Desk` where the desk refused a call of the controller, else as `writers_of`.
+fn passes_of<D: DeskName>(
+    alloc: Global,
+    ended: Ended<D>,
+    reader: Pass<D>,
+    writes: u16,
+) -> Result<Passes<D>, RaceFault>
+    ensures writers { IfOk result (λ passes. AreWriters writes 0 (map (λ pass. (pass.client, pass.calls.items)) passes.writers.items)) }
+    ensures reader { IfOk result (λ passes. passes.reader ≡ reader) }
+{
+    let Ended {
+        wrote,
+        stream,
+        controlled,
+    } = ended;
+    if let Some(fault) = controlled.fault {
+        return Err(RaceFault::Desk(fault));
     }
+    match writers_of(alloc, wrote, writes) {
+        Ok(writers) => Ok(Passes {
+            writers,
+            stream,
+            controller: controlled.pass,
+            reader,
+        }),
+        Err(fault) => Err(fault),
+    }
+}
+
+/// Whether there are so many clients that write, and the next three are the stream worker, the controller and the client that reads. A thread
+/// says nothing of whose pass it leaves, so that is looked at here.
+fn are_in_place<D: DeskName>(passes: &Passes<D>, clients: u16) -> bool
+    ensures writers { result ≡ true → length passes.now.writers.items ≡ clients }
+    ensures stream { result ≡ true → passes.now.stream.client ≡ clients + 1 }
+    ensures controller { result ≡ true → passes.now.controller.client ≡ clients + 2 }
+    ensures reader { result ≡ true → passes.now.reader.client ≡ clients + 3 }
+{
+    let clients = usize::from(clients);
+    passes.writers.len() == clients
+        && usize::from(passes.stream.client()) == clients + 1
+        && usize::from(passes.controller.client()) == clients + 2
+        && usize::from(passes.reader.client()) == clients + 3
+}
+
+/// Hands in all passes. Answers whether the history is just what they list, and `Memory`.
+fn gather<R: Wait, D: DeskName, W: Asks + Drop, H: Wait + Drop>(
+    rt: &R,
+    desk: &Desk<D, W, H>,
+    passes: Passes<D>,
+) -> Result<bool, RaceFault>
+    ensures { IfOk result (λ is. is ≡ true → HaveOneHistory D.scopes D.opening (map (λ pass. (pass.client, pass.calls.items)) (passes.writers.items ++ passes.stream ∷ passes.controller ∷ passes.reader ∷ []))) }
+{
+    let Passes {
+        writers: mut all,
+        stream,
+        controller,
+        reader,
+    } = passes;
+    if all.reserve(3).is_err() {
+        return Err(RaceFault::Memory);
+    }
+    all.push_reserved(stream);
+    all.push_reserved(controller);
+    all.push_reserved(reader);
+    Ok(desk.gather(rt, all).is_ok())
+}
+
+/// What came of a race with these passes: `Memory`, also where the writes are too many to be counted.
+fn raced_with<R: Wait, D: DeskName, W: Asks + Drop, H: Wait + Drop>(
+    rt: &R,
+    desk: &Desk<D, W, H>,
+    passes: Passes<D>,
+) -> Result<Raced, RaceFault>
+    ensures agree { IfOk result (λ raced. raced.agree ≡ true → raced.acknowledged ≡ raced.rows) }
+    ensures acknowledged { IfOk result (λ raced. raced.acknowledged ≡ acknowledged_in (map (λ pass. (pass.client, pass.calls.items)) passes.writers.items)) }
+    ensures rows { IfOk result (λ raced. raced.rows ≡ rows_found passes.reader.calls.items) }
+    ensures one { IfOk result (λ raced. raced.agree ≡ true → HaveOneHistory D.scopes D.opening (map (λ pass. (pass.client, pass.calls.items)) (passes.writers.items ++ passes.stream ∷ passes.controller ∷ passes.reader ∷ []))) }
+{
+    let Some(acknowledged) = acknowledged_in(passes.writers.as_slice()) else {
+        return Err(RaceFault::Memory);
+    };
+    let rows = rows_found(passes.reader.calls());
+    let is_gathered = gather(rt, desk, passes)?;
+    Ok(Raced {
+        acknowledged,
+        rows,
+        agree: is_gathered && acknowledged == rows,
+    })
 }
 
 /// A race at a desk that is open.
@@ -167,16 +273,16 @@ fn race_at<
     writes: u16,
 ) -> Result<Raced, RaceFault>
     ensures agree { IfOk result (λ raced. raced.agree ≡ true → raced.acknowledged ≡ raced.rows) }
+    ensures raced { IfOk result (λ raced. raced.agree ≡ true → RacedFrom D.scopes D.opening clients writes raced) }
 {
-    let (left, acknowledged) = write_all(rt, alloc, gate, desk, clients, writes)?;
-    let (reader, rows) = read_all(rt, alloc, desk, clients, writes)?;
-    let passes = passes_of(alloc, left, reader)?;
-    let is_gathered = desk.gather(rt, passes).is_ok();
-    Ok(Raced {
-        acknowledged,
-        rows,
-        agree: is_gathered && acknowledged == rows,
-    })
+    let ended = write_all(rt, alloc, gate, desk, clients, writes)?;
+    let reader = read_all(rt, alloc, desk, clients, writes)?;
+    let passes = passes_of(alloc, ended, reader, writes)?;
+    if are_in_place(&passes, clients) {
+        raced_with(rt, desk, passes)
+    } else {
+        Err(RaceFault::Desk(DeskFault::PassMissing))
+    }
 }
 
 /// A race at a desk that is opened for it.
@@ -191,20 +297,19 @@ fn race_named<
     gate: &G,
     blank: Blank,
     opened: Opened,
-    core: Core,
-    watchers: W,
+    site: Site<W>,
     clients: u16,
     writes: u16,
 ) -> Result<Raced, RaceFault>
     requires name { (blank.name ≡ D.name) × (blank.parts ≡ D.parts) }
     requires list { opened.seen.book ≡ D.book }
-    requires opening { core ≡ D.opening }
-    requires scopes { W.scopes watchers ≡ D.scopes }
+    requires opening { site.core ≡ D.opening }
+    requires scopes { W.scopes site.watchers ≡ D.scopes }
+    requires stood { IsSiteWith D.scopes site.core }
     ensures agree { IfOk result (λ raced. raced.agree ≡ true → raced.acknowledged ≡ raced.rows) }
+    ensures raced { IfOk result (λ raced. raced.agree ≡ true → RacedFrom D.scopes D.opening clients writes raced) }
 {
-    let opened: Result<Desk<D, W, &R>, DeskFault> = Desk::open(
-        alloc, rt, blank, opened, core, watchers,
-    );
+    let opened: Result<Desk<D, W, &R>, DeskFault> = Desk::open(alloc, rt, blank, opened, site);
     let desk = match opened {
         Ok(desk) => desk,
         Err(fault) => return Err(RaceFault::Desk(fault)),
@@ -231,17 +336,17 @@ pub fn race<R: Threads + Wait + Sync, G: Gate + Sync, W: Asks + Drop + Send>(
     requires clients { (1 ≤ clients) × (clients ≤ 4) }
     requires writes { (1 ≤ writes) × (writes ≤ 1000) }
     ensures agree { IfOk result (λ raced. raced.agree ≡ true → raced.acknowledged ≡ raced.rows) }
+    ensures raced { IfOk result (λ raced. raced.agree ≡ true → RacedAt (W.scopes watchers) clients writes raced) }
 {
-    let mut core = Core::new(alloc);
-    set_up(&mut core, &watchers)?;
+    let mut site = Site::open(alloc, watchers);
+    set_up(&mut site)?;
     race_named::<R, G, Brand, W>(
         rt,
         alloc,
         gate,
         Blank::new(1),
         Opened::new(),
-        core,
-        watchers,
+        site,
         clients,
         writes,
     )

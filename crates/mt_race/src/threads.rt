@@ -1,7 +1,7 @@
 //! The workers of a race, each in a thread of its own.
 
 use crate::RaceFault;
-use crate::crew::{Client, Left, control, feed, insert};
+use crate::crew::{Client, Controlled, Wrote, control, feed, insert};
 use crossbeam_channel::Sender;
 use mt_desk::{Desk, DeskName, Pass};
 use mt_messages::{Gate, Message};
@@ -12,7 +12,10 @@ use std::thread;
 use std::thread::{JoinHandle, Scope, Threads};
 
 /// A thread, if it was started.
-type Started<D> = Option<JoinHandle<Left<D>>>;
+type Started<T> = Option<JoinHandle<T>>;
+
+/// A thread of a client that writes.
+type Writing<D> = JoinHandle<Option<Wrote<D>>>;
 
 /// Starts the thread of a client.
 fn start_client<
@@ -32,7 +35,7 @@ fn start_client<
     sender: &'s Sender<Message>,
     client: Client<D>,
     writes: u16,
-) -> Started<D> {
+) -> Option<Writing<D>> {
     scope
         .spawn(move || insert(rt, alloc, gate, desk, sender, client, writes))
         .ok()
@@ -54,7 +57,7 @@ fn start_feeder<
     desk: &'s Desk<D, W, H>,
     worker: u16,
     pass: Pass<D>,
-) -> Started<D> {
+) -> Started<Pass<D>> {
     scope.spawn(move || feed(rt, gate, desk, worker, pass)).ok()
 }
 
@@ -74,14 +77,14 @@ fn start_controller<
     desk: &'s Desk<D, W, H>,
     worker: u16,
     pass: Pass<D>,
-) -> Started<D> {
+) -> Started<Controlled<D>> {
     scope
         .spawn(move || control(rt, gate, desk, worker, pass))
         .ok()
 }
 
 /// Keeps a thread that was started, for which there is room. Answers whether it was.
-fn keep<D: DeskName>(threads: &mut Vec<JoinHandle<Left<D>>>, thread: Started<D>) -> bool {
+fn keep<D: DeskName>(threads: &mut Vec<Writing<D>>, thread: Option<Writing<D>>) -> bool {
     match thread {
         Some(thread) => threads.push(thread).is_ok(),
         None => false,
@@ -106,7 +109,7 @@ fn start_clients<
     sender: &'s Sender<Message>,
     clients: Vec<Client<D>>,
     writes: u16,
-    threads: &mut Vec<JoinHandle<Left<D>>>,
+    threads: &mut Vec<Writing<D>>,
 ) -> bool {
     let mut is_whole = true;
     for client in clients {
@@ -116,17 +119,28 @@ fn start_clients<
     is_whole
 }
 
-/// Waits for each thread, and keeps what it left, for which there is room. Answers whether all is kept.
-fn join_all<R: Threads, D: DeskName + Send>(
+/// Waits for each thread of a client, and keeps what it left, for which there is room. Answers whether each left something.
+fn join_clients<R: Threads, D: DeskName + Send>(
     rt: &R,
-    threads: Vec<JoinHandle<Left<D>>>,
-    all_left: &mut Vec<Left<D>>,
+    threads: Vec<Writing<D>>,
+    all: &mut Vec<Wrote<D>>,
 ) -> bool {
     let mut is_whole = true;
     for thread in threads {
-        is_whole = all_left.push(thread.join(rt)).is_ok() && is_whole;
+        is_whole = match thread.join(rt) {
+            Some(wrote) => all.push(wrote).is_ok() && is_whole,
+            None => false,
+        };
     }
     is_whole
+}
+
+/// Waits for a thread, if it was started.
+fn join<R: Threads, T: Send + Drop>(rt: &R, thread: Started<T>) -> Option<T> {
+    match thread {
+        Some(thread) => Some(thread.join(rt)),
+        None => None,
+    }
 }
 
 /// Who is to have a thread.
@@ -140,6 +154,36 @@ pub(crate) struct Crew<D: DeskName> {
     pub feeder: (u16, Pass<D>),
     /// The controller.
     pub switcher: (u16, Pass<D>),
+}
+
+/// What the workers leave.
+#[derive(Drop)]
+pub(crate) struct Ended<D: DeskName> {
+    /// Those of the clients that write.
+    pub wrote: Vec<Wrote<D>>,
+    /// The stream worker.
+    pub stream: Pass<D>,
+    /// The controller.
+    pub controlled: Controlled<D>,
+}
+
+/// What the workers leave, if each thread was started, and each client told all of its answers.
+fn all_ended<D: DeskName>(
+    writing: bool,
+    written: bool,
+    wrote: Vec<Wrote<D>>,
+    stream: Option<Pass<D>>,
+    controlled: Option<Controlled<D>>,
+) -> Result<Ended<D>, RaceFault> {
+    match (stream, controlled) {
+        (Some(stream), Some(controlled)) if writing && written => Ok(Ended {
+            wrote,
+            stream,
+            controlled,
+        }),
+        (Some(_), Some(_)) if writing => Err(RaceFault::Memory),
+        _ => Err(RaceFault::Thread),
+    }
 }
 
 /// See `run`.
@@ -159,7 +203,7 @@ fn run_in<
     desk: &'s Desk<D, W, H>,
     sender: &'s Sender<Message>,
     crew: Crew<D>,
-) -> Result<Vec<Left<D>>, RaceFault> {
+) -> Result<Ended<D>, RaceFault> {
     let Crew {
         clients,
         writes,
@@ -167,9 +211,9 @@ fn run_in<
         switcher,
     } = crew;
     let mut threads = Vec::new(alloc);
-    let mut all_left = Vec::new(alloc);
-    let places = clients.len().saturating_add(2);
-    if threads.reserve(places).is_err() || all_left.reserve(places).is_err() {
+    let mut wrote = Vec::new(alloc);
+    let places = clients.len();
+    if threads.reserve(places).is_err() || wrote.reserve(places).is_err() {
         return Err(RaceFault::Memory);
     }
     let writing = start_clients(
@@ -184,19 +228,15 @@ fn run_in<
         &mut threads,
     );
     let fed = start_feeder(scope, rt, gate, desk, feeder.0, feeder.1);
-    let feeding = keep(&mut threads, fed);
     let switched = start_controller(scope, rt, gate, desk, switcher.0, switcher.1);
-    let switching = keep(&mut threads, switched);
-    let joined = join_all(rt, threads, &mut all_left);
-    if writing && feeding && switching && joined {
-        Ok(all_left)
-    } else {
-        Err(RaceFault::Thread)
-    }
+    let written = join_clients(rt, threads, &mut wrote);
+    let (stream, controlled) = (join(rt, fed), join(rt, switched));
+    all_ended(writing, written, wrote, stream, controlled)
 }
 
 /// Starts a thread for each client, one for the stream and one for the controller, and answers what they leave once all have ended.
-/// `Thread` where one couldn't be started, and `Memory`; those that were started have ended then too.
+/// `Thread` where one couldn't be started, and `Memory`, also where a client ended before its last line; those that were started have ended
+/// then too.
 pub(crate) fn run<
     R: Threads + Wait + Sync,
     G: Gate + Sync,
@@ -210,7 +250,7 @@ pub(crate) fn run<
     desk: &Desk<D, W, H>,
     sender: &Sender<Message>,
     crew: Crew<D>,
-) -> Result<Vec<Left<D>>, RaceFault> {
+) -> Result<Ended<D>, RaceFault> {
     thread::scope(thread::scope_env(), rt, move |scope| {
         run_in(scope, rt, alloc, gate, desk, sender, crew)
     })

@@ -8,4 +8,5 @@ pub mod PlacedLemmas
 pub mod PrimaryLemmas
 pub mod RunLemmas
 pub mod SiteLemmas
+pub mod StoodLemmas
 pub mod ThroughLemmas

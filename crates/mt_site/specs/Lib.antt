@@ -7,4 +7,5 @@ pub mod Headline
 pub mod Owed
 pub mod Runs
 pub mod Show
+pub mod Stood
 pub mod Through

@@ -19,6 +19,7 @@ ghost use Rattle.mt_site.specs.GivenUp.{CanBeGivenUp};
 ghost use Rattle.mt_site.specs.Headline.{KeepsTheHeadline};
 ghost use Rattle.mt_site.specs.Owed.{owed_to};
 ghost use Rattle.mt_site.specs.Show.{shown_answer};
+ghost use Rattle.mt_site.specs.Stood.{IsSiteWith};
 ghost use Rattle.mt_site_state.specs.Switching.{BeginsReverse, BeginsSwitch, Completes, StepsWorkflow, UndoesWorkflow};
 ghost use Rattle.mt_site_state.specs.Ways.{SiteStands, SiteSteps, empty_site};
 ghost use Rattle.mt_site_state.specs.Workflows.{AdvancesWorkflow, Cancels, Creates, ShowsWorkflow};
@@ -477,13 +478,15 @@ impl Core {
     /// `headline` is the promise of the whole: whatever client calls, stream steps, rule edits and workflow commands were applied
     /// before, in whatever order, Cancel gives back the workflow's part of the topology from before Create, ReverseTraffic that
     /// from before SwitchTraffic, an abandoned switch that from its start; no moved table is ever writable in two keyspaces, and
-    /// each primary read answers from the acknowledged writes, each once.
+    /// each primary read answers from the acknowledged writes, each once. `steps` and `headline` speak of each state that the core
+    /// stands for with these watchers. There is one if there was one before: from `new` on, if each call hands in watchers of the same scopes.
     pub fn apply<W: Asks>(&mut self, watchers: &W, event: &Event) -> Result<Reply, Refusal>
         ensures applies { Applies (W.scopes watchers.now) (W.may_answer watchers.now) self.old (event_of event.now) (answer_from result) self.new }
         ensures steps { SiteSteps (W.scopes watchers.now) self.old (event_of event.now) (answer_from result) self.new }
         ensures unchanged { OnErr result (self.new ≡ self.old) }
         ensures given_up { CanBeGivenUp self.old (event_of event.now) → answer_from result ≡ plain.done }
         ensures headline { KeepsTheHeadline (W.scopes watchers.now) self.old (event_of event.now ∷ []) (answer_from result ∷ []) self.new }
+        ensures stood { IsSiteWith (W.scopes watchers.now) self.old → IsSiteWith (W.scopes watchers.now) self.new }
     {
         a_move_can_be_given_up(watchers);
         every_run_keeps_the_headline();

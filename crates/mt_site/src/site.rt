@@ -14,6 +14,7 @@ ghost use Rattle.mt_site.specs.Applies.{Applies};
 ghost use Rattle.mt_site.specs.GivenUp.{CanBeGivenUp};
 ghost use Rattle.mt_site.specs.Headline.{KeepsTheHeadline};
 ghost use Rattle.mt_site.specs.Owed.{owed_to};
+ghost use Rattle.mt_site.specs.Stood.{IsSiteWith};
 
 use crate::Core;
 use mt_event::{Event, Refusal, Reply};
@@ -39,6 +40,7 @@ impl<W: Asks> Site<W> {
         ensures core { result.core ≡ empty_site }
         ensures watchers { result.watchers ≡ watchers }
         ensures stands { SiteStands (opening (W.scopes watchers)) (W.scopes watchers) result.core }
+        ensures stood { IsSiteWith (W.scopes result.watchers) result.core }
     {
         Site {
             core: Core::new(alloc),
@@ -54,8 +56,18 @@ impl<W: Asks> Site<W> {
         ensures unchanged { OnErr result (self.new.core ≡ self.old.core) }
         ensures given_up { CanBeGivenUp self.old.core (event_of event.now) → answer_from result ≡ plain.done }
         ensures headline { KeepsTheHeadline (W.scopes self.old.watchers) self.old.core (event_of event.now ∷ []) (answer_from result ∷ []) self.new.core }
+        ensures stood { IsSiteWith (W.scopes self.old.watchers) self.old.core → IsSiteWith (W.scopes self.new.watchers) self.new.core }
     {
         self.core.apply(&self.watchers, event)
+    }
+
+    /// The core and the watchers, each by itself. It takes no memory.
+    pub fn into_parts(self) -> (Core, W)
+        ensures core { result.0 ≡ self.core }
+        ensures watchers { result.1 ≡ self.watchers }
+    {
+        let Site { core, watchers } = self;
+        (core, watchers)
     }
 
     /// The topology. It takes no memory.

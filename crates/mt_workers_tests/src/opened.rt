@@ -1,5 +1,6 @@
 //! A desk for a test: a workflow is created and copied.
-ghost use Rattle.std.specs.Prelude.{◌≡◌, IfOk};
+ghost use Rattle.std.specs.Prelude.{◌≡◌, IfOk, IfSome};
+ghost use Rattle.mt_site.specs.Stood.{IsSiteWith};
 ghost use Rattle.mt_watch.specs.Notices.{notice_of};
 
 use crate::together::two_controllers;
@@ -9,7 +10,7 @@ use mt_desk::{Desk, DeskFault, DeskName};
 use mt_event::Event;
 use mt_names::{KeyspaceName, NameFault, TableName, WorkflowName};
 use mt_routes::Opened;
-use mt_site::Core;
+use mt_site::Site;
 use mt_watch::{Asks, Callback, Change, Notice, Scope, WatchFault, Watcher, Watchers};
 use mt_workflow::Slot;
 use std::alloc::Global;
@@ -58,25 +59,29 @@ fn events() -> Result<[Event; 5], NameFault> {
 }
 
 /// Whether each of these events is done.
-fn applies<W: Asks>(core: &mut Core, watchers: &W, events: &[Event]) -> bool {
+fn applies<W: Asks>(site: &mut Site<W>, events: &[Event]) -> bool
+    ensures { IsSiteWith (W.scopes site.old.watchers) site.old.core → IsSiteWith (W.scopes site.new.watchers) site.new.core }
+{
     for event in events {
-        if core.apply(watchers, event).is_err() {
+        if site.apply(event).is_err() {
             return false;
         }
     }
     true
 }
 
-/// The core behind these events.
-fn core_of<W: Asks>(alloc: Global, watchers: &W) -> Option<Core> {
+/// The controller behind these events.
+fn site_of<W: Asks + Drop>(alloc: Global, watchers: W) -> Option<Site<W>>
+    ensures { IfSome result (λ site. IsSiteWith (W.scopes site.watchers) site.core) }
+{
     let Ok(events) = events() else {
         return None;
     };
-    let mut core = Core::new(alloc);
-    if applies(&mut core, watchers, &events) {
-        return Some(core);
+    let mut site = Site::open(alloc, watchers);
+    if applies(&mut site, &events) {
+        return Some(site);
     }
-    drop(core);
+    drop(site);
     None
 }
 
@@ -149,18 +154,16 @@ fn at_a_desk<D: DeskName + Send + Sync, W: Asks + Drop + Send, R: Threads + Wait
     alloc: Global,
     blank: Blank,
     opened: Opened,
-    core: Core,
-    watchers: W,
+    site: Site<W>,
     trial: Trial,
 ) -> bool
     requires name { (blank.name ≡ D.name) × (blank.parts ≡ D.parts) }
     requires list { opened.seen.book ≡ D.book }
-    requires opening { core ≡ D.opening }
-    requires scopes { W.scopes watchers ≡ D.scopes }
+    requires opening { site.core ≡ D.opening }
+    requires scopes { W.scopes site.watchers ≡ D.scopes }
+    requires stood { IsSiteWith D.scopes site.core }
 {
-    let opened: Result<Desk<D, W, &R>, DeskFault> = Desk::open(
-        alloc, rt, blank, opened, core, watchers,
-    );
+    let opened: Result<Desk<D, W, &R>, DeskFault> = Desk::open(alloc, rt, blank, opened, site);
     let Ok(desk) = opened else {
         return false;
     };
@@ -177,8 +180,8 @@ fn watched<W: Asks + Drop + Send, R: Threads + Wait + Sync>(
     trial: Trial,
 ) -> bool {
     let (blank, opened) = (Blank::new(1), Opened::new());
-    match core_of(alloc, &watchers) {
-        Some(core) => at_a_desk::<Brand, W, R>(rt, alloc, blank, opened, core, watchers, trial),
+    match site_of(alloc, watchers) {
+        Some(site) => at_a_desk::<Brand, W, R>(rt, alloc, blank, opened, site, trial),
         None => false,
     }
 }

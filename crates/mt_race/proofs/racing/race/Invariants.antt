@@ -5,7 +5,7 @@ abbrev pub ghosts-race_named-D-Ledger : goal.ghosts-race_named-D-Ledger
 ghosts-race_named-D-Ledger g a = record { name = a.blank.name; parts = a.blank.parts }
 
 abbrev pub ghosts-race_named-D-DeskName : goal.ghosts-race_named-D-DeskName
-ghosts-race_named-D-DeskName g a = record { opening = a.core; scopes = g.W.Asks.scopes a.watchers }
+ghosts-race_named-D-DeskName g a = record { opening = a.site.core; scopes = g.W.Asks.scopes a.site.watchers }
 
 abbrev pub ghosts-race_named-D-Naming : goal.ghosts-race_named-D-Naming
 ghosts-race_named-D-Naming g a = record { book = a.opened.seen.book }

@@ -4,8 +4,10 @@ use Rattle.std.proofs.lemmas.List.{take_all}
 use Rattle.mt_event.specs.Events.{answer_from, event_of}
 use Rattle.mt_site_state.specs.Ways.{SiteSteps}
 use Rattle.mt_site.proofs.RunLemmas.{headline_kept, runs_more}
+use Rattle.mt_site.proofs.StoodLemmas.{stood_behind}
 use Rattle.mt_site.proofs.run.run_events.Goals as goal
 use Rattle.mt_site.specs.Runs.{Runs}
+use Rattle.mt_site.specs.Stood.{IsSiteWith}
 
 pub loop-event-preserved : goal.loop-event-preserved
 loop-event-preserved g c =
@@ -35,3 +37,14 @@ returns-clause-headline g c =
     headline_kept scopes old new (map event_of events) (map answer_from answers)
     (subst (λ es. Runs scopes old es answers new) (take_all c.loop-event.event-index events c.loop-event-test.false) c.loop-event.invariant.runs)
     c.every_run_keeps_the_headline.ensures.with_earlier_lines
+
+pub returns-clause-stood : goal.returns-clause-stood
+returns-clause-stood g c = λ stood.
+    let events = c.args.events.now in
+    let answers = c.loop-event.answers.items in
+    let scopes = g.W.Asks.scopes c.args.site.now.watchers in
+    let old = c.args.site.now.core in
+    let new = c.loop-event.site.core in
+    subst (λ w. IsSiteWith (g.W.Asks.scopes w) new) (sym c.loop-event.invariant.watchers)
+    (stood_behind scopes old new events answers
+    (subst (λ es. Runs scopes old es answers new) (take_all c.loop-event.event-index events c.loop-event-test.false) c.loop-event.invariant.runs) stood)

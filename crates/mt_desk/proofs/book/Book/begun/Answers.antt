@@ -1,6 +1,5 @@
 -- No line leads nowhere, there is a place for each event that is owed, and the first publication is of no line.
 use Rattle.std.proofs.Common.{◌≡◌, ◌∙◌, [], ◌∷◌, ap, sym, subst}
-use Rattle.std.specs.Vec.{vec_capacity, vec_len}
 use Rattle.mt_model.specs.Topology.{routes_of}
 use Rattle.mt_routes.specs.Publications.{publication}
 use Rattle.mt_site_state.specs.Ways.{SiteState}
@@ -8,7 +7,6 @@ use Rattle.mt_desk.specs.Fronts.{AreFronts}
 use Rattle.mt_desk.specs.Histories.{Leads}
 use Rattle.mt_desk.proofs.FrontLemmas.{first_front}
 use Rattle.mt_desk.proofs.LeadsLemmas.{kept_nowhere}
-use Rattle.mt_desk.proofs.RoomLemmas.{room_at_opening}
 use Rattle.mt_desk.proofs.book.Book.begun.Goals as goal
 
 pub invariant_of-result : goal.invariant_of-result
@@ -19,8 +17,8 @@ invariant_of-result g c =
     let history = c.args.history in
     let first : c.args.told ≡ publication 0 (routes_of opening.core.topology) ∷ [] = c.requires.first ∙ ap (λ (s : SiteState). publication 0 (routes_of s.core.topology) ∷ []) c.requires.opening in
     record {
-      legal = subst (λ lines. ∥ Leads scopes opening lines core ∥₁) (sym c.requires.none) (kept_nowhere scopes opening core c.requires.opening);
-      room = room_at_opening scopes opening core (vec_len history) (vec_capacity history) c.requires.room;
+      legal = subst (λ lines. ∥ Leads scopes opening lines core ∥₁) (sym c.requires.none) (kept_nowhere scopes opening core c.requires.opening c.requires.stood);
+      room = c.requires.room;
       fronts = subst (λ lines. ∥ AreFronts scopes opening lines c.args.told ∥₁) (sym c.requires.none)
           (subst (λ list. ∥ AreFronts scopes opening [] list ∥₁) (sym first) (first_front c.routes_of_what_is_served_are_a_view.ensures.routes scopes opening));
     }

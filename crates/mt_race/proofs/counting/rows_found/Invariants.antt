@@ -1,0 +1,10 @@
+-- The calls before this one are counted.
+use Rattle.std.proofs.Common.{◌≡◌, ◌≤◌, take}
+use Rattle.mt_race.specs.Agreements.{rows_found}
+use Rattle.mt_race.proofs.counting.rows_found.Given as goal
+
+abbrev pub invariant-loop-call : goal.invariant-loop-call
+invariant-loop-call l = record {
+  within : l.count ≤ l.call-index;
+  counted : l.count ≡ rows_found (take l.call-index l.fn.calls);
+}

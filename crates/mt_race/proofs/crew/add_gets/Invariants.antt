@@ -1,0 +1,7 @@
+-- The rows before this one are asked for.
+use Rattle.std.proofs.Common.{◌≡◌, ◌++◌}
+use Rattle.mt_race.specs.Agreements.{reads_of}
+use Rattle.mt_race.proofs.crew.add_gets.Given as goal
+
+abbrev pub invariant-loop-row : goal.invariant-loop-row
+invariant-loop-row l = l.lines.items ≡ l.fn.lines.items ++ reads_of l.row l.worker
