@@ -59,12 +59,12 @@ def kit():
 
 def called(words, room, **how):
     """What a tool said, and its status. It keeps its files in the room; if this program is told to stop, so is the tool."""
-    variables = dict(os.environ, TMPDIR=str(room))
-    tool = subprocess.Popen(words, stdin=subprocess.DEVNULL, stdout=subprocess.PIPE, stderr=subprocess.STDOUT, text=True, errors="replace", env=variables, **how)
+    how |= {"stdin": subprocess.DEVNULL, "stdout": subprocess.PIPE, "stderr": subprocess.STDOUT, "text": True, "errors": "replace"}
+    # in a session of its own, so that it is told once: `rt` then ends what it started, and a second signal would keep it from that
+    tool = subprocess.Popen(words, env=dict(os.environ, TMPDIR=str(room)), start_new_session=True, **how)
     try:
         said, _ = tool.communicate()
     except BaseException:
-        # `rt` ends what it started, if it is asked to end
         tool.terminate()
         tool.communicate()
         raise
