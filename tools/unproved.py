@@ -30,7 +30,8 @@ for word in "$@"; do
 done
 exit 1
 """
-CHECK = re.compile(r'^  call void @"rattle-(llvm-checks|try)::|^  call void @llvm\.memset\.[^(]*\(ptr [^,]*, i8 -86,')
+# What a try looks at, whether a called pointer fits its signature among it, and the bytes with which it fills what isn't set.
+CHECK = re.compile(r'^  (?:%[\w.]+ = call i8|call void) @"rattle-(llvm-checks|try)::|^  call void @llvm\.memset\.[^(]*\(ptr [^,]*, i8 -86,')
 LEFT = re.compile(r'^ .*@"rattle-(llvm-checks|try)::')
 FILL = re.compile(r"^  call void @llvm\.memset\.[^(]*\(ptr [^%]*(%[\w.]+), i8 0, i64 \d+, i1 false\)")
 LOCAL = re.compile(r"^  (%[\w.]+) = alloca ")

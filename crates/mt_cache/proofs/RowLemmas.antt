@@ -1,5 +1,5 @@
 -- What is asked for at the place where a name leads is asked for through the name.
-use Rattle.std.proofs.Common.{◌≡◌, ℕ, List, [], ◌∷◌, Option, None, Some, Result, Ok, Err, sym, ap, subst}
+use Rattle.std.proofs.Common.{◌≡◌, ℕ, List, [], ◌∷◌, Option, None, Some, Result, Ok, Err, refl, sym, ap, subst}
 use Rattle.mt_event.specs.Reasons.{done_by}
 use Rattle.std.specs.Prelude.{⊤}
 use Rattle.std.specs.Result.{OnErr}
@@ -18,12 +18,11 @@ use Rattle.mt_workflow.specs.Workflows.{WorkflowState, slot_of}
 use Rattle.mt_stream.specs.Streams.{StreamValue}
 use Rattle.mt_site_state.specs.Workflows.{AdvancesAt, AdvancesStream, AdvancesWorkflow}
 use Rattle.mt_site_state.specs.ByHand.{ReadsRow, WritesRow}
-use Rattle.mt_site_state.specs.Core.{CoreState, primary_at, workflow_at}
+use Rattle.mt_site_state.specs.Core.{CoreState, workflow_at}
 use Rattle.mt_site_state.specs.Ways.{SiteState, SiteSteps}
 use Rattle.mt_site.specs.ByHand.{read_from}
 use Rattle.mt_site.specs.Headline.{KeepsTheHeadline}
-use Rattle.mt_site.specs.Through.{IsThrough}
-use Rattle.mt_site.proofs.PlacedLemmas.{row_leaves_topology}
+use Rattle.mt_cache.specs.Through.{IsThrough}
 use Rattle.mt_cache.specs.Rows.{ReadThrough, WrittenThrough}
 
 -- what holds at the target holds through a name that leads there
@@ -62,16 +61,21 @@ read_there core name key tablet_type target told leads does steps headline =
       headline = λ scopes. at_target ⊤ (λ target told. KeepsTheHeadline scopes core (read target.keyspace target.table key tablet_type ∷ []) (read_from told ∷ []) core) led target told leads (headline scopes);
     }
 
--- a row that is written through a name leaves the topology
-pub written_leaves_topology : (old new : SiteState) (op : Op) (led : Result RuleTarget TopologyFault) (result : Result (Result ⊤ Reason) TopologyFault)
-    → IsThrough led (new.core ≡ old.core) (λ target told. WritesRow old.core target.keyspace target.table op (done_by told) new.core) result
-    → new.core.topology ≡ old.core.topology
-written_leaves_topology old new op (Ok target) (Ok told) is = row_leaves_topology old.core new.core target.keyspace target.table op (done_by told) (primary_at old.core.primaries target.keyspace) is
-written_leaves_topology old new op (Ok target) (Err fault) is = absurd is
-written_leaves_topology old new op (Err fault) (Ok told) is = absurd is
-written_leaves_topology old new op (Err fault) (Err told) is = let topology_of : CoreState → TopologyState = λ core. core.topology in ap topology_of is.1
+-- a name that leads nowhere changes nothing
+pub written_nowhere : (core : SiteState) (name : RuleKey) (op : Op) (fault : TopologyFault) → resolution core.core.topology name Primary ≡ Err fault → WrittenThrough core name op (Err fault) core
+written_nowhere core name op fault leads = record {
+  does = rw leads (refl, refl);
+  ways = refl;
+  steps = λ scopes. rw leads (refl, refl);
+  unchanged = tt;
+  headline = λ scopes. rw leads (refl, refl);
+}
 
--- and so does an advance
+pub read_nowhere : (core : SiteState) (name : RuleKey) (key : ℕ) (tablet_type : TabletType) (fault : TopologyFault) → resolution core.core.topology name tablet_type ≡ Err fault
+    → ReadThrough core name key tablet_type (Err fault)
+read_nowhere core name key tablet_type fault leads = record { does = rw leads (refl, tt); steps = λ scopes. rw leads (refl, tt); headline = λ scopes. rw leads (refl, tt) }
+
+-- an advance leaves the topology
 pub advance_leaves_topology : (old new : CoreState) (workflow : List ℕ) (name : StreamName) (at at_most : ℕ) (answer : Answer) → AdvancesWorkflow old workflow name at at_most answer new
     → new.topology ≡ old.topology
 advance_leaves_topology old new workflow name at at_most answer = of_workflow (workflow_at old.workflows workflow)

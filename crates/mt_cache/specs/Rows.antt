@@ -15,7 +15,7 @@ use Rattle.mt_site_state.specs.ByHand.{ReadsRow, WritesRow}
 use Rattle.mt_site_state.specs.Ways.{SiteState, SiteSteps}
 use Rattle.mt_site.specs.ByHand.{read_from}
 use Rattle.mt_site.specs.Headline.{KeepsTheHeadline}
-use Rattle.mt_site.specs.Through.{IsThrough}
+use Rattle.mt_cache.specs.Through.{IsThrough}
 
 -- a row is written where a name leads
 pub record WrittenThrough (old : SiteState) (name : RuleKey) (op : Op) (result : Result (Result ⊤ Reason) TopologyFault) (new : SiteState) : Type 0 where

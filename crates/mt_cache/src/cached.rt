@@ -14,14 +14,13 @@ ghost use Rattle.mt_workflow.specs.Workflows.{stream_name};
 ghost use Rattle.mt_plain.specs.Serve.{served};
 ghost use Rattle.mt_site_state.specs.Ways.{SiteStands, SiteSteps, empty_site};
 ghost use Rattle.mt_names.specs.Names.{read_table};
-ghost use Rattle.mt_cache.specs.Names.{LeadsMarked, LeadsTo, plain_key};
+ghost use Rattle.mt_cache.specs.Names.{plain_key};
 
-use crate::marked::{Marked, MarkedPlace};
 use crate::names::Names;
 use mt_event::Reason;
 use mt_model::{Op, TopologyFault};
 use mt_names::{Position, RuleKey, TableName, TabletType, Value, WorkflowName};
-use mt_site::{Core, Place};
+use mt_site::Core;
 use mt_site_events::a_core_tells_what_its_state_serves;
 use mt_stream::Advanced;
 use mt_workflow::Slot;
@@ -30,25 +29,24 @@ use std::marker::Model;
 use std::str;
 
 /// A core beside where names led when rows were last asked for by them. These are forgotten as soon as the core is lent to be changed.
-/// So most rows of a script take one look-up of a name, by its bytes in the line, where the core alone takes four and more. A table's
-/// name alone serves reads and writes, and a name with a keyspace or a type reads alone. For its callers it is the core. (Vitess: a
-/// router that keeps the plans of queries)
+/// So most rows of a script take one look-up of a name, by its bytes in the line, where the core alone takes four and more. Only names
+/// of tables alone are kept, without a keyspace or a type. For its callers it is the core. (Vitess: a router that keeps the plans of
+/// queries)
 #[derive(Drop)]
 pub struct CachedCore {
     core: Core,
     names: Names,
-    marked: Marked,
 }
 
 impl Model for CachedCore {
     ghost use Rattle.mt_site_state.specs.Ways.{SiteState};
-    ghost use Rattle.mt_cache.specs.Names.{KeptLead};
+    ghost use Rattle.mt_cache.specs.Names.{LeadThere};
 
     ghost Value = { SiteState };
 
     ghost view = { λ cached. cached.core };
 
-    ghost invariant = { λ cached. KeptLead cached.core.core.topology cached.names.kept.entries cached.marked.kept.items };
+    ghost invariant = { λ cached. LeadThere cached.core.core.topology cached.names.kept.entries };
 }
 
 impl CachedCore {
@@ -60,7 +58,6 @@ impl CachedCore {
         CachedCore {
             core: Core::new(alloc),
             names: Names::new(alloc),
-            marked: Marked::new(alloc),
         }
     }
 
@@ -79,7 +76,6 @@ impl CachedCore {
         ensures value { result.now ≡ self.old }
     {
         self.names.forget();
-        self.marked.forget();
         &mut self.core
     }
 
@@ -114,20 +110,8 @@ impl CachedCore {
         }
     }
 
-    /// Where a table's name alone leads for the primary, if that is kept and found at once. The name is given as its bytes. It takes
-    /// no memory.
-    #[inline(always)]
-    pub fn kept(&self, name: &[u8]) -> Option<&Place>
-        ensures leads { IfSome result (λ place. LeadsTo self.now.core.topology name.now place.now) }
-        ensures served { (p : Plain) (scopes : List Scope) → SiteStands p scopes self.now
-            → resolution self.now.core.topology (plain_key name.now) TabletType.Primary ≡ resolution (served p) (plain_key name.now) TabletType.Primary }
-    {
-        a_core_tells_what_its_state_serves();
-        self.names.find_hinted(name)
-    }
-
-    /// Writes a row of the table that a name alone leads to for the primary, as `Core::write_through` does. The name is given as
-    /// its bytes; of bytes that are no table's name nothing is done, and there is no answer. A name that is kept isn't read.
+    /// Writes a row of the table that a name alone leads to for the primary, as `write_through` does. The name is given as its bytes;
+    /// of bytes that are no table's name nothing is done, and there is no answer. A name that is kept isn't read.
     #[inline(always)]
     pub fn write_named(
         &mut self,
@@ -142,12 +126,12 @@ impl CachedCore {
     {
         a_core_tells_what_its_state_serves();
         match self.names.find(name) {
-            Some(place) => Some(Ok(self.core.write_placed(place, op))),
+            Some(place) => Some(Ok(self.core.write_row(place, op))),
             None => self.write_found(name, op),
         }
     }
 
-    /// The same, by a look-up.
+    /// Writes a row of the table that a name alone leads to, by a look-up, and keeps where that is.
     #[inline(never)]
     fn write_found(
         &mut self,
@@ -159,26 +143,13 @@ impl CachedCore {
         ensures told { IfSome result (λ told. WrittenThrough self.old (plain_key name.now) op told self.new) }
     {
         let key = table_key(name)?;
-        Some(self.write_led(key, op))
+        let told = self.write_through(&key, op);
+        self.keep(key);
+        Some(told)
     }
 
-    /// Writes a row of the table that a name alone leads to, by a look-up, and keeps where that is.
-    fn write_led(&mut self, key: RuleKey, op: Op) -> Result<Result<(), Reason>, TopologyFault>
-        requires { key ≡ plain_key key.table }
-        ensures { WrittenThrough self.old key op result self.new }
-    {
-        match self.core.write_through(&key, op) {
-            Ok(told) => {
-                self.keep(key);
-                Ok(told)
-            }
-            Err(fault) => Err(fault),
-        }
-    }
-
-    /// Reads a row, or none, of the table that a name alone leads to for the primary, as `Core::read_through` does. The core stays
-    /// as it is. The name is given as its bytes; of bytes that are no table's name there is no answer. A name that is kept isn't
-    /// read.
+    /// Reads a row, or none, of the table that a name alone leads to for the primary, as `read_through` does. The core stays as it is.
+    /// The name is given as its bytes; of bytes that are no table's name there is no answer. A name that is kept isn't read.
     pub fn read_named(
         &mut self,
         name: &[u8],
@@ -192,12 +163,12 @@ impl CachedCore {
     {
         a_core_tells_what_its_state_serves();
         match self.names.find(name) {
-            Some(place) => Some(Ok(self.core.read_placed(place, key, TabletType::Primary))),
+            Some(place) => Some(Ok(self.core.read_row(place, key, TabletType::Primary))),
             None => self.read_found(name, key),
         }
     }
 
-    /// The same, by a look-up.
+    /// Reads a row of the table that a name alone leads to, by a look-up, and keeps where that is.
     #[inline(never)]
     fn read_found(
         &mut self,
@@ -209,57 +180,13 @@ impl CachedCore {
         ensures told { IfSome result (λ told. ReadThrough self.old (plain_key name.now) key TabletType.Primary told) }
     {
         let name = table_key(name)?;
-        Some(self.read_led(name, key))
+        let told = self.read_through(&name, key, TabletType::Primary);
+        self.keep(name);
+        Some(told)
     }
 
-    /// Reads a row of the table that a name alone leads to, by a look-up, and keeps where that is.
-    fn read_led(
-        &mut self,
-        name: RuleKey,
-        key: u64,
-    ) -> Result<Result<Option<Value>, Reason>, TopologyFault>
-        requires { name ≡ plain_key name.table }
-        ensures same { self.new ≡ self.old }
-        ensures told { ReadThrough self.old name key TabletType.Primary result }
-    {
-        match self.core.read_through(&name, key, TabletType::Primary) {
-            Ok(told) => {
-                self.keep(name);
-                Ok(told)
-            }
-            Err(fault) => Err(fault),
-        }
-    }
-
-    /// Where a name with a keyspace or a type leads for the type that it is read for, if that is kept. The name is given as its
-    /// bytes. It takes no memory.
-    #[inline(always)]
-    pub fn kept_marked(&self, name: &[u8]) -> Option<&MarkedPlace>
-        ensures leads { IfSome result (λ kept. LeadsMarked self.now.core.topology name.now kept.now) }
-        ensures served { (p : Plain) (scopes : List Scope) → SiteStands p scopes self.now
-            → (key : RuleKey) (for_type : TabletType) → resolution self.now.core.topology key for_type ≡ resolution (served p) key for_type }
-    {
-        a_core_tells_what_its_state_serves();
-        self.marked.find(name)
-    }
-
-    /// Keeps where a name with a keyspace or a type, by which a row was read, leads for the type that it is read for, if it is to be
-    /// kept. The core stays as it is.
-    #[inline(never)]
-    pub fn keep_marked(&mut self, name: &RuleKey)
-        ensures { self.new ≡ self.old }
-    {
-        if !self.marked.wants_more() {
-            return;
-        }
-        let tablet_type = name.tablet_type.unwrap_or(TabletType::Primary);
-        if let Ok(target) = self.core.resolve(name, tablet_type) {
-            let place = self.core.place_of(target);
-            self.marked.keep(name, tablet_type, place);
-        }
-    }
-
-    /// Writes a row of the table that a name leads to for the primary: see `Core::write_through`. What is kept stays.
+    /// Writes a row of the table that a name leads to for the primary: a look-up, as `Core::resolve` answers it, and then
+    /// `Core::write_row` there. `T2 NoTable` or `T3 Ambiguous` if the name leads nowhere; that leaves the core as it was. What is kept stays.
     pub fn write_through(
         &mut self,
         name: &RuleKey,
@@ -270,7 +197,35 @@ impl CachedCore {
             → resolution self.old.core.topology name.now TabletType.Primary ≡ resolution (served p) name.now TabletType.Primary }
     {
         a_core_tells_what_its_state_serves();
-        self.core.write_through(name, op)
+        match self.core.resolve(name, TabletType::Primary) {
+            Ok(target) => {
+                let place = self.core.place_of(target);
+                Ok(self.core.write_row(&place, op))
+            }
+            Err(fault) => Err(fault),
+        }
+    }
+
+    /// Reads a row, or none, of the table that a name leads to for a type: a look-up, as `Core::resolve` answers it, and then
+    /// `Core::read_row` there. `T2 NoTable` or `T3 Ambiguous` if the name leads nowhere. It takes no memory.
+    pub fn read_through(
+        &self,
+        name: &RuleKey,
+        key: u64,
+        tablet_type: TabletType,
+    ) -> Result<Result<Option<Value>, Reason>, TopologyFault>
+        ensures told { ReadThrough self.now name.now key tablet_type result }
+        ensures served { (p : Plain) (scopes : List Scope) → SiteStands p scopes self.now
+            → resolution self.now.core.topology name.now tablet_type ≡ resolution (served p) name.now tablet_type }
+    {
+        a_core_tells_what_its_state_serves();
+        match self.core.resolve(name, tablet_type) {
+            Ok(target) => {
+                let place = self.core.place_of(target);
+                Ok(self.core.read_row(&place, key, tablet_type))
+            }
+            Err(fault) => Err(fault),
+        }
     }
 }
 

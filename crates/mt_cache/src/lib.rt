@@ -2,9 +2,7 @@
 #![tactic(auto)]
 
 mod cached;
-mod marked;
 mod name_text;
 mod names;
 
 pub use cached::CachedCore;
-pub use marked::MarkedPlace;

@@ -21,20 +21,6 @@ pub(crate) struct Names {
     pub kept: IndexMap<TableName, Place>,
     /// How many rows were asked for by names that weren't kept, as far as that matters.
     pub rows: u8,
-    /// Where a name may stand among those that are kept, by its last bytes. Nothing is promised of it.
-    pub hints: [u8; 256],
-}
-
-/// Which hint serves a name. Names that differ in their last bytes mostly have others.
-#[inline(always)]
-fn hint_of(name: &[u8]) -> u8 {
-    match name {
-        [first, .., before, last] => first
-            .wrapping_mul(37)
-            .wrapping_add(before.wrapping_mul(10))
-            .wrapping_add(*last),
-        _ => 0,
-    }
 }
 
 impl Names {
@@ -45,7 +31,6 @@ impl Names {
         Names {
             kept: IndexMap::new(alloc),
             rows: 0,
-            hints: [0; 256],
         }
     }
 
@@ -57,34 +42,8 @@ impl Names {
         self.rows = 0;
     }
 
-    /// Where a name of these bytes leads for the primary, if it is kept where its hint says. It takes no memory.
-    #[inline(always)]
-    pub fn find_hinted(&self, name: &[u8]) -> Option<&Place>
-        ensures { (topology : TopologyState) → LeadThere topology self.now.kept.entries
-            → IfSome result (λ place. LeadsTo topology name.now place.now) }
-    {
-        let at = usize::from(self.hints[usize::from(hint_of(name))]);
-        match self.kept.get_index(at) {
-            Some((kept, place)) if kept.as_str().as_bytes() == name => Some(place),
-            _ => None,
-        }
-    }
-
     /// Where a name of these bytes leads for the primary, if it is kept. It takes no memory.
-    #[inline(always)]
     pub fn find(&self, name: &[u8]) -> Option<&Place>
-        ensures { (topology : TopologyState) → LeadThere topology self.now.kept.entries
-            → IfSome result (λ place. LeadsTo topology name.now place.now) }
-    {
-        match self.find_hinted(name) {
-            Some(place) => Some(place),
-            None => self.find_anywhere(name),
-        }
-    }
-
-    /// The same, by its hash.
-    #[inline(never)]
-    fn find_anywhere(&self, name: &[u8]) -> Option<&Place>
         ensures { (topology : TopologyState) → LeadThere topology self.now.kept.entries
             → IfSome result (λ place. LeadsTo topology name.now place.now) }
     {
@@ -107,8 +66,8 @@ impl Names {
         ensures { (topology : TopologyState) → LeadThere topology self.old.kept.entries → resolution topology (plain_key name) Primary ≡ Ok place.target
             → LeadThere topology self.new.kept.entries }
     {
-        let hint = usize::from(hint_of(name.as_str().as_bytes()));
-        self.hints[hint] = self.kept.len().min(255) as u8;
+        // (its text says to the proof that it is a name)
+        name.as_str();
         // What finds no memory is looked up again.
         match self.kept.insert(name, place) {
             Ok(_) => {}

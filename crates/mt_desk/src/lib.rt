@@ -18,5 +18,6 @@ pub use book::Book;
 pub use desk::Desk;
 pub use fault::DeskFault;
 pub use history::{Answer, Call, Line};
+pub use mt_routes::{Front, Router, Told};
 pub use name::DeskName;
 pub use pass::Pass;

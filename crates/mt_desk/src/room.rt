@@ -2,7 +2,6 @@
 ghost use Rattle.std.specs.Prelude.{◌≡◌, ◌+◌, ◌<◌, ◌≤◌, [], false, true, IfOk, IsOk};
 ghost use Rattle.std.specs.Vec.{vec_capacity, vec_len};
 ghost use Rattle.mt_event.specs.Events.{event_of};
-ghost use Rattle.mt_plain.specs.Plain.{stands_done, write_journal};
 ghost use Rattle.mt_workflow.specs.Workflows.{way_from};
 ghost use Rattle.mt_site.specs.Owed.{owed_to};
 ghost use Rattle.mt_desk.specs.Room.{can_cancel, can_undo, gives_up};
@@ -13,24 +12,11 @@ use mt_site::Core;
 use mt_workflow::{Way, Workflow};
 use std::alloc::{AllocError, Global};
 
-/// The number of the step that writes the journal.
-const JOURNAL: u16 = 6;
-
-/// Whether the journal has the entry of a way: its step stands done.
-fn is_past_journal(way: Way) -> bool
-    ensures { result ≡ stands_done (way_from way) write_journal }
-{
-    let has_reads = way.before.replica != way.after.replica
-        || way.before.rdonly != way.after.rdonly;
-    let first = if has_reads { 0 } else { 1 };
-    u16::from(way.done) + first > JOURNAL
-}
-
 /// Whether an undo has the right number, before the journal.
 fn can_undo(way: Way, at: u64) -> bool
     ensures { result ≡ can_undo at (way_from way) }
 {
-    !is_past_journal(way) && at == u64::from(way.done)
+    !way.is_past_journal() && at == u64::from(way.done)
 }
 
 /// Whether nothing of a workflow is switched, and no way is open on it.

@@ -14,6 +14,8 @@ mod acts;
 #[cfg(test)]
 mod calls;
 #[cfg(test)]
+mod desk_memory;
+#[cfg(test)]
 mod life;
 #[cfg(test)]
 mod memory;
@@ -35,3 +37,7 @@ mod texts;
 mod threads;
 #[cfg(test)]
 mod told_memory;
+#[cfg(test)]
+mod venue;
+#[cfg(test)]
+mod worked;

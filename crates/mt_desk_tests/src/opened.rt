@@ -4,18 +4,19 @@ ghost use Rattle.mt_site.specs.Stood.{IsSiteWith};
 ghost use Rattle.mt_watch.specs.Notices.{notice_of};
 
 use crate::acts::{Act, Played, play};
-use crate::memory::is_moved;
+use crate::desk_memory::is_moved;
+use crate::life::Move;
 use crate::no_memory::is_given_up;
 use crate::reading::all_go_on;
 use crate::texts::event_of;
 use crate::threads::two_ask;
 use crate::told_memory::is_told_all;
 use mt_desk::{Desk, DeskFault, DeskName};
-use mt_event::Refusal;
+use mt_event::{Reason, Refusal};
 use mt_names::KeyspaceName;
 use mt_routes::Opened;
 use mt_site::Site;
-use mt_watch::{Asks, Callback, Change, Notice, Scope, WatchFault, Watcher, Watchers};
+use mt_watch::{Asks, Callback, Change, Notice, Scope, WatchFault, Watcher, Watchers, tell};
 use std::alloc::Global;
 use std::marker::Brand;
 use std::sync::Wait;
@@ -42,8 +43,8 @@ pub enum Trial<'a> {
     TwoThreads(u64),
     /// Routers read in four threads while a client edits a rule and each edit is told.
     Readers,
-    /// A move from its beginning to its end, where one allocation may fail.
-    OneFails,
+    /// A move, where one allocation may fail.
+    OneFails(&'a Move),
     /// A move that is given up, where all allocations may fail from one on.
     AllFail,
     /// Routes that are told, where one allocation may fail.
@@ -61,7 +62,7 @@ fn watcher_of(alloc: Global, scope: Scope, refuses: bool) -> Option<Watcher> {
             if refuses {
                 return Err(WatchFault(1));
             }
-            Notice::of(alloc, &own, change).map_err(|_| WatchFault(0))
+            tell(alloc, &own, change)
         },
     ) {
         Ok(call) => call,
@@ -125,7 +126,7 @@ fn applies<W: Asks>(site: &mut Site<W>, line: &str) -> bool
     };
     match site.apply(&event) {
         Ok(_) => true,
-        Err(Refusal::Memory) => site.apply(&event).is_ok(),
+        Err(Refusal::Other(Reason::Memory)) => site.apply(&event).is_ok(),
         Err(_) => false,
     }
 }
@@ -165,13 +166,13 @@ fn goes<D: DeskName + Send + Sync, W: Asks + Drop + Send, R: Threads + Wait + Sy
         Trial::Acts(acts) => play(rt, alloc, desk, acts),
         Trial::TwoThreads(asks) => two_ask(rt, alloc, desk, asks),
         Trial::Readers => all_go_on(rt, alloc, desk),
-        Trial::OneFails => is_moved(rt, alloc, desk),
+        Trial::OneFails(of) => is_moved(rt, alloc, desk, of),
         Trial::AllFail => is_given_up(rt, desk),
         Trial::OneFailsTelling => is_told_all(rt, desk),
     }
 }
 
-/// The same at a desk that is opened for it.
+/// How a trial goes at a desk that is opened for it.
 fn at_a_desk<D: DeskName + Send + Sync, W: Asks + Drop + Send, R: Threads + Wait + Sync>(
     rt: &R,
     alloc: Global,
@@ -210,7 +211,7 @@ fn watched<W: Asks + Drop + Send, R: Threads + Wait + Sync>(
     at_a_desk::<Brand, W, R>(rt, alloc, blank, opened, site, trial)
 }
 
-/// The same, where whoever watches is made first.
+/// How a trial goes at a desk whose watchers are made for it.
 fn tried_once<R: Threads + Wait + Sync>(
     rt: &R,
     alloc: Global,

@@ -1,87 +1,62 @@
-//! The same where each event is run as a list of one: where an allocation fails, `run_events` is stopped before the event, or the event
-//! is answered that memory is out or what it is answered without, a refused one changes nothing, and the next try does it.
+//! The moves where each event is run as a list of one, by `run_events`.
 
-use crate::life::{Asked, LIFE};
+use crate::acts::Played;
+use crate::life::{LIFE, Move};
+use crate::memory::first_wrong;
 use crate::opened::two_watchers;
-use crate::texts::{event_of, is_written};
+use crate::venue::{Seen, Venue};
+use crate::worked::{BOTH, CANCELLED, COMPLETED, REVERSED, STEPPED};
 use mt_desk::Answer;
-use mt_event::{Event, Refusal};
+use mt_event::Event;
+use mt_names::{RuleKey, RuleTarget, TabletType};
 use mt_site::{Site, run_events};
 use mt_watch::Watchers;
 use std::alloc::Global;
+use std::sync::Wait;
 
-/// How a site stands: its topology, the events that are owed, what is told of the move, and of a row at either side.
-#[derive(Drop, PartialEq)]
-struct Standing {
-    dump: Option<String>,
-    owed: usize,
-    shown: Option<Answer>,
-    source: Option<Answer>,
-    target: Option<Answer>,
+/// A site, which is asked by lists of one event.
+#[derive(Drop)]
+struct ByRuns<'a> {
+    alloc: Global,
+    site: &'a mut Site<Watchers>,
 }
 
-/// The answer to what a line asks for.
-fn answer_of(site: &mut Site<Watchers>, line: &str) -> Option<Answer> {
-    let event = event_of(line)?;
-    Some(site.apply(&event))
+/// Where a name leads.
+fn led(site: &Site<Watchers>, name: &str) -> Option<RuleTarget> {
+    let key = RuleKey::parse(name).ok()?;
+    let tablet_type = key.tablet_type.unwrap_or(TabletType::Primary);
+    site.resolve(&key, tablet_type).ok()
 }
 
-/// How the site stands now.
-fn standing_of(site: &mut Site<Watchers>) -> Standing {
-    Standing {
-        dump: match site.dump() {
-            Ok(dump) => Some(dump),
-            Err(_) => site.dump().ok(),
-        },
-        owed: site.owed(),
-        shown: answer_of(site, "show mv"),
-        source: answer_of(site, "at commerce.corder get 1"),
-        target: answer_of(site, "at customer.corder get 1"),
+impl Venue for ByRuns<'_> {
+    fn ask<H: Wait>(&mut self, _rt: &H, event: Event) -> Option<Answer> {
+        run_events(self.alloc, self.site, &[event]).ok()?.pop()
+    }
+
+    fn seen<H: Wait>(&mut self, _rt: &H, names: &[&str; 4]) -> Option<Seen> {
+        let leads = [
+            led(self.site, names[0]),
+            led(self.site, names[1]),
+            led(self.site, names[2]),
+            led(self.site, names[3]),
+        ];
+        let document = match self.site.dump() {
+            Ok(document) => document,
+            Err(_) => self.site.dump().ok()?,
+        };
+        Some(Seen {
+            topology: Some((document, self.site.owed())),
+            leads,
+        })
+    }
+
+    fn takes_what_is_owed(&mut self) -> bool {
+        false
     }
 }
 
-/// What an event is answered in a list of its own, which is run at once or at a second try.
-fn run_alone(alloc: Global, site: &mut Site<Watchers>, event: Event) -> Option<Answer> {
-    let events = [event];
-    let mut answers = match run_events(alloc, site, &events) {
-        Ok(answers) => answers,
-        Err(_) => run_events(alloc, site, &events).ok()?,
-    };
-    answers.pop()
-}
-
-/// Whether an event is answered so, at once or at a second try after a refusal that changed nothing.
-fn is_answered(alloc: Global, site: &mut Site<Watchers>, asked: Asked) -> bool {
-    let Some(event) = event_of(asked.0) else {
-        return false;
-    };
-    let before = standing_of(site);
-    match run_alone(alloc, site, event.copied()) {
-        Some(Err(Refusal::Memory | Refusal::WatcherRefused(_))) => {}
-        Some(answer) => return is_written(&answer, asked.1),
-        None => return false,
-    }
-    if before.dump.is_none() || standing_of(site) != before {
-        return false;
-    }
-    match run_alone(alloc, site, event) {
-        Some(answer) => is_written(&answer, asked.1),
-        None => false,
-    }
-}
-
-/// The first line of the move that is answered otherwise.
-fn first_wrong(alloc: Global, site: &mut Site<Watchers>) -> Option<&'static str> {
-    for asked in &LIFE {
-        if !is_answered(alloc, site, *asked) {
-            return Some(asked.0);
-        }
-    }
-    None
-}
-
-/// The same at a site that begins with nothing.
-fn first_wrong_anew(alloc: Global) -> Option<&'static str> {
+/// How a move goes at a site that begins with nothing.
+fn moved<R: Wait>(rt: &R, alloc: Global, of: Move) -> Played {
     let made = match two_watchers(alloc) {
         Some(watchers) => Some(watchers),
         None => two_watchers(alloc),
@@ -89,15 +64,44 @@ fn first_wrong_anew(alloc: Global) -> Option<&'static str> {
     match made {
         Some(watchers) => {
             let mut site = Site::open(alloc, watchers);
-            let wrong = first_wrong(alloc, &mut site);
+            let mut venue = ByRuns {
+                alloc,
+                site: &mut site,
+            };
+            let wrong = first_wrong(rt, &mut venue, of);
             drop(site);
-            wrong
+            Played::up_to(wrong)
         }
-        None => Some("the watchers"),
+        None => Played::NotMade,
     }
 }
 
 #[test]
 fn want_of_memory_is_no_other_answer(rt: HostRuntime) {
-    assert_eq!(rt; first_wrong_anew(rt.alloc()), None);
+    assert_eq!(rt; moved(&rt, rt.alloc(), LIFE), Played::AllSo);
+}
+
+#[test]
+fn want_of_memory_is_no_other_answer_of_a_cancel(rt: HostRuntime) {
+    assert_eq!(rt; moved(&rt, rt.alloc(), CANCELLED), Played::AllSo);
+}
+
+#[test]
+fn want_of_memory_is_no_other_answer_of_steps_past_the_journal(rt: HostRuntime) {
+    assert_eq!(rt; moved(&rt, rt.alloc(), STEPPED), Played::AllSo);
+}
+
+#[test]
+fn want_of_memory_is_no_other_answer_of_a_reversal(rt: HostRuntime) {
+    assert_eq!(rt; moved(&rt, rt.alloc(), REVERSED), Played::AllSo);
+}
+
+#[test]
+fn want_of_memory_is_no_other_answer_of_a_completion(rt: HostRuntime) {
+    assert_eq!(rt; moved(&rt, rt.alloc(), COMPLETED), Played::AllSo);
+}
+
+#[test]
+fn want_of_memory_is_no_other_answer_of_two_at_once(rt: HostRuntime) {
+    assert_eq!(rt; moved(&rt, rt.alloc(), BOTH), Played::AllSo);
 }

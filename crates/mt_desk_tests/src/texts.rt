@@ -2,71 +2,97 @@
 
 use mt_desk::Answer;
 use mt_event::Event;
-use mt_script::{Line, Request, WorkflowAsked, WorkflowRequest, read_line};
-use mt_texts::{LineText, write_answer};
+use mt_names::{KeyspaceName, RuleKey, RuleTarget, TableName, TypeSet, WorkflowName, table_list};
+use mt_script::{
+    CreateWords, Line, LineText, QualifiedName, RowAsked, WorkflowAsked, put_answer, read,
+};
 
 /// The event that a line asks for; none if it asks for none, for several, or where a name leads.
 pub fn event_of(line: &str) -> Option<Event> {
-    let Line::Request(request) = read_line(line.as_bytes()) else {
-        return None;
+    match read(line.as_bytes()) {
+        Line::Keyspace(name) => Some(Event::AddKeyspace {
+            keyspace: KeyspaceName::parse(name).ok()?,
+        }),
+        Line::Table(keyspace, name) => Some(Event::AddTable {
+            keyspace: KeyspaceName::parse(keyspace).ok()?,
+            table: TableName::parse(name).ok()?,
+        }),
+        Line::Rule(key, target) => edit_rule(key, target),
+        Line::At(name, asked) => event_at(&name, asked),
+        Line::Create(words) => create(words),
+        Line::Workflow(name, asked) => event_asked(name, asked),
+        _ => None,
+    }
+}
+
+/// The edit of a rule, which `-` takes away.
+fn edit_rule(key: &str, target: &str) -> Option<Event> {
+    let key = RuleKey::parse(key).ok()?;
+    let target = match target {
+        "-" => None,
+        target => Some(RuleTarget::parse(target).ok()?),
     };
-    match request {
-        Request::AddKeyspace(keyspace) => Some(Event::AddKeyspace { keyspace }),
-        Request::AddTable(keyspace, table) => Some(Event::AddTable { keyspace, table }),
-        Request::EditRule(key, target) => Some(Event::EditRule { key, target }),
-        Request::WriteAt(keyspace, table, op) => Some(Event::Write {
+    Some(Event::EditRule { key, target })
+}
+
+/// A write or a read of a row of a table in its keyspace.
+fn event_at(name: &QualifiedName<'_>, asked: RowAsked<'_>) -> Option<Event> {
+    let (RuleTarget { keyspace, table }, type_of) = name.parse().ok()?;
+    match asked {
+        RowAsked::Write(text) => Some(Event::Write {
             keyspace,
             table,
-            op,
+            op: text.op(),
         }),
-        Request::ReadAt(keyspace, table, key, type_of) => Some(Event::Read {
+        RowAsked::Read(key) => Some(Event::Read {
             keyspace,
             table,
             key,
             type_of,
         }),
-        other => event_of_workflow(other),
     }
 }
 
-/// The same, if it is one on a workflow.
-fn event_of_workflow(request: Request<'_>) -> Option<Event> {
-    match request {
-        Request::Create(workflow, source, target, tables) => Some(Event::Create {
-            workflow,
-            source,
-            target,
-            tables: tables.tables(),
-        }),
-        Request::Workflow(request) => event_asked(request),
-        _ => None,
-    }
+/// The making of a workflow.
+fn create(words: CreateWords<'_>) -> Option<Event> {
+    Some(Event::Create {
+        workflow: WorkflowName::parse(words.workflow).ok()?,
+        source: KeyspaceName::parse(words.source).ok()?,
+        target: KeyspaceName::parse(words.target).ok()?,
+        tables: table_list(words.tables).ok()?,
+    })
 }
 
-/// The same of what is asked of a workflow that is there.
-fn event_asked(request: WorkflowRequest) -> Option<Event> {
-    let workflow = request.workflow;
-    match request.asked {
+/// What is asked for of a workflow that is there, if it is one event.
+fn event_asked(name: &str, asked: WorkflowAsked<'_>) -> Option<Event> {
+    let workflow = WorkflowName::parse(name).ok()?;
+    match asked {
         WorkflowAsked::Advance(stream, at, max) => Some(Event::Advance {
             workflow,
             stream,
             at,
             max,
         }),
-        WorkflowAsked::BeginSwitch(types) => Some(Event::BeginSwitch { workflow, types }),
-        WorkflowAsked::BeginReverse(types) => Some(Event::BeginReverse { workflow, types }),
+        WorkflowAsked::BeginSwitch(types) => Some(Event::BeginSwitch {
+            workflow,
+            types: TypeSet::parse(types).ok()?,
+        }),
+        WorkflowAsked::BeginReverse(types) => Some(Event::BeginReverse {
+            workflow,
+            types: TypeSet::parse(types).ok()?,
+        }),
         WorkflowAsked::Step(at) => Some(Event::Step { workflow, at }),
         WorkflowAsked::Undo(at) => Some(Event::Undo { workflow, at }),
         WorkflowAsked::Cancel => Some(Event::Cancel { workflow }),
         WorkflowAsked::Complete => Some(Event::Complete { workflow }),
         WorkflowAsked::Show => Some(Event::Show { workflow }),
-        _ => None,
+        WorkflowAsked::Switch(_) | WorkflowAsked::Reverse(_) => None,
     }
 }
 
 /// Whether an answer is written so.
 pub fn is_written(answer: &Answer, want: &str) -> bool {
     let mut line = LineText::new();
-    write_answer(&mut line, answer);
+    put_answer(&mut line, answer);
     line.starts_with(want.as_bytes()) && line.len() == want.len() + 1
 }

@@ -1,7 +1,7 @@
 //! Where an allocation fails, what is to be told is refused, a refusal shows nothing, and the next try tells it.
 
 use crate::acts::Played;
-use crate::memory::pass_of;
+use crate::desk_memory::pass_of;
 use crate::opened::{Trial, Watch, tried};
 use crate::route_acts::leads;
 use crate::texts::event_of;

@@ -21,6 +21,9 @@ use Rattle.mt_event.specs.Same.{same_event, same_refusal, same_reply}
 use Rattle.mt_event.specs.declared.reply.Shown.{Shown}
 use Rattle.mt_event.specs.declared.reply.ShownStream.{ShownStream}
 use Rattle.mt_event.specs.contracts.event.Event as event
+use Rattle.mt_event.specs.declared.reason.Reason.{Reason}
+use Rattle.mt_event.specs.contracts.reason.Reason as reason
+use Rattle.mt_event.specs.contracts.reason.ReasonPartialEq.TheImpl as of_reason
 use Rattle.mt_event.specs.contracts.refusal.Refusal as refusal
 use Rattle.mt_event.specs.contracts.reply.Reply as reply
 use Rattle.mt_event.specs.contracts.reply.Shown as shown
@@ -150,84 +153,16 @@ same_reply_decides =
       ),
     ))
 
+abbrev same_reason : Reason → Reason → Bool
+same_reason = of_reason.ghosts.eq
+
+same_reason_decides : DecidesEquality same_reason
+same_reason_decides =
+    struct_decides reason.enum.as_values (values_one reason.enum) _ (choice_decides reason.enum.parts _ (nothing_decides, (nothing_decides, (nothing_decides, (nothing_decides, (nothing_decides, (nothing_decides, (nothing_decides, (nothing_decides, (nothing_decides, (nothing_decides, (nothing_decides, (nothing_decides, (nothing_decides, (nothing_decides, (nothing_decides, (nothing_decides, (nothing_decides, (nothing_decides, (nothing_decides, (nothing_decides, (nothing_decides, (last_decides same_number same_number_decides, (nothing_decides, (last_decides same_number same_number_decides, (nothing_decides, (nothing_decides, (nothing_decides, (nothing_decides, (nothing_decides, tt))))))))))))))))))))))))))))))
+
 pub same_refusal_decides : DecidesEquality same_refusal
 same_refusal_decides =
     struct_decides refusal.enum.as_values (values_one refusal.enum) _ (choice_decides refusal.enum.parts _ (
-      nothing_decides,
-      (
-        nothing_decides,
-        (
-          nothing_decides,
-          (
-            nothing_decides,
-            (
-              nothing_decides,
-              (
-                nothing_decides,
-                (
-                  nothing_decides,
-                  (
-                    nothing_decides,
-                    (
-                      nothing_decides,
-                      (
-                        last_decides same_key same_key_decides,
-                        (
-                          last_decides same_text same_text_decides,
-                          (
-                            nothing_decides,
-                            (
-                              nothing_decides,
-                              (
-                                nothing_decides,
-                                (
-                                  nothing_decides,
-                                  (
-                                    nothing_decides,
-                                    (
-                                      nothing_decides,
-                                      (
-                                        nothing_decides,
-                                        (
-                                          nothing_decides,
-                                          (
-                                            nothing_decides,
-                                            (
-                                              nothing_decides,
-                                              (
-                                                nothing_decides,
-                                                (
-                                                  nothing_decides,
-                                                  (
-                                                    last_decides same_number same_number_decides,
-                                                    (
-                                                      nothing_decides,
-                                                      (
-                                                        last_decides same_number same_number_decides,
-                                                        (nothing_decides, (nothing_decides, (nothing_decides, (nothing_decides, (nothing_decides, tt))))),
-                                                      ),
-                                                    ),
-                                                  ),
-                                                ),
-                                              ),
-                                            ),
-                                          ),
-                                        ),
-                                      ),
-                                    ),
-                                  ),
-                                ),
-                              ),
-                            ),
-                          ),
-                        ),
-                      ),
-                    ),
-                  ),
-                ),
-              ),
-            ),
-          ),
-        ),
-      ),
+      last_decides same_key same_key_decides,
+      (last_decides same_text same_text_decides, (last_decides same_reason same_reason_decides, tt)),
     ))

@@ -10,6 +10,7 @@ use Rattle.mt_workflow.specs.declared.way.Way.{Way}
 use Rattle.mt_workflow.specs.Workflows.{way_from}
 use Rattle.mt_event.specs.declared.event.Event.{Event}
 use Rattle.mt_event.specs.declared.event.Event.TheVariants as event
+use Rattle.mt_event.specs.declared.reason.Reason.TheVariants as reason
 use Rattle.mt_event.specs.declared.refusal.Refusal.{Refusal}
 use Rattle.mt_event.specs.declared.refusal.Refusal.TheVariants as refusal
 use Rattle.mt_event.specs.declared.reply.Reply.{Reply}
@@ -68,70 +69,70 @@ told_events_are_one = one_from_back event_of back_event event-returns
 -- ---- answers
 
 abbrev back_refusal : plain.Refusal → Refusal
-back_refusal plain.memory = refusal.Memory
-back_refusal plain.no_keyspace = refusal.NoKeyspace
-back_refusal plain.no_table = refusal.NoTable
-back_refusal plain.denied = refusal.Denied
-back_refusal plain.row_exists = refusal.RowExists
-back_refusal plain.no_row = refusal.NoRow
-back_refusal plain.workflow_exists = refusal.WorkflowExists
-back_refusal plain.no_workflow = refusal.NoWorkflow
-back_refusal plain.table_in_workflow = refusal.TableInWorkflow
+back_refusal plain.memory = refusal.Other reason.Memory
+back_refusal plain.no_keyspace = refusal.Other reason.NoKeyspace
+back_refusal plain.no_table = refusal.Other reason.NoTable
+back_refusal plain.denied = refusal.Other reason.Denied
+back_refusal plain.row_exists = refusal.Other reason.RowExists
+back_refusal plain.no_row = refusal.Other reason.NoRow
+back_refusal plain.workflow_exists = refusal.Other reason.WorkflowExists
+back_refusal plain.no_workflow = refusal.Other reason.NoWorkflow
+back_refusal plain.table_in_workflow = refusal.Other reason.TableInWorkflow
 back_refusal (plain.rule_conflict key) = refusal.RuleConflict key
 back_refusal (plain.target_has_table table) = refusal.TargetHasTable table
-back_refusal plain.same_keyspace = refusal.SameKeyspace
-back_refusal plain.no_tables = refusal.NoTables
-back_refusal plain.under_way = refusal.UnderWay
-back_refusal plain.nothing_under_way = refusal.NothingUnderWay
-back_refusal plain.nothing_to_switch = refusal.NothingToSwitch
-back_refusal plain.nothing_to_reverse = refusal.NothingToReverse
-back_refusal plain.copying = refusal.Copying
-back_refusal plain.not_level = refusal.NotLevel
-back_refusal plain.past_journal = refusal.PastJournal
-back_refusal plain.traffic_switched = refusal.TrafficSwitched
-back_refusal plain.not_all_switched = refusal.NotAllSwitched
-back_refusal plain.rule_owned = refusal.RuleOwned
-back_refusal (plain.watcher_refused index) = refusal.WatcherRefused index
-back_refusal plain.no_watcher = refusal.NoWatcher
-back_refusal (plain.stale current) = refusal.Stale current
-back_refusal plain.stream_stopped = refusal.StreamStopped
-back_refusal plain.full = refusal.Full
-back_refusal plain.undoing = refusal.Undoing
-back_refusal plain.too_long = refusal.TooLong
-back_refusal plain.exists = refusal.Exists
+back_refusal plain.same_keyspace = refusal.Other reason.SameKeyspace
+back_refusal plain.no_tables = refusal.Other reason.NoTables
+back_refusal plain.under_way = refusal.Other reason.UnderWay
+back_refusal plain.nothing_under_way = refusal.Other reason.NothingUnderWay
+back_refusal plain.nothing_to_switch = refusal.Other reason.NothingToSwitch
+back_refusal plain.nothing_to_reverse = refusal.Other reason.NothingToReverse
+back_refusal plain.copying = refusal.Other reason.Copying
+back_refusal plain.not_level = refusal.Other reason.NotLevel
+back_refusal plain.past_journal = refusal.Other reason.PastJournal
+back_refusal plain.traffic_switched = refusal.Other reason.TrafficSwitched
+back_refusal plain.not_all_switched = refusal.Other reason.NotAllSwitched
+back_refusal plain.rule_owned = refusal.Other reason.RuleOwned
+back_refusal (plain.watcher_refused index) = refusal.Other (reason.WatcherRefused index)
+back_refusal plain.no_watcher = refusal.Other reason.NoWatcher
+back_refusal (plain.stale current) = refusal.Other (reason.Stale current)
+back_refusal plain.stream_stopped = refusal.Other reason.StreamStopped
+back_refusal plain.full = refusal.Other reason.Full
+back_refusal plain.undoing = refusal.Other reason.Undoing
+back_refusal plain.too_long = refusal.Other reason.TooLong
+back_refusal plain.exists = refusal.Other reason.Exists
 
 refusal-returns : (r : Refusal) → back_refusal (refusal_from r) ≡ r
-refusal-returns refusal.Memory = refl
-refusal-returns refusal.NoKeyspace = refl
-refusal-returns refusal.NoTable = refl
-refusal-returns refusal.Denied = refl
-refusal-returns refusal.RowExists = refl
-refusal-returns refusal.NoRow = refl
-refusal-returns refusal.WorkflowExists = refl
-refusal-returns refusal.NoWorkflow = refl
-refusal-returns refusal.TableInWorkflow = refl
+refusal-returns (refusal.Other reason.Memory) = refl
+refusal-returns (refusal.Other reason.NoKeyspace) = refl
+refusal-returns (refusal.Other reason.NoTable) = refl
+refusal-returns (refusal.Other reason.Denied) = refl
+refusal-returns (refusal.Other reason.RowExists) = refl
+refusal-returns (refusal.Other reason.NoRow) = refl
+refusal-returns (refusal.Other reason.WorkflowExists) = refl
+refusal-returns (refusal.Other reason.NoWorkflow) = refl
+refusal-returns (refusal.Other reason.TableInWorkflow) = refl
 refusal-returns (refusal.RuleConflict key) = refl
 refusal-returns (refusal.TargetHasTable table) = refl
-refusal-returns refusal.SameKeyspace = refl
-refusal-returns refusal.NoTables = refl
-refusal-returns refusal.UnderWay = refl
-refusal-returns refusal.NothingUnderWay = refl
-refusal-returns refusal.NothingToSwitch = refl
-refusal-returns refusal.NothingToReverse = refl
-refusal-returns refusal.Copying = refl
-refusal-returns refusal.NotLevel = refl
-refusal-returns refusal.PastJournal = refl
-refusal-returns refusal.TrafficSwitched = refl
-refusal-returns refusal.NotAllSwitched = refl
-refusal-returns refusal.RuleOwned = refl
-refusal-returns (refusal.WatcherRefused index) = refl
-refusal-returns refusal.NoWatcher = refl
-refusal-returns (refusal.Stale current) = refl
-refusal-returns refusal.StreamStopped = refl
-refusal-returns refusal.Full = refl
-refusal-returns refusal.Undoing = refl
-refusal-returns refusal.TooLong = refl
-refusal-returns refusal.Exists = refl
+refusal-returns (refusal.Other reason.SameKeyspace) = refl
+refusal-returns (refusal.Other reason.NoTables) = refl
+refusal-returns (refusal.Other reason.UnderWay) = refl
+refusal-returns (refusal.Other reason.NothingUnderWay) = refl
+refusal-returns (refusal.Other reason.NothingToSwitch) = refl
+refusal-returns (refusal.Other reason.NothingToReverse) = refl
+refusal-returns (refusal.Other reason.Copying) = refl
+refusal-returns (refusal.Other reason.NotLevel) = refl
+refusal-returns (refusal.Other reason.PastJournal) = refl
+refusal-returns (refusal.Other reason.TrafficSwitched) = refl
+refusal-returns (refusal.Other reason.NotAllSwitched) = refl
+refusal-returns (refusal.Other reason.RuleOwned) = refl
+refusal-returns (refusal.Other (reason.WatcherRefused index)) = refl
+refusal-returns (refusal.Other reason.NoWatcher) = refl
+refusal-returns (refusal.Other (reason.Stale current)) = refl
+refusal-returns (refusal.Other reason.StreamStopped) = refl
+refusal-returns (refusal.Other reason.Full) = refl
+refusal-returns (refusal.Other reason.Undoing) = refl
+refusal-returns (refusal.Other reason.TooLong) = refl
+refusal-returns (refusal.Other reason.Exists) = refl
 
 abbrev back_state : plain.StreamState → StreamState
 back_state plain.running = state.Running

@@ -3,12 +3,13 @@ use Rattle.std.specs.Prelude.{⊤, option_map, Result, Ok, Err}
 use Rattle.mt_event.specs.declared.event.Event.{Event}
 use Rattle.mt_event.specs.declared.event.Event.TheVariants as event
 use Rattle.mt_event.specs.declared.refusal.Refusal.{Refusal}
-use Rattle.mt_event.specs.declared.refusal.Refusal.TheVariants as from
+use Rattle.mt_event.specs.declared.refusal.Refusal.TheVariants as refusal
 use Rattle.mt_event.specs.declared.reply.Reply.{Reply}
 use Rattle.mt_event.specs.declared.reply.Reply.TheVariants as reply
 use Rattle.mt_event.specs.declared.reply.Shown.{Shown}
 use Rattle.mt_event.specs.declared.reply.ShownOf.{ShownOf}
 use Rattle.mt_event.specs.declared.reply.ShownStream.{ShownStream}
+use Rattle.mt_event.specs.Reasons.{reason_from}
 use Rattle.mt_plain.specs.Events as plain
 use Rattle.mt_stream.specs.Streams.{state_from}
 use Rattle.mt_workflow.specs.Workflows.{stream_name, way_from}
@@ -32,37 +33,9 @@ event_of (event.Show workflow) = plain.show workflow
 
 -- why an event is refused (this profile's own)
 abbrev pub refusal_from : Refusal → plain.Refusal
-refusal_from from.Memory = plain.memory
-refusal_from from.NoKeyspace = plain.no_keyspace
-refusal_from from.NoTable = plain.no_table
-refusal_from from.Denied = plain.denied
-refusal_from from.RowExists = plain.row_exists
-refusal_from from.NoRow = plain.no_row
-refusal_from from.WorkflowExists = plain.workflow_exists
-refusal_from from.NoWorkflow = plain.no_workflow
-refusal_from from.TableInWorkflow = plain.table_in_workflow
-refusal_from (from.RuleConflict key) = plain.rule_conflict key
-refusal_from (from.TargetHasTable table) = plain.target_has_table table
-refusal_from from.SameKeyspace = plain.same_keyspace
-refusal_from from.NoTables = plain.no_tables
-refusal_from from.UnderWay = plain.under_way
-refusal_from from.NothingUnderWay = plain.nothing_under_way
-refusal_from from.NothingToSwitch = plain.nothing_to_switch
-refusal_from from.NothingToReverse = plain.nothing_to_reverse
-refusal_from from.Copying = plain.copying
-refusal_from from.NotLevel = plain.not_level
-refusal_from from.PastJournal = plain.past_journal
-refusal_from from.TrafficSwitched = plain.traffic_switched
-refusal_from from.NotAllSwitched = plain.not_all_switched
-refusal_from from.RuleOwned = plain.rule_owned
-refusal_from (from.WatcherRefused index) = plain.watcher_refused index
-refusal_from from.NoWatcher = plain.no_watcher
-refusal_from (from.Stale current) = plain.stale current
-refusal_from from.StreamStopped = plain.stream_stopped
-refusal_from from.Full = plain.full
-refusal_from from.Undoing = plain.undoing
-refusal_from from.TooLong = plain.too_long
-refusal_from from.Exists = plain.exists
+refusal_from (refusal.RuleConflict key) = plain.rule_conflict key
+refusal_from (refusal.TargetHasTable table) = plain.target_has_table table
+refusal_from (refusal.Other reason) = reason_from reason
 
 -- a stream with its position (MoveTables: Show)
 abbrev pub shown_stream_from : ShownStream → plain.Slot

@@ -1,10 +1,9 @@
 //! Why an event is refused, where no name is told.
-use crate::refusal::Refusal;
 use std::fmt;
 use thiserror::Error;
 
-/// Why an event other than Create is refused: it tells no name, so that it is small, where a `Refusal` has room for a rule key. Each comes
-/// as the `Refusal` of its name does.
+/// Why an event is refused, where no name is told. Each comes exactly where its condition holds and none before it in the event's order
+/// does; out of memory comes last.
 #[derive(Clone, Copy, Debug, Eq, Error, PartialEq)]
 pub enum Reason {
     /// No memory was left.
@@ -19,8 +18,16 @@ pub enum Reason {
     RowExists,
     /// An update, an append or a delete of a key that isn't there.
     NoRow,
+    /// A workflow of that name is there already.
+    WorkflowExists,
     /// There is no workflow of that name.
     NoWorkflow,
+    /// A workflow that is there moves one of the tables.
+    TableInWorkflow,
+    /// The source is the target.
+    SameKeyspace,
+    /// No table was named.
+    NoTables,
     /// A way is open on the workflow.
     UnderWay,
     /// No way is open on the workflow.
@@ -64,48 +71,40 @@ impl Reason {
     ghost use Rattle.mt_plain.specs.Events.{refusal_text};
     ghost use Rattle.mt_event.specs.Reasons.{reason_from};
 
-    /// It as it is printed: its number and its name, without the values that it carries.
+    /// The reason as it is printed: its number and its name, without the values that it carries.
     pub fn as_str(self) -> &'static str
         ensures { result.now ≡ refusal_text (reason_from self) }
     {
-        Refusal::from(self).as_str()
-    }
-}
-
-impl From<Reason> for Refusal {
-    ghost use Rattle.std.specs.Prelude.{◌≡◌};
-    ghost use Rattle.mt_event.specs.Events.{refusal_from};
-    ghost use Rattle.mt_event.specs.Reasons.{reason_from};
-
-    ghost from_gives = { λ reason refusal. refusal_from refusal ≡ reason_from reason };
-
-    fn from(reason: Reason) -> Refusal {
-        match reason {
-            Reason::Memory => Refusal::Memory,
-            Reason::NoKeyspace => Refusal::NoKeyspace,
-            Reason::NoTable => Refusal::NoTable,
-            Reason::Denied => Refusal::Denied,
-            Reason::RowExists => Refusal::RowExists,
-            Reason::NoRow => Refusal::NoRow,
-            Reason::NoWorkflow => Refusal::NoWorkflow,
-            Reason::UnderWay => Refusal::UnderWay,
-            Reason::NothingUnderWay => Refusal::NothingUnderWay,
-            Reason::NothingToSwitch => Refusal::NothingToSwitch,
-            Reason::NothingToReverse => Refusal::NothingToReverse,
-            Reason::Copying => Refusal::Copying,
-            Reason::NotLevel => Refusal::NotLevel,
-            Reason::PastJournal => Refusal::PastJournal,
-            Reason::TrafficSwitched => Refusal::TrafficSwitched,
-            Reason::NotAllSwitched => Refusal::NotAllSwitched,
-            Reason::RuleOwned => Refusal::RuleOwned,
-            Reason::WatcherRefused(index) => Refusal::WatcherRefused(index),
-            Reason::NoWatcher => Refusal::NoWatcher,
-            Reason::Stale(current) => Refusal::Stale(current),
-            Reason::StreamStopped => Refusal::StreamStopped,
-            Reason::Full => Refusal::Full,
-            Reason::Undoing => Refusal::Undoing,
-            Reason::TooLong => Refusal::TooLong,
-            Reason::Exists => Refusal::Exists,
+        match self {
+            Reason::Memory => "F0 Memory",
+            Reason::NoKeyspace => "F1 NoKeyspace",
+            Reason::NoTable => "F2 NoTable",
+            Reason::Denied => "F3 Denied",
+            Reason::RowExists => "F4 RowExists",
+            Reason::NoRow => "F5 NoRow",
+            Reason::WorkflowExists => "F6 WorkflowExists",
+            Reason::NoWorkflow => "F7 NoWorkflow",
+            Reason::TableInWorkflow => "F8 TableInWorkflow",
+            Reason::SameKeyspace => "F11 SameKeyspace",
+            Reason::NoTables => "F12 NoTables",
+            Reason::UnderWay => "F13 UnderWay",
+            Reason::NothingUnderWay => "F14 NothingUnderWay",
+            Reason::NothingToSwitch => "F15 NothingToSwitch",
+            Reason::NothingToReverse => "F16 NothingToReverse",
+            Reason::Copying => "F17 Copying",
+            Reason::NotLevel => "F18 NotLevel",
+            Reason::PastJournal => "F19 PastJournal",
+            Reason::TrafficSwitched => "F20 TrafficSwitched",
+            Reason::NotAllSwitched => "F21 NotAllSwitched",
+            Reason::RuleOwned => "F22 RuleOwned",
+            Reason::WatcherRefused(_) => "F23 WatcherRefused",
+            Reason::NoWatcher => "F24 NoWatcher",
+            Reason::Stale(_) => "F25 Stale",
+            Reason::StreamStopped => "F26 Stopped",
+            Reason::Full => "F27 Full",
+            Reason::Undoing => "F28 Undoing",
+            Reason::TooLong => "F29 TooLong",
+            Reason::Exists => "F30 Exists",
         }
     }
 }

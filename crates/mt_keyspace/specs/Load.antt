@@ -78,7 +78,7 @@ abbrev pub with_new_denial : List ℕ → KeyspaceState → Option KeyspaceState
 with_new_denial table state =
     if is_marked state.tables table then option_map (λ denied. record state { denied = denied }) (with_new_mark state.denied table) else None
 
--- the same among the keyspaces
+-- the keyspaces with one denial more, at the keyspace that it names
 abbrev pub with_denial : Keyspaces → RuleTarget → Option Keyspaces
 with_denial keyspaces target =
     option_and_then (λ state. option_map (set_value (same_text target.keyspace) keyspaces) (with_new_denial target.table state))

@@ -186,42 +186,8 @@ impl Keyspaces {
         keyspace.add_table(table)
     }
 
-    /// Makes a place for a table in a keyspace that is there. Where the table has one nothing changes. `L1 Full` at a 257th
-    /// place of the keyspace, `L0 Memory`; both leave all as it was.
-    pub fn reserve_table(
-        &mut self,
-        keyspace: &KeyspaceName,
-        table: &TableName,
-    ) -> Result<(), DeniedFault>
-        requires { is_some (keyspace_at self.old keyspace.now) ≡ true }
-        ensures { Edits self.old (table_place_refusal self.old keyspace.now table.now) (table_place_grows self.old keyspace.now table.now)
-            (with_keyspace_state (with_table_place table.now) self.old keyspace.now) (answer_of result) self.new }
-    {
-        match self.make_place(keyspace, table) {
-            Ok(_) => Ok(()),
-            Err(fault) => Err(fault),
-        }
-    }
-
-    /// Makes a place for the denial of a table in a keyspace that is there. Where the denial has one nothing changes.
-    /// `L1 Full` at a 257th place of the keyspace, `L0 Memory`; both leave all as it was.
-    pub fn reserve_denial(
-        &mut self,
-        keyspace: &KeyspaceName,
-        table: &TableName,
-    ) -> Result<(), DeniedFault>
-        requires { is_some (keyspace_at self.old keyspace.now) ≡ true }
-        ensures { Edits self.old (denied_place_refusal self.old keyspace.now table.now) (denied_place_grows self.old keyspace.now table.now)
-            (with_keyspace_state (with_denied_place table.now) self.old keyspace.now) (answer_of result) self.new }
-    {
-        match self.make_denied_place(keyspace, table) {
-            Ok(_) => Ok(()),
-            Err(fault) => Err(fault),
-        }
-    }
-
-    /// Makes a place for a table as `reserve_table` does, and answers whether it made one: not where the table had one. It looks
-    /// a table that has none up once.
+    /// Makes a place for a table in a keyspace that is there, and answers whether it made one: where the table has one nothing changes.
+    /// `L1 Full` at a 257th place of the keyspace, `L0 Memory`; both leave all as it was. It looks a table that has none up once.
     pub fn make_place(
         &mut self,
         keyspace: &KeyspaceName,
@@ -238,8 +204,9 @@ impl Keyspaces {
         keyspace.make_place(table)
     }
 
-    /// Makes a place for the denial of a table as `reserve_denial` does, and answers whether it made one: not where the denial
-    /// had one. It looks a denial that has none up once.
+    /// Makes a place for the denial of a table in a keyspace that is there, and answers whether it made one: where the denial has one
+    /// nothing changes. `L1 Full` at a 257th place of the keyspace, `L0 Memory`; both leave all as it was. It looks a denial that has none
+    /// up once.
     pub fn make_denied_place(
         &mut self,
         keyspace: &KeyspaceName,

@@ -42,7 +42,7 @@ pub use events::{
     answers_are_determined, limits_are_told_last, reads_answer_the_row,
     refused_events_change_nothing,
 };
-pub use headline::{every_run_keeps_the_headline, the_way_back_and_the_rows_stand_in_every_run};
+pub use headline::every_run_keeps_the_headline;
 pub use owed::each_event_owes_one_at_most;
 pub use parts::{a_moved_table_is_never_writable_in_two, parts_are_apart};
 pub use pending::{

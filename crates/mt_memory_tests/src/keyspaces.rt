@@ -19,16 +19,15 @@ fn is_reserved(keyspaces: &mut Keyspaces, keyspace: &KeyspaceName, table: &Table
     if keyspaces.get(keyspace).is_none() {
         return false;
     }
-    match keyspaces.reserve_table(keyspace, table) {
+    match keyspaces.make_place(keyspace, table) {
         Err(DeniedFault::Memory) => {
-            !keyspaces.has_place(keyspace, table)
-                && keyspaces.reserve_table(keyspace, table).is_ok()
+            !keyspaces.has_place(keyspace, table) && keyspaces.make_place(keyspace, table).is_ok()
         }
         answer => answer.is_ok(),
     }
 }
 
-/// The same of its denial.
+/// Whether its denial gets a place, at once or at a second try after a refusal that made none.
 fn denial_is_reserved(
     keyspaces: &mut Keyspaces,
     keyspace: &KeyspaceName,
@@ -37,10 +36,10 @@ fn denial_is_reserved(
     if keyspaces.get(keyspace).is_none() {
         return false;
     }
-    match keyspaces.reserve_denial(keyspace, table) {
+    match keyspaces.make_denied_place(keyspace, table) {
         Err(DeniedFault::Memory) => {
             !keyspaces.has_denied_place(keyspace, table)
-                && keyspaces.reserve_denial(keyspace, table).is_ok()
+                && keyspaces.make_denied_place(keyspace, table).is_ok()
         }
         answer => answer.is_ok(),
     }

@@ -1,8 +1,7 @@
 //! Where an allocation fails, the answer is `Memory` or the one that there is without, and a refusal changes nothing.
 
 use mt_names::{TableName, TabletType, Value};
-use mt_primary::{Op, Primary, PrimaryFault, RowChange};
-use mt_shared::{SharedName, SharedValue};
+use mt_primary::{Op, Primary, PrimaryFault, RowChange, SharedName, SharedValue};
 use std::alloc::{AllocError, Global};
 
 /// The longest value that stands in place.

@@ -8,18 +8,18 @@ use std::alloc::Global;
 const MIXED: &str =
     "{\"rules\":[{\"fromTable\":\"b\",\"toTables\":[\"k.b\"],\"x\":1},{\"from_table\":\"a\",\"to_tables\":[\"k.a\"]}]}";
 
-/// The same document as it is written.
+/// That document as it is written.
 const WRITTEN: &str =
     "{\"rules\":[{\"from_table\":\"a\",\"to_tables\":[\"k.a\"]},{\"from_table\":\"b\",\"to_tables\":[\"k.b\"]}]}";
 
 /// Whether a place is made at once, or at a second try after a refusal that changed nothing.
 fn reserves(rules: &mut RoutingRules, key: &RuleKey) -> bool {
-    let before = rules.len();
+    let before = rules.places();
     if rules.reserve_key(key) == Err(RulesFault::Memory) {
-        let is_kept = rules.len() == before && !rules.has_place(key);
-        return is_kept && rules.reserve_key(key) == Ok(()) && rules.len() == before + 1;
+        let is_kept = rules.places() == before && !rules.has_place(key);
+        return is_kept && rules.reserve_key(key) == Ok(()) && rules.places() == before + 1;
     }
-    rules.has_place(key) && rules.len() == before + 1
+    rules.has_place(key) && rules.places() == before + 1
 }
 
 /// Whether the rules are written so at once, or at a second try.

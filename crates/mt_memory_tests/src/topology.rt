@@ -1,6 +1,6 @@
 //! Where an allocation fails, the answer is `Memory` or the one that there is without, and a refusal changes nothing.
 
-use mt_model::table_part_keys;
+use mt_model::{EntryKey, table_rule_keys};
 use mt_names::{KeyspaceName, NameFault, RuleKey, RuleTarget, TableName};
 use mt_topology::{Topology, TopologyFault};
 use std::alloc::Global;
@@ -27,7 +27,7 @@ fn add_keyspace(topology: &mut Topology, name: &str) -> Result<bool, NameFault> 
     })
 }
 
-/// The same of a table.
+/// Whether a table is added, at once or at a second try.
 fn add_table(topology: &mut Topology, keyspace: &str, table: &str) -> Result<bool, NameFault> {
     let (keyspace, table) = (KeyspaceName::parse(keyspace)?, TableName::parse(table)?);
     Ok(match topology.add_table(&keyspace, &table) {
@@ -36,7 +36,7 @@ fn add_table(topology: &mut Topology, keyspace: &str, table: &str) -> Result<boo
     })
 }
 
-/// The same of a rule.
+/// Whether a rule is set, at once or at a second try.
 fn set_rule(topology: &mut Topology, key: &str, target: &str) -> Result<bool, NameFault> {
     let (key, target) = (RuleKey::parse(key)?, RuleTarget::parse(target)?);
     Ok(match topology.edit_rule(&key, Some(target.copied())) {
@@ -55,12 +55,28 @@ fn is_made(topology: &mut Topology) -> Result<bool, NameFault> {
     )
 }
 
-/// How many entries of the part that moves `t` from `b` to `a` have a place.
-fn places(topology: &Topology, part: &Part) -> usize {
-    table_part_keys(&part.source, &part.target, &part.tables[0])
+/// How many rules of the part that moves `t` from `b` to `a` have a place.
+fn rule_places(topology: &Topology, part: &Part) -> usize {
+    table_rule_keys(&part.source, &part.target, &part.tables[0])
         .iter()
-        .filter(|key| topology.has_place(key))
+        .filter(|key| topology.rules().has_place(key))
         .count()
+}
+
+/// How many other entries of that part have a place.
+fn other_places(topology: &Topology, part: &Part) -> usize {
+    let table = &part.tables[0];
+    let others = [
+        EntryKey::Denied(part.source.copied(), table.copied()),
+        EntryKey::Denied(part.target.copied(), table.copied()),
+        EntryKey::Present(part.target.copied(), table.copied()),
+    ];
+    others.iter().filter(|key| topology.has_place(key)).count()
+}
+
+/// How many rules of that part have a place, and how many other entries.
+fn places(topology: &Topology, part: &Part) -> (usize, usize) {
+    (rule_places(topology, part), other_places(topology, part))
 }
 
 /// The part of a workflow that moves one table.
@@ -84,8 +100,8 @@ fn moved_table() -> Result<Part, NameFault> {
 fn is_reserved(topology: &mut Topology, part: &Part) -> bool {
     match topology.reserve_part(&part.source, &part.target, &part.tables) {
         Err(TopologyFault::Memory) => {
-            places(topology, part) == 0
-                && topology.rules().len() == 1
+            places(topology, part) == (0, 0)
+                && topology.rules().places() == 1
                 && topology
                     .reserve_part(&part.source, &part.target, &part.tables)
                     .is_ok()
@@ -111,7 +127,7 @@ fn is_kept(alloc: Global, topology: &mut Topology) -> bool {
     let is_held = is_made(topology) == Ok(true)
         && dumps(alloc, topology, DUMP)
         && is_reserved(topology, &part)
-        && places(topology, &part) == 15
+        && places(topology, &part) == (12, 3)
         && dumps(alloc, topology, DUMP);
     topology.release_part(&part.source, &part.target, &part.tables);
     is_held && dumps(alloc, topology, DUMP)

@@ -1,11 +1,8 @@
 //! Where an allocation fails, the answer is `Memory` or the one that there is without, and a refusal changes nothing.
-ghost use Rattle.std.specs.Prelude.{◌≡◌, IfOk};
-ghost use Rattle.mt_watch.specs.Notices.{notice_of};
-ghost use Rattle.mt_model.specs.declared.entries.Scope.TheVariants.{Routes};
 
 use mt_model::{Entry, Scope};
 use mt_names::RuleKey;
-use mt_watch::{Asks, Callback, Change, Notice, WatchFault, Watcher, Watchers, WatchersFault};
+use mt_watch::{Asks, Change, Notice, Watchers, WatchersFault, telling_watcher};
 use std::alloc::Global;
 
 /// Whether an entry is added at once, or at a second try after a refusal that changed nothing.
@@ -49,35 +46,16 @@ fn are_pushed(change: &mut Change) -> bool {
     true
 }
 
-/// A watcher of routers, if there is memory for it.
-fn watcher(alloc: Global) -> Option<Watcher> {
-    let call: Callback = match Box::new(
-        alloc,
-        move |change: &Change| -> Result<Notice, WatchFault>
-            ensures { IfOk result (λ notice. notice ≡ notice_of Routes change.now) }
-        { Notice::of(alloc, &Scope::Routes, change).map_err(|_| WatchFault(0)) },
-    ) {
-        Ok(call) => call,
-        Err(_) => return None,
-    };
-    Some(Watcher::new(Scope::Routes, call))
-}
-
-/// Whether a watcher is added, or there is no memory for it.
-fn adds(alloc: Global, watchers: &mut Watchers) -> bool {
-    match watcher(alloc) {
-        Some(watcher) => match watchers.add(watcher) {
-            Ok(()) => true,
-            Err(fault) => fault == WatchersFault::Memory,
-        },
-        None => true,
-    }
-}
-
-/// Whether five watchers are added, and a change is answered behind each.
-fn are_asked(alloc: Global, watchers: &mut Watchers, change: &Change) -> bool {
+/// Whether a change is answered behind each of five watchers that are added, if there is memory for it.
+fn are_asked(alloc: Global, change: &Change) -> bool {
+    let mut watchers = Watchers::new(alloc);
     for _ in 0..5u8 {
-        if !adds(alloc, watchers) || !answers(watchers, change) {
+        let added = match telling_watcher!(alloc, Scope::Routes) {
+            Ok(watcher) => watchers.add(watcher),
+            Err(fault) => Err(fault),
+        };
+        let is_so = added == Ok(()) || added == Err(WatchersFault::Memory);
+        if !is_so || !answers(&watchers, change) {
             return false;
         }
     }
@@ -88,6 +66,5 @@ fn are_asked(alloc: Global, watchers: &mut Watchers, change: &Change) -> bool {
 fn want_of_memory_is_no_other_answer(rt: HostRuntime) {
     let mut change = Change::new(rt.alloc());
     assert!(rt; are_pushed(&mut change) && notes(rt.alloc(), &change));
-    let mut watchers = Watchers::new(rt.alloc());
-    assert!(rt; are_asked(rt.alloc(), &mut watchers, &change));
+    assert!(rt; are_asked(rt.alloc(), &change));
 }

@@ -1,11 +1,9 @@
--- How the refusals of a topology, of a primary and of the core are printed.
+-- How the refusals of a topology and of a primary are printed.
 use Rattle.std.specs.Prelude.{ℕ, List, codes}
 use Rattle.mt_model.specs.declared.faults.TopologyFault.{TopologyFault}
 use Rattle.mt_model.specs.declared.faults.TopologyFault.TheVariants as topology
 use Rattle.mt_model.specs.declared.faults.PrimaryFault.{PrimaryFault}
 use Rattle.mt_model.specs.declared.faults.PrimaryFault.TheVariants as primary
-use Rattle.mt_model.specs.declared.answers.Refusal.{Refusal}
-use Rattle.mt_model.specs.declared.answers.Refusal.TheVariants as refusal
 
 -- numbers and names are this profile's own
 abbrev pub topology_fault_text : TopologyFault → List ℕ
@@ -26,15 +24,3 @@ primary_fault_text primary.RowExists = codes "P3 RowExists"
 primary_fault_text primary.NoRow = codes "P4 NoRow"
 primary_fault_text primary.TooLong = codes "P5 TooLong"
 primary_fault_text primary.LogFull = codes "P6 LogFull"
-
--- numbers and names are this profile's own
-abbrev pub refusal_text : Refusal → List ℕ
-refusal_text refusal.Memory = codes "F0 Memory"
-refusal_text refusal.NoKeyspace = codes "F1 NoKeyspace"
-refusal_text refusal.NoTable = codes "F2 NoTable"
-refusal_text refusal.Denied = codes "F3 Denied"
-refusal_text refusal.RowExists = codes "F4 RowExists"
-refusal_text refusal.NoRow = codes "F5 NoRow"
-refusal_text refusal.Full = codes "F27 Full"
-refusal_text refusal.TooLong = codes "F29 TooLong"
-refusal_text refusal.Exists = codes "F30 Exists"

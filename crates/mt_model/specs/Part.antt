@@ -69,7 +69,7 @@ befores t (entry ∷ entries) = value_of t (key_of entry) ∷ befores (with_entr
 
 -- ---- topologies that say the same
 
--- the same keyspaces in whatever order, and the same value at each key; places don't count (this profile's own)
+-- two topologies have the same keyspaces in whatever order, and the same value at each key; places don't count (this profile's own)
 pub record IsSameTopology (one other : TopologyState) : Type 0 where
   pub keyspaces : (name : List ℕ) → is_some (keyspace_at one.keyspaces name) ≡ is_some (keyspace_at other.keyspaces name)
   pub values : (key : EntryKey) → value_of one key ≡ value_of other key

@@ -117,7 +117,7 @@ has_place t (about.Present keyspace table) = option_map_or (λ state. is_some (l
 abbrev pub with_mark_place : Marks → List ℕ → Marks
 with_mark_place marks name = option_map_or (λ mark. marks) (lookup (same_text name) marks) (marks ++ (name, false) ∷ [])
 
--- the same of a rule key (this profile's own)
+-- a place for a rule key at the end, unless it has one (this profile's own)
 abbrev pub with_rule_place : Rules → RuleKey → Rules
 with_rule_place rules key = option_map_or (λ rule. rules) (lookup (same_key key) rules) (rules ++ (key, None) ∷ [])
 
@@ -155,7 +155,7 @@ with_keyspace t name = record t { keyspaces = t.keyspaces ++ (name, record { tab
 abbrev pub with_new_table : List ℕ → KeyspaceState → KeyspaceState
 with_new_table table state = with_table_mark table true (with_table_place table state)
 
--- the same in the keyspace of a name (this profile's own)
+-- a table more in the keyspace of a name (this profile's own)
 abbrev pub with_table : TopologyState → List ℕ → List ℕ → TopologyState
 with_table t keyspace table = record t { keyspaces = with_keyspace_state (with_new_table table) t.keyspaces keyspace }
 

@@ -72,25 +72,6 @@ impl Entry {
     }
 }
 
-impl EntryKey {
-    /// The same key. It takes no memory.
-    pub fn copied(&self) -> Self
-        ensures { result ≡ self.now }
-    {
-        match self {
-            EntryKey::Rule(key) => EntryKey::Rule(key.copied()),
-            EntryKey::Denied(keyspace, table) => EntryKey::Denied(
-                keyspace.copied(),
-                table.copied(),
-            ),
-            EntryKey::Present(keyspace, table) => EntryKey::Present(
-                keyspace.copied(),
-                table.copied(),
-            ),
-        }
-    }
-}
-
 impl Scope {
     /// The same scope. It takes no memory.
     pub fn copied(&self) -> Self

@@ -1,7 +1,6 @@
 //! The data that several layers speak of: entries of a topology, scopes of watchers, operations on rows, and faults.
 #![tactic(auto)]
 
-mod answers;
 mod entries;
 mod faults;
 mod laws;
@@ -9,7 +8,6 @@ mod limits;
 mod part;
 mod rows;
 
-pub use answers::{Refusal, Reply};
 pub use entries::{Entry, EntryKey, Scope};
 pub use faults::{PrimaryFault, TopologyFault};
 pub use laws::{
@@ -19,7 +17,6 @@ pub use laws::{
 pub use limits::{MAX_KEYSPACES, MAX_LOG, MAX_RULES, MAX_TABLES_IN_KEYSPACE};
 pub use part::{
     denials_change_no_look_up, key_of_name, part_has_places, part_keys_are_distinct,
-    places_say_nothing, routes_are_what_stands, table_part_keys, table_rule_keys,
-    taken_back_in_reverse,
+    places_say_nothing, routes_are_what_stands, table_rule_keys, taken_back_in_reverse,
 };
 pub use rows::{Op, RowChange};

@@ -1,6 +1,6 @@
 //! The part of a topology that a workflow moves.
 ghost use Rattle.std.specs.Prelude.{◌≡◌, ◌≢◌, ◌↔◌, ℕ, true, Bool, List, All, AllPairs, Contains, reverse, is_some, option_copied};
-ghost use Rattle.mt_model.specs.Part.{IsSameTopology, befores, part_keys, table_part_keys, table_rule_keys, with_entries, with_places, without_places};
+ghost use Rattle.mt_model.specs.Part.{IsSameTopology, befores, part_keys, table_rule_keys, with_entries, with_places, without_places};
 ghost use Rattle.mt_model.specs.Topology.{HasDistinctPlaces, TopologyState, has_place, is_routed, key_of, keyspace_at, resolution, routes_of, value_of, with_entry};
 
 use crate::{Entry, EntryKey};
@@ -44,35 +44,6 @@ pub fn table_rule_keys(
         key_of_name(Some(target), table, Some(TabletType::Primary)),
         key_of_name(Some(target), table, Some(TabletType::Replica)),
         key_of_name(Some(target), table, Some(TabletType::Rdonly)),
-    ]
-}
-
-/// What a table that moves adds to its workflow's part: its twelve rule keys, its denial at the source and at the
-/// target, and its presence at the target. It takes no memory.
-pub fn table_part_keys(
-    source: &KeyspaceName,
-    target: &KeyspaceName,
-    table: &TableName,
-) -> [EntryKey; 15]
-    ensures { result ≡ table_part_keys source.now target.now table.now }
-{
-    let rule = |keyspace, tablet_type| EntryKey::Rule(key_of_name(keyspace, table, tablet_type));
-    [
-        rule(None, None),
-        rule(None, Some(TabletType::Primary)),
-        rule(None, Some(TabletType::Replica)),
-        rule(None, Some(TabletType::Rdonly)),
-        rule(Some(source), None),
-        rule(Some(source), Some(TabletType::Primary)),
-        rule(Some(source), Some(TabletType::Replica)),
-        rule(Some(source), Some(TabletType::Rdonly)),
-        rule(Some(target), None),
-        rule(Some(target), Some(TabletType::Primary)),
-        rule(Some(target), Some(TabletType::Replica)),
-        rule(Some(target), Some(TabletType::Rdonly)),
-        EntryKey::Denied(source.copied(), table.copied()),
-        EntryKey::Denied(target.copied(), table.copied()),
-        EntryKey::Present(target.copied(), table.copied()),
     ]
 }
 

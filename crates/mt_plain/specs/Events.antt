@@ -5,10 +5,6 @@ use Rattle.mt_names.specs.declared.keys.RuleKey.{RuleKey}
 use Rattle.mt_names.specs.declared.keys.RuleTarget.{RuleTarget}
 use Rattle.mt_names.specs.declared.types.TabletType.{TabletType}
 use Rattle.mt_names.specs.declared.types.TypeSet.{TypeSet}
-use Rattle.mt_model.specs.declared.answers.Refusal as code
-use Rattle.mt_model.specs.declared.answers.Refusal.TheVariants as from
-use Rattle.mt_model.specs.declared.answers.Reply.{Reply}
-use Rattle.mt_model.specs.declared.answers.Reply.TheVariants as reply
 use Rattle.mt_model.specs.declared.rows.Op.{Op}
 use Rattle.mt_model.specs.Rows.{Row}
 
@@ -142,23 +138,3 @@ pub data Answer : Type 0 where
   advanced : (events rows : ℕ) → Answer
   shown : Shown → Answer
   refused : Refusal → Answer
-
--- ---- the code's words for answers
-
--- a refusal of the code, in these words
-abbrev pub refusal_from : code.Refusal → Refusal
-refusal_from from.Memory = memory
-refusal_from from.NoKeyspace = no_keyspace
-refusal_from from.NoTable = no_table
-refusal_from from.Denied = denied
-refusal_from from.RowExists = row_exists
-refusal_from from.NoRow = no_row
-refusal_from from.Full = full
-refusal_from from.TooLong = too_long
-refusal_from from.Exists = exists
-
--- an answer of the code, in these words
-abbrev pub answer_from : Result Reply code.Refusal → Answer
-answer_from (Ok reply.Done) = done
-answer_from (Ok (reply.Row r)) = row r
-answer_from (Err refusal) = refused (refusal_from refusal)

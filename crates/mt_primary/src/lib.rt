@@ -17,5 +17,6 @@ pub use laws::{
     denials_change_nothing_else,
 };
 pub use mt_model::{Op, PrimaryFault, RowChange};
+pub use mt_shared::{SharedName, SharedValue};
 pub use primary::Primary;
 pub use read_laws::{a_log_is_read_in_order, rows_are_read_in_order};

@@ -186,8 +186,12 @@ impl Primary {
         Some((key, row.value()))
     }
 
-    /// As `row_after`, with the row lent, to be shared. It takes no memory. (Vitess: the copy phase of a stream)
-    pub fn lent_row_after(&self, table: &TableName, key: Option<u64>) -> Option<(u64, &SharedValue)>
+    /// As `row_after`, with the row lent, to be shared. It takes no memory.
+    pub(crate) fn lent_row_after(
+        &self,
+        table: &TableName,
+        key: Option<u64>,
+    ) -> Option<(u64, &SharedValue)>
         ensures { option_map (λ row. (row.0, row.1.now)) result ≡ next_row self.now table.now key }
     {
         self.tables.get(table)?.row_after(key)

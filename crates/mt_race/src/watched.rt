@@ -3,8 +3,8 @@ ghost use Rattle.std.specs.Prelude.{◌≡◌, ◌≤◌, true, IfOk};
 
 use crate::moving::{source, target};
 use crate::{RaceFault, Raced, race};
-use mt_messages::Gate;
-use mt_watch::{PlainWatchers, Scope};
+use mt_watch::{Scope, Watchers, telling_watcher};
+use mt_workers::Gate;
 use std::alloc::Global;
 use std::sync::Wait;
 use std::thread::Threads;
@@ -22,14 +22,17 @@ pub fn race_watched<R: Threads + Wait + Sync, G: Gate + Sync>(
     requires writes { (1 ≤ writes) × (writes ≤ 1000) }
     ensures agree { IfOk result (λ raced. raced.agree ≡ true → raced.acknowledged ≡ raced.rows) }
 {
-    let mut watchers = PlainWatchers::new(alloc);
+    let mut watchers = Watchers::new(alloc);
     let scopes = [
         Scope::Routes,
         Scope::Primary(source()),
         Scope::Primary(target()),
     ];
     for scope in &scopes {
-        if watchers.add(scope.copied()).is_err() {
+        let Ok(watcher) = telling_watcher!(alloc, scope.copied()) else {
+            return Err(RaceFault::Memory);
+        };
+        if watchers.add(watcher).is_err() {
             return Err(RaceFault::Memory);
         }
     }

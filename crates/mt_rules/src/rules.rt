@@ -1,5 +1,5 @@
 //! The table of routing rules.
-ghost use Rattle.std.specs.Prelude.{◌≡◌, ◌≤◌, ◌<◌, ◌↔◌, ◌==◌, ◌++◌, ◌∷◌, [], None, true, false, length, IsTrue, IfOk, IfErr, OnOk, OnErr, string_bytes, option_copied, option_map, slice_get, ◌+◌, map};
+ghost use Rattle.std.specs.Prelude.{◌≡◌, ◌≤◌, ◌<◌, ◌↔◌, ◌==◌, ◌++◌, ◌∷◌, [], None, Some, true, false, length, IsTrue, IfOk, IfErr, OnOk, OnErr, string_bytes, option_copied, option_map, slice_get, ◌+◌, map};
 ghost use Rattle.std.specs.List.{AllByRecursion, IsDistinct};
 ghost use Rattle.std.specs.Map.{keys_of, remove_entry, set_value};
 ghost use Rattle.mt_names.specs.Same.{same_key};
@@ -8,7 +8,8 @@ ghost use Rattle.mt_model.specs.Part.{rule_routes};
 ghost use Rattle.mt_model.specs.Topology.{rule_at, rule_for, without_rule_place};
 ghost use Rattle.mt_rules.specs.Read.{IsUnlessMemory, answer_with, rules_of_text, with_one_more};
 ghost use Rattle.serde_json.specs.View.{view};
-ghost use Rattle.mt_rules.specs.Values.{IsWellSorted, Says};
+ghost use Rattle.serde_json.specs.Written.{compact_text};
+ghost use Rattle.mt_rules.specs.Values.{IsWellSorted, Says, document_value};
 ghost use Rattle.mt_rules.specs.Member.{rules_within};
 ghost use Rattle.mt_model.specs.Documents.{rules_array, rules_text};
 ghost use Rattle.mt_places.specs.Places.{in_order, of_type};
@@ -92,10 +93,11 @@ impl RoutingRules {
         })
     }
 
-    /// The document of the rules, which `from_json` reads back: compact, `from_table` before `to_tables`, sorted by the
-    /// bytes of the keys' texts, without the places that have no rule. `R0 Memory`.
+    /// The document of the rules, which `from_json` reads back: the compact text that `serde_json` writes of their value, `from_table` before
+    /// `to_tables`, sorted by the bytes of the keys' texts, without the places that have no rule. `R0 Memory`.
     pub fn to_json(&self, alloc: Global) -> Result<String, RulesFault>
         ensures text { IfOk result (λ text. string_bytes text ≡ rules_text self.now) }
+        ensures value { IfOk result (λ text. string_bytes text ≡ compact_text (document_value self.now)) }
         ensures says { IfOk result (λ text. Says (string_bytes text) self.now) }
         ensures memory { IfErr result (λ fault. fault ≡ RulesFault.Memory) }
     {
@@ -122,19 +124,28 @@ impl RoutingRules {
         let _distinct = self.places.len();
     }
 
-    /// How many places there are.
-    pub fn len(&self) -> usize
+    /// How many places there are. It takes no memory.
+    pub fn places(&self) -> usize
         ensures len { result ≡ length self.now }
         ensures within { length self.now ≤ most_rules }
     {
         self.places.len()
     }
 
+    /// The key of a place by its index, and the rule that it has, if it has one: each place once, in the order in which they were made. It
+    /// takes no memory; it looks at each place before it.
+    pub fn place(&self, index: usize) -> (RuleKey, Option<&RuleTarget>)
+        requires { index < length self.now }
+        ensures { Some (result.0, option_copied result.1) ≡ slice_get self.now index }
+    {
+        place_in(self.places.links(), index).unwrap()
+    }
+
     /// Whether there is no place.
     pub fn is_empty(&self) -> bool
         ensures { IsTrue result ↔ (self.now ≡ []) }
     {
-        self.len() == 0
+        self.places() == 0
     }
 
     /// Whether there are as many places as there may be.
@@ -143,7 +154,7 @@ impl RoutingRules {
         ensures full { result ≡ true → length self.now ≡ most_rules }
         ensures room { result ≡ false → length self.now < most_rules }
     {
-        self.len() == MAX_RULES
+        self.places() == MAX_RULES
     }
 
     /// The rule of a key, if it has one. It takes no memory.
@@ -394,7 +405,7 @@ impl RoutingRules {
     }
 
     /// Drops the place of a key, with its rule if it has one. It takes no memory.
-    pub fn drop_key(&mut self, key: &RuleKey)
+    fn drop_key(&mut self, key: &RuleKey)
         ensures { self.new ≡ remove_entry (same_key key.now) self.old }
     {
         let Some(stood) = self.places.remove(key) else {
@@ -431,6 +442,22 @@ fn rule_entry(links: &Links, index: usize) -> Option<Entry>
                 return Some(Entry::Rule(key, Some(target.copied())));
             }
             before -= 1;
+        }
+    }
+    None
+}
+
+/// The key of a place by its index, and the rule that it has, if it has one; none past the last.
+fn place_in(links: &Links, index: usize) -> Option<(RuleKey, Option<&RuleTarget>)>
+    ensures { option_map (λ place. (place.0, option_copied place.1)) result ≡ slice_get (in_order (keys_of links.now.names.entries) links.now.slots.items) index }
+{
+    let mut left = index;
+    for slot in links.slots() {
+        if let Some((key, rule)) = links.place_of(slot) {
+            if left == 0 {
+                return Some((key, rule.as_ref()));
+            }
+            left -= 1;
         }
     }
     None

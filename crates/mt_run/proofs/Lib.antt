@@ -1,3 +1,4 @@
+pub mod AskLemmas
 pub mod CanonLemmas
-pub mod RowAnswerLemmas
+pub mod RowLemmas
 pub mod RunLemmas

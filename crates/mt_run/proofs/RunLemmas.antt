@@ -1,39 +1,37 @@
 -- Whatever completes the output of the lines that are left completes that of the script.
 use native.Mathlib.Omega.{arith}
-use Rattle.std.proofs.Common.{◌≡◌, ℕ, zero, suc, true, List, [], ◌∷◌, ◌++◌, Option, Some, None, Result, Ok, Err, refl, sym, ap, ◌∙◌, subst, append-nil, append_assoc, inl, inr}
+use Rattle.std.proofs.Common.{◌≡◌, ℕ, zero, suc, Bool, true, List, [], ◌∷◌, ◌++◌, Option, Some, None, Result, Ok, Err, refl, sym, ap, ◌∙◌, subst, append-nil, append_assoc, inl, inr}
 use Rattle.std.proofs.KnownBytes.{Appends-nil, Appends-trans, Consumes-nil}
 use Rattle.std.specs.Io.KnownBytes.{Appends}
-use Rattle.std.specs.Prelude.{string_bytes}
 use Rattle.std.specs.Str.Lines.{lines}
 use Rattle.mt_model.specs.declared.entries.Scope.{Scope}
 use Rattle.mt_model.specs.declared.faults.TopologyFault.{TopologyFault}
 use Rattle.mt_model.specs.Documents.{dump_text, rules_text}
 use Rattle.mt_model.specs.Faults.{topology_fault_text}
+use Rattle.mt_names.specs.declared.fault.NameFault.{NameFault}
 use Rattle.mt_names.specs.declared.keys.RuleTarget.{RuleTarget}
+use Rattle.mt_names.specs.declared.types.TypeSet.{TypeSet}
+use Rattle.mt_names.specs.Faults.{fault_text}
 use Rattle.mt_plain.specs.Events.{Answer, Event, Refusal}
 use Rattle.mt_plain.specs.Answers.{Answers}
 use Rattle.mt_plain.specs.Drive.{Driven, Drives, Driving, EndRule, GoesOn, Heard, event_of, heard, most_turns}
 use Rattle.mt_plain.specs.Drive as turn
 use Rattle.mt_plain.specs.Next.{next}
-use Rattle.mt_plain.specs.Output.{Adds, IsOutputBy, Output, Told, asked_there, asks, drives, line_feed, nothing, output_from, refused_text, says, told, told_request}
+use Rattle.mt_plain.specs.Output.{Adds, IsOutputBy, Output, Told, asked_there, asks, drives, line_feed, nothing, output_from, refused_text, says, told, told_line, told_request}
 use Rattle.mt_plain.specs.Output as plain
 use Rattle.mt_plain.specs.Plain.{Plain, opening}
-use Rattle.mt_plain.specs.Script.{Request, read_line}
+use Rattle.mt_plain.specs.Script.{Command, Request, command, read_line, request_of}
 use Rattle.mt_plain.specs.Script as script
 use Rattle.mt_plain.specs.Serve.{served}
 use Rattle.mt_laws.proofs.OutputLemmas.{output_from-is_written, output_from_memory}
 use Rattle.mt_laws.proofs.ScriptRunLemmas.{script_keeps_the_headline}
-use Rattle.mt_script.specs.Requests.{LineMeaning, meaning_of}
-use Rattle.mt_script.proofs.LineLemmas.{told_by, told-meant}
 use Rattle.mt_io.specs.declared.fault.ScriptFault.{ScriptFault}
 use Rattle.mt_io.specs.declared.fault.ScriptFault.TheVariants as fault
 use Rattle.mt_io.specs.Bytes.{GoesOut, Known, Reads, Writes}
 use Rattle.mt_io.proofs.GoesLemmas.{cut_before, goes_on, nothing_out}
-use Rattle.mt_site.specs.Through.{IsThrough}
+use Rattle.mt_cache.specs.Through.{IsThrough}
 use Rattle.mt_site_state.specs.Ways.{SiteStands, SiteState, SiteSteps}
-use Rattle.mt_run.specs.declared.script.LineOutput as answer
-use Rattle.mt_run.specs.declared.script.LineOutput.TheVariants as output
-use Rattle.mt_run.specs.Runs.{AsksDocument, IsLineOutput, Runs, RunsLine, RunsLines, Tells, bytes_of, is_document, through_text}
+use Rattle.mt_run.specs.Runs.{AsksDocument, IsAnswered, IsNamed, IsTold, Runs, RunsLine, RunsLines, Tells, bytes_of, is_document, through_text}
 
 -- ---- a line
 
@@ -49,7 +47,7 @@ goes_end : (Ends : EndRule) (turns : ℕ)
 goes_end Ends turns again q (turn.goes_on d) went = again d q went
 goes_end Ends turns again q (turn.ends ended) held = (q, ended, held, λ Ends' then. then)
 
--- the same of a drive
+-- where a drive comes to its end, and how: whatever else holds of that end holds of the drive
 drive_end : (Ends : EndRule) (turns : ℕ) (d : Driving) (p : Plain) → Drives Answers turns Ends d p
     → (r : Plain) × (ended : Result Driven Refusal) × Ends ended r × ((Ends' : EndRule) → Ends' ended r → Drives Answers turns Ends' d p)
 drive_end Ends zero d p drove = absurd drove
@@ -74,9 +72,15 @@ tells_adds scopes q (asks event) text core (answer, answers, some, stands) =
     (next q event answer, stands, λ Rest out rest. (answer, out, answers, ap (λ o. bytes_of o ++ out) some, rest))
 
 -- the answer to an event, told
-pub asks_told : (scopes : List Scope) (old new : SiteState) (event : Event) (answer : Answer) (text : List ℕ) → text ≡ plain.answer_text answer ++ line_feed → SiteSteps scopes old event answer new
+asks_told : (scopes : List Scope) (old new : SiteState) (event : Event) (answer : Answer) (text : List ℕ) → text ≡ plain.answer_text answer ++ line_feed → SiteSteps scopes old event answer new
     → (p : Plain) → SiteStands p scopes old → Tells scopes p (asks event) (Some text) new
 asks_told scopes old new event answer text is steps p stands = let then = steps p stands in (answer, then.0, ap Some is, then.1)
+
+-- the answer to an event stands behind what waited
+pub answered : (scopes : List Scope) (old new : SiteState) (event : Event) (answer : Answer) (waiting waiting' : List ℕ) → waiting' ≡ waiting ++ plain.answer_text answer ++ line_feed
+    → SiteSteps scopes old event answer new → IsAnswered scopes old (script.event event) waiting waiting' new
+answered scopes old new event answer waiting waiting' added steps =
+    λ p stands. (plain.answer_text answer ++ line_feed, asks_told scopes old new event answer _ refl steps p stands, added ∙ append_assoc waiting (plain.answer_text answer) line_feed)
 
 -- ---- a row, through a name
 
@@ -105,55 +109,82 @@ through_told Stays scopes p old new led ask answer_of (Ok told) text is steps st
 through_told Stays scopes p old new led ask answer_of (Err fault) text is nowhere stays stands =
     nowhere_told Stays (λ target answer. SiteSteps scopes old (ask target.keyspace target.table) (answer_of answer) new) scopes p new led ask fault text is nowhere stays
 
--- the end of a drive, told
-pub drives_told : (scopes : List Scope) (old new : SiteState) (driving : Driving) (ended : Result Driven Refusal) (text : List ℕ) → text ≡ plain.ended_text ended ++ line_feed
-    → ((p : Plain) → SiteStands p scopes old → Drives Answers most_turns (λ end q. (end ≡ ended) × SiteStands q scopes new) driving p)
-    → (p : Plain) → SiteStands p scopes old → Tells scopes p (drives driving) (Some text) new
-drives_told scopes old new driving ended text is drove p stands =
-    let end = drive_end (λ e q. (e ≡ ended) × SiteStands q scopes new) most_turns driving p (drove p stands) in
-    end.3 (λ e q. (Some text ≡ Some (plain.ended_text e ++ line_feed)) × SiteStands q scopes new)
-    (ap Some (is ∙ ap (λ e. plain.ended_text e ++ line_feed) (sym end.2.0)), end.2.1)
+-- the end of a drive stands behind what waited
+pub driven : (scopes : List Scope) (old new : SiteState) (workflow : List ℕ) (types : TypeSet) (back : Bool) (ended : Result Driven Refusal) (waiting waiting' : List ℕ)
+    → waiting' ≡ waiting ++ plain.ended_text ended ++ line_feed
+    → ((p : Plain) → SiteStands p scopes old → Drives Answers most_turns (λ end q. (end ≡ ended) × SiteStands q scopes new) (turn.begins workflow types back) p)
+    → IsAnswered scopes old (script.drive workflow types back) waiting waiting' new
+driven scopes old new workflow types back ended waiting waiting' added drove = λ p stands. (plain.ended_text ended ++ line_feed, told_of p stands, added ∙ append_assoc waiting (plain.ended_text ended) line_feed)
+  where
+    told_of : (p : Plain) → SiteStands p scopes old → Tells scopes p (drives (turn.begins workflow types back)) (Some (plain.ended_text ended ++ line_feed)) new
+    told_of p stands =
+        let end = drive_end (λ e q. (e ≡ ended) × SiteStands q scopes new) most_turns (turn.begins workflow types back) p (drove p stands) in
+        end.3 (λ e q. (Some (plain.ended_text ended ++ line_feed) ≡ Some (plain.ended_text e ++ line_feed)) × SiteStands q scopes new)
+        (ap Some (ap (λ e. plain.ended_text e ++ line_feed) (sym end.2.0)), end.2.1)
 
 -- ---- a document
 
--- a request for a document tells a text
-document_says : (p : Plain) (r : Request) → is_document r ≡ true → (words : List ℕ) × (told_request p (Ok r) ≡ says words)
-document_says p script.rules_document is = (rules_text (served p).rules, refl)
-document_says p script.dump_document is = (dump_text (served p), refl)
-document_says p (script.event e) is = absurd cc
-document_says p (script.write_through key op) is = absurd cc
-document_says p (script.read_through key number tablet_type) is = absurd cc
-document_says p (script.drive workflow types backward) is = absurd cc
+-- what a line tells that commands this
+command_told : (p : Plain) (line : List ℕ) (c : Command) → read_line line ≡ command c → told_request p (request_of c) ≡ told read_line p line
+command_told p line c is = ap (told_line p) (sym is)
+
+-- a command for a document tells a text
+document_says : (p : Plain) (c : Command) → is_document c ≡ true → (words : List ℕ) × (told_request p (request_of c) ≡ says words)
+document_says p script.rules is = (rules_text (served p).rules, refl)
+document_says p script.dump is = (dump_text (served p), refl)
+document_says p (script.keyspace k) is = absurd cc
+document_says p (script.table k t) is = absurd cc
+document_says p (script.rule k t) is = absurd cc
+document_says p (script.change n o) is = absurd cc
+document_says p (script.get n k) is = absurd cc
+document_says p (script.change_at n o) is = absurd cc
+document_says p (script.get_at n k) is = absurd cc
+document_says p (script.create w s t l) is = absurd cc
+document_says p (script.advance w s a m) is = absurd cc
+document_says p (script.begin_switch w t) is = absurd cc
+document_says p (script.begin_reverse w t) is = absurd cc
+document_says p (script.step w a) is = absurd cc
+document_says p (script.undo w a) is = absurd cc
+document_says p (script.switch w t) is = absurd cc
+document_says p (script.reverse w t) is = absurd cc
+document_says p (script.cancel w) is = absurd cc
+document_says p (script.complete w) is = absurd cc
+document_says p (script.show w) is = absurd cc
 
 -- what a line tells that asks for a document
 document_tells : (scopes : List Scope) (p : Plain) (line : List ℕ) (core : SiteState) → SiteStands p scopes core → AsksDocument line → (text : List ℕ) × Tells scopes p (told read_line p line) (Some text) core
-document_tells scopes p line core stands (request, is, same) =
-    let words = document_says p request is in
-    (words.0 ++ line_feed, subst (λ t. Tells scopes p t (Some (words.0 ++ line_feed)) core) (sym words.1 ∙ told-meant p (read_line line) (Some (Ok request)) same) (refl, stands))
+document_tells scopes p line core stands (c, is, same) =
+    let words = document_says p c is in
+    (words.0 ++ line_feed, subst (λ t. Tells scopes p t (Some (words.0 ++ line_feed)) core) (sym words.1 ∙ command_told p line c same) (refl, stands))
 
--- what the request of a line adds is what the line adds
-pub line_outputs : (scopes : List Scope) (p : Plain) (line : List ℕ) (request : Request) (written : List ℕ) (r : answer.LineOutput) (core : SiteState) → Some (Ok request) ≡ meaning_of (read_line line)
-    → IsLineOutput scopes p (told_request p (Ok request)) (is_document request ≡ true) written r core → IsLineOutput scopes p (told read_line p line) (AsksDocument line) written r core
-line_outputs scopes p line request written r core same = by r
-  where
-    told-same : told_request p (Ok request) ≡ told read_line p line
-    told-same = told-meant p (read_line line) (Some (Ok request)) same
+-- a document that is made is what such a line tells
+pub document_tells_made : (scopes : List Scope) (p : Plain) (line : List ℕ) (core : SiteState) (text : List ℕ) → SiteStands p scopes core → told read_line p line ≡ says text
+    → Tells scopes p (told read_line p line) (Some (text ++ line_feed)) core
+document_tells_made scopes p line core text stands is = subst (λ t. Tells scopes p t (Some (text ++ line_feed)) core) (sym is) (refl, stands)
 
-    by : (r : answer.LineOutput) → IsLineOutput scopes p (told_request p (Ok request)) (is_document request ≡ true) written r core → IsLineOutput scopes p (told read_line p line) (AsksDocument line) written r core
-    by output.Silent is = subst (λ t. Tells scopes p t None core) told-same is
-    by output.Line is = subst (λ t. Tells scopes p t (Some written) core) told-same is
-    by (output.Document text) is = subst (λ t. Tells scopes p t (Some (string_bytes text ++ line_feed)) core) told-same is
-    by output.NoMemory (is, stands) = ((request, is, same), stands)
+-- ---- a command
 
--- a line of this meaning tells a text, or none
-pub line_tells : (scopes : List Scope) (p : Plain) (line : List ℕ) (meaning : LineMeaning) (text : Option (List ℕ)) (core : SiteState) → meaning ≡ meaning_of (read_line line)
-    → Tells scopes p (told_by p meaning) text core → Tells scopes p (told read_line p line) text core
-line_tells scopes p line meaning text core same tells = subst (λ t. Tells scopes p t text core) (told-meant p (read_line line) meaning same) tells
-
+-- a line's text stands behind what waited, and nothing goes out
 module _ (scopes : List Scope) (p : Plain) (line : List ℕ) (core : SiteState) (held : Known) (waiting waiting' : List ℕ) where
-  -- a text stands behind what waits, and nothing goes out
-  pub line_waits : (text : List ℕ) → Tells scopes p (told read_line p line) (Some text) core → waiting' ≡ waiting ++ text → RunsLine scopes p line core held held waiting waiting' (Ok tt)
-  line_waits text tells added = (Some text, tells, subst (λ (rest : List ℕ). GoesOut held held (waiting ++ text) rest) (sym added) (nothing_out held (waiting ++ text)))
+  pub line_waits : IsTold scopes p (told read_line p line) waiting waiting' core → RunsLine scopes p line core held held waiting waiting' (Ok tt)
+  line_waits (text, tells, added) = (Some text, tells, subst (λ (rest : List ℕ). GoesOut held held (waiting ++ text) rest) (sym added) (nothing_out held (waiting ++ text)))
+
+  pub line_silent : told read_line p line ≡ nothing → SiteStands p scopes core → waiting' ≡ waiting → RunsLine scopes p line core held held waiting waiting' (Ok tt)
+  line_silent is stands same =
+      (None, subst (λ t. Tells scopes p t None core) (sym is) (refl, stands), subst (λ (rest : List ℕ). GoesOut held held (waiting ++ []) rest) (append-nil waiting ∙ sym same) (nothing_out held (waiting ++ [])))
+
+  -- a command's text, and that of a fault of a name in it
+  module _ (c : Command) (is : read_line line ≡ command c) where
+    pub command_waits : IsTold scopes p (told_request p (request_of c)) waiting waiting' core → RunsLine scopes p line core held held waiting waiting' (Ok tt)
+    command_waits tells = line_waits (subst (λ t. IsTold scopes p t waiting waiting' core) (command_told p line c is) tells)
+
+    pub fault_waits : (fault : NameFault) → request_of c ≡ Err fault → SiteStands p scopes core → waiting' ≡ waiting ++ refused_text (fault_text fault) ++ line_feed
+        → RunsLine scopes p line core held held waiting waiting' (Ok tt)
+    fault_waits fault wrong stands added =
+        command_waits (subst (λ r. IsTold scopes p (told_request p r) waiting waiting' core) (sym wrong) (refused_text (fault_text fault) ++ line_feed, (refl, stands), added ∙ append_assoc waiting (refused_text (fault_text fault)) line_feed))
+
+    pub named_waits : (old : SiteState) → IsNamed scopes old c waiting waiting' (Ok tt) core → SiteStands p scopes old → RunsLine scopes p line core held held waiting waiting' (Ok tt)
+    named_waits old (request, reads, answers) stands = command_waits (subst (λ r. IsTold scopes p (told_request p r) waiting waiting' core) (sym reads) (answers p stands))
 
 module _ (scopes : List Scope) (p : Plain) (line : List ℕ) (core : SiteState) (held held' : Known) (waiting waiting' : List ℕ) where
   -- a text goes behind what waits

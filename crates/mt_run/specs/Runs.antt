@@ -1,5 +1,5 @@
 -- What a run of a script does to its reader and its writer.
-use Rattle.std.specs.Prelude.{◌≡◌, ◌≢◌, ◌⊎◌, ⊤, ℕ, Bool, true, false, List, [], ◌∷◌, ◌++◌, Option, None, Some, Result, Ok, Err, string_bytes}
+use Rattle.std.specs.Prelude.{◌≡◌, ◌≢◌, ◌⊎◌, ⊤, ℕ, Bool, true, false, List, [], ◌∷◌, ◌++◌, Option, None, Some, Result, Ok, Err}
 use Rattle.std.specs.Str.Lines.{lines}
 use Rattle.std.specs.Io.KnownBytes.{Appends, Consumes}
 use Rattle.mt_model.specs.declared.entries.Scope.{Scope}
@@ -14,15 +14,13 @@ use Rattle.mt_plain.specs.Next.{next}
 use Rattle.mt_plain.specs.Output as plain
 use Rattle.mt_plain.specs.Output.{IsOutput, Leaves, Told, answer_text, asks, drives, ended_text, Output, line_feed, nothing, refused_text, says, told, told_request}
 use Rattle.mt_plain.specs.Plain.{Plain, opening}
-use Rattle.mt_plain.specs.Script.{Request, dump_document, read_line, rules_document}
-use Rattle.mt_script.specs.declared.lines.RowRequest.{RowRequest}
-use Rattle.mt_script.specs.Requests.{meaning_of, row_from}
+use Rattle.mt_plain.specs.Script.{Command, Request, command, read_line, request_of}
+use Rattle.mt_plain.specs.Script as script
+use Rattle.mt_names.specs.declared.fault.NameFault.{NameFault}
 use Rattle.mt_io.specs.declared.fault.ScriptFault.{ScriptFault}
 use Rattle.mt_io.specs.declared.fault.ScriptFault.TheVariants as fault
 use Rattle.mt_io.specs.Bytes.{GoesOut, HasRead, IsCutShort, IsWhole, Known}
 use Rattle.mt_site_state.specs.Ways.{SiteStands, SiteState}
-use Rattle.mt_run.specs.declared.script.LineOutput as code
-use Rattle.mt_run.specs.declared.script.LineOutput.TheVariants as output
 
 -- ---- a line
 
@@ -40,50 +38,38 @@ abbrev pub bytes_of : Option (List ℕ) → List ℕ
 bytes_of None = []
 bytes_of (Some text) = text
 
--- a request for a document. It alone may end a run for lack of memory
-abbrev pub is_document : Request → Bool
-is_document rules_document = true
-is_document dump_document = true
+-- a command for a document. It alone may end a run for lack of memory
+abbrev pub is_document : Command → Bool
+is_document script.rules = true
+is_document script.dump = true
 is_document other = false
 
 -- a line that asks for a document
 abbrev pub AsksDocument : List ℕ → Type 0
-AsksDocument line = (request : Request) × (is_document request ≡ true) × (Some (Ok request) ≡ meaning_of (read_line line))
+AsksDocument line = (c : Command) × (is_document c ≡ true) × (read_line line ≡ command c)
 
--- what something that is told adds to the output, where this text was written last. A document may find no memory, and then
--- nothing changed
-abbrev pub IsLineOutput : List Scope → Plain → Told → (IsDocument : Type 0) → (written : List ℕ) → code.LineOutput → SiteState → Type 0
-IsLineOutput scopes p t IsDocument written output.Silent core = Tells scopes p t None core
-IsLineOutput scopes p t IsDocument written output.Line core = Tells scopes p t (Some written) core
-IsLineOutput scopes p t IsDocument written (output.Document text) core = Tells scopes p t (Some (string_bytes text ++ line_feed)) core
-IsLineOutput scopes p t IsDocument written output.NoMemory core = IsDocument × SiteStands p scopes core
+-- what is told becomes a text behind what waited
+abbrev pub IsTold : List Scope → Plain → Told → (waiting waiting' : List ℕ) → SiteState → Type 0
+IsTold scopes p t waiting waiting' core = (text : List ℕ) × Tells scopes p t (Some text) core × (waiting' ≡ waiting ++ text)
 
--- what a request adds to the output, where the core stood for a state before it
-abbrev pub IsRequestOutput : List Scope → SiteState → Request → (written : List ℕ) → code.LineOutput → SiteState → Type 0
-IsRequestOutput scopes old request written result new =
-    (p : Plain) → SiteStands p scopes old → IsLineOutput scopes p (told_request p (Ok request)) (is_document request ≡ true) written result new
+-- a request is answered, where the core stood for a state before it
+abbrev pub IsAnswered : List Scope → SiteState → Request → (waiting waiting' : List ℕ) → SiteState → Type 0
+IsAnswered scopes old request waiting waiting' new = (p : Plain) → SiteStands p scopes old → IsTold scopes p (told_request p (Ok request)) waiting waiting' new
 
--- what a request for a row adds to the output, with whatever watchers: they aren't asked
-abbrev pub IsRowOutput : SiteState → Request → (text : List ℕ) → SiteState → Type 0
-IsRowOutput old request text new = (scopes : List Scope) (p : Plain) → SiteStands p scopes old → Tells scopes p (told_request p (Ok request)) (Some text) new
+-- a command is answered; or a name in it is in fault, and nothing is done
+abbrev pub IsNamed : List Scope → SiteState → Command → (waiting waiting' : List ℕ) → Result Unit NameFault → SiteState → Type 0
+IsNamed scopes old c waiting waiting' (Ok done) new = (request : Request) × (request_of c ≡ Ok request) × IsAnswered scopes old request waiting waiting' new
+IsNamed scopes old c waiting waiting' (Err fault) new = (request_of c ≡ Err fault) × (new ≡ old) × (waiting' ≡ waiting)
+
+-- a command for a row is answered, with whatever watchers: they aren't asked
+abbrev pub IsRowTold : SiteState → Command → (waiting waiting' : List ℕ) → SiteState → Type 0
+IsRowTold old c waiting waiting' new =
+    (scopes : List Scope) (p : Plain) → SiteStands p scopes old → IsTold scopes p (told_request p (request_of c)) waiting waiting' new
 
 -- the text of what was asked through a name: the answer, or why the name leads nowhere
 abbrev pub through_text : {A : Type 0} → (A → Answer) → Result A TopologyFault → List ℕ
 through_text answer_of (Ok told) = answer_text (answer_of told) ++ line_feed
 through_text answer_of (Err fault) = refused_text (topology_fault_text fault) ++ line_feed
-
--- a row is answered as some request asks of which this holds
-abbrev pub IsRowAnswered : SiteState → (RowRequest → Type 0) → (text : List ℕ) → SiteState → Type 0
-IsRowAnswered old IsAsked text new = (asked : RowRequest) × IsAsked asked × IsRowOutput old (row_from asked) text new
-
--- a row is answered, and its text stands behind what waited
-abbrev pub IsRowBehind : SiteState → Request → (waiting waiting' : List ℕ) → SiteState → Type 0
-IsRowBehind old request waiting waiting' new = (text : List ℕ) × IsRowOutput old request text new × (waiting' ≡ waiting ++ text)
-
--- a row is answered as some request asks of which this holds, and its text stands behind what waited; or nothing is done
-abbrev pub IsRowTold : SiteState → (RowRequest → Type 0) → (waiting waiting' : List ℕ) → SiteState → (is_answered : Bool) → Type 0
-IsRowTold old IsAsked waiting waiting' new true = (text : List ℕ) × IsRowAnswered old IsAsked text new × (waiting' ≡ waiting ++ text)
-IsRowTold old IsAsked waiting waiting' new false = (new ≡ old) × (waiting' ≡ waiting)
 
 -- a line is answered, and its text is written behind what waited. Where a document finds no memory, all that waited is
 -- written, and nothing more

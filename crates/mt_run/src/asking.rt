@@ -1,230 +1,298 @@
-//! Events of a script: the answer to one is written into a text that is kept, in place of the one before.
-ghost use Rattle.mt_plain.specs.Events as plain;
-ghost use Rattle.std.specs.Prelude.{◌≡◌, List, ◌++◌};
-ghost use Rattle.mt_model.specs.declared.entries.Scope.{Scope};
-ghost use Rattle.mt_site.specs.Advance.{advanced_from};
-ghost use Rattle.mt_plain.specs.Output.{answer_text, line_feed};
-ghost use Rattle.mt_plain.specs.Script.{drive, event};
-ghost use Rattle.mt_site.specs.Commands.{event_of_command};
-ghost use Rattle.mt_site.specs.Show.{shown_answer};
+//! Commands of a script: each is asked of the core, and its answer added to what waits to be written.
+ghost use Rattle.std.specs.Prelude.{◌≡◌, ◌+◌, ◌≤◌, ◌++◌, List, length};
 ghost use Rattle.mt_event.specs.Events.{event_of};
 ghost use Rattle.mt_event.specs.Reasons.{done_by};
+ghost use Rattle.mt_plain.specs.Events as plain;
+ghost use Rattle.mt_plain.specs.Output.{answer_text, line_feed};
+ghost use Rattle.mt_plain.specs.Script as language;
+ghost use Rattle.mt_plain.specs.Script.{drive, event};
+ghost use Rattle.mt_model.specs.declared.entries.Scope.{Scope};
+ghost use Rattle.mt_script.specs.Lines.{asked_from, row_from};
+ghost use Rattle.mt_site.specs.Advance.{advanced_from};
+ghost use Rattle.mt_site.specs.Commands.{event_of_command};
+ghost use Rattle.mt_site.specs.Show.{shown_answer};
 ghost use Rattle.mt_workflow.specs.Workflows.{stream_name};
-ghost use Rattle.mt_run.specs.Runs.{IsRequestOutput};
+ghost use Rattle.mt_run.specs.Runs.{IsAnswered, IsNamed};
 
-use crate::script::LineOutput;
-use arrayvec::ArrayVec;
 use mt_cache::CachedCore;
-use mt_drive::drive;
 use mt_event::{Event, Reason, ShownOf};
-use mt_model::Op;
-use mt_names::{KeyspaceName, MAX_TABLES, Position, TableName, TabletType, TypeSet, WorkflowName};
-use mt_script::TableText;
-use mt_site::Command;
-use mt_stream::Advanced;
-use mt_texts::{
-    LineText, put_reason, put_written, write_advanced, write_answer, write_created, write_driven,
-    write_shown,
+use mt_io::{LONGEST_LINE, ROOM, Waiting};
+use mt_names::{
+    KeyspaceName, NameFault, Position, RuleKey, RuleTarget, TableName, TypeSet, WorkflowName,
+    table_list,
 };
+use mt_script::{
+    CreateWords, QualifiedName, RowAsked, WorkflowAsked, put_advanced, put_answer, put_created,
+    put_driven, put_reason, put_shown, put_written,
+};
+use mt_site::{Command, drive_core};
+use mt_stream::Advanced;
 use mt_watch::Asks;
 use mt_workflow::Slot;
 
-/// What an event adds to the output: its answer. An event is large, so each kind is made in a function of its own.
-#[inline(never)]
-fn ask<A: Asks>(
-    core: &mut CachedCore,
-    watchers: &A,
-    asked: &Event,
-    text: &mut LineText,
-) -> LineOutput
-    ensures { IsRequestOutput (A.scopes watchers.now) core.old (event (event_of asked.now)) text.new.items result core.new }
+/// Tells that a command is done, or why it is refused.
+fn tell_done(told: &Result<(), Reason>, waiting: &mut Waiting)
+    requires room { length waiting.old.items + LONGEST_LINE ≤ ROOM }
+    ensures { waiting.new.items ≡ waiting.old.items ++ answer_text (done_by told.now) ++ line_feed }
 {
-    write_answer(text, &core.core_mut().apply(watchers, asked));
-    LineOutput::Line
-}
-
-/// Writes that a command is done, or why it is refused, in place of the text that was there.
-fn tell_done(told: &Result<(), Reason>, text: &mut LineText)
-    ensures { text.new.items ≡ answer_text (done_by told.now) ++ line_feed }
-{
-    text.clear();
     match told {
-        Ok(()) => put_written(text),
-        Err(reason) => put_reason(text, *reason),
+        Ok(()) => put_written(waiting),
+        Err(reason) => put_reason(waiting, *reason),
     }
 }
 
-/// What a command adds to the output: that it is done, or why it is refused.
+/// Asks for what a command does.
 #[inline(never)]
-pub fn command<A: Asks>(
-    core: &mut CachedCore,
-    watchers: &A,
-    asked: Command<'_>,
-    text: &mut LineText,
-) -> LineOutput
-    ensures { IsRequestOutput (A.scopes watchers.now) core.old (event (event_of_command asked.entry)) text.new.items result core.new }
+fn command<A: Asks>(core: &mut CachedCore, watchers: &A, asked: Command<'_>, waiting: &mut Waiting)
+    requires room { length waiting.old.items + LONGEST_LINE ≤ ROOM }
+    ensures { IsAnswered (A.scopes watchers.now) core.old (event (event_of_command asked.entry)) waiting.old.items waiting.new.items core.new }
 {
-    tell_done(&core.core_mut().command(watchers, asked), text);
-    LineOutput::Line
+    tell_done(&core.core_mut().command(watchers, asked), waiting);
 }
 
-/// Writes to a table of a keyspace.
-#[inline(never)]
-pub fn write_at<A: Asks>(
+/// Makes a keyspace.
+pub fn add_keyspace<A: Asks>(
     core: &mut CachedCore,
     watchers: &A,
-    keyspace: KeyspaceName,
-    table: TableName,
-    op: Op,
-    text: &mut LineText,
-) -> LineOutput
-    ensures { IsRequestOutput (A.scopes watchers.now) core.old (event (plain.write keyspace table op)) text.new.items result core.new }
+    name: &str,
+    waiting: &mut Waiting,
+) -> Result<(), NameFault>
+    requires room { length waiting.old.items + LONGEST_LINE ≤ ROOM }
+    ensures { IsNamed (A.scopes watchers.now) core.old (language.keyspace name.now) waiting.old.items waiting.new.items result core.new }
 {
-    ask(
+    let keyspace = KeyspaceName::parse(name)?;
+    command(core, watchers, Command::AddKeyspace(&keyspace), waiting);
+    Ok(())
+}
+
+/// Makes a table.
+pub fn add_table<A: Asks>(
+    core: &mut CachedCore,
+    watchers: &A,
+    keyspace: &str,
+    name: &str,
+    waiting: &mut Waiting,
+) -> Result<(), NameFault>
+    requires room { length waiting.old.items + LONGEST_LINE ≤ ROOM }
+    ensures { IsNamed (A.scopes watchers.now) core.old (language.table keyspace.now name.now) waiting.old.items waiting.new.items result core.new }
+{
+    let keyspace = KeyspaceName::parse(keyspace)?;
+    let table = TableName::parse(name)?;
+    command(
         core,
         watchers,
-        &Event::Write {
-            keyspace,
-            table,
-            op,
-        },
-        text,
-    )
+        Command::AddTable(&keyspace, &table),
+        waiting,
+    );
+    Ok(())
 }
 
-/// Reads a row of a table of a keyspace.
-#[inline(never)]
-pub fn read_at<A: Asks>(
+/// Reads a rule's target, or `-` for none.
+fn rule_target(word: &str) -> Result<Option<RuleTarget>, NameFault>
+    ensures { result ≡ language.read_rule_target word.now }
+{
+    if word == "-" {
+        return Ok(None);
+    }
+    let target = RuleTarget::parse(word)?;
+    Ok(Some(target))
+}
+
+/// Sets a routing rule, or takes it away.
+pub fn edit_rule<A: Asks>(
     core: &mut CachedCore,
     watchers: &A,
-    keyspace: KeyspaceName,
-    table: TableName,
-    key: u64,
-    type_of: TabletType,
-    text: &mut LineText,
-) -> LineOutput
-    ensures { IsRequestOutput (A.scopes watchers.now) core.old (event (plain.read keyspace table key type_of)) text.new.items result core.new }
+    key: &str,
+    target: &str,
+    waiting: &mut Waiting,
+) -> Result<(), NameFault>
+    requires room { length waiting.old.items + LONGEST_LINE ≤ ROOM }
+    ensures { IsNamed (A.scopes watchers.now) core.old (language.rule key.now target.now) waiting.old.items waiting.new.items result core.new }
 {
-    ask(
+    let key = RuleKey::parse(key)?;
+    let target = rule_target(target)?;
+    command(
         core,
         watchers,
-        &Event::Read {
-            keyspace,
-            table,
-            key,
-            type_of,
-        },
-        text,
-    )
+        Command::EditRule(&key, target.as_ref()),
+        waiting,
+    );
+    Ok(())
 }
 
-/// Creates a workflow of a name, of tables that are moved from a source to a target.
+/// Asks for an event.
+fn ask<A: Asks>(core: &mut CachedCore, watchers: &A, asked: &Event, waiting: &mut Waiting)
+    requires room { length waiting.old.items + LONGEST_LINE ≤ ROOM }
+    ensures { IsAnswered (A.scopes watchers.now) core.old (event (event_of asked.now)) waiting.old.items waiting.new.items core.new }
+{
+    put_answer(waiting, &core.core_mut().apply(watchers, asked));
+}
+
+/// Writes or reads a row of a table of a keyspace.
 #[inline(never)]
-pub fn create_of<A: Asks>(
+pub fn row_at<A: Asks>(
     core: &mut CachedCore,
     watchers: &A,
-    names: (&WorkflowName, &KeyspaceName, &KeyspaceName),
-    tables: &ArrayVec<TableName, MAX_TABLES>,
-    text: &mut LineText,
-) -> LineOutput
-    ensures { IsRequestOutput (A.scopes watchers.now) core.old (event (plain.create names.entry.0.now names.entry.1.now names.entry.2.now tables.now.items)) text.new.items result core.new }
+    name: &QualifiedName<'_>,
+    asked: &RowAsked<'_>,
+    waiting: &mut Waiting,
+) -> Result<(), NameFault>
+    requires room { length waiting.old.items + LONGEST_LINE ≤ ROOM }
+    ensures { IsNamed (A.scopes watchers.now) core.old (row_from language.change_at language.get_at name.now asked.now) waiting.old.items waiting.new.items result core.new }
 {
-    let (workflow, source, target) = names;
-    let told = core
-        .core_mut()
-        .create(watchers, workflow, source, target, tables);
-    write_created(text, &told);
-    LineOutput::Line
+    let (RuleTarget { keyspace, table }, type_of) = name.parse()?;
+    match asked {
+        RowAsked::Write(text) => {
+            let op = text.op();
+            let write = Event::Write {
+                keyspace,
+                table,
+                op,
+            };
+            ask(core, watchers, &write, waiting);
+        }
+        RowAsked::Read(key) => {
+            let read = Event::Read {
+                keyspace,
+                table,
+                key: *key,
+                type_of,
+            };
+            ask(core, watchers, &read, waiting);
+        }
+    }
+    Ok(())
 }
 
-/// The same, of tables that are read first.
+/// Makes a workflow.
 #[inline(never)]
 pub fn create<A: Asks>(
     core: &mut CachedCore,
     watchers: &A,
-    workflow: WorkflowName,
-    source: KeyspaceName,
-    target: KeyspaceName,
-    tables: &TableText<'_>,
-    text: &mut LineText,
-) -> LineOutput
-    ensures { IsRequestOutput (A.scopes watchers.now) core.old (event (plain.create workflow source target tables.now)) text.new.items result core.new }
+    words: CreateWords<'_>,
+    waiting: &mut Waiting,
+) -> Result<(), NameFault>
+    requires room { length waiting.old.items + LONGEST_LINE ≤ ROOM }
+    ensures { IsNamed (A.scopes watchers.now) core.old (language.create words.entry.workflow.now words.entry.source.now words.entry.target.now words.entry.tables.now) waiting.old.items waiting.new.items result core.new }
 {
-    create_of(
-        core,
-        watchers,
-        (&workflow, &source, &target),
-        &tables.tables(),
-        text,
-    )
+    let workflow = WorkflowName::parse(words.workflow)?;
+    let source = KeyspaceName::parse(words.source)?;
+    let target = KeyspaceName::parse(words.target)?;
+    match &table_list(words.tables) {
+        Ok(tables) => {
+            let core = core.core_mut();
+            put_created(
+                waiting,
+                &core.create(watchers, &workflow, &source, &target, tables),
+            );
+            Ok(())
+        }
+        Err(fault) => Err(*fault),
+    }
 }
 
-/// Writes what an advance did, or why it is refused, in place of the text that was there.
-fn tell_advanced(told: &Result<Advanced, Reason>, text: &mut LineText)
-    ensures { text.new.items ≡ answer_text (advanced_from told.now) ++ line_feed }
+/// Tells what an advance did, or why it is refused.
+fn tell_advanced(told: &Result<Advanced, Reason>, waiting: &mut Waiting)
+    requires room { length waiting.old.items + LONGEST_LINE ≤ ROOM }
+    ensures { waiting.new.items ≡ waiting.old.items ++ answer_text (advanced_from told.now) ++ line_feed }
 {
     match told {
-        Ok(did) => write_advanced(text, *did),
-        Err(reason) => {
-            text.clear();
-            put_reason(text, *reason);
-        }
+        Ok(did) => put_advanced(waiting, *did),
+        Err(reason) => put_reason(waiting, *reason),
     }
 }
 
 /// Advances a stream of a workflow, which leaves where names lead. It asks nobody.
-#[inline(never)]
-pub fn advance(
+fn advance(
     core: &mut CachedCore,
     workflow: &WorkflowName,
     stream: Slot,
     at: Position,
     max: u16,
-    text: &mut LineText,
-) -> LineOutput
-    ensures { (scopes : List Scope) → IsRequestOutput scopes core.old (event (plain.advance workflow.now (stream_name stream) at max)) text.new.items result core.new }
+    waiting: &mut Waiting,
+)
+    requires room { length waiting.old.items + LONGEST_LINE ≤ ROOM }
+    ensures { (scopes : List Scope) → IsAnswered scopes core.old (event (plain.advance workflow.now (stream_name stream) at max)) waiting.old.items waiting.new.items core.new }
 {
-    tell_advanced(&core.advance(workflow, stream, at, max), text);
-    LineOutput::Line
+    tell_advanced(&core.advance(workflow, stream, at, max), waiting);
 }
 
-/// Writes what is told of a workflow, or why it is refused, in place of the text that was there.
-fn tell_shown(told: &Result<ShownOf<'_>, Reason>, text: &mut LineText)
-    ensures { text.new.items ≡ answer_text (shown_answer told.now) ++ line_feed }
+/// Tells what is told of a workflow, or why it is refused.
+fn tell_shown(told: &Result<ShownOf<'_>, Reason>, waiting: &mut Waiting)
+    requires room { length waiting.old.items + LONGEST_LINE ≤ ROOM }
+    ensures { waiting.new.items ≡ waiting.old.items ++ answer_text (shown_answer told.now) ++ line_feed }
 {
     match told {
-        Ok(shown) => write_shown(text, shown),
-        Err(reason) => {
-            text.clear();
-            put_reason(text, *reason);
-        }
+        Ok(shown) => put_shown(waiting, shown),
+        Err(reason) => put_reason(waiting, *reason),
     }
 }
 
 /// Tells of a workflow, which leaves all as it is. It asks nobody.
-#[inline(never)]
-pub fn show(core: &CachedCore, workflow: &WorkflowName, text: &mut LineText) -> LineOutput
-    ensures { (scopes : List Scope) → IsRequestOutput scopes core.now (event (plain.show workflow.now)) text.new.items result core.now }
+fn show(core: &CachedCore, workflow: &WorkflowName, waiting: &mut Waiting)
+    requires room { length waiting.old.items + LONGEST_LINE ≤ ROOM }
+    ensures { (scopes : List Scope) → IsAnswered scopes core.now (event (plain.show workflow.now)) waiting.old.items waiting.new.items core.now }
 {
-    tell_shown(&core.core().shown(workflow), text);
-    LineOutput::Line
+    tell_shown(&core.core().shown(workflow), waiting);
 }
 
 /// Switches the traffic of a workflow as a whole, or reverses it.
 #[inline(never)]
-pub fn drive_whole<A: Asks>(
+fn drive_whole<A: Asks>(
     core: &mut CachedCore,
     watchers: &A,
     workflow: &WorkflowName,
     types: TypeSet,
     back: bool,
-    text: &mut LineText,
-) -> LineOutput
-    ensures { IsRequestOutput (A.scopes watchers.now) core.old (drive workflow.now types back) text.new.items result core.new }
+    waiting: &mut Waiting,
+)
+    requires room { length waiting.old.items + LONGEST_LINE ≤ ROOM }
+    ensures { IsAnswered (A.scopes watchers.now) core.old (drive workflow.now types back) waiting.old.items waiting.new.items core.new }
 {
-    write_driven(
-        text,
-        &drive(core.core_mut(), watchers, workflow, types, back),
+    put_driven(
+        waiting,
+        &drive_core(core.core_mut(), watchers, workflow, types, back),
     );
-    LineOutput::Line
+}
+
+/// Does what is asked for of a workflow.
+#[inline(never)]
+pub fn workflow<A: Asks>(
+    core: &mut CachedCore,
+    watchers: &A,
+    name: &str,
+    asked: WorkflowAsked<'_>,
+    waiting: &mut Waiting,
+) -> Result<(), NameFault>
+    requires room { length waiting.old.items + LONGEST_LINE ≤ ROOM }
+    ensures { IsNamed (A.scopes watchers.now) core.old (asked_from name.now asked.entry) waiting.old.items waiting.new.items result core.new }
+{
+    let workflow = &WorkflowName::parse(name)?;
+    match asked {
+        WorkflowAsked::Advance(stream, at, max) => advance(
+            core, workflow, stream, at, max, waiting,
+        ),
+        WorkflowAsked::BeginSwitch(types) => {
+            let begin = Command::BeginSwitch(workflow, TypeSet::parse(types)?);
+            command(core, watchers, begin, waiting);
+        }
+        WorkflowAsked::BeginReverse(types) => {
+            let begin = Command::BeginReverse(workflow, TypeSet::parse(types)?);
+            command(core, watchers, begin, waiting);
+        }
+        WorkflowAsked::Step(at) => command(core, watchers, Command::Step(workflow, at), waiting),
+        WorkflowAsked::Undo(at) => command(core, watchers, Command::Undo(workflow, at), waiting),
+        WorkflowAsked::Switch(types) => {
+            let types = TypeSet::parse(types)?;
+            drive_whole(core, watchers, workflow, types, false, waiting);
+        }
+        WorkflowAsked::Reverse(types) => {
+            let types = TypeSet::parse(types)?;
+            drive_whole(core, watchers, workflow, types, true, waiting);
+        }
+        WorkflowAsked::Cancel => command(core, watchers, Command::Cancel(workflow), waiting),
+        WorkflowAsked::Complete => command(core, watchers, Command::Complete(workflow), waiting),
+        WorkflowAsked::Show => show(core, workflow, waiting),
+    }
+    Ok(())
 }

@@ -6,26 +6,26 @@ ghost use Rattle.mt_run.specs.Runs.{Runs};
 use crate::run_script;
 use mt_io::ScriptFault;
 use mt_names::KeyspaceName;
-use mt_watch::{PlainWatchers, Scope};
+use mt_watch::{Scope, Watchers, telling_watcher};
 use std::alloc::Global;
 use std::io::{Read, Write};
 
-/// The watchers of a run: one for the routers, and one for the primary of each keyspace that is named, in their order; a
-/// keyspace that is named twice has two. `ScriptFault::Memory` alone.
-fn watchers_of(alloc: Global, keyspaces: &[KeyspaceName]) -> Result<PlainWatchers, ScriptFault>
-    ensures scopes { IfOk result (λ watchers. watchers.scopes.items ≡ watchers_of keyspaces.now) }
+/// The scopes of the watchers of a run: one for the routers, and one for the primary of each keyspace that is named, in
+/// their order; a keyspace that is named twice has two. `ScriptFault::Memory` alone.
+fn scopes_of(alloc: Global, keyspaces: &[KeyspaceName]) -> Result<Vec<Scope>, ScriptFault>
+    ensures scopes { IfOk result (λ scopes. scopes.items ≡ watchers_of keyspaces.now) }
     ensures memory { IfErr result (λ fault. fault ≡ ScriptFault.Memory) }
 {
-    let mut watchers = PlainWatchers::new(alloc);
-    if watchers.add(Scope::Routes).is_err() {
+    let mut scopes = Vec::new(alloc);
+    if scopes.push(Scope::Routes).is_err() {
         return Err(ScriptFault::Memory);
     }
     for keyspace in keyspaces {
-        if watchers.add(Scope::Primary(keyspace.copied())).is_err() {
+        if scopes.push(Scope::Primary(keyspace.copied())).is_err() {
             return Err(ScriptFault::Memory);
         }
     }
-    Ok(watchers)
+    Ok(scopes)
 }
 
 /// Runs a script as `run_script` does, with a watcher for the routers and one for the primary of each keyspace that is
@@ -39,6 +39,15 @@ pub fn run_watched<R: Read, W: Write>(
 ) -> Result<(), ScriptFault>
     ensures { Runs (watchers_of keyspaces.now) (R.remaining reader.old) (R.remaining reader.new) (W.contents writer.old) (W.contents writer.new) result }
 {
-    let watchers = watchers_of(alloc, keyspaces)?;
+    let mut watchers = Watchers::new(alloc);
+    let scopes = scopes_of(alloc, keyspaces)?;
+    for scope in &scopes {
+        let Ok(watcher) = telling_watcher!(alloc, scope.copied()) else {
+            return Err(ScriptFault::Memory);
+        };
+        if watchers.add(watcher).is_err() {
+            return Err(ScriptFault::Memory);
+        }
+    }
     run_script(alloc, reader, writer, &watchers)
 }

@@ -6,7 +6,7 @@ use crate::scripts::{Case, answers_watched};
 use mt_model::Entry;
 use mt_names::KeyspaceName;
 use mt_run::run_script;
-use mt_watch::{Callback, Change, Notice, Scope, WatchFault, Watcher, Watchers};
+use mt_watch::{Callback, Change, Notice, Scope, WatchFault, Watcher, Watchers, tell};
 use std::alloc::Global;
 use std::test::Fail;
 
@@ -145,7 +145,7 @@ fn watcher_of(alloc: Global, keyspace: &str, refuses: bool) -> Option<Watcher> {
             if refuses && allows(change) {
                 return Err(WatchFault(1));
             }
-            Notice::of(alloc, &own, change).map_err(|_| WatchFault(0))
+            tell(alloc, &own, change)
         },
     ) {
         Ok(call) => call,

@@ -1,7 +1,7 @@
 -- A test of all bytes that looks at one after the other, or at the first and the last ones.
 use native.Mathlib.Omega.{arith}
 use Rattle.std.proofs.Common.{◌≡◌, ◌≤◌, ◌+◌, ◌-◌, ℕ, Option, Bool, true, false, ◌&&◌, List, [], ◌∷◌, ◌++◌, take, drop, length, ap, ◌∙◌, sym, subst, refl}
-use Rattle.std.proofs.lemmas.Bool.{and_parts}
+use Rattle.std.proofs.lemmas.Bool.{and_parts, false_from_ne_true, true≢false}
 use Rattle.std.proofs.lemmas.Fn.{fold_over}
 use Rattle.std.proofs.lemmas.List.{drop-drop, take-append-drop}
 use Rattle.std.proofs.lemmas.List.Folds.{list_all-append}
@@ -32,10 +32,22 @@ behind test k ys all =
     (and_parts (list_all test (take k ys)) (list_all test (drop k ys)) (sym (list_all-append test (take k ys) (drop k ys)) ∙ ap (list_all test) (take-append-drop k ys) ∙ all)).1
 
 -- the first and the last ones, of which there are enough
-pub all_by_ends : (test : ℕ → Bool) (n : ℕ) (ys : List ℕ) → n ≤ length ys → length ys ≤ n + n → list_all test (take n ys) ≡ true → list_all test (drop (length ys - n) ys) ≡ true → list_all test ys ≡ true
-all_by_ends test n ys long short front back =
-    let k : ℕ = n - (length ys - n) in
-    let sum : (length ys - n) + k ≡ n = omega (arith, long, short) in
-    let there : drop k (drop (length ys - n) ys) ≡ drop n ys = drop-drop k (length ys - n) ys ∙ ap (λ i. drop i ys) sum in
-    let rest : list_all test (drop n ys) ≡ true = subst (λ l. list_all test l ≡ true) there (behind test k (drop (length ys - n) ys) back) in
-    sym (ap (list_all test) (take-append-drop n ys)) ∙ list_all-append test (take n ys) (drop n ys) ∙ rw (front, rest) refl
+pub all_by_ends : (test : ℕ → Bool) (n : ℕ) (ys : List ℕ) → n ≤ length ys → length ys ≤ n + n → (list_all test (take n ys) && list_all test (drop (length ys - n) ys)) ≡ list_all test ys
+all_by_ends test n ys long short = by (list_all test (take n ys)) (list_all test (drop (length ys - n) ys)) refl refl
+  where
+    whole : list_all test ys ≡ (list_all test (take n ys) && list_all test (drop n ys))
+    whole = sym (ap (list_all test) (take-append-drop n ys)) ∙ list_all-append test (take n ys) (drop n ys)
+
+    last : list_all test (drop (length ys - n) ys) ≡ true → list_all test (drop n ys) ≡ true
+    last back =
+        let k : ℕ = n - (length ys - n) in
+        let sum : (length ys - n) + k ≡ n = omega (arith, long, short) in
+        subst (λ l. list_all test l ≡ true) (drop-drop k (length ys - n) ys ∙ ap (λ i. drop i ys) sum) (behind test k (drop (length ys - n) ys) back)
+
+    some_fails : list_all test (drop (length ys - n) ys) ≡ false → list_all test ys ≡ false
+    some_fails fails = false_from_ne_true (list_all test ys) (λ all. true≢false (sym (behind test (length ys - n) ys all) ∙ fails))
+
+    by : (a b : Bool) → list_all test (take n ys) ≡ a → list_all test (drop (length ys - n) ys) ≡ b → (a && b) ≡ list_all test ys
+    by true true front back = sym (whole ∙ rw (front, last back) refl)
+    by true false front back = sym (some_fails back)
+    by false b front back = sym (whole ∙ rw front refl)

@@ -1,10 +1,10 @@
 mod AllLemmas
-pub mod CommonLemmas
+mod BlankLemmas
 pub mod CutLemmas
 pub mod LineLemmas
 pub mod ManyWordsLemmas
 pub mod NumberLemmas
 pub mod RowLemmas
-pub mod RowLineLemmas
-pub mod VisibleLemmas
+mod TextLemmas
+mod TypeLemmas
 pub mod WordLemmas

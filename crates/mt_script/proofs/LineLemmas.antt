@@ -1,54 +1,35 @@
--- What a readable line says is what its command says; and what a line tells follows from what it says.
-use Rattle.std.proofs.Common.{◌≡◌, ℕ, ◌≤◌, true, false, List, length, Option, None, Some, Result, Ok, Err, option_map, refl, sym, ap, ◌∙◌}
+-- A readable line says what its words command.
+use Rattle.std.proofs.Common.{◌≡◌, ℕ, ◌<◌, ◌≤◌, ◌||◌, true, false, List, length, Option, None, Some, option_map, unwrap_or, refl, arith}
 use Rattle.std.proofs.lemmas.Bool.{le-ltb}
-use Rattle.mt_names.specs.declared.fault.NameFault.{NameFault}
-use Rattle.mt_plain.specs.Output.{Told, nothing, says, refused_text, told_line, told_request}
-use Rattle.mt_plain.specs.Plain.{Plain}
-use Rattle.mt_plain.specs.Script.{Command, Request, MAX_LINE_LENGTH, command_of, commanded, is_readable, is_silent, read_line, request_of, words_of}
-use Rattle.mt_plain.specs.Script as plain
+use Rattle.std.proofs.lemmas.Grind.{common_steps}
+use Rattle.std.proofs.lemmas.List.Sums.{AllPass-from_list_all}
+use Rattle.std.proofs.lemmas.Str.{IsUtf8-from_ascii}
+use Rattle.std.proofs.lemmas.Str.Ascii.{IsAscii-from_all}
+use Rattle.std.specs.Str.{IsUtf8}
+use Rattle.mt_plain.specs.Script.{Command, Line, MAX_LINE_LENGTH, bad_line, command, command_of, commanded, is_blank, is_readable, is_silent, is_visible, read_line, words_of}
+use Rattle.mt_script.specs.declared.lines.Line as code
+use Rattle.mt_script.specs.declared.lines.Line.TheVariants as line
 use Rattle.mt_script.specs.declared.lines.LineRefusal.TheVariants as refusal
-use Rattle.mt_script.specs.Requests.{LineMeaning, line_refusal_text, meaning_of, meaning_of_request}
+use Rattle.mt_script.specs.Lines.{line_from}
 
--- ---- what a line says
+-- a readable line is a text
+ascii : (byte : ℕ) → (is_blank byte || is_visible byte) ≡ true → byte < 128
+ascii byte is = grind (arith, common_steps)
 
--- a readable line says what its words command
-means-readable : (line : List ℕ) → is_silent line ≡ false → length line ≤ MAX_LINE_LENGTH → is_readable line ≡ true
-    → meaning_of (read_line line) ≡ meaning_of (commanded (command_of (words_of line)))
-means-readable line writes short is = rw (writes, le-ltb MAX_LINE_LENGTH (length line) short, is) refl
+pub IsUtf8-readable : (line : List ℕ) → is_readable line ≡ true → IsUtf8 line
+IsUtf8-readable line is = IsUtf8-from_ascii line (IsAscii-from_all line (λ k d h. ascii _ (AllPass-from_list_all (λ byte. is_blank byte || is_visible byte) line is k d h)))
 
-means-None : (c : Option Command) → None ≡ option_map request_of c → meaning_of (commanded c) ≡ Some (Err refusal.BadLine)
-means-None None e = refl
-means-None (Some x) e = absurd cc
+-- a line as its command says, or a bad one
+pub line-or : (found : Option code.Line) → line_from (unwrap_or found (line.Refused refusal.BadLine)) ≡ unwrap_or (option_map line_from found) bad_line
+line-or None = refl
+line-or (Some l) = refl
 
-means-Some : (c : Option Command) (r : Result Request NameFault) → Some r ≡ option_map request_of c → meaning_of (commanded c) ≡ Some (meaning_of_request r)
-means-Some None r e = absurd cc
-means-Some (Some x) r e = let same : r ≡ request_of x = cc in ap (λ q. Some (meaning_of_request q)) (sym same)
+commanded-by : (c : Option Command) (found : Option Line) → found ≡ option_map command c → unwrap_or found bad_line ≡ commanded c
+commanded-by None None is = refl
+commanded-by (Some c) (Some line) is = let same : line ≡ command c = cc in same
+commanded-by None (Some line) is = absurd cc
+commanded-by (Some c) None is = absurd cc
 
-module _ (line : List ℕ) (writes : is_silent line ≡ false) (short : length line ≤ MAX_LINE_LENGTH) (is : is_readable line ≡ true) where
-  pub means-bad_line : None ≡ option_map request_of (command_of (words_of line)) → Some (Err refusal.BadLine) ≡ meaning_of (read_line line)
-  means-bad_line e = sym (means-readable line writes short is ∙ means-None (command_of (words_of line)) e)
-
-  pub means-read : (r : Result Request NameFault) → Some r ≡ option_map request_of (command_of (words_of line)) → Some (meaning_of_request r) ≡ meaning_of (read_line line)
-  means-read r e = sym (means-readable line writes short is ∙ means-Some (command_of (words_of line)) r e)
-
--- ---- what a line tells
-
--- what is told where a line says this
-abbrev pub told_by : Plain → LineMeaning → Told
-told_by p None = nothing
-told_by p (Some (Err r)) = says (refused_text (line_refusal_text r))
-told_by p (Some (Ok r)) = told_request p (Ok r)
-
-told-request : (p : Plain) (r : Result Request NameFault) → told_by p (Some (meaning_of_request r)) ≡ told_request p r
-told-request p (Ok r) = refl
-told-request p (Err fault) = refl
-
-told-line : (p : Plain) (line : plain.Line) → told_by p (meaning_of line) ≡ told_line p line
-told-line p plain.silent = refl
-told-line p plain.bad_line = refl
-told-line p plain.line_too_long = refl
-told-line p (plain.command c) = told-request p (request_of c)
-
--- a line of this meaning tells this
-pub told-meant : (p : Plain) (line : plain.Line) (meaning : LineMeaning) → meaning ≡ meaning_of line → told_by p meaning ≡ told_line p line
-told-meant p line meaning is = ap (told_by p) is ∙ told-line p line
+pub read-by-words : (line : List ℕ) → is_silent line ≡ false → length line ≤ MAX_LINE_LENGTH → is_readable line ≡ true
+    → (found : Option Line) → found ≡ option_map command (command_of (words_of line)) → unwrap_or found bad_line ≡ read_line line
+read-by-words line writes short is found same = rw (writes, le-ltb MAX_LINE_LENGTH (length line) short, is) (commanded-by (command_of (words_of line)) found same)

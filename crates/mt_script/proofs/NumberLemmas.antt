@@ -1,16 +1,13 @@
--- Numbers of a script, as the standard parser reads them.
-use Rattle.std.proofs.Common.{◌≡◌, ℕ, ◌+◌, ◌-◌, ◌*◌, ◌^◌, ◌<◌, ◌≤◌, Bool, true, false, ltb, leb, ◌&&◌, List, [], ◌∷◌, ◌++◌, length, fold, if◌then◌else◌, None, Some, Result, Ok, Err, refl, sym, subst, ap, ◌∙◌, append-nil, arith, rules}
+-- Numbers of a script, by their digits and as the standard parser reads them.
+use Rattle.std.proofs.Common.{◌≡◌, ℕ, ◌+◌, ◌-◌, ◌*◌, ◌^◌, ◌<◌, ◌≤◌, ◌≢◌, Bool, true, false, ltb, leb, ◌&&◌, List, length, fold, get_or, if◌then◌else◌, Option, None, Some, Result, Ok, Err, refl, sym, ap, ◌∙◌, arith, rules}
 use Rattle.std.proofs.Math.Nat.{pow-le-pow_right}
 use Rattle.std.proofs.lemmas.Bool.{and_parts, false_from_ne_true, lt-ltb, le-leb, ltb-true}
-use Rattle.std.proofs.lemmas.Str.Parse.{IsNumeralModel, numerals_by_fold, parse_digits}
+use Rattle.std.proofs.lemmas.Str.Parse.{IsNumeralModel, numerals_by_fold, parse_plain}
 use Rattle.std.specs.Char.{is_ascii_digit}
 use Rattle.std.specs.List.{list_all}
 use Rattle.std.specs.Str.Parse.{ParsesUnsigned}
 use Rattle.std.specs.Result.{OkIff, result_ok}
 use Rattle.mt_plain.specs.Script.{is_number_of, number_of_digits}
-use Rattle.mt_script.specs.Rows.{BeginsWithNumber}
-use Rattle.mt_script.specs.Words.{IsVisibleWord}
-use Rattle.mt_script.proofs.VisibleLemmas.{HasWords, alone, digits-visible, in-front}
 
 -- a number read on from what stands before
 abbrev read_on : ℕ → List ℕ → ℕ
@@ -21,6 +18,9 @@ own = numerals_by_fold _ (search rules) read_on (search rules)
 
 -- a number is read where its digits are, and their number fits
 module _ (most bound : ℕ) where
+  abbrev read : List ℕ → Option ℕ
+  read word = if is_number_of most bound word then Some (number_of_digits word) else None
+
   both_tests : (word : List ℕ) → length word ≤ most → list_all is_ascii_digit word ≡ true → 0 < length word → number_of_digits word < bound → is_number_of most bound word ≡ true
   both_tests word short digits some fits =
       rw (lt-ltb 0 (length word) some, le-leb (length word) most short, digits, lt-ltb (number_of_digits word) bound fits) refl
@@ -32,45 +32,21 @@ module _ (most bound : ℕ) where
       let one = and_parts (ltb 0 (length word)) (leb (length word) most) two.0 in
       (ltb-true 0 (length word) one.0, two.1, ltb-true (number_of_digits word) bound three.1)
 
-  -- what was read is the number of the digits, which pass the tests
-  number-read : (word : List ℕ) (number : ℕ) → (if is_number_of most bound word then Some (number_of_digits word) else None) ≡ Some number
-      → (is_number_of most bound word ≡ true) × (number_of_digits word ≡ number)
-  number-read word number = by (is_number_of most bound word) refl
-    where
-      by : (is : Bool) → is_number_of most bound word ≡ is → (if is then Some (number_of_digits word) else None) ≡ Some number
-          → (is_number_of most bound word ≡ true) × (number_of_digits word ≡ number)
-      by true e reads = (e, cc)
-      by false e reads = absurd cc
+  reads-Some : (word : List ℕ) → length word ≤ most → list_all is_ascii_digit word ≡ true → 0 < length word → number_of_digits word < bound → read word ≡ Some (number_of_digits word)
+  reads-Some word short digits some fits = rw (both_tests word short digits some fits) refl
 
-  -- so they are a word
-  pub number-word : (word : List ℕ) (number : ℕ) → (if is_number_of most bound word then Some (number_of_digits word) else None) ≡ Some number → IsVisibleWord word
-  number-word word number reads =
-      let tests = tests_from word (number-read word number reads).0 in
-      record { visible = digits-visible word tests.1; some = tests.0 }
+  reads-None : (word : List ℕ) → ¬ ((0 < length word) × (list_all is_ascii_digit word ≡ true) × (number_of_digits word < bound)) → read word ≡ None
+  reads-None word not = rw (false_from_ne_true (is_number_of most bound word) (λ is. not (tests_from word is))) refl
 
--- words that a number begins, as it is found there
-module _ (words : List ℕ) (number : ℕ) (rest : List ℕ) (begins : BeginsWithNumber words number rest) where
-  digits-word : IsVisibleWord begins.0
-  digits-word = number-word 20 (2 ^ 64) begins.0 number begins.1
-
-  -- nothing is behind it
-  pub number-alone : rest ≡ [] → HasWords words (begins.0 ∷ [])
-  number-alone none = subst (λ l. HasWords l (begins.0 ∷ [])) (sym (begins.2 ∙ ap (λ l. begins.0 ++ l) none ∙ append-nil begins.0)) (alone digits-word)
-
-  -- others are behind it and a space
-  pub number-in-front : {behind : List ℕ} {others : List (List ℕ)} → rest ≡ 32 ∷ behind → HasWords behind others → HasWords words (begins.0 ∷ others)
-  number-in-front follows has = in-front digits-word (begins.2 ∙ ap (λ l. begins.0 ++ l) follows) has
-
--- what the parser reads of up to so many digits
-pub result_ok-parse : {E : Type 0} (most bits : ℕ) (word : List ℕ) (r : Result ℕ E) → ParsesUnsigned bits 10 word r → length word ≤ most → list_all is_ascii_digit word ≡ true
+-- what the parser reads of a text without a plus
+pub result_ok-parse : {E : Type 0} (most bits : ℕ) (word : List ℕ) (r : Result ℕ E) → ParsesUnsigned bits 10 word r → length word ≤ most → get_or word 0 0 ≢ 43
     → result_ok r ≡ (if is_number_of most (2 ^ bits) word then Some (number_of_digits word) else None)
-result_ok-parse most bits word r parsed short digits = by r (parse_digits own bits word r parsed digits)
+result_ok-parse most bits word r parsed short plain = by r (parse_plain own bits word r parsed plain)
   where
-    by : {E : Type 0} (r : Result ℕ E) → OkIff r ((0 < length word) × (number_of_digits word < 2 ^ bits)) (number_of_digits word)
+    by : {E : Type 0} (r : Result ℕ E) → OkIff r ((list_all is_ascii_digit word ≡ true) × (0 < length word) × (number_of_digits word < 2 ^ bits)) (number_of_digits word)
         → result_ok r ≡ (if is_number_of most (2 ^ bits) word then Some (number_of_digits word) else None)
-    by (Ok x) is = rw (both_tests most (2 ^ bits) word short digits is.0.0 is.0.1) (ap Some is.1)
-    by (Err e) not =
-        rw (false_from_ne_true (is_number_of most (2 ^ bits) word) (λ is. let tests = tests_from most (2 ^ bits) word is in not (tests.0, tests.2))) refl
+    by (Ok x) is = sym (reads-Some most (2 ^ bits) word short is.0.0 is.0.1 is.0.2 ∙ ap Some (sym is.1))
+    by (Err e) not = sym (reads-None most (2 ^ bits) word (λ tests. not (tests.1, tests.0, tests.2)))
 
 -- a number of fewer than 19 digits, and one more digit
 pub next-fits : (number count : ℕ) → number < 10 ^ count → count < 19 → number < 1000000000000000000

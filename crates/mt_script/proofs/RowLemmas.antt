@@ -1,96 +1,157 @@
 -- The words of an operation on a row, with its name apart.
-use Rattle.std.proofs.Common.{◌≡◌, ℕ, ◌==◌, Bool, true, false, if◌then◌else◌, List, [], ◌∷◌, codes, find, Option, None, Some, option_and_then, option_map, refl, sym, ap, subst, ◌∙◌}
+use Rattle.std.proofs.Common.{◌≡◌, ℕ, ◌==◌, ◌||◌, ◌⊎◌, Bool, true, false, not, if◌then◌else◌, List, [], ◌∷◌, codes, find, Option, None, Some, option_and_then, option_map, refl, sym, ap, subst, inl, inr, ⊎_elim, ◌∙◌}
 use Rattle.std.proofs.lemmas.Bool.{true≢false, eqb-true}
 use Rattle.std.specs.Option.{option_map_or}
-use Rattle.mt_names.specs.Keys.{at_sign, dot}
+use Rattle.mt_names.specs.Keys.{after, at_sign, dot}
+use Rattle.std.specs.Cmp.Lexicographic.{bytes_decides}
 use Rattle.mt_names.specs.Names.{same_text}
 use Rattle.mt_model.specs.declared.rows.Op.{Op}
 use Rattle.mt_model.specs.declared.rows.Op.TheVariants.{Insert, Update, Append, Delete}
 use Rattle.mt_model.specs.Rows.{RowValue}
-use Rattle.mt_plain.specs.Script.{Command, change_at, change_of, get_at, is_qualified, read_at, op_of, read_get, read_number, read_row_command, read_value, with_value, without_value}
-use Rattle.mt_script.specs.declared.commands.RowWork.{RowWork}
-use Rattle.mt_script.specs.declared.commands.RowWork.TheVariants as work
-use Rattle.mt_script.specs.Requests.{is_mark, read_last_number, read_work, work_of, work_with_value}
+use Rattle.mt_plain.specs.Script.{Command, change, change_at, change_of, get, get_at, is_for_reads, is_qualified, is_row_verb, op_of, read_at, read_command, read_get, read_number, read_row_command, read_value, without_value}
+use Rattle.mt_plain.specs.Script as plain
+use Rattle.mt_script.specs.declared.lines.RowAsked.{RowAsked}
+use Rattle.mt_script.specs.declared.lines.RowAsked.TheVariants as row
+use Rattle.mt_script.specs.declared.ops.OpText.{OpText}
+use Rattle.mt_script.specs.declared.ops.OpText.TheVariants as op
+use Rattle.mt_script.specs.Lines.{is_mark, may_ask, op_from, read_asked, read_last_number, row_from, with_value}
 
 module _ (make : List ℕ → Op → Command) (ask : List ℕ → ℕ → Command) (name : List ℕ) where
-  value-read : (op : ℕ → RowValue → Op) (n : Option ℕ) (v : Option RowValue)
-      → change_of make name (op_of op n v)
-      ≡ option_and_then (work_of make ask name) (option_map (λ (w : ℕ × RowValue). work.Write (op w.0 w.1)) (option_and_then (λ number. option_map (λ value. (number, value)) v) n))
-  value-read op None v = refl
-  value-read op (Some n) None = refl
-  value-read op (Some n) (Some v) = refl
+  -- what is commanded by a name of which this is asked
+  abbrev commanded : RowAsked → Option Command
+  commanded (row.Write text) = if is_for_reads (after at_sign name) then None else Some (make name (op_from text))
+  commanded (row.Read number) = Some (ask name number)
 
-  value-work : (op : ℕ → RowValue → Op) (words : List (List ℕ))
-      → with_value make op (name ∷ words) ≡ option_and_then (work_of make ask name) (work_with_value op words)
-  value-work op [] = refl
-  value-work op (a ∷ []) = refl
-  value-work op (a ∷ b ∷ []) = value-read op (read_number a) (read_value b)
-  value-work op (a ∷ b ∷ c ∷ words) = refl
+  commanded-may : (asked : RowAsked) → commanded asked ≡ (if may_ask name asked then Some (row_from make ask name asked) else None)
+  commanded-may (row.Read number) = refl
+  commanded-may (row.Write text) = by (is_for_reads (after at_sign name))
+    where
+      by : (b : Bool) → (if b then None else Some (make name (op_from text))) ≡ (if not b then Some (make name (op_from text)) else None)
+      by true = refl
+      by false = refl
 
-  delete-read : (n : Option ℕ) → change_of make name (option_map Delete n) ≡ option_and_then (work_of make ask name) (option_map (λ k. work.Write (Delete k)) n)
+  module _ (o : ℕ → RowValue → Op) (text : ℕ → RowValue → OpText) (same : (n : ℕ) (v : RowValue) → op_from (text n v) ≡ o n v) where
+    value-read : (n : Option ℕ) (v : Option RowValue)
+        → change_of make name (op_of o n v)
+        ≡ option_and_then commanded (option_map (λ (w : ℕ × RowValue). row.Write (text w.0 w.1)) (option_and_then (λ number. option_map (λ value. (number, value)) v) n))
+    value-read None v = refl
+    value-read (Some n) None = refl
+    value-read (Some n) (Some v) = ap (λ x. change_of make name (Some x)) (sym (same n v))
+
+    value-asked : (words : List (List ℕ)) → plain.with_value make o (name ∷ words) ≡ option_and_then commanded (with_value text words)
+    value-asked [] = refl
+    value-asked (a ∷ []) = refl
+    value-asked (a ∷ b ∷ []) = value-read (read_number a) (read_value b)
+    value-asked (a ∷ b ∷ c ∷ words) = refl
+
+  delete-read : (n : Option ℕ) → change_of make name (option_map Delete n) ≡ option_and_then commanded (option_map (λ k. row.Write (op.Delete k)) n)
   delete-read None = refl
   delete-read (Some n) = refl
 
-  delete-work : (words : List (List ℕ))
-      → without_value make (name ∷ words) ≡ option_and_then (work_of make ask name) (option_map (λ k. work.Write (Delete k)) (read_last_number words))
-  delete-work [] = refl
-  delete-work (a ∷ []) = delete-read (read_number a)
-  delete-work (a ∷ b ∷ words) = refl
+  delete-asked : (words : List (List ℕ)) → without_value make (name ∷ words) ≡ option_and_then commanded (option_map (λ k. row.Write (op.Delete k)) (read_last_number words))
+  delete-asked [] = refl
+  delete-asked (a ∷ []) = delete-read (read_number a)
+  delete-asked (a ∷ b ∷ words) = refl
 
-  get-read : (n : Option ℕ) → option_map (ask name) n ≡ option_and_then (work_of make ask name) (option_map work.Read n)
+  get-read : (n : Option ℕ) → option_map (ask name) n ≡ option_and_then commanded (option_map row.Read n)
   get-read None = refl
   get-read (Some n) = refl
 
-  get-work : (words : List (List ℕ)) → read_get ask (name ∷ words) ≡ option_and_then (work_of make ask name) (option_map work.Read (read_last_number words))
-  get-work [] = refl
-  get-work (a ∷ []) = get-read (read_number a)
-  get-work (a ∷ b ∷ words) = refl
+  get-asked : (words : List (List ℕ)) → read_get ask (name ∷ words) ≡ option_and_then commanded (option_map row.Read (read_last_number words))
+  get-asked [] = refl
+  get-asked (a ∷ []) = get-read (read_number a)
+  get-asked (a ∷ b ∷ words) = refl
 
-  through : (b : Bool) (x x' : Option Command) (y y' : Option RowWork)
-      → x ≡ option_and_then (work_of make ask name) y → x' ≡ option_and_then (work_of make ask name) y'
-      → (if b then x else x') ≡ option_and_then (work_of make ask name) (if b then y else y')
+  through : (b : Bool) (x x' : Option Command) (y y' : Option RowAsked) → x ≡ option_and_then commanded y → x' ≡ option_and_then commanded y'
+      → (if b then x else x') ≡ option_and_then commanded (if b then y else y')
   through true x x' y y' p q = p
   through false x x' y y' p q = q
 
-  -- an operation is read as its work
-  read_row-work : (verb : List ℕ) (words : List (List ℕ))
-      → read_row_command make ask verb (name ∷ words) ≡ option_and_then (work_of make ask name) (read_work verb words)
-  read_row-work verb words =
-      through (same_text verb (codes "insert")) _ _ _ _ (value-work Insert words)
-      (through (same_text verb (codes "update")) _ _ _ _ (value-work Update words)
-      (through (same_text verb (codes "append")) _ _ _ _ (value-work Append words)
-      (through (same_text verb (codes "delete")) _ _ _ _ (delete-work words)
-      (through (same_text verb (codes "get")) _ _ _ _ (get-work words) refl))))
+  -- an operation is read as what is asked
+  read_row-asked : (verb : List ℕ) (words : List (List ℕ)) → read_row_command make ask verb (name ∷ words) ≡ option_and_then commanded (read_asked verb words)
+  read_row-asked verb words =
+      through (same_text verb (codes "insert")) _ _ _ _ (value-asked Insert op.Insert (λ n v. refl) words)
+      (through (same_text verb (codes "update")) _ _ _ _ (value-asked Update op.Update (λ n v. refl) words)
+      (through (same_text verb (codes "append")) _ _ _ _ (value-asked Append op.Append (λ n v. refl) words)
+      (through (same_text verb (codes "delete")) _ _ _ _ (delete-asked words)
+      (through (same_text verb (codes "get")) _ _ _ _ (get-asked words) refl))))
 
--- the work that was read is the operation's
-pub work-found : (make : List ℕ → Op → Command) (ask : List ℕ → ℕ → Command) (verb : List ℕ) {name name' : List ℕ} {rest words : List (List ℕ)} {found : RowWork}
-    → words ≡ name ∷ rest → name' ≡ name → Some found ≡ read_work verb rest → work_of make ask name' found ≡ read_row_command make ask verb words
-work-found make ask verb {name = name} {rest = rest} is same e =
-    rw (is, same) (ap (option_and_then (work_of make ask name)) e ∙ sym (read_row-work make ask name verb rest))
+  -- what was read is what is commanded
+  module _ (verb : List ℕ) {words rest : List (List ℕ)} (is : words ≡ name ∷ rest) where
+    pub row-none : None ≡ read_asked verb rest → None ≡ read_row_command make ask verb words
+    row-none none = sym (ap (read_row_command make ask verb) is ∙ read_row-asked verb rest ∙ ap (option_and_then commanded) (sym none))
+
+    pub row-found : (asked : RowAsked) → Some asked ≡ read_asked verb rest → (if may_ask name asked then Some (row_from make ask name asked) else None) ≡ read_row_command make ask verb words
+    row-found asked found = sym (ap (read_row_command make ask verb) is ∙ read_row-asked verb rest ∙ ap (option_and_then commanded) (sym found) ∙ commanded-may asked)
+
+-- ---- the verb
+
+-- a verb of a row is no other
+pub row-verb : (verb : List ℕ) (words : List (List ℕ)) → is_row_verb verb ≡ true → read_row_command change get verb words ≡ read_command verb words
+row-verb verb words is =
+    ⊎_elim (λ four. ⊎_elim (λ three. ⊎_elim (λ two. ⊎_elim (is_word (codes "insert") refl) (is_word (codes "update") refl) (one_of insert update two)) (is_word (codes "append") refl) (one_of (insert || update) append three))
+    (is_word (codes "delete") refl) (one_of (insert || update || append) delete four))
+    (is_word (codes "get") refl) (one_of (insert || update || append || delete) (same_text verb (codes "get")) is)
+  where
+    insert : Bool
+    insert = same_text verb (codes "insert")
+
+    update : Bool
+    update = same_text verb (codes "update")
+
+    append : Bool
+    append = same_text verb (codes "append")
+
+    delete : Bool
+    delete = same_text verb (codes "delete")
+
+    one_of : (a b : Bool) → (a || b) ≡ true → (a ≡ true) ⊎ (b ≡ true)
+    one_of true b holds = inl refl
+    one_of false b holds = inr holds
+
+    is_word : (word : List ℕ) → read_row_command change get word words ≡ read_command word words → same_text verb word ≡ true → read_row_command change get verb words ≡ read_command verb words
+    is_word word as_read same = subst (λ v. read_row_command change get v words ≡ read_command v words) (sym ((bytes_decides verb word).0 same)) as_read
 
 -- ---- behind `at`
 
--- what is commanded there, by the work that is read of a qualified name
-abbrev pub work_at : List ℕ → Option RowWork → Option Command
-work_at name found = if is_qualified name then option_and_then (work_of change_at get_at name) found else None
+-- what is commanded there, if the name is qualified
+abbrev qualified : Bool → Option Command → Option Command
+qualified is c = if is then c else None
 
-pub at-read : {name verb verb' : List ℕ} {behind rest words : List (List ℕ)} → words ≡ name ∷ behind → behind ≡ verb ∷ rest → verb' ≡ verb → read_at words ≡ work_at name (read_work verb' rest)
-at-read {name = name} {verb = verb} {rest = rest} is follows same =
-    rw (is, follows, same) (ap (λ (c : Option Command). if is_qualified name then c else None) (read_row-work change_at get_at name verb rest))
+no-command : (is : Bool) → qualified is None ≡ None
+no-command true = refl
+no-command false = refl
 
-pub at-none : (name : List ℕ) (found : Option RowWork) → None ≡ found → work_at name found ≡ None
-at-none name found none = ap (work_at name) (sym none) ∙ by (is_qualified name)
-  where
-    by : (b : Bool) → (if b then option_and_then (work_of change_at get_at name) None else None) ≡ None
-    by true = refl
-    by false = refl
+module _ {name verb : List ℕ} {words behind rest : List (List ℕ)} (is : words ≡ name ∷ behind) (follows : behind ≡ verb ∷ rest) where
+  at-words : read_at words ≡ (if is_qualified name then read_row_command change_at get_at verb (name ∷ rest) else None)
+  at-words = rw (is, follows) refl
 
-pub at-found : (name name' : List ℕ) (work : RowWork) (found : Option RowWork) → name' ≡ name → is_qualified name' ≡ true → Some work ≡ found
-    → work_of change_at get_at name' work ≡ work_at name found
-at-found name name' work found same qualified is = by (subst (λ n. is_qualified n ≡ true) same qualified)
-  where
-    by : is_qualified name ≡ true → work_of change_at get_at name' work ≡ work_at name found
-    by q = rw (same, sym is, q) refl
+  at-nothing : None ≡ read_row_command change_at get_at verb (name ∷ rest) → None ≡ read_at words
+  at-nothing none = sym (at-words ∙ ap (qualified (is_qualified name)) (sym none) ∙ no-command (is_qualified name))
+
+  pub at-none : None ≡ read_asked verb rest → None ≡ read_at words
+  at-none none = at-nothing (row-none change_at get_at name verb {rest = rest} refl none)
+
+  pub at-refused : (asked : RowAsked) → Some asked ≡ read_asked verb rest → may_ask name asked ≡ false → None ≡ read_at words
+  at-refused asked found refused = at-nothing (ap (λ b. if b then Some (row_from change_at get_at name asked) else None) (sym refused) ∙ row-found change_at get_at name verb {rest = rest} refl asked found)
+
+  pub at-unqualified : None ≡ (if is_qualified name then Some name else None) → None ≡ read_at words
+  at-unqualified none = sym (at-words ∙ by (is_qualified name) none)
+    where
+      by : (b : Bool) → None ≡ (if b then Some name else None) → (if b then read_row_command change_at get_at verb (name ∷ rest) else None) ≡ None
+      by true none = absurd cc
+      by false none = refl
+
+  pub at-found : (name' : List ℕ) (asked : RowAsked) → Some asked ≡ read_asked verb rest → may_ask name asked ≡ true → Some name' ≡ (if is_qualified name then Some name else None)
+      → Some (row_from change_at get_at name' asked) ≡ read_at words
+  at-found name' asked found may qualified = by (is_qualified name) qualified ∙ sym at-words
+    where
+      read : Some (row_from change_at get_at name asked) ≡ read_row_command change_at get_at verb (name ∷ rest)
+      read = ap (λ b. if b then Some (row_from change_at get_at name asked) else None) (sym may) ∙ row-found change_at get_at name verb {rest = rest} refl asked found
+
+      by : (b : Bool) → Some name' ≡ (if b then Some name else None) → Some (row_from change_at get_at name' asked) ≡ (if b then read_row_command change_at get_at verb (name ∷ rest) else None)
+      by true same = let is_name : name' ≡ name = cc in ap (λ n. Some (row_from change_at get_at n asked)) is_name ∙ read
+      by false same = absurd cc
 
 -- ---- qualified names
 

@@ -107,53 +107,12 @@ words_of-Some line start found =
     ∙ words_of-blanks (take start line) (drop start line) (Blanks-from_not (take start line) (none_before (λ byte. not (is_blank byte)) line start found))
     ∙ word_first (drop start line) (get_or line start 0) (drop (suc start) line) (drop-cons line start 0 at.0) (not-true (is_blank (get_or line start 0)) at.1)
 
--- ---- words as texts
+-- ---- what is left of a readable line is readable, and a text
 
--- a word of visible bytes is a text
-pub IsUtf8-visible : (word : List ℕ) → list_all is_visible word ≡ true → IsUtf8 word
-IsUtf8-visible word visible =
-    IsUtf8-from_ascii word (IsAscii-from_all word (λ k d h.
-    let at = AllPass-from_list_all is_visible word visible k d h in
-    let high = leb-true (get_or word k d) 126 (and_parts (leb 33 (get_or word k d)) (leb (get_or word k d) 126) at).1 in
-    omega (arith, high)))
-
--- ---- the words of a readable line are visible
-
--- what is left of a readable line is readable
 is_readable-drop : (n : ℕ) (line : List ℕ) → is_readable line ≡ true → is_readable (drop n line) ≡ true
 is_readable-drop zero line is = is
 is_readable-drop (suc n) [] is = is
 is_readable-drop (suc n) (b ∷ bs) is = is_readable-drop n bs (and_parts (is_blank b || is_visible b) (is_readable bs) is).1
-
-is_readable-take : (n : ℕ) (line : List ℕ) → is_readable line ≡ true → is_readable (take n line) ≡ true
-is_readable-take zero line is = refl
-is_readable-take (suc n) [] is = refl
-is_readable-take (suc n) (b ∷ bs) is =
-    let both = and_parts (is_blank b || is_visible b) (is_readable bs) is in
-    rw both.0 (is_readable-take n bs both.1)
-
--- readable bytes without a blank are visible
-visible_from_readable : (word : List ℕ) → is_readable word ≡ true → NoBlanks word → list_all is_visible word ≡ true
-visible_from_readable [] is none = refl
-visible_from_readable (b ∷ bs) is none =
-    let both = and_parts (is_blank b || is_visible b) (is_readable bs) is in
-    let here : is_visible b ≡ true = ap (λ t. t || is_visible b) (sym none.0) ∙ both.0 in
-    rw here (visible_from_readable bs both.1 none.1)
-
--- a word that ends before the next blank has none
-NoBlanks-word : (line : List ℕ) → NoBlanks (take (unwrap_or (position is_blank line) (length line)) line)
-NoBlanks-word line = by (position is_blank line) refl
-  where
-    by : (end : Option ℕ) → position is_blank line ≡ end → NoBlanks (take (unwrap_or end (length line)) line)
-    by None none = subst NoBlanks (sym (take-length line)) (none_passes is_blank line none)
-    by (Some end) found = none_before is_blank line end found
-
--- the first word of what is left of a readable line, and what follows it
-pub word_is_visible : (line : List ℕ) (start : ℕ) → is_readable line ≡ true
-    → list_all is_visible (take (unwrap_or (position is_blank (drop start line)) (length (drop start line))) (drop start line)) ≡ true
-word_is_visible line start is =
-    let rest = is_readable-drop start line is in
-    visible_from_readable _ (is_readable-take (unwrap_or (position is_blank (drop start line)) (length (drop start line))) (drop start line) rest) (NoBlanks-word (drop start line))
 
 pub rest_is_readable : (line : List ℕ) (start end : ℕ) → is_readable line ≡ true → is_readable (drop end (drop start line)) ≡ true
 rest_is_readable line start end is = is_readable-drop end (drop start line) (is_readable-drop start line is)

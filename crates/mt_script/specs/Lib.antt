@@ -1,5 +1,2 @@
-pub mod Common
-pub mod Requests
-pub mod Rows
-pub mod Tables
-pub mod Words
+pub mod Lines
+pub mod Texts

@@ -1,23 +1,23 @@
-//! The script language: what a line asks for.
+//! The script language: what a line says, and the texts of answers.
 #![tactic(auto)]
 
 mod commands;
-mod common;
 mod cut;
 mod lines;
 mod numbers;
-mod refusals;
-mod rows;
-mod tables;
+mod ops;
+mod qualified;
+mod shown;
+mod texts;
 mod words;
 mod workflows;
 
-pub use common::{CreateRequest, create_line, workflow_line};
 pub use cut::first_line;
-pub use lines::{
-    Line, LineRefusal, MAX_LINE_LENGTH, Request, RowRequest, WorkflowAsked, WorkflowRequest,
-    read_line, row_words,
+pub use lines::{CreateWords, Line, LineRefusal, MAX_LINE_LENGTH, RowAsked, WorkflowAsked, read};
+pub use ops::{OpText, ValueText};
+pub use qualified::QualifiedName;
+pub use shown::LineText;
+pub use texts::{
+    put_advanced, put_answer, put_created, put_driven, put_fault, put_look_up, put_reason,
+    put_refusal, put_row, put_shown, put_written,
 };
-pub use refusals::write_refusal;
-pub use rows::{RowVerb, RowWords, ValueVerb, any_key, op_of, value_behind};
-pub use tables::TableText;

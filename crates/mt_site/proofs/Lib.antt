@@ -1,5 +1,6 @@
 pub mod AdvanceLemmas
 pub mod CoreLemmas
+pub mod DriveLemmas
 pub mod GivenUpLemmas
 pub mod HandLemmas
 pub mod LeaveLemmas
@@ -9,4 +10,4 @@ pub mod PrimaryLemmas
 pub mod RunLemmas
 pub mod SiteLemmas
 pub mod StoodLemmas
-pub mod ThroughLemmas
+pub mod TurnLemmas

@@ -16,9 +16,9 @@ use Rattle.mt_primary.proofs.PlacedLemmas.{lookup-at}
 use Rattle.mt_primary.specs.Primary.{IsPrimary, PrimaryState, empty_primary}
 use Rattle.mt_primary.specs.Writes.{Creates, with_new_table}
 use Rattle.mt_site_state.specs.Core.{Primaries, primary_at, primary_of, with_primary}
-use Rattle.mt_site_parts.proofs.MakeLemmas.{found-is}
-use Rattle.mt_site_switch.proofs.PrimaryLemmas.{still-at}
-use Rattle.mt_site_switch.specs.Places.{IsAt}
+use Rattle.mt_site_workflows.proofs.MakeLemmas.{found-is}
+use Rattle.mt_site_workflows.proofs.PrimaryLemmas.{still-at}
+use Rattle.mt_site_workflows.specs.Places.{IsAt}
 use Rattle.mt_site.specs.ByHand.{CreatesTable}
 
 -- a primary that becomes what a change makes of it

@@ -74,3 +74,10 @@ headline_kept scopes old new events answers steps law = λ p earlier told had.
       },
       law p earlier events told answers had.reached had.run stepped.0,
     )
+
+-- one event
+pub one_kept : (scopes : List Scope) (old new : SiteState) (event : plain.Event) (answer : plain.Answer) → SiteSteps scopes old event answer new
+    → ((p : Plain) (earlier more : List plain.Event) (told answered : List plain.Answer) → IsReached p → Run p earlier told → Run (after p earlier told) more answered
+    → Headline p (earlier ++ more) (told ++ answered))
+    → KeepsTheHeadline scopes old (event ∷ []) (answer ∷ []) new
+one_kept scopes old new event answer steps law = headline_kept scopes old new (event ∷ []) (answer ∷ []) (λ p stands. let r = steps p stands in ((r.0, tt), r.1)) law

@@ -1,6 +1,6 @@
 -- The whole controller as a value: its core beside what it keeps of the ways.
-use Rattle.std.proofs.Common.{◌≡◌, ◌≢◌, ◌<◌, ℕ, Bool, true, List, [], ◌∷◌, map, Option, None, Some, Result, Ok, Err, is_some, refl, sym, ap, subst, cond, arith, All, ◌∙◌}
-use Rattle.std.proofs.lemmas.Bool.{or_right}
+use Rattle.std.proofs.Common.{◌≡◌, ◌≢◌, ◌<◌, ℕ, Bool, true, List, [], ◌∷◌, map, Option, None, Some, Result, Ok, Err, is_ok, is_some, refl, sym, ap, subst, cond, arith, All, ◌∙◌}
+use Rattle.std.proofs.lemmas.Bool.{or_right, true≢false}
 use Rattle.std.proofs.lemmas.List.Elements.{All-append, All-from_recursion}
 use Rattle.std.specs.List.{AllByRecursion}
 use Rattle.std.specs.Prelude.{⊤, ◌||◌, false, not, IfOk}
@@ -33,7 +33,7 @@ use Rattle.mt_site_state.specs.Core.{CoreState, Primaries, Workflows, primary_at
 use Rattle.mt_site_state.specs.Stands.{Stands, StandsWith}
 use Rattle.mt_site_state.specs.Switching.{BeginsReverseAt, BeginsSwitchAt, CompletesAt, OrRefused, SiteDoes, StepsAt, StepsKept, StepsWay, StepsWorkflow, UndoesWorkflow, answer_by_step, completed, is_copying, no_number_left, sides_of, step_refusal, way_to, with_sides, with_way}
 use Rattle.mt_site_state.specs.Ways.{OpenWays, SiteStands, SiteState, WaysState, open_at}
-use Rattle.mt_site_switch.specs.Ways.{CanComplete, CanStep}
+use Rattle.mt_site_workflows.specs.Ways.{CanComplete, CanStep}
 
 -- the controller, of its parts
 abbrev pub site : TopologyState → Primaries → Workflows → OpenWays → List JournalEntry → ℕ → SiteState
@@ -55,6 +55,17 @@ whole core ways = record { core = core; ways = ways }
 pub lifted : {X E : Type 0} (r : Result X E) (ways : WaysState) (new old : CoreState) → OnErr r (new ≡ old) → OnErr r (whole new ways ≡ whole old ways)
 lifted (Ok made) ways new old leaves = tt
 lifted (Err refusal) ways new old leaves = ap (λ core. whole core ways) leaves
+
+-- what a refusal leaves, another leaves that comes where it comes
+pub refused_as : {X Y E F : Type 0} (P : Type 0) (r : Result X E) (s : Result Y F) → is_ok r ≡ is_ok s → OnErr s P → OnErr r P
+refused_as P (Ok x) s same leaves = tt
+refused_as P (Err e) (Ok y) same leaves = absurd (true≢false (sym same))
+refused_as P (Err e) (Err f) same leaves = leaves
+
+-- what stands is left by a refusal
+pub refused_or_not : {X E : Type 0} (P : Type 0) (r : Result X E) → P → OnErr r P
+refused_or_not P (Ok x) holds = tt
+refused_or_not P (Err e) holds = holds
 
 -- a text that is one is the other
 pub text_served : {T F : Type 0} (bytes : T → List ℕ) (r : Result T F) (a b : List ℕ) → a ≡ b → IfOk r (λ t. bytes t ≡ a) → IfOk r (λ t. bytes t ≡ b)

@@ -2,10 +2,10 @@ pub mod Advance
 pub mod Applies
 pub mod ByHand
 pub mod Commands
+pub mod Drives
 pub mod GivenUp
 pub mod Headline
 pub mod Owed
 pub mod Runs
 pub mod Show
 pub mod Stood
-pub mod Through

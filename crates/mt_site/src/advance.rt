@@ -11,7 +11,7 @@ use crate::{Primaries, Workflows};
 use mt_event::Reason;
 use mt_names::{KeyspaceName, Position, WorkflowName};
 use mt_primary::Primary;
-use mt_site_switch::{exchange_at, place_of};
+use mt_site_workflows::{exchange_at, place_of};
 use mt_stream::{Advanced, StreamFault};
 use mt_workflow::{Slot, Workflow};
 use std::alloc::Global;

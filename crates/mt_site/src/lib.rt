@@ -2,18 +2,24 @@
 #![tactic(auto)]
 
 mod advance;
+mod applied;
 mod by_hand;
 mod controller;
+mod driving;
 mod given_up;
 mod owed;
 mod primaries;
+mod replies;
 mod rows;
 mod run;
 mod show;
 mod site;
+mod turn;
 
 pub use controller::{Command, Core, Place};
+pub use driving::{drive, drive_core};
 pub use given_up::a_move_can_be_given_up;
+pub use mt_event::{Driven, Event, Refusal, Reply, Shown};
 pub(crate) use mt_site_state::{OpenWays, Primaries, Workflows};
 pub use owed::a_core_owes_what_its_state_owes;
 pub use run::{RunStopped, run_events};

@@ -1,6 +1,7 @@
 //! The site: the core of the controller beside the watchers that it asks.
 ghost use Rattle.std.specs.Prelude.{◌≡◌, IfErr, IfOk, List, [], ◌∷◌, OnErr, option_copied, string_bytes};
-ghost use Rattle.mt_event.specs.Events.{answer_from, event_of};
+ghost use Rattle.mt_event.specs.Events.{answer_from, done_from, event_of};
+ghost use Rattle.mt_event.specs.Reasons.{done_by};
 ghost use Rattle.mt_model.specs.Documents.{dump_text, rules_text};
 ghost use Rattle.mt_model.specs.Topology.{resolution};
 ghost use Rattle.mt_plain.specs.Events as plain;
@@ -8,30 +9,39 @@ ghost use Rattle.mt_plain.specs.Plain.{Plain, opening};
 ghost use Rattle.mt_plain.specs.Refuse.{owed};
 ghost use Rattle.mt_plain.specs.Serve.{served};
 ghost use Rattle.mt_model.specs.declared.entries.Scope.{Scope};
+ghost use Rattle.mt_site_state.specs.ByHand.{WritesRow};
 ghost use Rattle.mt_site_state.specs.Core.{workflow_at};
 ghost use Rattle.mt_site_state.specs.Ways.{SiteStands, SiteSteps, empty_site};
+ghost use Rattle.mt_site_state.specs.Workflows.{AdvancesWorkflow};
+ghost use Rattle.mt_workflow.specs.Workflows.{stream_name};
+ghost use Rattle.mt_site.specs.Advance.{advanced_from};
 ghost use Rattle.mt_site.specs.Applies.{Applies};
+ghost use Rattle.mt_site.specs.Commands.{event_of_command};
 ghost use Rattle.mt_site.specs.GivenUp.{CanBeGivenUp};
 ghost use Rattle.mt_site.specs.Headline.{KeepsTheHeadline};
 ghost use Rattle.mt_site.specs.Owed.{owed_to};
 ghost use Rattle.mt_site.specs.Stood.{IsSiteWith};
 
-use crate::Core;
-use mt_event::{Event, Refusal, Reply};
-use mt_model::TopologyFault;
-use mt_names::{RuleKey, RuleTarget, TabletType, WorkflowName};
+use crate::{Command, Core, Place};
+use arrayvec::ArrayVec;
+use mt_event::{Event, Reason, Refusal, Reply};
+use mt_model::{Op, TopologyFault};
+use mt_names::{
+    KeyspaceName, MAX_TABLES, Position, RuleKey, RuleTarget, TableName, TabletType, WorkflowName,
+};
 use mt_rules::RulesFault;
+use mt_stream::Advanced;
 use mt_topology::Topology;
 use mt_watch::Asks;
-use mt_workflow::Workflow;
+use mt_workflow::{Slot, Workflow};
 use std::alloc::Global;
 
 /// The controller: its core, and the watchers that it asks. (Vitess: the vtctld server, which runs MoveTables, and the routers
 /// and primaries that it keeps up to date)
 #[derive(Drop)]
 pub struct Site<W: Asks> {
-    core: Core,
-    watchers: W,
+    pub(crate) core: Core,
+    pub(crate) watchers: W,
 }
 
 impl<W: Asks> Site<W> {
@@ -59,6 +69,82 @@ impl<W: Asks> Site<W> {
         ensures stood { IsSiteWith (W.scopes self.old.watchers) self.old.core → IsSiteWith (W.scopes self.new.watchers) self.new.core }
     {
         self.core.apply(&self.watchers, event)
+    }
+
+    /// Applies a command: see `Core::command`.
+    pub fn command(&mut self, command: Command<'_>) -> Result<(), Reason>
+        ensures watchers { self.new.watchers ≡ self.old.watchers }
+        ensures applies { Applies (W.scopes self.old.watchers) (W.may_answer self.old.watchers) self.old.core (event_of_command command.entry) (done_by result) self.new.core }
+        ensures steps { SiteSteps (W.scopes self.old.watchers) self.old.core (event_of_command command.entry) (done_by result) self.new.core }
+        ensures unchanged { OnErr result (self.new.core ≡ self.old.core) }
+        ensures given_up { CanBeGivenUp self.old.core (event_of_command command.entry) → done_by result ≡ plain.done }
+        ensures headline { KeepsTheHeadline (W.scopes self.old.watchers) self.old.core (event_of_command command.entry ∷ []) (done_by result ∷ []) self.new.core }
+        ensures stood { IsSiteWith (W.scopes self.old.watchers) self.old.core → IsSiteWith (W.scopes self.new.watchers) self.new.core }
+    {
+        self.core.command(&self.watchers, command)
+    }
+
+    /// Creates a workflow: see `Core::create`.
+    pub fn create(
+        &mut self,
+        workflow: &WorkflowName,
+        source: &KeyspaceName,
+        target: &KeyspaceName,
+        tables: &ArrayVec<TableName, MAX_TABLES>,
+    ) -> Result<(), Refusal>
+        ensures watchers { self.new.watchers ≡ self.old.watchers }
+        ensures applies { Applies (W.scopes self.old.watchers) (W.may_answer self.old.watchers) self.old.core (plain.create workflow.now source.now target.now tables.now.items) (done_from result) self.new.core }
+        ensures steps { SiteSteps (W.scopes self.old.watchers) self.old.core (plain.create workflow.now source.now target.now tables.now.items) (done_from result) self.new.core }
+        ensures unchanged { OnErr result (self.new.core ≡ self.old.core) }
+        ensures headline { KeepsTheHeadline (W.scopes self.old.watchers) self.old.core (plain.create workflow.now source.now target.now tables.now.items ∷ []) (done_from result ∷ []) self.new.core }
+        ensures stood { IsSiteWith (W.scopes self.old.watchers) self.old.core → IsSiteWith (W.scopes self.new.watchers) self.new.core }
+    {
+        self.core
+            .create(&self.watchers, workflow, source, target, tables)
+    }
+
+    /// Advances a stream of a workflow: see `Core::advance`.
+    pub fn advance(
+        &mut self,
+        workflow: &WorkflowName,
+        stream: Slot,
+        at: Position,
+        max: u16,
+    ) -> Result<Advanced, Reason>
+        ensures watchers { self.new.watchers ≡ self.old.watchers }
+        ensures does { AdvancesWorkflow self.old.core.core workflow.now (stream_name stream) at max (advanced_from result) self.new.core.core }
+        ensures ways { self.new.core.ways ≡ self.old.core.ways }
+        ensures steps { (scopes : List Scope) → SiteSteps scopes self.old.core (plain.advance workflow.now (stream_name stream) at max) (advanced_from result) self.new.core }
+        ensures unchanged { OnErr result (self.new.core ≡ self.old.core) }
+        ensures headline { (scopes : List Scope) → KeepsTheHeadline scopes self.old.core (plain.advance workflow.now (stream_name stream) at max ∷ []) (advanced_from result ∷ []) self.new.core }
+        ensures stood { (scopes : List Scope) → IsSiteWith scopes self.old.core → IsSiteWith scopes self.new.core }
+    {
+        self.core.advance(workflow, stream, at, max)
+    }
+
+    /// Writes a row of the table of a place: see `Core::write_row`.
+    #[inline(always)]
+    pub fn write_row(&mut self, place: &Place, op: Op) -> Result<(), Reason>
+        ensures watchers { self.new.watchers ≡ self.old.watchers }
+        ensures does { WritesRow self.old.core.core place.now.target.keyspace place.now.target.table op (done_by result) self.new.core.core }
+        ensures topology { self.new.core.core.topology ≡ self.old.core.core.topology }
+        ensures ways { self.new.core.ways ≡ self.old.core.ways }
+        ensures steps { (scopes : List Scope)
+            → SiteSteps scopes self.old.core (plain.write place.now.target.keyspace place.now.target.table op) (done_by result) self.new.core }
+        ensures unchanged { OnErr result (self.new.core ≡ self.old.core) }
+        ensures headline { (scopes : List Scope)
+            → KeepsTheHeadline scopes self.old.core (plain.write place.now.target.keyspace place.now.target.table op ∷ []) (done_by result ∷ []) self.new.core }
+        ensures stood { (scopes : List Scope) → IsSiteWith scopes self.old.core → IsSiteWith scopes self.new.core }
+    {
+        self.core.write_row(place, op)
+    }
+
+    /// The core, for what asks nobody and changes nothing: its reads, `shown` and `place_of`. It takes no memory.
+    #[inline(always)]
+    pub fn core(&self) -> &Core
+        ensures { result.now ≡ self.now.core }
+    {
+        &self.core
     }
 
     /// The core and the watchers, each by itself. It takes no memory.

@@ -1,7 +1,7 @@
 //! Answers as tests write them down.
 
 use crate::events::{tables_of, value_of};
-use mt_event::{Refusal, Reply, Shown, ShownStream};
+use mt_event::{Reason, Refusal, Reply, Shown, ShownStream};
 use mt_names::{KeyspaceName, Position, RuleKey, TableName, TypeSet, WorkflowName};
 use mt_stream::{Advanced, StreamState};
 use mt_workflow::Way;
@@ -105,8 +105,8 @@ fn refusal_of(answer: Answer) -> Option<Refusal> {
     match answer {
         Answer::Conflict(key) => Some(Refusal::RuleConflict(RuleKey::parse(key).ok()?)),
         Answer::HasTable(table) => Some(Refusal::TargetHasTable(TableName::parse(table).ok()?)),
-        Answer::Watcher(index) => Some(Refusal::WatcherRefused(index)),
-        Answer::Stale(position) => Some(Refusal::Stale(position)),
+        Answer::Watcher(index) => Some(Refusal::Other(Reason::WatcherRefused(index))),
+        Answer::Stale(position) => Some(Refusal::Other(Reason::Stale(position))),
         _ => None,
     }
 }

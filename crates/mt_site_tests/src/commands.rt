@@ -5,7 +5,8 @@ use crate::play::{BOTH, watchers_of};
 use mt_event::Reason;
 use mt_model::Op;
 use mt_names::{
-    KeyspaceName, NameFault, RuleKey, RuleTarget, TableName, TypeSet, WorkflowName, table_list,
+    KeyspaceName, NameFault, RuleKey, RuleTarget, TableName, TabletType, TypeSet, WorkflowName,
+    table_list,
 };
 use mt_site::{Command, Core};
 use mt_stream::Advanced;
@@ -17,7 +18,7 @@ use std::test::Fail;
 /// What an advance did that copied one row.
 const ONE_ROW: Advanced = Advanced { events: 0, rows: 1 };
 
-/// Whether two keyspaces and a table are made, a second of its name is refused, and a row is written through the name.
+/// Whether two keyspaces and a table are made, a second of its name is refused, and a row is written where the name leads.
 fn begins(core: &mut Core, watchers: &Watchers) -> Result<[bool; 5], NameFault> {
     let (commerce, customer) = (
         KeyspaceName::parse("commerce")?,
@@ -36,11 +37,17 @@ fn begins(core: &mut Core, watchers: &Watchers) -> Result<[bool; 5], NameFault> 
             core.command(watchers, Command::AddTable(&commerce, &table)),
             Err(Reason::Exists)
         ),
-        matches!(
-            core.write_through(&key, Op::Insert(1, value_of("a"))),
-            Ok(Ok(()))
-        ),
+        writes(core, &key),
     ])
+}
+
+/// Whether a row is written of the table that a name leads to.
+fn writes(core: &mut Core, name: &RuleKey) -> bool {
+    let Ok(target) = core.resolve(name, TabletType::Primary) else {
+        return false;
+    };
+    let place = core.place_of(target);
+    core.write_row(&place, Op::Insert(1, value_of("a"))).is_ok()
 }
 
 /// Whether a workflow of it is created, and its row is copied; a stale advance says where the stream stands.

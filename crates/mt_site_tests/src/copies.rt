@@ -2,7 +2,7 @@
 
 use crate::answers::{Answer, reply_of};
 use crate::events::{Ask, event_of};
-use mt_event::{Event, Refusal, Reply};
+use mt_event::{Event, Reason, Refusal, Reply};
 use mt_names::{NameFault, RuleKey, TableName, TabletType, TypeSet};
 use mt_stream::StreamState;
 use mt_workflow::{Slot, Way};
@@ -163,43 +163,43 @@ fn carrying() -> Result<[Refusal; 8], NameFault> {
         Refusal::RuleConflict(key),
         Refusal::TargetHasTable(table),
         Refusal::TargetHasTable(other),
-        Refusal::WatcherRefused(0),
-        Refusal::WatcherRefused(1),
-        Refusal::Stale(0),
-        Refusal::Stale(1),
+        Refusal::Other(Reason::WatcherRefused(0)),
+        Refusal::Other(Reason::WatcherRefused(1)),
+        Refusal::Other(Reason::Stale(0)),
+        Refusal::Other(Reason::Stale(1)),
     ])
 }
 
 /// The others, in their order.
 fn plain() -> [Refusal; 27] {
     [
-        Refusal::Memory,
-        Refusal::NoKeyspace,
-        Refusal::NoTable,
-        Refusal::Denied,
-        Refusal::RowExists,
-        Refusal::NoRow,
-        Refusal::WorkflowExists,
-        Refusal::NoWorkflow,
-        Refusal::TableInWorkflow,
-        Refusal::SameKeyspace,
-        Refusal::NoTables,
-        Refusal::UnderWay,
-        Refusal::NothingUnderWay,
-        Refusal::NothingToSwitch,
-        Refusal::NothingToReverse,
-        Refusal::Copying,
-        Refusal::NotLevel,
-        Refusal::PastJournal,
-        Refusal::TrafficSwitched,
-        Refusal::NotAllSwitched,
-        Refusal::RuleOwned,
-        Refusal::NoWatcher,
-        Refusal::StreamStopped,
-        Refusal::Full,
-        Refusal::Undoing,
-        Refusal::TooLong,
-        Refusal::Exists,
+        Refusal::Other(Reason::Memory),
+        Refusal::Other(Reason::NoKeyspace),
+        Refusal::Other(Reason::NoTable),
+        Refusal::Other(Reason::Denied),
+        Refusal::Other(Reason::RowExists),
+        Refusal::Other(Reason::NoRow),
+        Refusal::Other(Reason::WorkflowExists),
+        Refusal::Other(Reason::NoWorkflow),
+        Refusal::Other(Reason::TableInWorkflow),
+        Refusal::Other(Reason::SameKeyspace),
+        Refusal::Other(Reason::NoTables),
+        Refusal::Other(Reason::UnderWay),
+        Refusal::Other(Reason::NothingUnderWay),
+        Refusal::Other(Reason::NothingToSwitch),
+        Refusal::Other(Reason::NothingToReverse),
+        Refusal::Other(Reason::Copying),
+        Refusal::Other(Reason::NotLevel),
+        Refusal::Other(Reason::PastJournal),
+        Refusal::Other(Reason::TrafficSwitched),
+        Refusal::Other(Reason::NotAllSwitched),
+        Refusal::Other(Reason::RuleOwned),
+        Refusal::Other(Reason::NoWatcher),
+        Refusal::Other(Reason::StreamStopped),
+        Refusal::Other(Reason::Full),
+        Refusal::Other(Reason::Undoing),
+        Refusal::Other(Reason::TooLong),
+        Refusal::Other(Reason::Exists),
     ]
 }
 

@@ -13,6 +13,8 @@ mod commands;
 #[cfg(test)]
 mod copies;
 #[cfg(test)]
+mod driven;
+#[cfg(test)]
 mod events;
 #[cfg(test)]
 mod full;

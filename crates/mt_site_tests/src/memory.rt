@@ -5,7 +5,7 @@ use crate::acts::Act;
 use crate::answers::{Answer, is_answer};
 use crate::events::{Ask, event_of};
 use crate::play::{BOTH, Played, play_on, watchers_of};
-use mt_event::{Event, Refusal, Reply};
+use mt_event::{Event, Reason, Refusal, Reply};
 use mt_names::TabletType;
 use mt_site::Site;
 use mt_watch::Watchers;
@@ -99,7 +99,10 @@ pub fn documents(site: &Site<Watchers>) -> Option<Written> {
 
 /// Whether an answer may stand where no memory is left: `Memory` itself, or the refusal of a watcher, which found none.
 pub fn is_want(answer: &Result<Reply, Refusal>) -> bool {
-    matches!(answer, Err(Refusal::Memory | Refusal::WatcherRefused(_)))
+    matches!(
+        answer,
+        Err(Refusal::Other(Reason::Memory | Reason::WatcherRefused(_)))
+    )
 }
 
 /// Whether an event is answered so, at once or at a second try.

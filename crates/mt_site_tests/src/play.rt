@@ -6,7 +6,7 @@ use crate::acts::{Act, is_so};
 use mt_model::Entry;
 use mt_names::{KeyspaceName, TableName};
 use mt_site::Site;
-use mt_watch::{Callback, Change, Notice, Scope, WatchFault, Watcher, Watchers};
+use mt_watch::{Callback, Change, Notice, Scope, WatchFault, Watcher, Watchers, tell};
 use std::alloc::Global;
 use std::process::Abort;
 
@@ -80,7 +80,7 @@ fn watcher_of(alloc: Global, watch: Watch) -> Option<Watcher> {
             if marks(change, &refused, denies) {
                 return Err(WatchFault(1));
             }
-            Notice::of(alloc, &own, change).map_err(|_| WatchFault(0))
+            tell(alloc, &own, change)
         },
     ) {
         Ok(call) => call,
@@ -138,7 +138,7 @@ fn play_lists(site: &mut Site<Watchers>, lists: &[&[Act]]) -> Played {
     Played::AllSo
 }
 
-/// The same at a site that begins with nothing and is watched so.
+/// How lists of acts go, one behind the other, at a site that begins with nothing and is watched so.
 fn play(alloc: Global, watches: &[Watch], lists: &[&[Act]]) -> Played {
     match watchers_of(alloc, watches) {
         Some(watchers) => {

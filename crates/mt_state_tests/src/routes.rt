@@ -8,7 +8,7 @@ use std::alloc::Global;
 const DUMP: &str =
     "{\"denied\":[\"b.t\"],\"keyspaces\":[{\"name\":\"a\",\"tables\":[\"s\"]},{\"name\":\"b\",\"tables\":[\"t\",\"u\"]}],\"rules\":[{\"from_table\":\"x\",\"to_tables\":[\"b.t\"]},{\"from_table\":\"y@replica\",\"to_tables\":[\"a.s\"]}],\"version\":1}";
 
-/// The same, written over.
+/// The dump behind the changes.
 const WRITTEN: &str =
     "{\"denied\":[],\"keyspaces\":[{\"name\":\"a\",\"tables\":[\"s\"]},{\"name\":\"b\",\"tables\":[\"u\"]}],\"rules\":[{\"from_table\":\"x\",\"to_tables\":[\"a.s\"]},{\"from_table\":\"y@replica\",\"to_tables\":[\"a.s\"]}],\"version\":1}";
 
@@ -62,13 +62,23 @@ fn are_routes(topology: &Topology, want: &[Entry]) -> bool {
     true
 }
 
-/// Writes entries where each has a place.
-fn write_all(topology: &mut Topology, entries: &mut [Entry]) -> bool {
-    let have_places = entries.iter().all(|entry| topology.has_place(&entry.key()));
-    if have_places {
-        topology.write_all(entries);
+/// Writes an entry that has a place, which becomes what stood before.
+fn exchange(topology: &mut Topology, entry: &mut Entry) -> bool {
+    let has_place = topology.has_place(&entry.key());
+    if has_place {
+        *entry = topology.write(entry.copied());
     }
-    have_places
+    has_place
+}
+
+/// Writes entries as long as each has a place, which become what stood before.
+fn write_all(topology: &mut Topology, entries: &mut [Entry]) -> bool {
+    for entry in entries.iter_mut() {
+        if !exchange(topology, entry) {
+            return false;
+        }
+    }
+    true
 }
 
 /// Entries to be written, one key twice.

@@ -4,8 +4,7 @@ use crate::phases::{Phase, first_wrong};
 use crate::primary::{Answer, Call, LONGEST, value};
 use crate::refreshes::{BOTH, DENIED, ROW};
 use mt_names::{NameFault, TableName, TabletType};
-use mt_primary::{Primary, PrimaryFault, RowChange};
-use mt_shared::{SharedName, SharedValue};
+use mt_primary::{Primary, PrimaryFault, RowChange, SharedName, SharedValue};
 use std::alloc::{AllocError, Global};
 
 /// A row of a table and a key, or none.

@@ -1,6 +1,5 @@
 pub mod BackLemmas
 pub mod EntryLemmas
-mod NoticeLemmas
 mod SideLemmas
 pub mod StepLemmas
 mod SweepLemmas

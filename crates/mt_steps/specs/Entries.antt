@@ -24,7 +24,7 @@ step_entries w types n = map (wanted w types) (step_keys w n)
 abbrev pub recorded_entry : WorkflowState → ℕ → TopologyState → Entry → Entry
 recorded_entry w n t e = if is_of_step w n (key_of e) then value_of t (key_of e) else e
 
--- the same of all (this profile's own)
+-- a whole record so (this profile's own)
 abbrev pub recorded : WorkflowState → ℕ → TopologyState → List Entry → List Entry
 recorded w n t entries = map (recorded_entry w n t) entries
 

@@ -98,7 +98,7 @@ abbrev pub given_listed : Step → Option Marks → Option Marks
 given_listed RefreshSource listed = listed
 given_listed other listed = None
 
--- the same of the stream
+-- what it gives back of the stream
 abbrev pub given_slot : Step → Option StreamValue → Option StreamValue
 given_slot CreateBack slot = slot
 given_slot other slot = None

@@ -1,4 +1,4 @@
-//! What of a step may be refused.
+//! The part of a step that may be refused.
 ghost use Rattle.std.specs.Prelude.{◌≡◌, ◌||◌, true, not, [], Option, None};
 ghost use Rattle.mt_model.specs.Topology.{Marks, TopologyState};
 ghost use Rattle.mt_plain.specs.Plain.{write_journal};
@@ -34,7 +34,7 @@ fn check_level(
     Err(StepFault::NotLevel)
 }
 
-/// The same, if the side that will serve the reads isn't the owner.
+/// `F18 NotLevel`, if the side that will serve the reads isn't the owner, and the stream that feeds on the way isn't level.
 fn check_reads(
     workflow: &Workflow,
     way: Way,
@@ -75,7 +75,8 @@ fn append(
     }
 }
 
-/// Does what of a step that leaves both primaries as they are may be refused, and leaves all as it was if it is. It asks nobody.
+/// Does the part that may be refused of a step that leaves both primaries as they are, and leaves all as it was if it is refused. It asks
+/// nobody.
 #[inline(always)]
 pub(crate) fn attempt_reading(
     way: Way,
@@ -100,7 +101,7 @@ pub(crate) fn attempt_reading(
     }
 }
 
-/// Does what of a step may be refused, and leaves all as it was if it is.
+/// Does the part of a step that may be refused, and leaves all as it was if it is refused.
 pub(crate) fn attempt<W: Asks>(
     alloc: Global,
     way: Way,

@@ -21,16 +21,16 @@ fn denial_step(workflow: &Workflow, side: &KeyspaceName) -> u8
     if workflow.owned_before(side) { 1 } else { 7 }
 }
 
-/// The same of the target, or of the source, for which no name is read.
+/// The number of the step with which the denial at the target changes, or that at the source. No name is read for it.
 fn denial_step_of_side(workflow: &Workflow, is_target: bool) -> u8
     requires { workflow.now.source ≢ workflow.now.target }
     ensures { result ≡ denial_step workflow.now (if is_target then workflow.now.target else workflow.now.source) }
 {
-    let before = match workflow.way() {
-        Some(way) => way.before,
-        None => workflow.switched(),
-    };
-    if before.primary == is_target { 1 } else { 7 }
+    if workflow.types_before().primary == is_target {
+        1
+    } else {
+        7
+    }
 }
 
 /// Whether the target, or the source, is to refuse the tables once some types are switched: the one that is not the owner.
@@ -74,7 +74,7 @@ pub(crate) fn exchange_step(
     }
 }
 
-/// The same of the entries of a table.
+/// Writes and records those entries of a table that change with a step.
 fn exchange_table(
     topology: &mut Topology,
     workflow: &Workflow,
@@ -94,7 +94,7 @@ fn exchange_table(
     }
 }
 
-/// The same with step 0: the rules of the types replica and rdonly, and the presence.
+/// Writes and records a table's entries of step 0: the rules of the types replica and rdonly, and the presence.
 fn exchange_reads(
     topology: &mut Topology,
     workflow: &Workflow,
@@ -136,7 +136,7 @@ fn exchange_reads(
     noted.is_present = topology.exchange_present(workflow.target(), table, true);
 }
 
-/// The same of a name, which is looked up once.
+/// Writes and records the rules of the types replica and rdonly of a name, which is looked up once.
 fn exchange_reads_of(
     topology: &mut Topology,
     workflow: &Workflow,
@@ -161,7 +161,7 @@ fn exchange_reads_of(
     topology.exchange_two(&name, reads, rules, &mut found.replica, &mut found.rdonly);
 }
 
-/// The same with step 9: the rules for all types, and those of primary.
+/// Writes and records a table's entries of step 9: the rules for all types, and those of primary.
 fn exchange_writes(
     topology: &mut Topology,
     workflow: &Workflow,
@@ -202,7 +202,7 @@ fn exchange_writes(
     );
 }
 
-/// The same of a name, which is looked up once.
+/// Writes and records the rule for all types of a name, and that of primary. The name is looked up once.
 fn exchange_writes_of(
     topology: &mut Topology,
     workflow: &Workflow,
@@ -224,7 +224,7 @@ fn exchange_writes_of(
     topology.exchange_two(&name, writes, rules, &mut found.plain, &mut found.primary);
 }
 
-/// The same with another step: the denials that change with it.
+/// Writes and records a table's entries of another step: the denials that change with it.
 fn exchange_denials(
     topology: &mut Topology,
     workflow: &Workflow,
@@ -246,7 +246,7 @@ fn exchange_denials(
     exchange_denial(topology, workflow, types, step, true, table, denied);
 }
 
-/// The same of the denial at the target, or at the source.
+/// Writes and records a table's denial at the target, or at the source, if it changes with a step.
 fn exchange_denial(
     topology: &mut Topology,
     workflow: &Workflow,
@@ -287,7 +287,7 @@ pub(crate) fn write_back(
     }
 }
 
-/// The same of the entries of a table.
+/// Writes back what is recorded of those entries of a table that change with a step.
 fn write_back_table(
     topology: &mut Topology,
     workflow: &Workflow,
@@ -306,7 +306,7 @@ fn write_back_table(
     }
 }
 
-/// The same with step 0: the rules of the types replica and rdonly, and the presence.
+/// Writes back a table's entries of step 0: the rules of the types replica and rdonly, and the presence.
 fn write_back_reads(
     topology: &mut Topology,
     source: &KeyspaceName,
@@ -347,7 +347,7 @@ fn write_back_reads(
     topology.put_present(target, table, noted.is_present);
 }
 
-/// The same of a name. One key is made, whose type then changes.
+/// Writes back the rules of the types replica and rdonly of a name. One key is made, whose type then changes.
 fn write_back_reads_of(
     topology: &mut Topology,
     source: &KeyspaceName,
@@ -369,7 +369,7 @@ fn write_back_reads_of(
     topology.put_rule(&key, rule);
 }
 
-/// The same with step 9: the rules for all types, and those of primary.
+/// Writes back a table's entries of step 9: the rules for all types, and those of primary.
 fn write_back_writes(
     topology: &mut Topology,
     source: &KeyspaceName,
@@ -409,7 +409,7 @@ fn write_back_writes(
     );
 }
 
-/// The same of a name. One key is made, whose type then changes.
+/// Writes back the rule for all types of a name, and that of primary. One key is made, whose type then changes.
 fn write_back_writes_of(
     topology: &mut Topology,
     source: &KeyspaceName,
@@ -430,7 +430,7 @@ fn write_back_writes_of(
     topology.put_rule(&key, rule);
 }
 
-/// The same with another step: the denials that change with it.
+/// Writes back a table's entries of another step: the denials that change with it.
 fn write_back_denials(
     topology: &mut Topology,
     workflow: &Workflow,
@@ -463,7 +463,7 @@ fn write_back_denials(
     );
 }
 
-/// The same of the denial at a side.
+/// Writes back a table's denial at a side, if it changes with a step.
 fn write_back_denial(
     topology: &mut Topology,
     workflow: &Workflow,

@@ -9,7 +9,7 @@ use mt_model::{Entry, Scope};
 use mt_names::{KeyspaceName, TableName};
 use mt_primary::{Before, Primary};
 use mt_topology::Topology;
-use mt_watch::{Asks, Change, WatchersFault, ask_with_all};
+use mt_watch::{Asks, Change, WatchersFault};
 use mt_workflow::Workflow;
 use std::alloc::Global;
 
@@ -56,7 +56,7 @@ fn refresh<W: Asks>(
         return Err(StepFault::NoWatcher);
     }
     let change = denials(alloc, topology, side, tables)?;
-    match ask_with_all(watchers, &scope, change) {
+    match watchers.ask(&scope, &change) {
         Ok(notice) => {
             *listed = Some(primary.take_denied(side, &notice, tables));
             Ok(())
@@ -67,7 +67,7 @@ fn refresh<W: Asks>(
     }
 }
 
-/// The same at one of the sides of a workflow.
+/// Refreshes the list of the primary at one of the sides of a workflow, as `refresh` does.
 pub(crate) fn refresh_side<W: Asks>(
     alloc: Global,
     topology: &Topology,

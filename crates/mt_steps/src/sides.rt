@@ -90,7 +90,7 @@ pub fn do_step<W: Asks>(
     )
 }
 
-/// The same, with everything apart.
+/// Does the step of a way that is next, as `do_step` says, with all that it works on apart.
 fn step_of_way<W: Asks>(
     alloc: Global,
     way: Way,
@@ -158,8 +158,8 @@ pub fn do_reading_step(
     Ok(())
 }
 
-/// Does what of a step is never refused: it writes the entries that change with the step, and records what stood there; it changes the
-/// streams, and counts the step. `end` is how long the log of the new owner's primary is.
+/// Does the part of a step that is never refused: it writes the entries that change with the step, and records what stood there; it
+/// changes the streams, and counts the step. `end` is how long the log of the new owner's primary is.
 #[inline(always)]
 fn finish_step(
     way: Way,
@@ -219,7 +219,7 @@ pub fn undo_last<W: Asks>(sides: &mut Sides<'_, W>, log: &mut UndoLog)
     );
 }
 
-/// The same of a step, with everything apart.
+/// Takes back the step of a way that was done last, as `undo_last` says, with all that it works on apart.
 fn undo_of_way(
     way: Way,
     step: Step,
@@ -265,8 +265,8 @@ pub fn undo_reading_step(
     finish_undo(way, step, topology, workflow, log);
 }
 
-/// Does what of an undo concerns no primary: it writes back what is recorded of the step's entries, gives back the stream that the step
-/// put away, and counts the undo.
+/// Does the part of an undo that concerns no primary: it writes back what is recorded of the step's entries, gives back the stream that
+/// the step put away, and counts the undo.
 #[inline(always)]
 fn finish_undo(
     way: Way,

@@ -1,7 +1,7 @@
 //! What the steps of a way, and their undo, do with the two streams of a workflow, and with the way.
 ghost use Rattle.std.specs.Prelude.{◌≡◌, ◌<◌, ◌≤◌, false, Some, option_copied};
 ghost use Rattle.std.specs.Option.{option_map_or};
-ghost use Rattle.mt_plain.specs.Plain.{first_step, next_step, write_journal};
+ghost use Rattle.mt_plain.specs.Plain.{next_step, write_journal};
 ghost use Rattle.mt_stream.specs.Streams.{is_level};
 ghost use Rattle.mt_workflow.specs.Workflows.{slot_of, stream_name, way_from, with_slot};
 ghost use Rattle.mt_steps.specs.Plans.{last_step, number, step_at};
@@ -130,8 +130,7 @@ pub fn last_step(way: Way) -> Step
     requires before { last_step (way_from way) < write_journal }
     ensures { result ≡ step_at (last_step (way_from way)) }
 {
-    let first = first_step(way);
-    Step::of_number(first + way.done - 1)
+    Step::of_number((way.next_step() - 1) as u8)
 }
 
 /// The step of a way that is next. It takes no memory. (Vitess: how traffic is switched, reads first, then writes)
@@ -140,31 +139,14 @@ pub fn next_step(way: Way) -> Step
     ensures step { result ≡ step_at (next_step (way_from way)) }
     ensures number { number result ≡ next_step (way_from way) }
 {
-    Step::of_number(first_step(way) + way.done)
-}
-
-/// The number of the first step of a way.
-fn first_step(way: Way) -> u8
-    ensures value { result ≡ first_step (way_from way) }
-    ensures within { result ≤ 1 }
-{
-    if way.before.replica != way.after.replica || way.before.rdonly != way.after.rdonly {
-        0
-    } else {
-        1
-    }
+    Step::of_number(way.next_step() as u8)
 }
 
 /// Whether a step is the last one of its way.
 fn is_last(way: Way, step: Step) -> bool
     ensures { result ≡ is_last (way_from way) step }
 {
-    let last = if way.before.primary != way.after.primary {
-        11
-    } else {
-        0
-    };
-    step.number() == last
+    step.number() + 1 == way.behind_last()
 }
 
 /// Counts a step: one more stands done, or the way closes; from the journal on the types are switched.

@@ -1,11 +1,9 @@
 //! Lists of acts with two workflows between the same primaries.
-ghost use Rattle.std.specs.Prelude.{◌≡◌, IfOk};
-ghost use Rattle.mt_watch.specs.Notices.{notice_of};
 
 use crate::acts::{Act, is_done};
 use crate::scene::{Moved, Scene};
 use mt_names::KeyspaceName;
-use mt_watch::{Asks, Callback, Change, Notice, Scope, WatchFault, Watcher, Watchers};
+use mt_watch::{Asks, Scope, Watchers, telling_watcher};
 use std::alloc::Global;
 
 /// With which of the two workflows something is done: the one that moves `t`, or the one that moves `u`.
@@ -80,7 +78,7 @@ fn play_all<W: Asks>(
     Played::AllSo
 }
 
-/// The same, with both workflows created in this scene before.
+/// How acts go in a scene in which both workflows are created before.
 fn play_in(alloc: Global, scene: &mut Scene, watchers: &Watchers, acts: &[(Of, Act)]) -> Played {
     let Some(mut both) = both_of(alloc, scene) else {
         return Played::NotMade;
@@ -90,7 +88,7 @@ fn play_in(alloc: Global, scene: &mut Scene, watchers: &Watchers, acts: &[(Of, A
     played
 }
 
-/// The same, in a scene of its own.
+/// How acts go in a scene of their own, in which both workflows are created before.
 fn play(alloc: Global, watchers: &Watchers, acts: &[(Of, Act)]) -> Played {
     let Some(mut scene) = Scene::new(alloc) else {
         return Played::NotMade;
@@ -100,32 +98,24 @@ fn play(alloc: Global, watchers: &Watchers, acts: &[(Of, Act)]) -> Played {
     played
 }
 
-/// The same, with a watcher for the primary of each keyspace that is named.
+/// How acts go in such a scene with a watcher for the primary of each keyspace that is named.
 fn play_watched(alloc: Global, keyspaces: &[&str], acts: &[(Of, Act)]) -> Played {
     let mut watchers = Watchers::new(alloc);
     for keyspace in keyspaces {
         let Ok(name) = KeyspaceName::parse(keyspace) else {
             return Played::NotMade;
         };
-        let scope = Scope::Primary(name);
-        let own = scope.copied();
-        let call: Callback = match Box::new(
-            alloc,
-            move |change: &Change| -> Result<Notice, WatchFault>
-                ensures { IfOk result (λ notice. notice ≡ notice_of own change.now) }
-            { Notice::of(alloc, &own, change).map_err(|_| WatchFault(0)) },
-        ) {
-            Ok(call) => call,
-            Err(_) => return Played::NotMade,
+        let Ok(watcher) = telling_watcher!(alloc, Scope::Primary(name)) else {
+            return Played::NotMade;
         };
-        if watchers.add(Watcher::new(scope, call)).is_err() {
+        if watchers.add(watcher).is_err() {
             return Played::NotMade;
         }
     }
     play(alloc, &watchers, acts)
 }
 
-/// The same, at once or at a second try if there was no memory for the watchers or the sides.
+/// How acts go with these watchers, at once or at a second try if there was no memory for the watchers or the sides.
 pub fn play_at(alloc: Global, keyspaces: &[&str], acts: &[(Of, Act)]) -> Played {
     match play_watched(alloc, keyspaces, acts) {
         Played::NotMade => play_watched(alloc, keyspaces, acts),

@@ -67,28 +67,14 @@ fn has_places(topology: &Topology, workflow: &Workflow) -> bool
 fn is_next(way: Way, step: Step) -> bool
     ensures { result ≡ true → number step ≡ next_step (way_from way) }
 {
-    let first = if way.before.replica != way.after.replica
-        || way.before.rdonly != way.after.rdonly
-    {
-        0
-    } else {
-        1
-    };
-    step.number() >= first && step.number() - first == way.done
+    u16::from(step.number()) == way.next_step()
 }
 
 /// Whether the last step of a way that stands done is before the journal.
 fn is_before_journal(way: Way) -> bool
     ensures { result ≡ true → last_step (way_from way) < write_journal }
 {
-    let first = if way.before.replica != way.after.replica
-        || way.before.rdonly != way.after.rdonly
-    {
-        0
-    } else {
-        1
-    };
-    way.done <= 6 - first
+    way.next_step() <= u16::from(Way::JOURNAL)
 }
 
 /// A workflow of some tables from `a` to `b`, over the topology of a scene; its forward stream begins where the source stands.
@@ -199,7 +185,7 @@ impl Scene {
         Scene::between(alloc, &a, &b, &tables)
     }
 
-    /// The same for any keyspaces and tables.
+    /// Tables of any names stand at a source; they are made at a target, which refuses them, and there are places for the parts of their moves.
     fn between(
         alloc: Global,
         source: &KeyspaceName,

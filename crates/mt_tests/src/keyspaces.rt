@@ -15,9 +15,9 @@ enum Call {
 }
 
 /// How an answer is printed.
-fn printed(answer: Result<(), DeniedFault>) -> &'static str {
+fn printed(answer: Result<bool, DeniedFault>) -> &'static str {
     match answer {
-        Ok(()) => "ok",
+        Ok(_) => "ok",
         Err(fault) => fault.as_str(),
     }
 }
@@ -33,8 +33,8 @@ fn answer(
         return Ok("no keyspace");
     }
     Ok(match call {
-        Call::Table => printed(keyspaces.reserve_table(&keyspace, &table)),
-        Call::Denial => printed(keyspaces.reserve_denial(&keyspace, &table)),
+        Call::Table => printed(keyspaces.make_place(&keyspace, &table)),
+        Call::Denial => printed(keyspaces.make_denied_place(&keyspace, &table)),
     })
 }
 
@@ -70,7 +70,7 @@ fn first_wrong(keyspaces: &mut Keyspaces, call: Call) -> Option<&'static str> {
     None
 }
 
-/// The same of either kind, in a keyspace that is filled.
+/// The first of either kind that is answered otherwise, in a keyspace that is filled.
 fn first_of_both(alloc: Global, keyspaces: &mut Keyspaces) -> Option<&'static str> {
     let Ok(name) = KeyspaceName::parse("k") else {
         return Some("the name");

@@ -105,7 +105,7 @@ fn is_full(rules: &mut RoutingRules) -> Result<bool, NameFault> {
     Ok(
         answers(rules, "t4096", &[(Call::Reserve, "R1 Full")])?
             && answers(rules, "t7", &[(Call::Reserve, "ok")])?
-            && rules.len() == 4096,
+            && rules.places() == 4096,
     )
 }
 

@@ -123,7 +123,7 @@ fn leads(alloc: Global, count: usize, key: &str, want: &str) -> bool {
     };
     match RoutingRules::from_json(alloc, FRESH.as_bytes()) {
         Ok(rules) => {
-            rules.len() == count
+            rules.places() == count
                 && rules
                     .get(&key)
                     .is_some_and(|target| target.text().as_str() == want)
@@ -159,7 +159,7 @@ fn places_without_a_rule_are_left_out(rt: HostRuntime) {
     assert!(rt; is_left_out(rt.alloc()));
 }
 
-/// The same bytes, of which that of this place is none of a text.
+/// A text whose byte at this place is replaced by one that no text has.
 fn spoilt(alloc: Global, text: &[u8], at: usize) -> Result<Vec<u8>, AllocError> {
     let mut bytes = Vec::new(alloc);
     bytes.extend_from_slice(text)?;

@@ -5,7 +5,7 @@ ghost use Rattle.mt_watch.specs.Notices.{notice_of};
 use mt_model::{Entry, Scope};
 use mt_names::{KeyspaceName, RuleKey, RuleTarget, TableName};
 use mt_watch::{
-    Asks, Callback, Change, Notice, PlainWatchers, WatchFault, Watcher, Watchers, WatchersFault,
+    Asks, Callback, Change, Notice, WatchFault, Watcher, Watchers, WatchersFault, tell,
 };
 use std::alloc::Global;
 
@@ -56,7 +56,7 @@ fn watcher_of(alloc: Global, scope: Scope, refuses: bool) -> Option<Watcher> {
             if refuses {
                 return Err(WatchFault(7));
             }
-            Notice::of(alloc, &own, change).map_err(|_| WatchFault(0))
+            tell(alloc, &own, change)
         },
     ) {
         Ok(call) => call,
@@ -144,29 +144,6 @@ fn the_watchers_of_a_scope_are_asked(rt: HostRuntime) {
             are_asked_alone(rt.alloc(), &mut watchers, &change) == Some(true)
         })
     );
-}
-
-/// Whether watchers without callbacks answer each just its entries of a change, which has two for routers and one for the
-/// primary of `customer`.
-fn are_told(watchers: &mut PlainWatchers, change: &Change) -> Option<bool> {
-    let customer = Scope::Primary(KeyspaceName::parse("customer").ok()?);
-    let commerce = Scope::Primary(KeyspaceName::parse("commerce").ok()?);
-    Some(
-        watchers.add(Scope::Routes) == Ok(())
-            && watchers.add(customer.copied()) == Ok(())
-            && noticed(watchers, &Scope::Routes, change) == Ok(2)
-            && noticed(watchers, &customer, change) == Ok(1)
-            && noticed(watchers, &commerce, change) == Err(WatchersFault::NoWatcher)
-            && watchers.always_tell(&customer)
-            && !watchers.always_tell(&commerce),
-    )
-}
-
-#[test]
-fn watchers_without_callbacks_tell(rt: HostRuntime) {
-    let mut watchers = PlainWatchers::new(rt.alloc());
-    let change = three_entries(rt.alloc());
-    assert!(rt; change.is_some_and(|change| are_told(&mut watchers, &change) == Some(true)));
 }
 
 /// Whether the second of three watchers refuses, with its number.

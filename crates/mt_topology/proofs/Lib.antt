@@ -12,4 +12,3 @@ pub mod ReserveLemmas
 pub mod RoomLemmas
 pub mod SaysLemmas
 pub mod TextLemmas
-pub mod WriteLemmas

@@ -11,7 +11,7 @@ use Rattle.json.proofs.Printed.Trees.{ArePrintable-json_tokens, value-json_token
 use Rattle.serde_json.specs.Data.{Data, null, boolean, number, string, array, object, Items, no_items, item, Members, no_members, member, depth, items_depth, members_depth, unsigned}
 use Rattle.serde_json.specs.Read.{max_depth, number_of, of_items, of_json, read}
 use Rattle.serde_json.specs.View.{items_of}
-use Rattle.serde_json.specs.Written.{items_outline, members_outline, number_text, outline}
+use Rattle.serde_json.specs.Written.{compact_text, items_outline, members_outline, number_text, outline}
 use Rattle.serde_json.proofs.Numbers.{number_of-decimal}
 use Rattle.serde_json.proofs.Texts.{print-outline}
 use Rattle.mt_model.specs.Documents.{denied_texts, document_text, dump_text, keyspaces_in_order, quoted, sorted_rules, tables_in_order}
@@ -94,9 +94,13 @@ dump_back t =
         → number_of (number_text (unsigned 1)) ≡ Some (unsigned 1) → of_json (outline (dump_value t)) ≡ Some (dump_value t)
     in_turn denied keyspaces rules one = rw (denied, keyspaces, rules, one) refl
 
+-- the compact text of the value is the dump
+pub dump_written : (t : TopologyState) → HasDistinctPlaces t → IsNamedTopology t → compact_text (dump_value t) ≡ dump_text t
+dump_written t distinct named = compact_text-dump t named ∙ ap (λ denied. document_text denied t) (denied_once t distinct named)
+
 pub dump_read : (t : TopologyState) → HasDistinctPlaces t → IsNamedTopology t → read (dump_text t) ≡ Some (dump_value t)
 dump_read t distinct named =
-    ap read (sym (print-outline (dump_value t) ∙ compact_text-dump t named ∙ ap (λ denied. document_text denied t) (denied_once t distinct named))) ∙ read_back (dump_value t) (dump_numbers t) (dump_back t) (not_deep_dump t)
+    ap read (sym (print-outline (dump_value t) ∙ dump_written t distinct named)) ∙ read_back (dump_value t) (dump_numbers t) (dump_back t) (not_deep_dump t)
 
 -- ---- all names are names
 

@@ -28,7 +28,7 @@ without_entry t (about.Rule key) = record t { rules = without_rule_entry t.rules
 without_entry t (about.Denied keyspace table) = record t { keyspaces = with_keyspace_state (without_denial table) t.keyspaces keyspace }
 without_entry t (about.Present keyspace table) = record t { keyspaces = with_keyspace_state (without_table table) t.keyspaces keyspace }
 
--- the same of several keys, one after the other
+-- without the places of several keys, one after the other
 abbrev pub without_entries : TopologyState → List EntryKey → TopologyState
 without_entries t keys = fold without_entry t keys
 

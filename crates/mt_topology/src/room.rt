@@ -48,7 +48,7 @@ fn has_room_for_rules(
 ) -> bool
     ensures { result ≡ has_rule_room rules.now (flat_map (table_rule_keys source.now target.now) tables.now) }
 {
-    let mut room = MAX_RULES - rules.len();
+    let mut room = MAX_RULES - rules.places();
     if tables.len() <= room / RULES_OF_TABLE {
         return true;
     }

@@ -1,12 +1,14 @@
 //! The topology as one value.
-ghost use Rattle.std.specs.Prelude.{◌≡◌, ◌<◌, ◌≤◌, true, All, Some, IfOk, IfErr, length, map, slice_get, string_bytes};
+ghost use Rattle.std.specs.Prelude.{◌≡◌, ◌<◌, ◌≤◌, true, Some, IfOk, IfErr, length, map, slice_get, string_bytes};
 ghost use Rattle.std.specs.List.{AllByRecursion};
 ghost use Rattle.mt_model.specs.Limits.{most_keyspaces};
 ghost use Rattle.mt_model.specs.Topology.{HasDistinctPlaces, empty_topology, has_place, is_denied, is_present, key_of, resolution, routes_of, rule_at, value_of, with_entry, with_keyspace, with_keyspace_state, with_rule, with_table, without_table_place};
-ghost use Rattle.mt_model.specs.Part.{befores, with_entries};
+ghost use Rattle.mt_model.specs.Part.{with_entries};
 ghost use Rattle.mt_keyspace.specs.Load.{IsUnlessMemory};
 ghost use Rattle.mt_topology.specs.Dump.{topology_of_text};
 ghost use Rattle.mt_topology.specs.Says.{HasDeniedTables, Says};
+ghost use Rattle.mt_topology.specs.Values.{dump_value};
+ghost use Rattle.serde_json.specs.Written.{compact_text};
 ghost use Rattle.mt_model.specs.Documents.{dump_text};
 ghost use Rattle.mt_keyspace.specs.Edits.{Edits, add_keyspace_refusal, add_table_grows, add_table_refusal};
 ghost use Rattle.mt_topology.specs.Edits.{edit_rule_grows, edit_rule_refusal};
@@ -72,13 +74,15 @@ impl Topology {
         })
     }
 
-    /// The dump of the topology, version 1, as `load` reads it: compact; the keyspaces sorted by their names, each with its
+    /// The dump of the topology, version 1, as `load` reads it: the compact text that `serde_json` writes of its value; the keyspaces sorted
+    /// by their names, each with its
     /// tables sorted; the denied tables sorted by the bytes of their texts `keyspace.table`; the rules as routing rules are
     /// written. Places without a rule, and tables that aren't there or denied, are left out. Where each denied table is
     /// there in its keyspace, `load` reads it back as the same topology: it has the same keyspaces, and says the same of
     /// every entry. `T0 Memory`.
     pub fn dump(&self, alloc: Global) -> Result<String, TopologyFault>
         ensures text { IfOk result (λ text. string_bytes text ≡ dump_text self.now) }
+        ensures value { IfOk result (λ text. string_bytes text ≡ compact_text (dump_value self.now)) }
         ensures says { IfOk result (λ text. HasDeniedTables self.now → Says (string_bytes text) self.now) }
         ensures memory { IfErr result (λ fault. fault ≡ TopologyFault.Memory) }
     {
@@ -283,65 +287,6 @@ impl Topology {
         ensures after { self.new ≡ with_entry self.old (Entry.Present keyspace.now table.now mark) }
     {
         self.keyspaces.set_present(keyspace, table, mark)
-    }
-
-    /// Writes an entry that has a place, as `write` does, and leaves it to the caller. It takes no memory.
-    pub fn put(&mut self, entry: &Entry)
-        requires { has_place self.old (key_of entry.now) ≡ true }
-        ensures { self.new ≡ with_entry self.old entry.now }
-    {
-        match entry {
-            Entry::Rule(key, target) => {
-                self.put_rule(
-                    key,
-                    target.as_ref().map(|rule| (&rule.keyspace, &rule.table)),
-                );
-            }
-            Entry::Denied(keyspace, table, is_denied) => {
-                self.put_denied(keyspace, table, *is_denied);
-            }
-            Entry::Present(keyspace, table, is_present) => {
-                self.put_present(keyspace, table, *is_present);
-            }
-        }
-    }
-
-    /// Gives an entry the value that the topology has at its key, as `value` answers it. It takes no memory.
-    pub fn read_into(&self, entry: &mut Entry)
-        ensures { entry.new ≡ value_of self.now (key_of entry.old) }
-    {
-        match entry {
-            Entry::Rule(key, target) => {
-                *target = self.rules.get(key).map(RuleTarget::copied);
-            }
-            Entry::Denied(keyspace, table, is_denied) => {
-                *is_denied = self.keyspaces.is_denied(keyspace, table);
-            }
-            Entry::Present(keyspace, table, is_present) => {
-                *is_present = self.keyspaces.is_present(keyspace, table);
-            }
-        }
-    }
-
-    /// Writes several entries, each of which has a place, in their order, and leaves in place of each what stood before it:
-    /// written back in reverse, these give back the topology. An entry may be among them more than once. It takes no memory.
-    pub fn write_all(&mut self, entries: &mut [Entry])
-        requires { All (λ entry. has_place self.old (key_of entry) ≡ true) entries.old }
-        ensures befores { entries.new ≡ befores self.old entries.old }
-        ensures after { self.new ≡ with_entries self.old entries.old }
-    {
-        for entry in entries.iter_mut() {
-            self.exchange(entry);
-        }
-    }
-
-    /// Writes an entry that has a place, and leaves what stood before in place of it.
-    fn exchange(&mut self, entry: &mut Entry)
-        requires { has_place self.old (key_of entry.old) ≡ true }
-        ensures before { entry.new ≡ value_of self.old (key_of entry.old) }
-        ensures after { self.new ≡ with_entry self.old entry.old }
-    {
-        *entry = self.write(entry.copied());
     }
 
     /// Where a name leads for a type: where its rule for the type, else its rule for all types leads, which is not looked

@@ -1,7 +1,9 @@
 //! Writing a dump.
 ghost use Rattle.std.specs.Prelude.{◌≡◌, IfOk, string_bytes};
 ghost use Rattle.mt_topology.specs.Says.{HasDeniedTables, Says};
+ghost use Rattle.mt_topology.specs.Values.{dump_value};
 ghost use Rattle.mt_model.specs.Documents.{dump_text};
+ghost use Rattle.serde_json.specs.Written.{compact_text};
 
 use mt_keyspace::Keyspaces;
 use mt_rules::RoutingRules;
@@ -14,6 +16,7 @@ pub fn text_of_parts(
     keyspaces: &Keyspaces,
 ) -> Result<String, AllocError>
     ensures text { IfOk result (λ text. string_bytes text ≡ dump_text (record { rules = rules.now; keyspaces = keyspaces.now })) }
+    ensures value { IfOk result (λ text. string_bytes text ≡ compact_text (dump_value (record { rules = rules.now; keyspaces = keyspaces.now }))) }
     ensures says { IfOk result (λ text. HasDeniedTables (record { rules = rules.now; keyspaces = keyspaces.now })
         → Says (string_bytes text) (record { rules = rules.now; keyspaces = keyspaces.now })) }
 {

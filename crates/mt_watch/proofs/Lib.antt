@@ -1,3 +1,2 @@
 pub mod AskLemmas
-pub mod PlainLemmas
 pub mod ScopeLemmas

@@ -1,5 +1,5 @@
 -- Asking watchers with a change.
-use Rattle.std.specs.Prelude.{◌≡◌, ℕ, ◌<◌, Bool, true, false, List, slice_get, Option, None, Some, ⊤, Result, Ok, Err}
+use Rattle.std.specs.Prelude.{◌≡◌, ℕ, ◌<◌, Bool, true, false, List, slice_get, Option, None, Some, Result, Ok, Err}
 use Rattle.mt_model.specs.declared.entries.Entry.{Entry}
 use Rattle.mt_model.specs.declared.entries.Scope.{Scope}
 use Rattle.mt_watch.specs.declared.fault.WatchFault.{WatchFault}
@@ -13,7 +13,7 @@ use Rattle.mt_watch.specs.Scopes.{has_scope, same_scope}
 abbrev pub Answering : Type 1
 Answering = ℕ → List Entry → Result (List Entry) WatchFault → Type 0
 
--- the same for a list of watchers, by what each of them may answer
+-- what those of a list may answer, by what each of them may
 abbrev pub by_number : {W : Type 0} → List W → (W → List Entry → Result (List Entry) WatchFault → Type 0) → Answering
 by_number {W} watchers may_answer i change answer = (watcher : W) × (slice_get watchers i ≡ Some watcher) × may_answer watcher change answer
 
@@ -40,15 +40,6 @@ AsksEach scopes may_answer scope change (Err NoWatcher) = has_scope scopes scope
 AsksEach scopes may_answer scope change (Err (Refused i)) = IsRefusedAt scopes may_answer scope change i
 AsksEach scopes may_answer scope change (Err Memory) = ⊥
 AsksEach scopes may_answer scope change (Err Full) = ⊥
-
--- the watchers of the scope, of which there is one, may each answer any change with its notice
-abbrev pub AlwaysTell : List Scope → Answering → Scope → Type 0
-AlwaysTell scopes may_answer scope = (change : List Entry) → IsTold scopes may_answer scope change (notice_of scope change)
-
--- what a watcher of a scope that has no callback may answer: the notice, or a refusal, of whatever cause
-abbrev pub TellsPlainly : Scope → List Entry → Result (List Entry) WatchFault → Type 0
-TellsPlainly scope change (Ok notice) = notice ≡ notice_of scope change
-TellsPlainly scope change (Err fault) = ⊤
 
 -- ---- one watcher's turn
 

@@ -1,10 +1,9 @@
 //! What can be asked with a change.
-ghost use Rattle.std.specs.Prelude.{◌≡◌, ℕ, true, List, Result};
+ghost use Rattle.std.specs.Prelude.{◌≡◌, ℕ, List, Result};
 ghost use Rattle.mt_model.specs.declared.entries.Entry.{Entry};
 ghost use Rattle.mt_model.specs.declared.entries.Scope.{Scope};
 ghost use Rattle.mt_watch.specs.declared.fault.WatchFault.{WatchFault};
-ghost use Rattle.mt_watch.specs.Asking.{AlwaysTell, AsksEach};
-ghost use Rattle.mt_watch.specs.Notices.{notice_of};
+ghost use Rattle.mt_watch.specs.Asking.{AsksEach};
 ghost use Rattle.mt_watch.specs.Scopes.{has_scope};
 
 use crate::{Change, Notice, WatchersFault};
@@ -28,25 +27,4 @@ pub trait Asks {
     /// memory but what the callbacks take.
     fn ask(&self, scope: &Scope, change: &Change) -> Result<Notice, WatchersFault>
         ensures { AsksEach (scopes self.now) (may_answer self.now) scope.now change.now result };
-
-    /// Whether the watchers of the scope are known to answer every change with its notice, so that whoever has that needn't
-    /// ask them. Where none has the scope they aren't. It takes no memory.
-    fn always_tell(&self, scope: &Scope) -> bool
-        ensures { result ≡ true → AlwaysTell (scopes self.now) (may_answer self.now) scope.now };
-}
-
-/// Asks the watchers of a scope, as `Asks::ask` does, with a change of which every entry concerns the scope, and which is
-/// its notice then. Where they always tell, nobody is asked, and nothing copied.
-pub fn ask_with_all<A: Asks>(
-    watchers: &A,
-    scope: &Scope,
-    change: Change,
-) -> Result<Notice, WatchersFault>
-    requires { notice_of scope.now change ≡ change }
-    ensures { AsksEach (A.scopes watchers.now) (A.may_answer watchers.now) scope.now change result }
-{
-    if watchers.always_tell(scope) {
-        return Ok(Notice::of_all(change));
-    }
-    watchers.ask(scope, &change)
 }

@@ -1,5 +1,5 @@
 //! The notice of a change.
-ghost use Rattle.std.specs.Prelude.{◌≡◌, [], IfErr, IfOk};
+ghost use Rattle.std.specs.Prelude.{◌≡◌, []};
 ghost use Rattle.mt_watch.specs.Lists.{Pushes};
 ghost use Rattle.mt_watch.specs.Notices.{Notes, concerns};
 
@@ -31,22 +31,6 @@ impl Notice {
         Notice {
             part: Change::new(alloc),
         }
-    }
-
-    /// The notice of a change of which every entry concerns the scope. It takes no memory.
-    pub(crate) fn of_all(change: Change) -> Self
-        ensures { result ≡ change }
-    {
-        Notice { part: change }
-    }
-
-    /// A notice of nothing, with room for some entries. `H0 Memory`.
-    pub fn with_room(alloc: Global, entries: usize) -> Result<Self, WatchersFault>
-        ensures value { IfOk result (λ notice. notice ≡ []) }
-        ensures memory { IfErr result (λ fault. fault ≡ WatchersFault.Memory) }
-    {
-        let part = Change::with_room(alloc, entries)?;
-        Ok(Notice { part })
     }
 
     /// Adds an entry at the end. It is refused with `H0 Memory` alone, and then leaves the list as it was.

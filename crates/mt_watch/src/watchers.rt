@@ -8,7 +8,7 @@ use mt_model::Scope;
 use std::alloc::Global;
 
 /// How many watchers there are at most.
-pub(crate) const MAX_WATCHERS: usize = 32;
+const MAX_WATCHERS: usize = 32;
 
 /// Watchers in the order in which they were added, at most 32.
 #[derive(Drop)]
@@ -67,10 +67,5 @@ impl Asks for Watchers {
             Some(notice) => Ok(notice),
             None => Err(WatchersFault::NoWatcher),
         }
-    }
-
-    /// A callback may refuse.
-    fn always_tell(&self, _scope: &Scope) -> bool {
-        false
     }
 }

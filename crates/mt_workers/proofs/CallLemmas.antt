@@ -6,6 +6,7 @@ use Rattle.mt_event.specs.declared.driven.Driven.{Driven}
 use Rattle.mt_event.specs.declared.driven.Driven.TheVariants.{Done, Abandoned, Stopped}
 use Rattle.mt_event.specs.declared.event.Event.{Event}
 use Rattle.mt_event.specs.declared.refusal.Refusal.{Refusal}
+use Rattle.mt_event.specs.declared.reason.Reason.TheVariants as reason
 use Rattle.mt_event.specs.declared.refusal.Refusal.TheVariants as refusal
 use Rattle.mt_event.specs.declared.reply.Reply.TheVariants as reply
 use Rattle.mt_workers.specs.Advances.{Answer}
@@ -100,20 +101,20 @@ undone_undone P why course = by (nat_lt 1 course.done)
     by false = tt
 
 step_refused_undone : (P : Type 0) (course : Course) (why : Refusal) → DoneIf P (step_refused course why)
-step_refused_undone P course refusal.NotLevel = again_undone P Feeds course refusal.NotLevel
-step_refused_undone P course (refusal.Stale current) = again_undone P Steps (with_done course (min current most_steps)) (refusal.Stale current)
-step_refused_undone P course refusal.NoWorkflow = tt
-step_refused_undone P course refusal.NothingUnderWay = tt
+step_refused_undone P course (refusal.Other reason.NotLevel) = again_undone P Feeds course (refusal.Other reason.NotLevel)
+step_refused_undone P course (refusal.Other (reason.Stale current)) = again_undone P Steps (with_done course (min current most_steps)) (refusal.Other (reason.Stale current))
+step_refused_undone P course (refusal.Other reason.NoWorkflow) = tt
+step_refused_undone P course (refusal.Other reason.NothingUnderWay) = tt
 step_refused_undone P course why = fails_undone P course why
 
 advance_refused_undone : (P : Type 0) (course : Course) (why : Refusal) → DoneIf P (advance_refused course why)
-advance_refused_undone P course (refusal.Stale current) = again_undone P Feeds (with_position course current) (refusal.Stale current)
+advance_refused_undone P course (refusal.Other (reason.Stale current)) = again_undone P Feeds (with_position course current) (refusal.Other (reason.Stale current))
 advance_refused_undone P course why = fails_undone P course why
 
 undo_refused_undone : (P : Type 0) (why : Refusal) (course : Course) (other : Refusal) → DoneIf P (undo_refused why course other)
-undo_refused_undone P why course (refusal.Stale current) = by (nat_lt 1 course.tries)
+undo_refused_undone P why course (refusal.Other (reason.Stale current)) = by (nat_lt 1 course.tries)
   where
-    by : (t : Bool) → DoneIf P (cond t (GoesOn (GivesUp why) (one_try_fewer (with_done course (min current most_steps)))) (Ends (Err (refusal.Stale current))))
+    by : (t : Bool) → DoneIf P (cond t (GoesOn (GivesUp why) (one_try_fewer (with_done course (min current most_steps)))) (Ends (Err (refusal.Other (reason.Stale current)))))
     by true = tt
     by false = tt
 undo_refused_undone P why course other = tt

@@ -1,4 +1,5 @@
 mod AdvanceLemmas
 mod CallLemmas
+mod CollectedLemmas
 mod QueryLemmas
 mod RunLemmas

@@ -4,6 +4,7 @@ use Rattle.std.proofs.lemmas.List.{append-nil, drop_more}
 use Rattle.std.specs.List.{AllByRecursion}
 use mathlib.Core.List.{IsPrefix}
 use Rattle.mt_desk.specs.declared.history.Call.{Call}
+use Rattle.mt_event.specs.declared.reason.Reason.TheVariants as reason
 use Rattle.mt_event.specs.declared.refusal.Refusal.TheVariants as refusal
 use Rattle.mt_model.specs.declared.faults.TopologyFault.{TopologyFault}
 use Rattle.mt_names.specs.declared.keys.RuleTarget.{RuleTarget}
@@ -80,7 +81,7 @@ refused_here known line old now new tried so left same =
 -- the name leads nowhere
 pub nowhere : (known later now : List Publication) (line : Line) (old calls : List Call) (tried : ℕ) (why : TopologyFault) (front : ℕ) → IsDeniedSoFar known line old calls tried
     → tried < most_tries → IsPrefix known later → IsPrefix later now → LastLeads now (key_of line) (type_of line) front (Err why)
-    → HasTried known line old calls (Some (Err refusal.NoTable))
+    → HasTried known line old calls (Some (Err (refusal.Other reason.NoTable)))
 nowhere known later now line old calls tried why front so left before more leads = (
   so.0,
   so.1,
@@ -92,7 +93,7 @@ nowhere known later now line old calls tried why front so left before more leads
 
 -- another answer than F3 Denied
 pub answered_here : (known : List Publication) (line : Line) (old now new : List Call) (tried : ℕ) (call : Call) → IsDeniedSoFar known line old now tried → tried < most_tries
-    → new ≡ now ++ call ∷ [] → IsTry known line call → call.answer ≢ Err refusal.Denied → HasTried known line old new (Some call.answer)
+    → new ≡ now ++ call ∷ [] → IsTry known line call → call.answer ≢ Err (refusal.Other reason.Denied) → HasTried known line old new (Some call.answer)
 answered_here known line old now new tried call so left adds is other = (
   so.0 ++ call ∷ [],
   adds ∙ ap (λ l. l ++ call ∷ []) so.1 ∙ append_assoc old so.0 (call ∷ []),
@@ -104,10 +105,10 @@ answered_here known line old now new tried call so left adds is other = (
 
 -- no try is left
 pub denied_to_the_end : (known : List Publication) (line : Line) (old now : List Call) (tried : ℕ) → IsDeniedSoFar known line old now tried → tried ≡ most_tries
-    → HasTried known line old now (Some (Err refusal.Denied))
+    → HasTried known line old now (Some (Err (refusal.Other reason.Denied)))
 denied_to_the_end known line old now tried so all = (so.0, so.1, record { each = so.2; ends = inl (by so.0 so.3 (so.4 ∙ all)) })
   where
-    by : (tries : List Call) → AllByRecursion IsDenied tries → length tries ≡ most_tries → IsAnswered tries (Err refusal.Denied)
+    by : (tries : List Call) → AllByRecursion IsDenied tries → length tries ≡ most_tries → IsAnswered tries (Err (refusal.Other reason.Denied))
     by [] denied long = absurd (omega (arith, long))
     by (call ∷ calls) denied long =
         let split = last_of call calls in

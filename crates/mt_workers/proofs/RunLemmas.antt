@@ -6,6 +6,7 @@ use Rattle.mt_desk.specs.declared.fault.DeskFault.{DeskFault}
 use Rattle.mt_desk.specs.declared.history.Call.{Call}
 use Rattle.mt_event.specs.declared.driven.Driven.{Driven}
 use Rattle.mt_event.specs.declared.refusal.Refusal.{Refusal}
+use Rattle.mt_event.specs.declared.reason.Reason.TheVariants as reason
 use Rattle.mt_event.specs.declared.refusal.Refusal.TheVariants as refusal
 use Rattle.mt_event.specs.declared.reply.Reply.TheVariants as reply
 use Rattle.mt_workers.specs.Advances.{Answer}
@@ -105,23 +106,23 @@ few : (n : ℕ) → min n most_steps ≤ most_steps
 few n = omega arith
 
 step_refused_less : (course : Course) (why : Refusal) → course.done ≤ most_steps → course.behind ≤ most_steps → IsLess (size Steps course) (step_refused course why)
-step_refused_less course refusal.NotLevel done behind = again_less (size Steps course) Feeds course refusal.NotLevel done behind (omega arith) (λ more. omega (arith, more))
-step_refused_less course (refusal.Stale current) done behind =
-    again_less (size Steps course) Steps (with_done course (min current most_steps)) (refusal.Stale current) (few current) behind (omega arith) (λ more. omega (arith, more))
-step_refused_less course refusal.NoWorkflow done behind = tt
-step_refused_less course refusal.NothingUnderWay done behind = tt
+step_refused_less course (refusal.Other reason.NotLevel) done behind = again_less (size Steps course) Feeds course (refusal.Other reason.NotLevel) done behind (omega arith) (λ more. omega (arith, more))
+step_refused_less course (refusal.Other (reason.Stale current)) done behind =
+    again_less (size Steps course) Steps (with_done course (min current most_steps)) (refusal.Other (reason.Stale current)) (few current) behind (omega arith) (λ more. omega (arith, more))
+step_refused_less course (refusal.Other reason.NoWorkflow) done behind = tt
+step_refused_less course (refusal.Other reason.NothingUnderWay) done behind = tt
 step_refused_less course why done behind = fails_less (size Steps course) course why done behind (omega arith)
 
 advance_refused_less : (course : Course) (why : Refusal) → course.done ≤ most_steps → course.behind ≤ most_steps → IsLess (size Feeds course) (advance_refused course why)
-advance_refused_less course (refusal.Stale current) done behind =
-    again_less (size Feeds course) Feeds (with_position course current) (refusal.Stale current) done behind (omega arith) (λ more. omega (arith, more))
+advance_refused_less course (refusal.Other (reason.Stale current)) done behind =
+    again_less (size Feeds course) Feeds (with_position course current) (refusal.Other (reason.Stale current)) done behind (omega arith) (λ more. omega (arith, more))
 advance_refused_less course why done behind = fails_less (size Feeds course) course why done behind (omega arith)
 
 undo_refused_less : (why : Refusal) (course : Course) (other : Refusal) → course.done ≤ most_steps → course.behind ≤ most_steps → IsLess (size (GivesUp why) course) (undo_refused why course other)
-undo_refused_less why course (refusal.Stale current) done behind = by (nat_lt 1 course.tries) refl
+undo_refused_less why course (refusal.Other (reason.Stale current)) done behind = by (nat_lt 1 course.tries) refl
   where
     by : (t : Bool) → nat_lt 1 course.tries ≡ t
-        → IsLess (size (GivesUp why) course) (cond t (GoesOn (GivesUp why) (one_try_fewer (with_done course (min current most_steps)))) (Ends (Err (refusal.Stale current))))
+        → IsLess (size (GivesUp why) course) (cond t (GoesOn (GivesUp why) (one_try_fewer (with_done course (min current most_steps)))) (Ends (Err (refusal.Other (reason.Stale current)))))
     by true t = let more = ltb-true 1 course.tries t in (omega (arith, more, few current), few current, behind)
     by false t = tt
 undo_refused_less why course other done behind = tt

@@ -2,8 +2,9 @@
 use Rattle.std.specs.Prelude.{◌≡◌, ◌+◌, ◌-◌, ◌^◌, ◌≤◌, ℕ, min, List, [], ◌∷◌, length, Result, Ok, Err}
 use Rattle.mt_desk.specs.declared.history.Call.{Call}
 use Rattle.mt_event.specs.declared.event.Event.TheVariants as event
+use Rattle.mt_event.specs.declared.reason.Reason.TheVariants.{Stale}
 use Rattle.mt_event.specs.declared.refusal.Refusal.{Refusal}
-use Rattle.mt_event.specs.declared.refusal.Refusal.TheVariants.{Stale}
+use Rattle.mt_event.specs.declared.refusal.Refusal.TheVariants.{Other}
 use Rattle.mt_event.specs.declared.reply.Reply.{Reply}
 use Rattle.mt_event.specs.declared.reply.Reply.TheVariants.{Advanced}
 use Rattle.mt_workflow.specs.declared.way.Slot.{Slot}
@@ -14,7 +15,7 @@ Answer = Result Reply Refusal
 -- where a stream is expected after an answer to an advance: past the entries that were read, or where the refusal says that it is
 abbrev pub next_position : (at : ℕ) → Answer → ℕ
 next_position at (Ok (Advanced counts)) = min (at + counts.events) (2 ^ 64 - 1)
-next_position at (Err (Stale current)) = current
+next_position at (Err (Other (Stale current))) = current
 next_position at other = at
 
 abbrev pub position_after : (at : ℕ) → List Call → ℕ

@@ -8,6 +8,7 @@ use Rattle.mt_event.specs.declared.driven.Driven.TheVariants.{Done, Abandoned, S
 use Rattle.mt_event.specs.declared.event.Event.{Event}
 use Rattle.mt_event.specs.declared.event.Event.TheVariants as event
 use Rattle.mt_event.specs.declared.refusal.Refusal.{Refusal}
+use Rattle.mt_event.specs.declared.reason.Reason.TheVariants as reason
 use Rattle.mt_event.specs.declared.refusal.Refusal.TheVariants as refusal
 use Rattle.mt_event.specs.declared.reply.Reply.TheVariants as reply
 use Rattle.mt_event.specs.declared.reply.Shown.{Shown}
@@ -44,7 +45,7 @@ feeding course = if course.back then Back else Forward
 abbrev pub next_step : Course → ℕ
 next_step course = course.first + course.done
 
--- the same with another number of steps done, or with one try fewer
+-- the course with another number of steps done, with another position, or with one try fewer
 abbrev pub with_done : Course → ℕ → Course
 with_done course done = record course { done = done }
 
@@ -92,14 +93,14 @@ abbrev pub stepped : Course → Heard
 stepped course = if nat_lt (next_step course + 1) course.behind then GoesOn Steps (with_done course (course.done + 1)) else Ends (Ok Done)
 
 abbrev pub step_refused : Course → Refusal → Heard
-step_refused course refusal.NotLevel = again Feeds course refusal.NotLevel
-step_refused course (refusal.Stale current) = again Steps (with_done course (min current most_steps)) (refusal.Stale current)
-step_refused course refusal.NoWorkflow = Ends (Err refusal.NoWorkflow)
-step_refused course refusal.NothingUnderWay = Ends (Err refusal.NothingUnderWay)
+step_refused course (refusal.Other reason.NotLevel) = again Feeds course (refusal.Other reason.NotLevel)
+step_refused course (refusal.Other (reason.Stale current)) = again Steps (with_done course (min current most_steps)) (refusal.Other (reason.Stale current))
+step_refused course (refusal.Other reason.NoWorkflow) = Ends (Err (refusal.Other reason.NoWorkflow))
+step_refused course (refusal.Other reason.NothingUnderWay) = Ends (Err (refusal.Other reason.NothingUnderWay))
 step_refused course why = fails course why
 
 abbrev pub advance_refused : Course → Refusal → Heard
-advance_refused course (refusal.Stale current) = again Feeds (with_position course current) (refusal.Stale current)
+advance_refused course (refusal.Other (reason.Stale current)) = again Feeds (with_position course current) (refusal.Other (reason.Stale current))
 advance_refused course why = fails course why
 
 -- the undo that leaves no step done closes the way
@@ -107,14 +108,14 @@ abbrev pub undone : (why : Refusal) → Course → Heard
 undone why course = if nat_lt 1 course.done then GoesOn (GivesUp why) (with_done course (course.done - 1)) else Ends (Ok (Abandoned why))
 
 abbrev pub undo_refused : (why : Refusal) → Course → Refusal → Heard
-undo_refused why course (refusal.Stale current) =
-    if nat_lt 1 course.tries then GoesOn (GivesUp why) (one_try_fewer (with_done course (min current most_steps))) else Ends (Err (refusal.Stale current))
+undo_refused why course (refusal.Other (reason.Stale current)) =
+    if nat_lt 1 course.tries then GoesOn (GivesUp why) (one_try_fewer (with_done course (min current most_steps))) else Ends (Err (refusal.Other (reason.Stale current)))
 undo_refused why course other = Ends (Err other)
 
 -- what follows from the answer; a step is answered by no other reply
 abbrev pub heard : Turn → Course → Answer → Heard
 heard Steps course (Ok reply.Done) = stepped course
-heard Steps course (Ok other) = Ends (Err refusal.NothingUnderWay)
+heard Steps course (Ok other) = Ends (Err (refusal.Other reason.NothingUnderWay))
 heard Steps course (Err why) = step_refused course why
 heard Feeds course (Ok taken) = GoesOn Steps (with_position course (next_position course.position (Ok taken)))
 heard Feeds course (Err why) = advance_refused course why
@@ -155,8 +156,8 @@ Looks workflow tries none (call ∷ calls) result =
 
 -- the refusal that ends it if no way is open after an answer to its begin, or that ends it at once
 abbrev pub none_open : Answer → Result Refusal Refusal
-none_open (Ok taken) = Ok refusal.NothingUnderWay
-none_open (Err refusal.UnderWay) = Ok refusal.UnderWay
+none_open (Ok taken) = Ok (refusal.Other reason.NothingUnderWay)
+none_open (Err (refusal.Other reason.UnderWay)) = Ok (refusal.Other reason.UnderWay)
 none_open (Err why) = Err why
 
 abbrev pub LooksOr : (workflow : List ℕ) → (tries : ℕ) → Result Refusal Refusal → List Call → Result Driven ControlFault → Type 0

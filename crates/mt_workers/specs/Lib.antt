@@ -1,3 +1,5 @@
 pub mod Advances
+pub mod Collected
 pub mod Controls
+pub mod Faults
 pub mod Queries

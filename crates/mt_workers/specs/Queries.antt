@@ -5,6 +5,7 @@ use mathlib.Core.List.{IsPrefix}
 use Rattle.mt_desk.specs.declared.history.Call.{Call}
 use Rattle.mt_event.specs.declared.event.Event.{Event}
 use Rattle.mt_event.specs.declared.event.Event.TheVariants as event
+use Rattle.mt_event.specs.declared.reason.Reason.TheVariants as reason
 use Rattle.mt_event.specs.declared.refusal.Refusal.TheVariants as refusal
 use Rattle.mt_model.specs.declared.faults.TopologyFault.{TopologyFault}
 use Rattle.mt_names.specs.declared.keys.RuleKey.{RuleKey}
@@ -48,7 +49,7 @@ abbrev pub IsTry : (known : List Publication) → Line → Call → Type 0
 IsTry known line call = (target : RuleTarget) × IsLed known line (Ok target) × (call.event ≡ event_at line target)
 
 abbrev pub IsDenied : Call → Type 0
-IsDenied call = call.answer ≡ Err refusal.Denied
+IsDenied call = call.answer ≡ Err (refusal.Other reason.Denied)
 
 -- so far each was answered F3 Denied, and there is a try left
 abbrev pub MayTryAgain : List Call → Type 0
@@ -57,14 +58,14 @@ MayTryAgain tries = AllByRecursion IsDenied tries × (length tries < most_tries)
 -- the last of some tries was answered so: with something else than F3 Denied, or no try is left
 abbrev pub IsAnswered : List Call → Answer → Type 0
 IsAnswered tries answer = (before : List Call) × (last : Call) × (tries ≡ before ++ last ∷ []) × MayTryAgain before × (last.answer ≡ answer)
-    × ((answer ≢ Err refusal.Denied) ⊎ (length tries ≡ most_tries))
+    × ((answer ≢ Err (refusal.Other reason.Denied)) ⊎ (length tries ≡ most_tries))
 
 -- what comes of a line: the answer to its last try; F2 NoTable where its name leads nowhere, with no try if that is so at first; or nothing, where
 -- the desk refuses the next call
 abbrev pub EndsIn : (known : List Publication) → Line → List Call → Option Answer → Type 0
 EndsIn known line tries (Some answer) =
     IsAnswered tries answer
-    ⊎ (MayTryAgain tries × ((why : TopologyFault) × IsLed known line (Err why)) × (answer ≡ Err refusal.NoTable))
+    ⊎ (MayTryAgain tries × ((why : TopologyFault) × IsLed known line (Err why)) × (answer ≡ Err (refusal.Other reason.NoTable)))
 EndsIn known line tries None = MayTryAgain tries
 
 -- the tries of a line, and what comes of it

@@ -2,9 +2,9 @@
 ghost use Rattle.std.specs.Prelude.{◌≡◌, ◌++◌, [], ◌∷◌, IfOk, OnErr};
 ghost use Rattle.mt_desk.specs.Histories.{call};
 
+use crate::{Gate, Place};
 use mt_desk::{Answer, Desk, DeskFault, DeskName, Pass};
 use mt_event::Event;
-use mt_messages::{Gate, Place};
 use mt_watch::Asks;
 use std::sync::Wait;
 

@@ -4,13 +4,12 @@ ghost use Rattle.mt_desk.specs.declared.history.Call.{Call};
 ghost use Rattle.mt_workers.specs.Controls.{Controls, Runs, begin_event, most_steps, none_open};
 ghost use Rattle.mt_workers.specs.declared.turn.Turn.TheVariants.{Steps};
 
-use crate::ControlFault;
 use crate::asking::ask;
 use crate::course::{Course, course_of};
 use crate::turn::{Heard, Turn, due, hear};
+use crate::{ControlFault, Gate};
 use mt_desk::{Answer, Desk, DeskName, Pass};
-use mt_event::{Driven, Event, Refusal};
-use mt_messages::Gate;
+use mt_event::{Driven, Event, Reason, Refusal};
 use mt_names::{TypeSet, WorkflowName};
 use mt_watch::Asks;
 use std::sync::Wait;
@@ -32,8 +31,8 @@ fn none_open(answer: Answer) -> Result<Refusal, Refusal>
     ensures { result ≡ none_open answer }
 {
     match answer {
-        Ok(_) => Ok(Refusal::NothingUnderWay),
-        Err(Refusal::UnderWay) => Ok(Refusal::UnderWay),
+        Ok(_) => Ok(Refusal::Other(Reason::NothingUnderWay)),
+        Err(Refusal::Other(Reason::UnderWay)) => Ok(Refusal::Other(Reason::UnderWay)),
         Err(refusal) => Err(refusal),
     }
 }
@@ -74,7 +73,7 @@ fn run<R: Wait, G: Gate, D: DeskName, W: Asks + Drop, H: Wait + Drop>(
     }
 }
 
-/// Switches the traffic of some types of a workflow as a whole, or reverses it (`back`), as `drive` of mt_drive does, but by calls of a
+/// Switches the traffic of some types of a workflow as a whole, or reverses it (`back`), as `drive` of mt_site does, but by calls of a
 /// desk where others ask at the same time. It begins the way; where one is open already (`F13 UnderWay`) it goes on with that one, and
 /// ends with `F13 UnderWay` if none is open any more. It takes the steps in turn. At `F18 NotLevel` the feeding stream reads at most 100
 /// entries, and the step is tried again; `F25 Stale` says where another one went on, and the controller goes on from there. Of both together

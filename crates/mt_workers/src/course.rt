@@ -1,7 +1,5 @@
 //! What a controller knows of the way that it goes.
 ghost use Rattle.std.specs.Prelude.{◌≡◌, ◌≤◌, IfOk, min};
-ghost use Rattle.mt_plain.specs.Plain.{behind_last, first_step};
-ghost use Rattle.mt_workflow.specs.Workflows.{way_from};
 ghost use Rattle.mt_workers.specs.Controls.{course_of, course_on, most_steps};
 
 use mt_desk::Answer;
@@ -37,27 +35,6 @@ pub(crate) fn steps_told(told: u64) -> u8
     if told < MOST_STEPS { told as u8 } else { 12 }
 }
 
-/// The number of the first step of a way.
-fn first_of(way: Way) -> u8
-    ensures { result ≡ first_step (way_from way) }
-{
-    let has_reads = way.before.replica != way.after.replica
-        || way.before.rdonly != way.after.rdonly;
-    if has_reads { 0 } else { 1 }
-}
-
-/// The number behind the last step of a way.
-fn behind_of(way: Way) -> u8
-    ensures behind { result ≡ behind_last (way_from way) }
-    ensures few { result ≤ most_steps }
-{
-    if way.before.primary != way.after.primary {
-        12
-    } else {
-        1
-    }
-}
-
 /// What Show told of the way that is open.
 fn course_on(tries: u64, shown: &Shown, way: Way) -> Course
     ensures course { result ≡ course_on tries shown.now way }
@@ -71,8 +48,8 @@ fn course_on(tries: u64, shown: &Shown, way: Way) -> Course
     };
     Course {
         back: way.back,
-        first: first_of(way),
-        behind: behind_of(way),
+        first: way.first_step(),
+        behind: way.behind_last(),
         done: steps_told(u64::from(way.done)),
         position,
         tries,

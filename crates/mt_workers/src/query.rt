@@ -4,12 +4,11 @@ ghost use mathlib.Core.List.{IsPrefix};
 ghost use Rattle.mt_desk.specs.declared.history.Call.{Call};
 ghost use Rattle.mt_workers.specs.Queries.{IsTried, Queries};
 
-use crate::Line;
 use crate::asking::ask;
+use crate::{Gate, Line, Message};
 use crossbeam_channel::Sender;
 use mt_desk::{Answer, Desk, DeskName, Pass};
-use mt_event::Refusal;
-use mt_messages::{Gate, Message};
+use mt_event::{Reason, Refusal};
 use mt_routes::{RouteFault, Router};
 use mt_watch::Asks;
 use std::sync::Wait;
@@ -19,9 +18,9 @@ const MOST_TRIES: u8 = 64;
 
 /// Whether an answer is `F3 Denied`.
 fn is_denied(answer: &Answer) -> bool
-    ensures { MatchBool result (answer.now ≡ Err Refusal.Denied) (answer.now ≢ Err Refusal.Denied) }
+    ensures { MatchBool result (answer.now ≡ Err (Refusal.Other Reason.Denied)) (answer.now ≢ Err (Refusal.Other Reason.Denied)) }
 {
-    matches!(answer, Err(Refusal::Denied))
+    matches!(answer, Err(Refusal::Other(Reason::Denied)))
 }
 
 /// Learns what the desk tells of its routes, before each try but the first. Answers whether the desk told it.
@@ -66,7 +65,9 @@ fn ask_line<R: Wait, G: Gate, D: DeskName, W: Asks + Drop, H: Wait + Drop>(
         }
         let target = match router.route(line.key(), line.type_of()) {
             Ok((target, _front)) => target,
-            Err(RouteFault::Refused(_why, _front)) => return Some(Err(Refusal::NoTable)),
+            Err(RouteFault::Refused(_why, _front)) => return Some(Err(Refusal::Other(
+                Reason::NoTable,
+            ))),
             Err(RouteFault::Closed) => return None,
         };
         let event = line.event_at(target);
@@ -78,7 +79,7 @@ fn ask_line<R: Wait, G: Gate, D: DeskName, W: Asks + Drop, H: Wait + Drop>(
             return Some(answer);
         }
     }
-    Some(Err(Refusal::Denied))
+    Some(Err(Refusal::Other(Reason::Denied)))
 }
 
 /// Tries one line after the other, and sends what comes of each. Answers how many were sent.

@@ -3,10 +3,10 @@ ghost use Rattle.std.specs.Prelude.{◌≡◌, ◌+◌, ◌++◌, List, ℕ};
 ghost use Rattle.mt_desk.specs.declared.history.Call.{Call};
 ghost use Rattle.mt_workers.specs.Advances.{IsAdvancing, next_position, one_if_taken};
 
+use crate::Gate;
 use crate::asking::ask;
 use mt_desk::{Answer, Desk, DeskName, Pass};
-use mt_event::{Event, Refusal, Reply};
-use mt_messages::Gate;
+use mt_event::{Event, Reason, Refusal, Reply};
 use mt_names::{Position, WorkflowName};
 use mt_watch::Asks;
 use mt_workflow::Slot;
@@ -18,7 +18,7 @@ pub(crate) fn next_position(at: Position, answer: &Answer) -> Position
 {
     match answer {
         Ok(Reply::Advanced(advanced)) => at.saturating_add(u64::from(advanced.events)),
-        Err(Refusal::Stale(current)) => *current,
+        Err(Refusal::Other(Reason::Stale(current))) => *current,
         _ => at,
     }
 }

@@ -5,15 +5,12 @@ ghost use Rattle.mt_workers.specs.Controls.{advance_refused, again, due, fails, 
 use crate::course::{Course, steps_told};
 use crate::stream::next_position;
 use mt_desk::Answer;
-use mt_event::{Driven, Event, Refusal, Reply};
+use mt_event::{Driven, Event, Reason, Refusal, Reply};
 use mt_names::WorkflowName;
-use mt_workflow::Slot;
+use mt_workflow::{Slot, Way};
 
 /// How many entries are read before a step is tried again.
 const MOST_AT_ONCE: u16 = 100;
-
-/// The number of the step that writes the journal.
-const JOURNAL: u16 = 6;
 
 /// What a controller on its course asks for next.
 #[derive(Drop)]
@@ -61,7 +58,7 @@ pub(crate) fn due(workflow: &WorkflowName, turn: &Turn, course: Course) -> Event
 fn fails(course: Course, refusal: Refusal) -> Heard
     ensures { result ≡ fails course refusal }
 {
-    if JOURNAL < u16::from(course.first) + u16::from(course.done) {
+    if u16::from(Way::JOURNAL) < u16::from(course.first) + u16::from(course.done) {
         Heard::Ends(Ok(Driven::Stopped(refusal, u64::from(course.done))))
     } else {
         Heard::GoesOn(Turn::GivesUp(refusal), course)
@@ -107,17 +104,23 @@ fn step_refused(course: Course, refusal: Refusal) -> Heard
     ensures { result ≡ step_refused course refusal }
 {
     match refusal {
-        Refusal::NotLevel => again(Turn::Feeds, course, Refusal::NotLevel),
-        Refusal::Stale(current) => again(
+        Refusal::Other(Reason::NotLevel) => again(
+            Turn::Feeds,
+            course,
+            Refusal::Other(Reason::NotLevel),
+        ),
+        Refusal::Other(Reason::Stale(current)) => again(
             Turn::Steps,
             Course {
                 done: steps_told(current),
                 ..course
             },
-            Refusal::Stale(current),
+            Refusal::Other(Reason::Stale(current)),
         ),
-        Refusal::NoWorkflow => Heard::Ends(Err(Refusal::NoWorkflow)),
-        Refusal::NothingUnderWay => Heard::Ends(Err(Refusal::NothingUnderWay)),
+        Refusal::Other(Reason::NoWorkflow) => Heard::Ends(Err(Refusal::Other(Reason::NoWorkflow))),
+        Refusal::Other(Reason::NothingUnderWay) => Heard::Ends(Err(Refusal::Other(
+            Reason::NothingUnderWay,
+        ))),
         refusal => fails(course, refusal),
     }
 }
@@ -127,13 +130,13 @@ fn advance_refused(course: Course, refusal: Refusal) -> Heard
     ensures { result ≡ advance_refused course refusal }
 {
     match refusal {
-        Refusal::Stale(current) => again(
+        Refusal::Other(Reason::Stale(current)) => again(
             Turn::Feeds,
             Course {
                 position: current,
                 ..course
             },
-            Refusal::Stale(current),
+            Refusal::Other(Reason::Stale(current)),
         ),
         refusal => fails(course, refusal),
     }
@@ -161,7 +164,7 @@ fn undo_refused(why: Refusal, course: Course, refusal: Refusal) -> Heard
     ensures { result ≡ undo_refused why course refusal }
 {
     match refusal {
-        Refusal::Stale(current) if course.tries > 1 => Heard::GoesOn(
+        Refusal::Other(Reason::Stale(current)) if course.tries > 1 => Heard::GoesOn(
             Turn::GivesUp(why),
             Course {
                 done: steps_told(current),
@@ -181,7 +184,7 @@ pub(crate) fn hear(turn: Turn, course: Course, answer: Answer) -> Heard
     match (turn, answer) {
         (Turn::Steps, Ok(Reply::Done)) => stepped(course),
         // (a step is answered by no other reply)
-        (Turn::Steps, Ok(_)) => Heard::Ends(Err(Refusal::NothingUnderWay)),
+        (Turn::Steps, Ok(_)) => Heard::Ends(Err(Refusal::Other(Reason::NothingUnderWay))),
         (Turn::Steps, Err(refusal)) => step_refused(course, refusal),
         (Turn::Feeds, Ok(_)) => Heard::GoesOn(Turn::Steps, Course { position, ..course }),
         (Turn::Feeds, Err(refusal)) => advance_refused(course, refusal),

@@ -1,7 +1,7 @@
 //! What a collector keeps.
 
 use mt_event::Reply;
-use mt_messages::{CollectFault, Collector, Message};
+use mt_workers::{CollectFault, Collector, Message};
 use std::test::Fail;
 
 /// Messages by worker and line, and what each is answered. The first four are those that are waited for.

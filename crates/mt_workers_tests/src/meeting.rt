@@ -1,6 +1,6 @@
 //! A gate at which four workers meet.
 
-use mt_messages::{Gate, Place};
+use mt_workers::{Gate, Place};
 use std::sync::{Mutex, Wait};
 use std::thread;
 

@@ -11,7 +11,7 @@ use mt_event::Event;
 use mt_names::{KeyspaceName, NameFault, TableName, WorkflowName};
 use mt_routes::Opened;
 use mt_site::Site;
-use mt_watch::{Asks, Callback, Change, Notice, Scope, WatchFault, Watcher, Watchers};
+use mt_watch::{Asks, Callback, Change, Notice, Scope, WatchFault, Watcher, Watchers, tell};
 use mt_workflow::Slot;
 use std::alloc::Global;
 use std::marker::Brand;
@@ -101,7 +101,7 @@ fn watcher_of(alloc: Global, scope: Scope) -> Option<Watcher> {
         alloc,
         move |change: &Change| -> Result<Notice, WatchFault>
             ensures { IfOk result (λ notice. notice ≡ notice_of own change.now) }
-        { Notice::of(alloc, &own, change).map_err(|_| WatchFault(0)) },
+        { tell(alloc, &own, change) },
     ) {
         Ok(call) => call,
         Err(_) => return None,
@@ -148,7 +148,7 @@ fn goes<D: DeskName + Send + Sync, W: Asks + Drop + Send, R: Threads + Wait + Sy
     }
 }
 
-/// The same at a desk that is opened for it.
+/// Whether a trial goes as it should at a desk that is opened for it.
 fn at_a_desk<D: DeskName + Send + Sync, W: Asks + Drop + Send, R: Threads + Wait + Sync>(
     rt: &R,
     alloc: Global,

@@ -1,8 +1,8 @@
 //! Races.
 
 use crate::meeting::Meeting;
-use mt_messages::NoGate;
 use mt_race::{RaceFault, Raced, race_watched};
+use mt_workers::NoGate;
 
 /// Whether what was written is found behind a race.
 fn agrees(raced: Result<Raced, RaceFault>) -> bool {

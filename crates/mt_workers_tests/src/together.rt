@@ -4,12 +4,11 @@ use crate::opened::{Trial, tried};
 use crate::turns::{is_at_rest, workflow};
 use crossbeam_channel::{Sender, unbounded};
 use mt_desk::{Desk, DeskName, Pass};
-use mt_event::{Driven, Refusal};
-use mt_messages::{Message, NoGate};
+use mt_event::{Driven, Reason, Refusal};
 use mt_model::Op;
 use mt_names::{RuleKey, TypeSet, Value};
 use mt_watch::Asks;
-use mt_workers::{ControlFault, Line, controller, query_worker};
+use mt_workers::{ControlFault, Line, Message, NoGate, controller, query_worker};
 use std::alloc::Global;
 use std::sync::Wait;
 use std::thread::{Threads, join};
@@ -57,20 +56,20 @@ fn switches<R: Wait, D: DeskName, W: Asks + Drop, H: Wait + Drop>(
     let (pass, end) = controller(rt, &NoGate, desk, pass, 0, &name, TypeSet::ALL, false, 256);
     match end {
         Ok(Driven::Done) => Some((pass, true)),
-        Ok(Driven::Abandoned(Refusal::StreamStopped | Refusal::Undoing))
+        Ok(Driven::Abandoned(Refusal::Other(Reason::StreamStopped | Reason::Undoing)))
         | Err(
             ControlFault::Refused(
-                Refusal::UnderWay
-                | Refusal::NothingUnderWay
-                | Refusal::NothingToSwitch
-                | Refusal::PastJournal,
+                Refusal::Other(Reason::UnderWay)
+                | Refusal::Other(Reason::NothingUnderWay)
+                | Refusal::Other(Reason::NothingToSwitch)
+                | Refusal::Other(Reason::PastJournal),
             ),
         ) => Some((pass, false)),
         _ => None,
     }
 }
 
-/// The same with a new pass of a client.
+/// Switches with a new pass of a client.
 fn switches_as<R: Wait, D: DeskName, W: Asks + Drop, H: Wait + Drop>(
     rt: &R,
     desk: &Desk<D, W, H>,

@@ -2,12 +2,11 @@
 
 use crate::opened::{Trial, tried};
 use mt_desk::{Desk, DeskName, Pass};
-use mt_event::{Driven, Event, Refusal, Reply};
-use mt_messages::NoGate;
+use mt_event::{Driven, Event, Reason, Refusal, Reply};
 use mt_model::Op;
 use mt_names::{KeyspaceName, TableName, TypeSet, Value, WorkflowName};
 use mt_watch::Asks;
-use mt_workers::{controller, stream_worker};
+use mt_workers::{NoGate, controller, stream_worker};
 use mt_workflow::Slot;
 use std::alloc::Global;
 use std::sync::Wait;
@@ -234,7 +233,10 @@ pub fn in_turn<R: Wait, D: DeskName, W: Asks + Drop, H: Wait + Drop>(
     desk: &Desk<D, W, H>,
     turns: Turns,
 ) -> bool {
-    let (done, not_level) = (Driven::Done, Driven::Abandoned(Refusal::NotLevel));
+    let (done, not_level) = (
+        Driven::Done,
+        Driven::Abandoned(Refusal::Other(Reason::NotLevel)),
+    );
     match turns {
         Turns::Alone => {
             are_taken(rt, desk) && ends(rt, desk, 2, (false, 64), done, TypeSet::ALL)

@@ -89,7 +89,7 @@ fn keep_table(
     keep_keys(kept, source, target, table, rules)
 }
 
-/// The same, for which the keys are made.
+/// Keeps the rules that stand at a table's rule keys, which are made for it.
 fn keep_keys(
     kept: &mut IndexMap<RuleKey, Option<RuleTarget>>,
     source: &KeyspaceName,

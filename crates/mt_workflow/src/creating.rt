@@ -115,7 +115,7 @@ fn table_conflict(
     conflict_of_keys(rules, source, target, table)
 }
 
-/// The same, for which the keys are made.
+/// The first of a table's rule keys, which are made for it, whose rule leads elsewhere than to the table at the source.
 fn conflict_of_keys(
     rules: &RoutingRules,
     source: &KeyspaceName,

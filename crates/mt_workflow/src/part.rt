@@ -2,8 +2,8 @@
 ghost use Rattle.std.specs.Prelude.{◌≡◌, ◌<◌, Some, option_copied, slice_get};
 ghost use Rattle.mt_model.specs.Part.{table_part_keys};
 
-use mt_model::EntryKey;
-use mt_names::{KeyspaceName, RuleKey, TableName, TabletType};
+use mt_model::{EntryKey, key_of_name};
+use mt_names::{KeyspaceName, TableName, TabletType};
 
 /// A name as the key of its rule.
 fn rule_key(
@@ -13,15 +13,11 @@ fn rule_key(
 ) -> EntryKey
     ensures { result ≡ EntryKey.Rule (record { keyspace = option_copied keyspace.entry; table = table.now; tablet_type = tablet_type }) }
 {
-    EntryKey::Rule(RuleKey {
-        keyspace: keyspace.map(KeyspaceName::copied),
-        table: table.copied(),
-        tablet_type,
-    })
+    EntryKey::Rule(key_of_name(keyspace, table, tablet_type))
 }
 
-/// The key at a place of the fifteen that a table adds to a part: `table_part_keys` of mt_model makes all of them. It takes
-/// no memory.
+/// The key at a place of the fifteen that a table adds to a part: its twelve rule keys, its denial at the source and at the target, and
+/// its presence at the target. It takes no memory.
 pub(crate) fn table_part_key(
     source: &KeyspaceName,
     target: &KeyspaceName,

@@ -1,4 +1,8 @@
-//! The way that is open on a workflow, and which of its streams is meant.
+//! The way that is open on a workflow, with its arithmetic, and which of its streams is meant.
+ghost use Rattle.std.specs.Prelude.{◌≡◌, ◌≤◌};
+ghost use Rattle.mt_plain.specs.Plain.{behind_last, changed_types, first_step, next_step, stands_done, write_journal};
+ghost use Rattle.mt_workflow.specs.Workflows.{way_from};
+
 use mt_names::TypeSet;
 
 /// Which stream of a workflow. (Vitess: the workflow of MoveTables, and its reverse workflow)
@@ -23,4 +27,51 @@ pub struct Way {
     pub done: u8,
     /// Whether an undo of it was taken, from which on no step is.
     pub undoing: bool,
+}
+
+impl Way {
+    /// The number of the step that writes the journal.
+    pub const JOURNAL: u8 = 6;
+
+    /// The types that it changes. (Vitess: the tablet types of SwitchTraffic and ReverseTraffic)
+    pub fn changed_types(self) -> TypeSet
+        ensures { result ≡ changed_types (way_from self) }
+    {
+        TypeSet {
+            primary: self.before.primary != self.after.primary,
+            replica: self.before.replica != self.after.replica,
+            rdonly: self.before.rdonly != self.after.rdonly,
+        }
+    }
+
+    /// The number of its first step: 0, the reads, or 1 if it changes neither replica nor rdonly. (Vitess: reads first, then writes)
+    pub fn first_step(self) -> u8
+        ensures value { result ≡ first_step (way_from self) }
+        ensures within { result ≤ 1 }
+    {
+        let types = self.changed_types();
+        if types.replica || types.rdonly { 0 } else { 1 }
+    }
+
+    /// The number behind its last step: 12, or 1 if it doesn't change primary.
+    pub fn behind_last(self) -> u8
+        ensures value { result ≡ behind_last (way_from self) }
+        ensures within { result ≤ 12 }
+    {
+        if self.changed_types().primary { 12 } else { 1 }
+    }
+
+    /// The number of the step that is next: that of its first, and as many more as stand done. Past its last step it names none.
+    pub fn next_step(self) -> u16
+        ensures { result ≡ next_step (way_from self) }
+    {
+        u16::from(self.first_step()) + u16::from(self.done)
+    }
+
+    /// Whether the journal has its entry: that step stands done, so that no undo is taken any more.
+    pub fn is_past_journal(self) -> bool
+        ensures { result ≡ stands_done (way_from self) write_journal }
+    {
+        self.next_step() > u16::from(Way::JOURNAL)
+    }
 }

@@ -2,8 +2,8 @@
 ghost use Rattle.std.specs.Prelude.{◌≡◌, ◌≢◌, ℕ, ◌<◌, ◌≤◌, true, false, List, if◌then◌else◌, None, Some, AllPairs, IfOk, IfErr, length, option_copied, option_map, slice_get};
 ghost use Rattle.mt_names.specs.Tables.{most_tables};
 ghost use Rattle.mt_model.specs.Topology.{rule_at};
-ghost use Rattle.mt_plain.specs.Plain.{among, each_once, in_keyspace, is_side};
-ghost use Rattle.mt_plain.specs.Serve.{is_denied_at, owned_before, serve_plain, serve_rule, step_of_entry};
+ghost use Rattle.mt_plain.specs.Plain.{among, before_way, each_once, in_keyspace, is_side};
+ghost use Rattle.mt_plain.specs.Serve.{is_denied_at, owned_before, serve_plain, serve_rule};
 ghost use Rattle.mt_plain.specs.Slots.{written_side};
 ghost use Rattle.mt_places.specs.Rules.{lent_rule};
 ghost use Rattle.mt_primary.specs.Primary.{has_table};
@@ -139,7 +139,7 @@ impl Workflow {
         self.tables.as_slice()
     }
 
-    /// The same tables as a list of its own, as a stream takes it. It takes no memory.
+    /// Its tables as a list of their own, as a stream takes it. It takes no memory.
     pub fn table_list(&self) -> ArrayVec<TableName, MAX_TABLES>
         ensures tables { result.items ≡ self.now.tables }
         ensures distinct { AllPairs ◌≢◌ self.now.tables }
@@ -266,7 +266,7 @@ impl Workflow {
         }
     }
 
-    /// The same of a key for all types.
+    /// The keyspace that the rule of a key for all types leads to, if the key is to have one that isn't the one from before Create.
     fn plain_leads_to(&self, key: &RuleKey, types: TypeSet) -> Option<&KeyspaceName>
         requires plain { key.now.tablet_type ≡ None }
         requires other { is_as_before self.now types key.now ≡ false }
@@ -317,20 +317,13 @@ impl Workflow {
         self.kept.is_empty()
     }
 
-    /// The number of the step of a way with which an entry of its part changes: 0 the reads, 1 the denial of the tables at
-    /// the old owner, 7 their release at the new owner, 9 the plain rules. It takes no memory. (Vitess: how traffic is
-    /// switched)
-    pub fn step_of(&self, key: &EntryKey) -> u8
-        ensures { result ≡ step_of_entry (live_of self.now) key.now }
+    /// The types that were switched before the way that is open, or that are switched where none is.
+    pub fn types_before(&self) -> TypeSet
+        ensures { result ≡ before_way (live_of self.now) }
     {
-        match key {
-            EntryKey::Rule(key) => match key.tablet_type {
-                None => 9,
-                Some(TabletType::Primary) => 9,
-                Some(_) => 0,
-            },
-            EntryKey::Denied(keyspace, _) => { if self.owned_before(keyspace) { 1 } else { 7 } }
-            EntryKey::Present(_, _) => 0,
+        match &self.way {
+            Some(way) => way.before,
+            None => self.switched,
         }
     }
 
@@ -338,16 +331,7 @@ impl Workflow {
     pub fn owned_before(&self, keyspace: &KeyspaceName) -> bool
         ensures { result ≡ owned_before (live_of self.now) keyspace.now }
     {
-        let types = match &self.way {
-            Some(way) => way.before,
-            None => self.switched,
-        };
-        let owner = if types.primary {
-            &self.target
-        } else {
-            &self.source
-        };
-        owner == keyspace
+        self.side(self.types_before().primary) == keyspace
     }
 
     /// Which of its streams writes at a side: the back stream at the source, the forward stream at the target.

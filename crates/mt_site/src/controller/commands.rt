@@ -1,35 +1,36 @@
-//! Commands, advances and Show: events whose names are lent, and whose answers are smaller than a reply.
-ghost use Rattle.std.specs.Prelude.{◌≡◌, List, [], ◌∷◌, OnErr};
-ghost use Rattle.mt_event.specs.Events.{done_from};
+//! Commands: events whose names are lent, and that are answered by nothing but that they are done.
+ghost use Rattle.std.specs.Prelude.{◌≡◌, List, [], ◌∷◌, OnErr, option_copied};
 ghost use Rattle.mt_event.specs.Reasons.{done_by};
-ghost use Rattle.mt_model.specs.declared.entries.Scope.{Scope};
 ghost use Rattle.mt_plain.specs.Events as plain;
+ghost use Rattle.mt_site_state.specs.ByHand.{AddsKeyspace, AddsTable, EditsRule};
+ghost use Rattle.mt_site_state.specs.Switching.{BeginsReverse, BeginsSwitch, Completes, StepsWorkflow, UndoesWorkflow};
 ghost use Rattle.mt_site_state.specs.Ways.{SiteSteps};
-ghost use Rattle.mt_site_state.specs.Workflows.{AdvancesWorkflow, ShowsWorkflow};
-ghost use Rattle.mt_workflow.specs.Workflows.{stream_name};
-ghost use Rattle.mt_site.specs.Advance.{advanced_from};
+ghost use Rattle.mt_site_state.specs.Workflows.{Cancels};
 ghost use Rattle.mt_site.specs.Applies.{Applies};
 ghost use Rattle.mt_site.specs.Commands.{event_of_command};
 ghost use Rattle.mt_site.specs.GivenUp.{CanBeGivenUp};
 ghost use Rattle.mt_site.specs.Headline.{KeepsTheHeadline};
-ghost use Rattle.mt_site.specs.Show.{shown_answer};
+ghost use Rattle.mt_site.specs.Stood.{IsSiteWith};
 
+use crate::applied::an_applied_event_steps;
+use crate::by_hand;
 use crate::controller::Core;
 use crate::given_up::a_move_can_be_given_up;
-use arrayvec::ArrayVec;
-use mt_event::{Reason, Refusal, ShownOf};
+use crate::primaries::each_is_a_primary;
+use mt_event::Reason;
 use mt_laws::every_run_keeps_the_headline;
-use mt_names::{
-    KeyspaceName, MAX_TABLES, Position, RuleKey, RuleTarget, TableName, TypeSet, WorkflowName,
+use mt_names::{KeyspaceName, RuleKey, RuleTarget, TableName, TypeSet, WorkflowName};
+use mt_site_events::{
+    each_keyspace_of_a_core_has_a_primary, primaries_of_a_core_have_the_tables_of_its_topology,
+    workflows_of_a_core_stand_in_place,
 };
 use mt_site_ways::{
-    a_begin_steps, a_complete_steps, a_create_steps_and_leaves_the_ways, a_step_steps,
-    an_undo_steps, events_by_hand_step_and_leave_the_ways,
+    a_begin_steps, a_complete_steps, a_site_stays_one, a_step_steps, an_undo_steps,
+    each_open_way_has_a_record, events_by_hand_step_and_leave_the_ways,
     events_on_workflows_step_and_leave_the_ways,
 };
-use mt_stream::Advanced;
+use mt_site_workflows::{begin_reverse, begin_switch, cancel, complete, step, undo};
 use mt_watch::Asks;
-use mt_workflow::Slot;
 
 /// An event that is answered by nothing but that it is done, and refused without a name, with its names lent: see `Event`, which has
 /// names of its own and is as large as sixteen of them. (Vitess: the commands of MoveTables, in atomic steps)
@@ -64,29 +65,10 @@ impl Core {
         ensures unchanged { OnErr result (self.new ≡ self.old) }
         ensures given_up { CanBeGivenUp self.old (event_of_command command.entry) → done_by result ≡ plain.done }
         ensures headline { KeepsTheHeadline (W.scopes watchers.now) self.old (event_of_command command.entry ∷ []) (done_by result ∷ []) self.new }
+        ensures stood { IsSiteWith (W.scopes watchers.now) self.old → IsSiteWith (W.scopes watchers.now) self.new }
     {
-        a_move_can_be_given_up(watchers);
-        every_run_keeps_the_headline();
-        self.do_command(watchers, command)
-    }
-
-    /// The same, command by command.
-    pub(crate) fn do_command<W: Asks>(
-        &mut self,
-        watchers: &W,
-        command: Command<'_>,
-    ) -> Result<(), Reason>
-        ensures applies { Applies (W.scopes watchers.now) (W.may_answer watchers.now) self.old (event_of_command command.entry) (done_by result) self.new }
-        ensures steps { SiteSteps (W.scopes watchers.now) self.old (event_of_command command.entry) (done_by result) self.new }
-        ensures unchanged { OnErr result (self.new ≡ self.old) }
-    {
-        events_by_hand_step_and_leave_the_ways();
-        events_on_workflows_step_and_leave_the_ways();
-        a_begin_steps();
-        a_step_steps(watchers);
-        an_undo_steps(watchers);
-        a_complete_steps();
-        match command {
+        each_is_a_primary(self.alloc, &self.primaries);
+        let told = match command {
             Command::AddKeyspace(keyspace) => self.add_keyspace(keyspace),
             Command::AddTable(keyspace, table) => self.add_table(keyspace, table),
             Command::EditRule(key, target) => self.edit_rule(key, target),
@@ -96,59 +78,174 @@ impl Core {
             Command::Undo(workflow, at) => self.undo(watchers, workflow, at),
             Command::Cancel(workflow) => self.cancel(workflow),
             Command::Complete(workflow) => self.complete(workflow),
-        }
+        };
+        an_applied_event_steps(watchers);
+        a_move_can_be_given_up(watchers);
+        every_run_keeps_the_headline();
+        told
     }
 
-    /// Creates a workflow that moves tables from a source to a target: what `apply` does with the event Create, without an event and a reply
-    /// by value. It alone is refused with a name, by `F9 RuleConflict` and `F10 TargetHasTable`. A refusal leaves the core as it was.
-    /// (Vitess: Create of MoveTables)
-    pub fn create<W: Asks>(
-        &mut self,
-        watchers: &W,
-        workflow: &WorkflowName,
-        source: &KeyspaceName,
-        target: &KeyspaceName,
-        tables: &ArrayVec<TableName, MAX_TABLES>,
-    ) -> Result<(), Refusal>
-        ensures applies { Applies (W.scopes watchers.now) (W.may_answer watchers.now) self.old (plain.create workflow.now source.now target.now tables.now.items) (done_from result) self.new }
-        ensures steps { SiteSteps (W.scopes watchers.now) self.old (plain.create workflow.now source.now target.now tables.now.items) (done_from result) self.new }
+    /// Adds a keyspace without tables: `F30 Exists`, `F27 Full`, `F0 Memory`.
+    #[inline(never)]
+    fn add_keyspace(&mut self, name: &KeyspaceName) -> Result<(), Reason>
+        ensures does { AddsKeyspace self.old.core name.now (done_by result) self.new.core }
+        ensures ways { self.new.ways ≡ self.old.ways }
         ensures unchanged { OnErr result (self.new ≡ self.old) }
-        ensures headline { KeepsTheHeadline (W.scopes watchers.now) self.old (plain.create workflow.now source.now target.now tables.now.items ∷ []) (done_from result ∷ []) self.new }
     {
-        every_run_keeps_the_headline();
-        a_create_steps_and_leaves_the_ways(watchers);
-        self.do_create(watchers, workflow, source, target, tables.as_slice())
+        each_keyspace_of_a_core_has_a_primary();
+        primaries_of_a_core_have_the_tables_of_its_topology();
+        a_site_stays_one();
+        events_by_hand_step_and_leave_the_ways();
+        by_hand::add_keyspace(self.alloc, &mut self.topology, &mut self.primaries, name)
     }
 
-    /// Advances a stream of a workflow: what `apply` does with the event Advance, without an event and a reply by value. It asks nobody.
-    /// `F7 NoWorkflow`, `F26 Stopped`, `F25 Stale`, `F27 Full`, `F0 Memory`; each leaves the core as it was. (Vitess: VReplication, the
-    /// copy phase and the catchup)
-    pub fn advance(
-        &mut self,
-        workflow: &WorkflowName,
-        stream: Slot,
-        at: Position,
-        max: u16,
-    ) -> Result<Advanced, Reason>
-        ensures does { AdvancesWorkflow self.old.core workflow.now (stream_name stream) at max (advanced_from result) self.new.core }
-        ensures steps { (scopes : List Scope) → SiteSteps scopes self.old (plain.advance workflow.now (stream_name stream) at max) (advanced_from result) self.new }
+    /// Adds a table without rows: `F1 NoKeyspace`, `F30 Exists`, `F27 Full`, `F0 Memory`.
+    #[inline(never)]
+    fn add_table(&mut self, keyspace: &KeyspaceName, table: &TableName) -> Result<(), Reason>
+        ensures does { AddsTable self.old.core keyspace.now table.now (done_by result) self.new.core }
+        ensures ways { self.new.ways ≡ self.old.ways }
         ensures unchanged { OnErr result (self.new ≡ self.old) }
-        ensures headline { (scopes : List Scope) → KeepsTheHeadline scopes self.old (plain.advance workflow.now (stream_name stream) at max ∷ []) (advanced_from result ∷ []) self.new }
     {
-        events_on_workflows_step_and_leave_the_ways();
-        every_run_keeps_the_headline();
-        self.do_advance(workflow, stream, at, max)
+        each_keyspace_of_a_core_has_a_primary();
+        primaries_of_a_core_have_the_tables_of_its_topology();
+        a_site_stays_one();
+        events_by_hand_step_and_leave_the_ways();
+        by_hand::add_table(&mut self.topology, &mut self.primaries, keyspace, table)
     }
 
-    /// Tells of a workflow: what `apply` does with the event Show, without an event and a reply by value. `F7 NoWorkflow`. It takes no
-    /// memory, and asks nobody. (Vitess: Show of MoveTables)
-    pub fn shown(&self, name: &WorkflowName) -> Result<ShownOf<'_>, Reason>
-        ensures does { ShowsWorkflow self.now.core name.now (shown_answer result) self.now.core }
-        ensures steps { (scopes : List Scope) → SiteSteps scopes self.now (plain.show name.now) (shown_answer result) self.now }
-        ensures headline { (scopes : List Scope) → KeepsTheHeadline scopes self.now (plain.show name.now ∷ []) (shown_answer result ∷ []) self.now }
+    /// Sets the rule of a key, or takes it away: `F22 RuleOwned`, `F27 Full`, `F0 Memory`.
+    #[inline(never)]
+    fn edit_rule(&mut self, key: &RuleKey, target: Option<&RuleTarget>) -> Result<(), Reason>
+        ensures does { EditsRule self.old.core key.now (option_copied target.entry) (done_by result) self.new.core }
+        ensures ways { self.new.ways ≡ self.old.ways }
+        ensures unchanged { OnErr result (self.new ≡ self.old) }
     {
+        a_site_stays_one();
+        events_by_hand_step_and_leave_the_ways();
+        by_hand::edit_rule(
+            &mut self.topology,
+            &self.workflows,
+            key,
+            target.map(RuleTarget::copied),
+        )
+    }
+    /// Cancels a workflow: `F7 NoWorkflow`, `F13 UnderWay`, `F20 TrafficSwitched`. It takes no memory, and asks nobody.
+    fn cancel(&mut self, name: &WorkflowName) -> Result<(), Reason>
+        ensures does { Cancels self.old.core name.now (done_by result) self.new.core }
+        ensures ways { self.new.ways ≡ self.old.ways }
+        ensures unchanged { OnErr result (self.new ≡ self.old) }
+    {
+        workflows_of_a_core_stand_in_place();
+        a_site_stays_one();
         events_on_workflows_step_and_leave_the_ways();
-        every_run_keeps_the_headline();
-        self.do_show(name)
+        each_is_a_primary(self.alloc, &self.primaries);
+        cancel(
+            &mut self.topology,
+            &mut self.primaries,
+            &mut self.workflows,
+            name,
+        )
+    }
+    /// Begins a way forward on a workflow: `F7 NoWorkflow`, `F13 UnderWay`, `F15 NothingToSwitch`, `F17 Copying`, `F27 Full`,
+    /// `F0 Memory`.
+    fn begin_switch(&mut self, name: &WorkflowName, types: TypeSet) -> Result<(), Reason>
+        ensures does { BeginsSwitch self.old name.now types (done_by result) self.new }
+        ensures unchanged { OnErr result (self.new ≡ self.old) }
+    {
+        a_site_stays_one();
+        workflows_of_a_core_stand_in_place();
+        each_open_way_has_a_record();
+        a_begin_steps();
+        begin_switch(
+            self.alloc,
+            &mut self.workflows,
+            &mut self.opened,
+            &mut self.begun,
+            name,
+            types,
+        )
+    }
+
+    /// Begins a way back on a workflow: `F7 NoWorkflow`, `F13 UnderWay`, `F16 NothingToReverse`, `F27 Full`, `F0 Memory`.
+    fn begin_reverse(&mut self, name: &WorkflowName, types: TypeSet) -> Result<(), Reason>
+        ensures does { BeginsReverse self.old name.now types (done_by result) self.new }
+        ensures unchanged { OnErr result (self.new ≡ self.old) }
+    {
+        a_site_stays_one();
+        workflows_of_a_core_stand_in_place();
+        each_open_way_has_a_record();
+        a_begin_steps();
+        begin_reverse(
+            self.alloc,
+            &mut self.workflows,
+            &mut self.opened,
+            &mut self.begun,
+            name,
+            types,
+        )
+    }
+
+    /// Does the next step of the way that is open on a workflow: `F7 NoWorkflow`, `F14 NothingUnderWay`, `F28 Undoing`,
+    /// `F25 Stale`, and what the step itself is refused by.
+    fn step<W: Asks>(&mut self, watchers: &W, name: &WorkflowName, at: u64) -> Result<(), Reason>
+        ensures does { StepsWorkflow self.old (W.scopes watchers.now) (W.may_answer watchers.now) name.now at (done_by result) self.new }
+        ensures unchanged { OnErr result (self.new ≡ self.old) }
+    {
+        a_site_stays_one();
+        workflows_of_a_core_stand_in_place();
+        each_open_way_has_a_record();
+        a_step_steps(watchers);
+        step(
+            self.alloc,
+            &mut self.topology,
+            &mut self.primaries,
+            &mut self.workflows,
+            &mut self.opened,
+            &mut self.journal,
+            watchers,
+            name,
+            at,
+        )
+    }
+
+    /// Undoes the last step of the way that is open on a workflow: `F7 NoWorkflow`, `F14 NothingUnderWay`, `F19 PastJournal`,
+    /// `F25 Stale`. It takes no memory, and asks nobody.
+    fn undo<W: Asks>(&mut self, watchers: &W, name: &WorkflowName, at: u64) -> Result<(), Reason>
+        ensures does { UndoesWorkflow self.old name.now at (done_by result) self.new }
+        ensures unchanged { OnErr result (self.new ≡ self.old) }
+    {
+        a_site_stays_one();
+        workflows_of_a_core_stand_in_place();
+        each_open_way_has_a_record();
+        an_undo_steps(watchers);
+        undo(
+            self.alloc,
+            &mut self.topology,
+            &mut self.primaries,
+            &mut self.workflows,
+            &mut self.opened,
+            &mut self.journal,
+            watchers,
+            name,
+            at,
+        )
+    }
+
+    /// Completes a workflow: `F7 NoWorkflow`, `F13 UnderWay`, `F21 NotAllSwitched`. It takes no memory, and asks nobody.
+    fn complete(&mut self, name: &WorkflowName) -> Result<(), Reason>
+        ensures does { Completes self.old name.now (done_by result) self.new }
+        ensures unchanged { OnErr result (self.new ≡ self.old) }
+    {
+        a_site_stays_one();
+        workflows_of_a_core_stand_in_place();
+        primaries_of_a_core_have_the_tables_of_its_topology();
+        a_complete_steps();
+        each_is_a_primary(self.alloc, &self.primaries);
+        complete(
+            &mut self.topology,
+            &mut self.primaries,
+            &mut self.workflows,
+            name,
+        )
     }
 }

@@ -1,4 +1,4 @@
-//! Rows of a table that a name was found to lead to: an event in one call, without a look-up.
+//! Rows of a table at its place: events whose names are lent, and whose answers are smaller than a reply.
 ghost use Rattle.std.specs.Prelude.{◌≡◌, List, [], ◌∷◌, OnErr};
 ghost use Rattle.mt_event.specs.Reasons.{done_by};
 ghost use Rattle.mt_model.specs.declared.entries.Scope.{Scope};
@@ -7,14 +7,15 @@ ghost use Rattle.mt_site_state.specs.ByHand.{ReadsRow, WritesRow};
 ghost use Rattle.mt_site_state.specs.Ways.{SiteSteps};
 ghost use Rattle.mt_site.specs.ByHand.{read_from};
 ghost use Rattle.mt_site.specs.Headline.{KeepsTheHeadline};
+ghost use Rattle.mt_site.specs.Stood.{IsSiteWith};
 
 use crate::controller::Core;
 use crate::rows::{self, Hint, NOWHERE};
 use mt_event::Reason;
 use mt_laws::every_run_keeps_the_headline;
 use mt_model::Op;
-use mt_names::{RuleTarget, TabletType, Value};
-use mt_site_ways::events_by_hand_step_and_leave_the_ways;
+use mt_names::{KeyspaceName, RuleTarget, TableName, TabletType, Value};
+use mt_site_ways::{a_site_stays_one, events_by_hand_step_and_leave_the_ways};
 
 /// A table of a keyspace, with a hint of where it stands.
 #[derive(Drop)]
@@ -26,7 +27,7 @@ pub struct Place {
 }
 
 impl Core {
-    /// A table, with a hint of where it stands now, by which `write_placed` and `read_placed` find it sooner. Nothing is promised
+    /// A table, with a hint of where it stands now, by which `write_row` and `read_row` find it sooner. Nothing is promised
     /// of the hint: the table may be dropped, or not be there. It takes no memory.
     pub fn place_of(&self, target: RuleTarget) -> Place
         ensures { result.target ≡ target }
@@ -41,11 +42,22 @@ impl Core {
         Place { target, hint }
     }
 
+    /// A table of a keyspace, by its names: see `place_of`.
+    pub(crate) fn place_at(&self, keyspace: &KeyspaceName, table: &TableName) -> Place
+        ensures keyspace { result.target.keyspace ≡ keyspace.now }
+        ensures table { result.target.table ≡ table.now }
+    {
+        self.place_of(RuleTarget {
+            keyspace: keyspace.copied(),
+            table: table.copied(),
+        })
+    }
+
     /// Writes a row of the table of a place. It is the event Write, as `apply` applies it, without the event and without a copy of
     /// a name: `F1 NoKeyspace`, `F2 NoTable`, `F3 Denied`, `F4 RowExists` or `F5 NoRow`, `F29 TooLong`, `F27 Full`, `F0 Memory`.
     /// Each leaves the core as it was, and the topology stays whatever is answered.
     #[inline(always)]
-    pub fn write_placed(&mut self, place: &Place, op: Op) -> Result<(), Reason>
+    pub fn write_row(&mut self, place: &Place, op: Op) -> Result<(), Reason>
         ensures does { WritesRow self.old.core place.now.target.keyspace place.now.target.table op (done_by result) self.new.core }
         ensures topology { self.new.core.topology ≡ self.old.core.topology }
         ensures ways { self.new.ways ≡ self.old.ways }
@@ -54,17 +66,25 @@ impl Core {
         ensures unchanged { OnErr result (self.new ≡ self.old) }
         ensures headline { (scopes : List Scope)
             → KeepsTheHeadline scopes self.old (plain.write place.now.target.keyspace place.now.target.table op ∷ []) (done_by result ∷ []) self.new }
+        ensures stood { (scopes : List Scope) → IsSiteWith scopes self.old → IsSiteWith scopes self.new }
     {
+        a_site_stays_one();
         events_by_hand_step_and_leave_the_ways();
         every_run_keeps_the_headline();
-        self.write_at(place.hint, &place.target.keyspace, &place.target.table, op)
+        rows::write_row(
+            &mut self.primaries,
+            place.hint,
+            &place.target.keyspace,
+            &place.target.table,
+            op,
+        )
     }
 
     /// Reads a row, or none, of the table of a place, as a tablet of this type has it. It is the event Read, as `apply` applies it,
     /// without the event and without a copy of a name: `F1 NoKeyspace`, `F2 NoTable`, and of type primary `F3 Denied`. It takes no
     /// memory.
     #[inline(always)]
-    pub fn read_placed(
+    pub fn read_row(
         &self,
         place: &Place,
         key: u64,

@@ -181,7 +181,7 @@ impl Topology {
         }
     }
 
-    /// The same, name by name.
+    /// Makes the places of a table's rule keys name by name, each where it is lacking, and notes those that it made. It stops at `T0 Memory`.
     fn make_names<'a>(
         &mut self,
         source: &'a KeyspaceName,
@@ -199,7 +199,7 @@ impl Topology {
         self.make_name(Some(target), table, made)
     }
 
-    /// The same, where no key of the table has a place: none is looked for.
+    /// Makes the places of a table's rule keys, none of which has one, and notes them: none is looked for. It stops at `T0 Memory`.
     fn make_new_names<'a>(
         &mut self,
         source: &'a KeyspaceName,
@@ -219,7 +219,7 @@ impl Topology {
         self.make_new_name(Some(target), table, made)
     }
 
-    /// The same of a name's four rule keys, none of which has a place: the name is looked up once, and noted once.
+    /// Makes the places of a name's four rule keys, none of which has one: the name is looked up once, and noted once. `T0 Memory`.
     #[inline(always)]
     fn make_new_name<'a>(
         &mut self,
@@ -256,7 +256,7 @@ impl Topology {
         Ok(())
     }
 
-    /// The same of a name's four rule keys, one by one.
+    /// Makes the places of a name's four rule keys one by one, each where it is lacking, and notes those that it made. It stops at `T0 Memory`.
     fn make_name<'a>(
         &mut self,
         keyspace: Option<&'a KeyspaceName>,
@@ -274,7 +274,7 @@ impl Topology {
         self.make_noted_rule(keyspace, table, Some(TabletType::Rdonly), made)
     }
 
-    /// Makes the place of one of them where it lacks it, for which there is room, and notes it. `T0 Memory`.
+    /// Makes the place of one of a name's rule keys where it is lacking, for which there is room, and notes it. `T0 Memory`.
     fn make_noted_rule<'a>(
         &mut self,
         keyspace: Option<&'a KeyspaceName>,
@@ -308,7 +308,7 @@ impl Topology {
         add_rule(&mut self.rules, key)
     }
 
-    /// Makes the place of a denial that lacks it, for which there is room, and notes it. `T0 Memory`.
+    /// Makes the place of a denial where it is lacking, for which there is room, and notes it. `T0 Memory`.
     #[inline(always)]
     fn make_denial<'a>(
         &mut self,
@@ -334,7 +334,7 @@ impl Topology {
         }
     }
 
-    /// The same of a table's presence.
+    /// Makes the place of a table's presence where it is lacking, for which there is room, and notes it. `T0 Memory`.
     fn make_presence<'a>(
         &mut self,
         keyspace: &'a KeyspaceName,

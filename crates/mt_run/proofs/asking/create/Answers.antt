@@ -1,11 +1,61 @@
--- The tables are those that the text lists.
-use Rattle.std.proofs.Common.{subst}
+-- The names are read, or the first that isn't is in fault.
+use Rattle.std.proofs.Common.{◌≡◌, refl, subst}
+use Rattle.std.proofs.lemmas.Result.{err_from_is_err_and}
+use Rattle.mt_event.specs.Events.{done_from}
 use Rattle.mt_plain.specs.Events as plain
 use Rattle.mt_plain.specs.Script.{event}
-use Rattle.mt_run.specs.Runs.{IsRequestOutput}
+use Rattle.mt_site_state.specs.Ways.{SiteSteps}
+use Rattle.mt_run.proofs.AskLemmas.{create_read, create_source_refused, create_tables_refused, create_target_refused, create_workflow_refused, tables_read, tables_refused}
+use Rattle.mt_run.proofs.RunLemmas.{answered}
 use Rattle.mt_run.proofs.asking.create.Goals as goal
 
-pub returns : goal.returns
-returns g c =
-    subst (λ tables. IsRequestOutput (g.A.Asks.scopes c.args.watchers.now) c.args.core.now (event (plain.create c.args.workflow c.args.source c.args.target tables)) c.create_of.new.text.items c.create_of.result c.create_of.new.core)
-    c.tables.ensures c.create_of.ensures
+pub returns-in_err-workflow : goal.returns-in_err-workflow
+returns-in_err-workflow g c =
+    let words = c.args.words in
+    let e = err_from_is_err_and c.from_residual.result c.from_residual.ensures.1 in
+    let same : e.0 ≡ c.in_err-workflow.field-0.0 = search (e.2) in
+    rw (e.1, same) (create_workflow_refused words.workflow.now words.source.now words.target.now words.tables.now _ c.in_err-workflow.ensures.value, refl, refl)
+
+pub returns-in_err-source : goal.returns-in_err-source
+returns-in_err-source g c =
+    let words = c.args.words in
+    let e = err_from_is_err_and c.from_residual-in_err-source.result c.from_residual-in_err-source.ensures.1 in
+    let same : e.0 ≡ c.in_err-source.field-0.0 = search (e.2) in
+    rw (e.1, same) (
+      create_source_refused words.workflow.now words.source.now words.target.now words.tables.now c.in_ok-workflow.workflow c.in_ok-workflow.ensures.value _ c.in_err-source.ensures.value,
+      refl,
+      refl,
+    )
+
+pub returns-in_err-target : goal.returns-in_err-target
+returns-in_err-target g c =
+    let words = c.args.words in
+    let e = err_from_is_err_and c.from_residual-in_err-target.result c.from_residual-in_err-target.ensures.1 in
+    let same : e.0 ≡ c.in_err-target.field-0.0 = search (e.2) in
+    rw (e.1, same) (
+      create_target_refused words.workflow.now words.source.now words.target.now words.tables.now c.in_ok-workflow.workflow c.in_ok-workflow.ensures.value c.in_ok-source.source c.in_ok-source.ensures.value _
+          c.in_err-target.ensures.value,
+      refl,
+      refl,
+    )
+
+pub returns-in-Ok : goal.returns-in-Ok
+returns-in-Ok g c =
+    let words = c.args.words in
+    let scopes = g.A.Asks.scopes c.args.watchers.now in
+    let made = plain.create c.in_ok-workflow.workflow c.in_ok-source.source c.in_ok-target.target c.in-Ok.tables.items in (
+      event made,
+      create_read words.workflow.now words.source.now words.target.now words.tables.now c.in_ok-workflow.workflow c.in_ok-workflow.ensures.value c.in_ok-source.source c.in_ok-source.ensures.value c.in_ok-target.target
+          c.in_ok-target.ensures.value c.in-Ok.tables.items (tables_read c.table_list.result words.tables.now c.table_list.ensures.value c.in-Ok.tables c.in-Ok.is),
+      answered scopes c.args.core.now c.create.new.self made (done_from c.create.result) c.args.waiting.now.items c.put_created.new.text.items c.put_created.ensures
+          (subst (λ s. SiteSteps scopes s made (done_from c.create.result) c.create.new.self) c.core_mut-core.ensures.value c.create.ensures.steps),
+    )
+
+pub returns-in-Err : goal.returns-in-Err
+returns-in-Err g c =
+    let words = c.args.words in (
+      create_tables_refused words.workflow.now words.source.now words.target.now words.tables.now c.in_ok-workflow.workflow c.in_ok-workflow.ensures.value c.in_ok-source.source c.in_ok-source.ensures.value
+          c.in_ok-target.target c.in_ok-target.ensures.value c.in-Err.fault (tables_refused c.table_list.result words.tables.now c.table_list.ensures.value c.in-Err.fault c.in-Err.is),
+      refl,
+      refl,
+    )

@@ -1,22 +1,25 @@
 -- The answer is that of the core where the name leads.
-use Rattle.std.proofs.Common.{ℕ, List, Some, refl, subst}
-use Rattle.mt_model.specs.Topology.{resolution}
-use Rattle.mt_plain.specs.Events as plain
-use Rattle.mt_plain.specs.Output.{asked_there}
-use Rattle.mt_plain.specs.Script.{read_through}
+use Rattle.std.proofs.Common.{Some, refl, subst}
+use Rattle.mt_names.specs.declared.types.TabletType.TheVariants.{Primary}
+use Rattle.mt_plain.specs.Output.{told_request}
+use Rattle.mt_plain.specs.Script.{get, request_of}
 use Rattle.mt_site.specs.ByHand.{read_from}
-use Rattle.mt_run.specs.Runs.{IsRowOutput, Tells, through_text}
-use Rattle.mt_run.proofs.RunLemmas.{through_told}
+use Rattle.mt_cache.specs.Names.{plain_key}
+use Rattle.mt_run.specs.Runs.{IsRowTold, Tells, through_text}
+use Rattle.mt_run.proofs.RowLemmas.{read_told, table_key}
 use Rattle.mt_run.proofs.rows.read.Goals as goal
 
-pub returns : goal.returns
-returns g c =
-    let ask : (keyspace table : List ℕ) → plain.Event = λ keyspace table. plain.read keyspace table c.args.key c.args.type_of in
-    let core = c.args.core.now in
-    let text = through_text read_from c.read_through-told.result in
-    let output : IsRowOutput core (read_through c.args.name.now c.args.key c.args.type_of) text core
-    = λ scopes p stands.
-    subst (λ r. Tells scopes p (asked_there r ask) (Some text) core) (c.read_through-told.ensures.served p scopes stands)
-    (through_told _ scopes p core core (resolution core.core.topology c.args.name.now c.args.type_of) ask read_from c.read_through-told.result text
-    refl (c.read_through-told.ensures.steps scopes) (λ stays. stands) stands) in
-    (text, output, c.tell_read.ensures)
+pub returns-in-Some : goal.returns-in-Some
+returns-in-Some c = λ scopes p stands.
+    let bytes = c.as_bytes.result.now in
+    let new = c.read_named.new.self in
+    let text = through_text read_from c.in-Some.told in (
+      text,
+      subst (λ name. Tells scopes p (told_request p (request_of (get name c.args.key))) (Some text) new) c.as_bytes.ensures.value
+          (read_told scopes p c.args.core.now new stands bytes c.args.key (plain_key bytes) Primary c.in-Some.told c.read_named.ensures.same (table_key bytes c.in-Some.ensures.name) refl (c.read_named.ensures.served p scopes stands) (c.in-Some.ensures.told.steps scopes)),
+      c.tell_read.ensures,
+    )
+
+pub returns-in-None : goal.returns-in-None
+returns-in-None c =
+    subst (λ core. IsRowTold core (get c.args.name.now c.args.key) c.args.waiting.now.items c.read_by_key.new.waiting.items c.read_named.new.self) c.read_named.ensures.same c.read_by_key.ensures

@@ -1,19 +1,27 @@
 -- The answer is that of the core where the name leads.
-use Rattle.std.proofs.Common.{ℕ, List, Some, subst, sym}
+use Rattle.std.proofs.Common.{Some, subst}
 use Rattle.mt_event.specs.Reasons.{done_by}
-use Rattle.mt_model.specs.Topology.{resolution}
-use Rattle.mt_names.specs.declared.types.TabletType.TheVariants.{Primary}
-use Rattle.mt_plain.specs.Events as plain
-use Rattle.mt_plain.specs.Output.{asked_there}
-use Rattle.mt_site_state.specs.Ways.{SiteStands}
-use Rattle.mt_run.specs.Runs.{Tells}
-use Rattle.mt_run.proofs.RunLemmas.{through_told}
+use Rattle.mt_plain.specs.Output.{told_request}
+use Rattle.mt_plain.specs.Script.{change, request_of}
+use Rattle.mt_script.specs.Lines.{op_from}
+use Rattle.mt_cache.specs.Names.{plain_key}
+use Rattle.mt_run.specs.Runs.{IsRowTold, Tells, through_text}
+use Rattle.mt_run.proofs.RowLemmas.{table_key, write_told}
 use Rattle.mt_run.proofs.rows.write.Goals as goal
 
-pub returns : goal.returns
-returns c = λ scopes p stands.
-    let ask : (keyspace table : List ℕ) → plain.Event = λ keyspace table. plain.write keyspace table c.args.op in
-    let new = c.write_through-told.new.self in
-    subst (λ r. Tells scopes p (asked_there r ask) (Some c.tell_written.new.text.items) new) (c.write_through-told.ensures.served p scopes stands)
-    (through_told _ scopes p c.args.core.now new (resolution c.args.core.now.core.topology c.args.name.now Primary) ask done_by c.write_through-told.result c.tell_written.new.text.items
-    (rw c.clear.ensures at c.tell_written.ensures) (c.write_through-told.ensures.told.steps scopes) (λ same. subst (SiteStands p scopes) (sym same) stands) stands)
+pub returns-in-Some : goal.returns-in-Some
+returns-in-Some c = λ scopes p stands.
+    let bytes = c.as_bytes.result.now in
+    let new = c.write_named.new.self in
+    let text = through_text done_by c.in-Some.told in (
+      text,
+      subst (λ name. Tells scopes p (told_request p (request_of (change name (op_from c.args.text.now)))) (Some text) new) c.as_bytes.ensures.value
+          (subst (λ op. Tells scopes p (told_request p (request_of (change bytes op))) (Some text) new) c.op.ensures
+          (write_told scopes p c.args.core.now new stands bytes c.op.result (plain_key bytes) c.in-Some.told (table_key bytes c.in-Some.ensures.name) (c.write_named.ensures.served p scopes stands) c.in-Some.ensures.told)),
+      c.tell_written.ensures,
+    )
+
+pub returns-in-None : goal.returns-in-None
+returns-in-None c =
+    subst (λ core. IsRowTold core (change c.args.name.now (op_from c.args.text.now)) c.args.waiting.now.items c.write_by_key.new.waiting.items c.write_by_key.new.core) c.in-None.ensures.none
+    (subst (λ op. IsRowTold c.write_named.new.self (change c.args.name.now op) c.args.waiting.now.items c.write_by_key.new.waiting.items c.write_by_key.new.core) c.op-in-None.ensures c.write_by_key.ensures)

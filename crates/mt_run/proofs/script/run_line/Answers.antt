@@ -1,23 +1,106 @@
--- What a row tells stands behind what waits.
-use Rattle.std.proofs.Common.{Some, Ok, subst, sym}
-use Rattle.mt_script.specs.Requests.{row_from}
+-- What a line asks for is answered, and a fault of a name in it is told.
+use Rattle.std.proofs.Common.{◌≡◌, ap, refl, subst, sym}
+use Rattle.std.specs.Prelude.{IfSome, string_bytes}
+use Rattle.mt_model.specs.Documents.{dump_text, rules_text}
+use Rattle.mt_plain.specs.Output.{says, told, told_line}
+use Rattle.mt_plain.specs.Script as language
+use Rattle.mt_plain.specs.Script.{command, read_line}
+use Rattle.mt_plain.specs.Serve.{served}
+use Rattle.mt_script.specs.Lines.{asked_from, row_from}
 use Rattle.mt_site_state.specs.Ways.{SiteStands}
-use Rattle.mt_run.specs.Runs.{RunsLine}
-use Rattle.mt_run.proofs.RowAnswerLemmas.{nothing_told, row_told}
-use Rattle.mt_run.proofs.RunLemmas.{line_tells, line_waits}
+use Rattle.mt_run.proofs.AskLemmas.{IsLineNamed, line_named, made_says, refused_waits}
+use Rattle.mt_run.proofs.RunLemmas.{command_waits, line_silent}
+use Rattle.mt_run.proofs.script.run_line.Goals.{in-Silent, in-Refused, in-Row, in-At, in-Workflow, in-Create, in-Keyspace, in-Table, in-Rule}
 use Rattle.mt_run.proofs.script.run_line.Goals as goal
 
-pub returns-then-row_line_output : goal.returns-then-row_line_output
-returns-then-row_line_output g c = λ p stands.
+pub returns-in-Rules : goal.returns-in-Rules
+returns-in-Rules g c = λ p stands.
     let scopes = g.A.Asks.scopes c.args.watchers.now in
-    let told = row_told _ _ _ _ _ c.row_line_output.result c.if-row_line_output.true c.row_line_output.ensures in
-    let asked = told.1.0 in
-    line_waits scopes p c.args.line.now c.row_line_output.new.core _ c.args.waiting.now.items c.row_line_output.new.waiting.items told.0
-    (line_tells scopes p c.args.line.now (Some (Ok (row_from asked))) (Some told.0) c.row_line_output.new.core told.1.1 (told.1.2 scopes p stands)) told.2
+    let line = c.args.line.now in
+    let is : told read_line p line ≡ says (rules_text (served p).rules) = sym (ap (told_line p) c.in-Rules.ensures) in
+    c.put_made.ensures scopes p line c.args.core.now stands (language.rules, refl, sym c.in-Rules.ensures)
+    (subst (λ d. IfSome d (λ text. told read_line p line ≡ says (string_bytes text))) (sym c.ok.ensures.value)
+    (made_says c.rules_json.result string_bytes (rules_text (served p).rules) (told read_line p line) is (c.rules_json.ensures.served p scopes (subst (SiteStands p scopes) (sym c.core.ensures) stands))))
 
-pub returns : goal.returns
-returns g c = λ p stands.
+pub returns-in-Dump : goal.returns-in-Dump
+returns-in-Dump g c = λ p stands.
     let scopes = g.A.Asks.scopes c.args.watchers.now in
-    let same = nothing_told _ _ _ _ _ c.row_line_output.result c.if-row_line_output.false c.row_line_output.ensures in
-    subst (λ waiting. RunsLine scopes p c.args.line.now c.run_other.new.core (g.W.Write.contents c.args.writer.now) (g.W.Write.contents c.run_other.new.writer) waiting c.run_other.new.waiting.items c.run_other.result) same.1
-    (c.run_other.ensures p (subst (SiteStands p scopes) (sym same.0) stands))
+    let line = c.args.line.now in
+    let is : told read_line p line ≡ says (dump_text (served p)) = sym (ap (told_line p) c.in-Dump.ensures) in
+    c.put_made-in-Dump.ensures scopes p line c.args.core.now stands (language.dump, refl, sym c.in-Dump.ensures)
+    (subst (λ d. IfSome d (λ text. told read_line p line ≡ says (string_bytes text))) (sym c.ok-in-Dump.ensures.value)
+    (made_says c.dump.result string_bytes (dump_text (served p)) (told read_line p line) is (c.dump.ensures.served p scopes (subst (SiteStands p scopes) (sym c.core-in-Dump.ensures) stands))))
+
+pub returns-in-Err : goal.returns-in-Err
+returns-in-Err g c = λ p stands.
+    let scopes = g.A.Asks.scopes c.args.watchers.now in
+    let held = g.W.Write.contents c.args.writer.now in
+    let line = c.args.line.now in
+    let old = c.args.core.now in
+    let before = c.args.waiting.now.items in
+    let said : IsLineNamed scopes p line c.match-read.core held before c.match-read.waiting.items c.match-read.named =
+    elim c.match-read.branch [
+      | in-Silent w ↦ rw (w.named-is, w.core-is, w.waiting-is) (line_silent scopes p line old held before before (sym (ap (told_line p) w.in-Silent.ensures)) stands refl)
+      | in-Refused w ↦
+          rw (w.named-is, w.core-is, w.waiting-is)
+          (refused_waits scopes p line old held before w.put_refusal.new.text.items w.in-Refused.refusal w.in-Refused.ensures stands w.put_refusal.ensures)
+      | in-Row w ↦
+          rw (w.named-is, w.core-is, w.waiting-is)
+          (command_waits scopes p line w.row.new.core held before w.row.new.waiting.items (row_from language.change language.get w.in-Row.name.now w.in-Row.asked) (sym w.in-Row.ensures) (w.row.ensures scopes p stands))
+      | in-At w ↦
+          rw (w.named-is, w.core-is, w.waiting-is)
+          (line_named scopes p line old w.row_at-named.new.core held before w.row_at-named.new.waiting.items (row_from language.change_at language.get_at w.in-At.name w.in-At.asked) w.row_at-named.result w.in-At.ensures stands w.row_at-named.ensures)
+      | in-Workflow w ↦
+          rw (w.named-is, w.core-is, w.waiting-is)
+          (line_named scopes p line old w.workflow-named.new.core held before w.workflow-named.new.waiting.items (asked_from w.in-Workflow.name.now w.in-Workflow.asked) w.workflow-named.result w.in-Workflow.ensures stands w.workflow-named.ensures)
+      | in-Create w ↦
+          rw (w.named-is, w.core-is, w.waiting-is)
+          (line_named scopes p line old w.create-named.new.core held before w.create-named.new.waiting.items (language.create w.in-Create.words.workflow.now w.in-Create.words.source.now w.in-Create.words.target.now w.in-Create.words.tables.now) w.create-named.result w.in-Create.ensures stands w.create-named.ensures)
+      | in-Keyspace w ↦
+          rw (w.named-is, w.core-is, w.waiting-is)
+          (line_named scopes p line old w.add_keyspace-named.new.core held before w.add_keyspace-named.new.waiting.items (language.keyspace w.in-Keyspace.name.now) w.add_keyspace-named.result w.in-Keyspace.ensures stands w.add_keyspace-named.ensures)
+      | in-Table w ↦
+          rw (w.named-is, w.core-is, w.waiting-is)
+          (line_named scopes p line old w.add_table-named.new.core held before w.add_table-named.new.waiting.items (language.table w.in-Table.keyspace.now w.in-Table.name.now) w.add_table-named.result w.in-Table.ensures stands w.add_table-named.ensures)
+      | in-Rule w ↦
+          rw (w.named-is, w.core-is, w.waiting-is)
+          (line_named scopes p line old w.edit_rule-named.new.core held before w.edit_rule-named.new.waiting.items (language.rule w.in-Rule.key.now w.in-Rule.target.now) w.edit_rule-named.result w.in-Rule.ensures stands w.edit_rule-named.ensures)
+    ] in
+    subst (IsLineNamed scopes p line c.match-read.core held before c.match-read.waiting.items) c.in-Err.is said c.put_fault.new.text.items c.put_fault.ensures
+
+pub returns-in_default : goal.returns-in_default
+returns-in_default g c = λ p stands.
+    let scopes = g.A.Asks.scopes c.args.watchers.now in
+    let held = g.W.Write.contents c.args.writer.now in
+    let line = c.args.line.now in
+    let old = c.args.core.now in
+    let before = c.args.waiting.now.items in
+    let said : IsLineNamed scopes p line c.match-read.core held before c.match-read.waiting.items c.match-read.named =
+    elim c.match-read.branch [
+      | in-Silent w ↦ rw (w.named-is, w.core-is, w.waiting-is) (line_silent scopes p line old held before before (sym (ap (told_line p) w.in-Silent.ensures)) stands refl)
+      | in-Refused w ↦
+          rw (w.named-is, w.core-is, w.waiting-is)
+          (refused_waits scopes p line old held before w.put_refusal.new.text.items w.in-Refused.refusal w.in-Refused.ensures stands w.put_refusal.ensures)
+      | in-Row w ↦
+          rw (w.named-is, w.core-is, w.waiting-is)
+          (command_waits scopes p line w.row.new.core held before w.row.new.waiting.items (row_from language.change language.get w.in-Row.name.now w.in-Row.asked) (sym w.in-Row.ensures) (w.row.ensures scopes p stands))
+      | in-At w ↦
+          rw (w.named-is, w.core-is, w.waiting-is)
+          (line_named scopes p line old w.row_at-named.new.core held before w.row_at-named.new.waiting.items (row_from language.change_at language.get_at w.in-At.name w.in-At.asked) w.row_at-named.result w.in-At.ensures stands w.row_at-named.ensures)
+      | in-Workflow w ↦
+          rw (w.named-is, w.core-is, w.waiting-is)
+          (line_named scopes p line old w.workflow-named.new.core held before w.workflow-named.new.waiting.items (asked_from w.in-Workflow.name.now w.in-Workflow.asked) w.workflow-named.result w.in-Workflow.ensures stands w.workflow-named.ensures)
+      | in-Create w ↦
+          rw (w.named-is, w.core-is, w.waiting-is)
+          (line_named scopes p line old w.create-named.new.core held before w.create-named.new.waiting.items (language.create w.in-Create.words.workflow.now w.in-Create.words.source.now w.in-Create.words.target.now w.in-Create.words.tables.now) w.create-named.result w.in-Create.ensures stands w.create-named.ensures)
+      | in-Keyspace w ↦
+          rw (w.named-is, w.core-is, w.waiting-is)
+          (line_named scopes p line old w.add_keyspace-named.new.core held before w.add_keyspace-named.new.waiting.items (language.keyspace w.in-Keyspace.name.now) w.add_keyspace-named.result w.in-Keyspace.ensures stands w.add_keyspace-named.ensures)
+      | in-Table w ↦
+          rw (w.named-is, w.core-is, w.waiting-is)
+          (line_named scopes p line old w.add_table-named.new.core held before w.add_table-named.new.waiting.items (language.table w.in-Table.keyspace.now w.in-Table.name.now) w.add_table-named.result w.in-Table.ensures stands w.add_table-named.ensures)
+      | in-Rule w ↦
+          rw (w.named-is, w.core-is, w.waiting-is)
+          (line_named scopes p line old w.edit_rule-named.new.core held before w.edit_rule-named.new.waiting.items (language.rule w.in-Rule.key.now w.in-Rule.target.now) w.edit_rule-named.result w.in-Rule.ensures stands w.edit_rule-named.ensures)
+    ] in
+    subst (IsLineNamed scopes p line c.match-read.core held before c.match-read.waiting.items) c.in_default.is said

@@ -15,6 +15,6 @@ returns-in_err-script g c =
 pub returns : goal.returns
 returns g c =
     let scopes = g.A.Asks.scopes c.args.watchers.now in
-    runs_lines scopes _ _ _ _ c.in_ok-script.script.items c.run_lines-end.result c.in_ok-script.ensures
-    (subst (λ script. RunsLines (opening scopes) script (g.W.Write.contents c.args.writer.now) (g.W.Write.contents c.run_lines-end.new.writer) c.run_lines-end.result) c.deref.ensures.value
-    (c.run_lines-end.ensures (opening scopes) (c.new-core.ensures.stands scopes)))
+    runs_lines scopes _ _ _ _ c.in_ok-script.script.items c.run_lines.result c.in_ok-script.ensures
+    (subst (λ script. RunsLines (opening scopes) script (g.W.Write.contents c.args.writer.now) (g.W.Write.contents c.run_lines.new.writer) c.run_lines.result) c.deref.ensures.value
+    (c.run_lines.ensures (opening scopes) (c.new-core.ensures.stands scopes)))

@@ -1,10 +1,15 @@
--- The work that was read is the operation's.
-use Rattle.std.proofs.Common.{option_map, ap, ◌∙◌}
-use Rattle.mt_plain.specs.Script.{change, get, request_of}
-use Rattle.mt_script.proofs.RowLemmas.{work-found}
+-- What was read of the words is what is commanded.
+use Rattle.std.proofs.Common.{option_map, if◌then◌else◌, None, Some, sym, ap, ◌∙◌, rules}
+use Rattle.mt_plain.specs.Script.{change, command, get}
+use Rattle.mt_script.specs.Lines.{row_from}
+use Rattle.mt_script.proofs.RowLemmas.{row-found, row-none}
 use Rattle.mt_script.proofs.commands.row_command.Goals as goal
 
+pub returns-in_err-asked : goal.returns-in_err-asked
+returns-in_err-asked c = let none = row-none change get c.in_ok-name.name.now c.args.verb.now c.in_ok-name.ensures.words c.in_err-asked.ensures in search (rules, none)
+
+pub returns-then-not-may_ask : goal.returns-then-not-may_ask
+returns-then-not-may_ask c = let none = row-found change get c.in_ok-name.name.now c.args.verb.now c.in_ok-name.ensures.words c.in_ok-asked.asked c.in_ok-asked.ensures in search (rules, none)
+
 pub returns : goal.returns
-returns c =
-    c.work_by_name.ensures
-    ∙ ap (option_map request_of) (work-found change get c.args.verb.now c.in_ok-name.ensures.words c.text_of.ensures c.in_ok-work.ensures)
+returns c = let found = row-found change get c.in_ok-name.name.now c.args.verb.now c.in_ok-name.ensures.words c.in_ok-asked.asked c.in_ok-asked.ensures in search (rules, found)

@@ -5,8 +5,8 @@ use Rattle.mt_names.proofs.EntryLemmas.{some_from}
 use Rattle.mt_plain.specs.Slots.{read_side, written_side}
 use Rattle.mt_primary.specs.Primary.{PrimaryState, has_table}
 use Rattle.mt_site_state.specs.Core.{primary_at, primary_of}
-use Rattle.mt_site_switch.proofs.PrimaryLemmas.{still-at}
-use Rattle.mt_site_switch.specs.Places.{IsAt}
+use Rattle.mt_site_workflows.proofs.PrimaryLemmas.{still-at}
+use Rattle.mt_site_workflows.specs.Places.{IsAt}
 use Rattle.mt_workflow.specs.Advance.{AdvancesSlot}
 use Rattle.mt_workflow.specs.Workflows.{live_of, slot_of, stream_name}
 use Rattle.mt_site.proofs.PrimaryLemmas.{other-at, put-back}

@@ -1,5 +1,5 @@
 -- What the calls did, one after the other.
-use Rattle.std.proofs.Common.{◌≡◌, ap, ◌∙◌}
+use Rattle.std.proofs.Common.{ap, ◌∙◌}
 use Rattle.mt_model.specs.Part.{with_entries}
 use Rattle.mt_workflow.specs.Workflows.{WorkflowState, way_from}
 use Rattle.mt_steps.specs.Entries.{recorded_of}

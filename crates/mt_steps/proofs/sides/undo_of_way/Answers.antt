@@ -1,5 +1,5 @@
 -- The own list is given back, and then the rest.
-use Rattle.std.proofs.Common.{◌≡◌, map, refl, ap, subst, ◌∙◌}
+use Rattle.std.proofs.Common.{map, refl, ap, subst, ◌∙◌}
 use Rattle.mt_model.specs.Part.{with_entries}
 use Rattle.mt_model.specs.Topology.{key_of}
 use Rattle.mt_workflow.specs.Workflows.{way_from}

@@ -22,4 +22,4 @@ loop-table-preserved c =
 
 -- there is room for all of them, whether they lack a place or not
 pub returns-then-tables-room : goal.returns-then-tables-room
-returns-then-tables-room c = room_for_all c.args.rules.now c.args.source.now c.args.target.now c.args.tables.now (omega (arith, c.if-tables-room.true, c.len-room.ensures.len, c.len-room.ensures.within))
+returns-then-tables-room c = room_for_all c.args.rules.now c.args.source.now c.args.target.now c.args.tables.now (omega (arith, c.if-tables-room.true, c.places-room.ensures.len, c.places-room.ensures.within))

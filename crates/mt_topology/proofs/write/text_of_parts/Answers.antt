@@ -1,5 +1,5 @@
 -- The text of the document, and what it says.
-use Rattle.std.proofs.Common.{◌≡◌, map, string_bytes, refl, ap, ◌∙◌}
+use Rattle.std.proofs.Common.{◌≡◌, map, string_bytes, refl, ap, sym, ◌∙◌}
 use Rattle.serde_json.specs.Read.{read}
 use Rattle.std.proofs.lemmas.Str.{IsUtf8-string_bytes}
 use Rattle.mt_model.specs.Topology.{HasDistinctPlaces, TopologyState}
@@ -7,7 +7,7 @@ use Rattle.mt_model.proofs.DistinctLemmas.{distinct-rules}
 use Rattle.mt_model.specs.Documents.{array, denied_sorted, dump_text, keyspace_text, keyspaces_in_order, quoted, rules_array}
 use Rattle.mt_topology.specs.Values.{IsNamedTopology, dump_value}
 use Rattle.mt_topology.proofs.SaysLemmas.{dump_says}
-use Rattle.mt_topology.proofs.TextLemmas.{dump_read, is_named, seven_parts}
+use Rattle.mt_topology.proofs.TextLemmas.{dump_read, dump_written, is_named, seven_parts}
 use Rattle.mt_topology.proofs.write.text_of_parts.Goals as goal
 
 pub returns-clause-text : goal.returns-clause-text
@@ -17,6 +17,13 @@ returns-clause-text c =
     (string_bytes c.push_list-2.new.text) (string_bytes c.push_str-4.new.self) (array (map quoted (denied_sorted t))) (array (map keyspace_text (keyspaces_in_order t))) (rules_array t.rules) c.new-text.ensures.bytes
     c.in_ok-push_str.ensures.bytes c.in_ok-push_denials.ensures.text c.in_ok-push_str-2.ensures.bytes c.in_ok-push_list.ensures.text c.in_ok-push_str-3.ensures.bytes c.in_ok-push_list-2.ensures.text
     c.in_ok-push_str-4.ensures.bytes
+
+pub returns-clause-value : goal.returns-clause-value
+returns-clause-value c =
+    let t : TopologyState = record { rules = c.args.rules.now; keyspaces = c.args.keyspaces.now } in
+    let distinct : HasDistinctPlaces t = distinct-rules _ c.args.rules.now c.facts.ensures.distinct c.facts-2.ensures.distinct in
+    let named : IsNamedTopology t = is_named t c.in_ok-push_denials.ensures.named c.in_ok-push_list.ensures.named c.in_ok-push_list-2.ensures.sorted c.facts.ensures.within in
+    returns-clause-text c ∙ sym (dump_written t distinct named)
 
 pub returns-clause-says : goal.returns-clause-says
 returns-clause-says c = λ there.

@@ -1,6 +1,7 @@
 -- Each try is at the table that the name leads to.
 use Rattle.std.proofs.Common.{◌≡◌, ◌≢◌, ◌∙◌, true, false, MatchBool, Ok, Err, subst, arith}
 use Rattle.mt_desk.specs.Histories.{call}
+use Rattle.mt_event.specs.declared.reason.Reason.TheVariants as reason
 use Rattle.mt_event.specs.declared.refusal.Refusal.TheVariants as refusal
 use Rattle.mt_routes.specs.LookUp.{LastLeads, Routes}
 use Rattle.mt_workers.specs.Queries.{IsTry, type_of}
@@ -30,7 +31,7 @@ returns-then-not-is_denied-clause-tried g c =
     let answer = c.in-Ok-ask.answer in
     let this = call c.event_at-event.result answer in
     let isnt : c.is_denied.result ≡ false = search (c.if-not-is_denied.true) in
-    let other : answer ≢ Err refusal.Denied = subst (λ t. MatchBool t (answer ≡ Err refusal.Denied) (answer ≢ Err refusal.Denied)) isnt c.is_denied.ensures in
+    let other : answer ≢ Err (refusal.Other reason.Denied) = subst (λ t. MatchBool t (answer ≡ Err (refusal.Other reason.Denied)) (answer ≢ Err (refusal.Other reason.Denied))) isnt c.is_denied.ensures in
     let is : IsTry known line this =
     is_try known c.learn.new.router now line target front this (known_before known c.loop-tried.router c.learn.new.router c.loop-tried.invariant.grows c.learn.ensures) c.route.ensures.grows
     (subst (λ k. LastLeads now k (type_of line) front (Ok target)) c.key.ensures
@@ -48,7 +49,7 @@ loop-tried-preserved g c =
     let answer = c.in-Ok-ask.answer in
     let this = call c.event_at-event.result answer in
     let is-denied : c.is_denied.result ≡ true = search (c.if-not-is_denied.false) in
-    let denied : answer ≡ Err refusal.Denied = subst (λ t. MatchBool t (answer ≡ Err refusal.Denied) (answer ≢ Err refusal.Denied)) is-denied c.is_denied.ensures in
+    let denied : answer ≡ Err (refusal.Other reason.Denied) = subst (λ t. MatchBool t (answer ≡ Err (refusal.Other reason.Denied)) (answer ≢ Err (refusal.Other reason.Denied))) is-denied c.is_denied.ensures in
     let before = known_before known c.loop-tried.router c.learn.new.router c.loop-tried.invariant.grows c.learn.ensures in
     let is : IsTry known line this =
     is_try known c.learn.new.router now line target front this before c.route.ensures.grows

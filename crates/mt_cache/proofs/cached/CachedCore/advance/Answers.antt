@@ -6,13 +6,13 @@ use Rattle.mt_site_state.specs.Ways.{SiteSteps}
 use Rattle.mt_workflow.specs.Workflows.{stream_name}
 use Rattle.mt_site.specs.Advance.{advanced_from}
 use Rattle.mt_site.specs.Headline.{KeepsTheHeadline}
-use Rattle.mt_cache.specs.Names.{KeptLead}
+use Rattle.mt_cache.specs.Names.{LeadThere}
 use Rattle.mt_cache.proofs.RowLemmas.{advance_leaves_topology}
 use Rattle.mt_cache.proofs.cached.CachedCore.advance.Goals as goal
 
 pub invariant_of-self : goal.invariant_of-self
 invariant_of-self c =
-    subst (λ t. KeptLead t c.self.inside.names.kept.entries c.self.inside.marked.kept.items)
+    subst (λ t. LeadThere t c.self.inside.names.kept.entries)
     (sym (advance_leaves_topology c.self.inside.core.core c.advance.new.self.core c.args.workflow.now (stream_name c.args.stream) c.args.at c.args.max (advanced_from c.advance.result) c.advance.ensures.does))
     c.self.invariant
 

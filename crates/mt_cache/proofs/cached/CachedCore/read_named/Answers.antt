@@ -9,14 +9,14 @@ use Rattle.mt_cache.proofs.RowLemmas.{read_there}
 use Rattle.mt_cache.proofs.cached.CachedCore.read_named.Goals as goal
 
 pub returns-in-Some-clause-name : goal.returns-in-Some-clause-name
-returns-in-Some-clause-name c = is_read c.args.name.now (c.in-Some.ensures c.self.inside.core.core.topology c.self.invariant.named).is_name
+returns-in-Some-clause-name c = is_read c.args.name.now (c.in-Some.ensures c.self.inside.core.core.topology c.self.invariant).is_name
 
 pub returns-in-Some-clause-told : goal.returns-in-Some-clause-told
 returns-in-Some-clause-told c =
-    let did = c.read_placed.ensures in
+    let did = c.read_row.ensures in
     let key = plain_key c.args.name.now in
-    subst (λ s. ReadThrough s key c.args.key Primary (Ok c.read_placed.result)) c.self.view_is
-    (read_there c.self.inside.core key c.args.key Primary c.in-Some.place.now.target c.read_placed.result (c.in-Some.ensures c.self.inside.core.core.topology c.self.invariant.named).leads
+    subst (λ s. ReadThrough s key c.args.key Primary (Ok c.read_row.result)) c.self.view_is
+    (read_there c.self.inside.core key c.args.key Primary c.in-Some.place.now.target c.read_row.result (c.in-Some.ensures c.self.inside.core.core.topology c.self.invariant).leads
     did.does did.steps did.headline)
 
 pub returns-in-Some-clause-served : goal.returns-in-Some-clause-served

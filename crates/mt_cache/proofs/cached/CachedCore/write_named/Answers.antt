@@ -9,15 +9,15 @@ use Rattle.mt_cache.proofs.RowLemmas.{written_there}
 use Rattle.mt_cache.proofs.cached.CachedCore.write_named.Goals as goal
 
 pub returns-in-Some-clause-name : goal.returns-in-Some-clause-name
-returns-in-Some-clause-name c = is_read c.args.name.now (c.in-Some.ensures c.self.inside.core.core.topology c.self.invariant.named).is_name
+returns-in-Some-clause-name c = is_read c.args.name.now (c.in-Some.ensures c.self.inside.core.core.topology c.self.invariant).is_name
 
 pub returns-in-Some-clause-told : goal.returns-in-Some-clause-told
 returns-in-Some-clause-told c =
-    let did = c.write_placed.ensures in
-    let new = c.write_placed.new.self in
+    let did = c.write_row.ensures in
+    let new = c.write_row.new.self in
     let key = plain_key c.args.name.now in
-    subst (λ s. WrittenThrough s key c.args.op (Ok c.write_placed.result) new) c.self.view_is
-    (written_there c.self.inside.core new key c.args.op c.in-Some.place.now.target c.write_placed.result (c.in-Some.ensures c.self.inside.core.core.topology c.self.invariant.named).leads
+    subst (λ s. WrittenThrough s key c.args.op (Ok c.write_row.result) new) c.self.view_is
+    (written_there c.self.inside.core new key c.args.op c.in-Some.place.now.target c.write_row.result (c.in-Some.ensures c.self.inside.core.core.topology c.self.invariant).leads
     did.does did.ways did.steps did.unchanged did.headline)
 
 pub returns-in-Some-clause-served : goal.returns-in-Some-clause-served

@@ -1,16 +1,38 @@
--- What must be taken is taken; and of a run that goes on with one event more the headline holds.
-use Rattle.std.proofs.Common.{[], ◌∷◌}
+-- What a command does is a step of the definitions, and of a run that goes on with it the headline holds.
+use Rattle.std.proofs.Common.{List, ℕ, subst}
 use Rattle.mt_event.specs.Reasons.{done_by}
+use Rattle.mt_primary.specs.Primary.{IsPrimary}
+use Rattle.mt_site_state.specs.Core.{primary_of}
+use Rattle.mt_site.specs.Applies.{Applies}
 use Rattle.mt_site.specs.Commands.{event_of_command}
-use Rattle.mt_site.proofs.RunLemmas.{headline_kept}
+use Rattle.mt_site.proofs.RunLemmas.{one_kept}
+use Rattle.mt_site.proofs.StoodLemmas.{stood_next}
+use Rattle.mt_site.proofs.controller.Core.command.Goals.{in-AddKeyspace, in-AddTable, in-EditRule, in-BeginSwitch, in-BeginReverse, in-Step, in-Undo, in-Cancel, in-Complete}
 use Rattle.mt_site.proofs.controller.Core.command.Goals as goal
 
-pub returns-clause-given_up : goal.returns-clause-given_up
-returns-clause-given_up g c =
-    c.a_move_can_be_given_up.ensures c.args.self.now c.do_command.new.self (event_of_command c.args.command) (done_by c.do_command.result) c.do_command.ensures.applies
+pub returns-clause-steps : goal.returns-clause-steps
+returns-clause-steps g c =
+    let old = c.args.self.now in
+    let new = c.match-command.self in
+    let event = event_of_command c.args.command in
+    let told = done_by c.match-command.told in
+    let applies : Applies (g.W.Asks.scopes c.args.watchers.now) (g.W.Asks.may_answer c.args.watchers.now) old event told new
+    = elim c.match-command.branch [
+      | in-AddKeyspace w ↦ rw (w.in-AddKeyspace.is, w.told-is, w.self-is) (w.add_keyspace-told.ensures.does, w.add_keyspace-told.ensures.ways)
+      | in-AddTable w ↦ rw (w.in-AddTable.is, w.told-is, w.self-is) (w.add_table-told.ensures.does, w.add_table-told.ensures.ways)
+      | in-EditRule w ↦ rw (w.in-EditRule.is, w.told-is, w.self-is) (w.edit_rule-told.ensures.does, w.edit_rule-told.ensures.ways)
+      | in-BeginSwitch w ↦ rw (w.in-BeginSwitch.is, w.told-is, w.self-is) w.begin_switch-told.ensures.does
+      | in-BeginReverse w ↦ rw (w.in-BeginReverse.is, w.told-is, w.self-is) w.begin_reverse-told.ensures.does
+      | in-Step w ↦ rw (w.in-Step.is, w.told-is, w.self-is) w.step-told.ensures.does
+      | in-Undo w ↦ rw (w.in-Undo.is, w.told-is, w.self-is) w.undo-told.ensures.does
+      | in-Cancel w ↦ rw (w.in-Cancel.is, w.told-is, w.self-is) (w.cancel-told.ensures.does, w.cancel-told.ensures.ways)
+      | in-Complete w ↦ rw (w.in-Complete.is, w.told-is, w.self-is) w.complete-told.ensures.does
+    ] in
+    c.an_applied_event_steps.ensures old new event told applies (subst (λ s. (keyspace : List ℕ) → IsPrimary (primary_of s.core.primaries keyspace)) c.self.view_is c.each_is_a_primary.ensures)
 
 pub returns-clause-headline : goal.returns-clause-headline
-returns-clause-headline g c =
-    headline_kept (g.W.Asks.scopes c.args.watchers.now) c.args.self.now c.do_command.new.self (event_of_command c.args.command ∷ []) (done_by c.do_command.result ∷ [])
-    (λ p stands. let r = c.do_command.ensures.steps p stands in ((r.0, tt), r.1))
-    c.every_run_keeps_the_headline.ensures.with_earlier_lines
+returns-clause-headline g c = one_kept (g.W.Asks.scopes c.args.watchers.now) _ _ _ _ (returns-clause-steps g c) c.every_run_keeps_the_headline.ensures.with_earlier_lines
+
+pub returns-clause-stood : goal.returns-clause-stood
+returns-clause-stood g c =
+    stood_next (g.W.Asks.scopes c.args.watchers.now) _ _ (event_of_command c.args.command) (done_by c.match-command.told) (returns-clause-steps g c)

@@ -1,9 +1,8 @@
 -- None of the keys is refused a place once those before it have theirs.
-use Rattle.std.proofs.Common.{◌≡◌, ℕ, List, [], ◌∷◌, map, None}
+use Rattle.std.proofs.Common.{ℕ, List, [], ◌∷◌, map}
 use Rattle.mt_model.specs.declared.entries.EntryKey.{EntryKey}
 use Rattle.mt_model.specs.declared.entries.EntryKey.TheVariants as about
 use Rattle.mt_model.specs.Part.{table_rule_keys}
-use Rattle.mt_topology.specs.Part.{places_refusal}
 use Rattle.mt_topology.proofs.RoomLemmas.{first_free, places_refusal-append}
 use Rattle.mt_topology.proofs.topology.Topology.make_table_part.Goals as goal
 

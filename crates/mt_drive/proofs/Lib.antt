@@ -1,2 +1,0 @@
-mod RunLemmas
-mod TurnLemmas

@@ -1,2 +1,0 @@
-pub mod Collected
-pub mod Faults

@@ -1,0 +1,68 @@
+-- What is asked for of a workflow is answered, once its name is read, and its types are.
+use Rattle.std.proofs.Common.{false, refl, true}
+use Rattle.mt_plain.specs.Events as plain
+use Rattle.mt_plain.specs.Script.{drive, event}
+use Rattle.mt_script.specs.declared.lines.WorkflowAsked.TheVariants as asked
+use Rattle.mt_workflow.specs.Workflows.{stream_name}
+use Rattle.mt_run.proofs.AskLemmas.{types_read, workflow_read}
+use Rattle.mt_run.proofs.asking.workflow.Goals as goal
+
+pub returns-in-Advance : goal.returns-in-Advance
+returns-in-Advance g c =
+    let w = c.in_ok-workflow.field-0 in
+    let request = event (plain.advance w (stream_name c.in-Advance.stream) c.in-Advance.at c.in-Advance.max) in
+    (request, workflow_read c.args.name.now c.args.asked (asked.Advance c.in-Advance.stream c.in-Advance.at c.in-Advance.max) w request c.in-Advance.is c.in_ok-workflow.ensures.value refl, c.advance.ensures (g.A.Asks.scopes c.args.watchers.now))
+
+pub returns-in_ok-parse-in-BeginSwitch : goal.returns-in_ok-parse-in-BeginSwitch
+returns-in_ok-parse-in-BeginSwitch g c =
+    let w = c.in_ok-workflow.field-0 in
+    let request = event (plain.begin_switch w c.in_ok-parse-in-BeginSwitch.field-0) in
+    (request, workflow_read c.args.name.now c.args.asked (asked.BeginSwitch c.in-BeginSwitch.types) w request c.in-BeginSwitch.is c.in_ok-workflow.ensures.value (types_read (λ t. event (plain.begin_switch w t)) c.in-BeginSwitch.types.now c.in_ok-parse-in-BeginSwitch.field-0 c.in_ok-parse-in-BeginSwitch.ensures.value), c.command.ensures)
+
+pub returns-in_ok-parse-in-BeginReverse : goal.returns-in_ok-parse-in-BeginReverse
+returns-in_ok-parse-in-BeginReverse g c =
+    let w = c.in_ok-workflow.field-0 in
+    let request = event (plain.begin_reverse w c.in_ok-parse-in-BeginReverse.field-0) in
+    (request, workflow_read c.args.name.now c.args.asked (asked.BeginReverse c.in-BeginReverse.types) w request c.in-BeginReverse.is c.in_ok-workflow.ensures.value (types_read (λ t. event (plain.begin_reverse w t)) c.in-BeginReverse.types.now c.in_ok-parse-in-BeginReverse.field-0 c.in_ok-parse-in-BeginReverse.ensures.value), c.command-in-BeginReverse.ensures)
+
+pub returns-in-Step : goal.returns-in-Step
+returns-in-Step g c =
+    let w = c.in_ok-workflow.field-0 in
+    let request = event (plain.step w c.in-Step.at) in
+    (request, workflow_read c.args.name.now c.args.asked (asked.Step c.in-Step.at) w request c.in-Step.is c.in_ok-workflow.ensures.value refl, c.command-in-Step.ensures)
+
+pub returns-in-Undo : goal.returns-in-Undo
+returns-in-Undo g c =
+    let w = c.in_ok-workflow.field-0 in
+    let request = event (plain.undo w c.in-Undo.at) in
+    (request, workflow_read c.args.name.now c.args.asked (asked.Undo c.in-Undo.at) w request c.in-Undo.is c.in_ok-workflow.ensures.value refl, c.command-in-Undo.ensures)
+
+pub returns-in_ok-types-in-Switch : goal.returns-in_ok-types-in-Switch
+returns-in_ok-types-in-Switch g c =
+    let w = c.in_ok-workflow.field-0 in
+    let request = drive w c.in_ok-types-in-Switch.types false in
+    (request, workflow_read c.args.name.now c.args.asked (asked.Switch c.in-Switch.types) w request c.in-Switch.is c.in_ok-workflow.ensures.value (types_read (λ t. drive w t false) c.in-Switch.types.now c.in_ok-types-in-Switch.types c.in_ok-types-in-Switch.ensures.value), c.drive_whole.ensures)
+
+pub returns-in_ok-types-in-Reverse : goal.returns-in_ok-types-in-Reverse
+returns-in_ok-types-in-Reverse g c =
+    let w = c.in_ok-workflow.field-0 in
+    let request = drive w c.in_ok-types-in-Reverse.types true in
+    (request, workflow_read c.args.name.now c.args.asked (asked.Reverse c.in-Reverse.types) w request c.in-Reverse.is c.in_ok-workflow.ensures.value (types_read (λ t. drive w t true) c.in-Reverse.types.now c.in_ok-types-in-Reverse.types c.in_ok-types-in-Reverse.ensures.value), c.drive_whole-in-Reverse.ensures)
+
+pub returns-in-Cancel : goal.returns-in-Cancel
+returns-in-Cancel g c =
+    let w = c.in_ok-workflow.field-0 in
+    let request = event (plain.cancel w) in
+    (request, workflow_read c.args.name.now c.args.asked (asked.Cancel) w request c.in-Cancel.is c.in_ok-workflow.ensures.value refl, c.command-in-Cancel.ensures)
+
+pub returns-in-Complete : goal.returns-in-Complete
+returns-in-Complete g c =
+    let w = c.in_ok-workflow.field-0 in
+    let request = event (plain.complete w) in
+    (request, workflow_read c.args.name.now c.args.asked (asked.Complete) w request c.in-Complete.is c.in_ok-workflow.ensures.value refl, c.command-in-Complete.ensures)
+
+pub returns-in-Show : goal.returns-in-Show
+returns-in-Show g c =
+    let w = c.in_ok-workflow.field-0 in
+    let request = event (plain.show w) in
+    (request, workflow_read c.args.name.now c.args.asked (asked.Show) w request c.in-Show.is c.in_ok-workflow.ensures.value refl, c.show.ensures (g.A.Asks.scopes c.args.watchers.now))

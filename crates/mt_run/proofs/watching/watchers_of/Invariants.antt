@@ -1,7 +1,0 @@
--- The watchers so far have the scopes so far.
-use Rattle.std.proofs.Common.{◌≡◌, take}
-use Rattle.mt_plain.specs.Output.{watchers_of}
-use Rattle.mt_run.proofs.watching.watchers_of.Given as goal
-
-abbrev pub invariant-loop-keyspace : goal.invariant-loop-keyspace
-invariant-loop-keyspace l = l.watchers.scopes.items ≡ watchers_of (take l.keyspace-index l.keyspaces)

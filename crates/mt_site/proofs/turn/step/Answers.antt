@@ -1,0 +1,26 @@
+-- The step that is next is asked for, and what follows is what the definitions say of its answer.
+use Rattle.std.proofs.Common.{ap, sym, ◌∙◌}
+use Rattle.mt_event.specs.Reasons.{done_by}
+use Rattle.mt_plain.specs.Drive as plain
+use Rattle.mt_plain.specs.Events.{step}
+use Rattle.mt_site.specs.Drives.{heard_from}
+use Rattle.mt_site.proofs.TurnLemmas.{turn_taken}
+use Rattle.mt_site.proofs.turn.step.Goals as goal
+
+pub returns-in-Ok : goal.returns-in-Ok
+returns-in-Ok g c =
+    let scopes = g.W.Asks.scopes c.args.watchers.now in
+    let name = c.args.workflow.now in
+    turn_taken scopes c.args.core.now c.command-answer.new.self (plain.steps name c.args.tries) (heard_from name c.unless_closed.result)
+    (step name c.steps_done-at.result) (done_by c.command-answer.result) c.command-answer.ensures.steps
+    (λ p stands. ap (step name) (c.steps_done-at.ensures p name (c.way_of.ensures p scopes stands)))
+    (λ q stands. ap (λ r. plain.heard q (plain.steps name c.args.tries) (done_by r)) c.in-Ok.is ∙ ap (λ w. plain.unless_closed w plain.done (plain.steps name plain.most_tries)) (sym (c.way_of-way.ensures q scopes stands)) ∙ sym (c.unless_closed.ensures name))
+
+pub returns-in-Err : goal.returns-in-Err
+returns-in-Err g c =
+    let scopes = g.W.Asks.scopes c.args.watchers.now in
+    let name = c.args.workflow.now in
+    turn_taken scopes c.args.core.now c.command-answer.new.self (plain.steps name c.args.tries) (heard_from name c.refused_step.result)
+    (step name c.steps_done-at.result) (done_by c.command-answer.result) c.command-answer.ensures.steps
+    (λ p stands. ap (step name) (c.steps_done-at.ensures p name (c.way_of.ensures p scopes stands)))
+    (λ q stands. ap (λ r. plain.heard q (plain.steps name c.args.tries) (done_by r)) c.in-Err.is ∙ sym (c.refused_step.ensures q name (c.way_of-way.ensures q scopes stands)))

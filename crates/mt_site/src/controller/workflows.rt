@@ -1,0 +1,120 @@
+//! Create, advances and Show: events on a workflow whose names are lent, and whose answers are smaller than a reply.
+ghost use Rattle.std.specs.Prelude.{◌≡◌, List, [], ◌∷◌, OnErr};
+ghost use Rattle.mt_event.specs.Events.{done_from};
+ghost use Rattle.mt_model.specs.declared.entries.Scope.{Scope};
+ghost use Rattle.mt_plain.specs.Events as plain;
+ghost use Rattle.mt_site_state.specs.Ways.{SiteSteps};
+ghost use Rattle.mt_site_state.specs.Workflows.{AdvancesWorkflow, ShowsWorkflow};
+ghost use Rattle.mt_workflow.specs.Workflows.{stream_name};
+ghost use Rattle.mt_site.specs.Advance.{advanced_from};
+ghost use Rattle.mt_site.specs.Applies.{Applies};
+ghost use Rattle.mt_site.specs.Headline.{KeepsTheHeadline};
+ghost use Rattle.mt_site.specs.Show.{shown_answer};
+ghost use Rattle.mt_site.specs.Stood.{IsSiteWith};
+
+use crate::controller::Core;
+use crate::primaries::each_is_a_primary;
+use crate::{advance, show};
+use arrayvec::ArrayVec;
+use mt_event::{Reason, Refusal, ShownOf};
+use mt_laws::every_run_keeps_the_headline;
+use mt_names::{KeyspaceName, MAX_TABLES, Position, TableName, WorkflowName};
+use mt_site_events::{
+    a_create_can_be_taken_back, streams_of_a_core_lie_in_their_logs,
+    workflows_of_a_core_stand_in_place,
+};
+use mt_site_ways::{
+    a_create_leaves_a_site, a_create_steps_and_leaves_the_ways, a_site_stays_one,
+    events_on_workflows_step_and_leave_the_ways,
+};
+use mt_site_workflows::{create, names_are_names};
+use mt_stream::Advanced;
+use mt_watch::Asks;
+use mt_workflow::Slot;
+
+impl Core {
+    /// Creates a workflow that moves tables from a source to a target: what `apply` does with the event Create, without an event and a reply
+    /// by value. It alone is refused with a name, by `F9 RuleConflict` and `F10 TargetHasTable`. A refusal leaves the core as it was.
+    /// (Vitess: Create of MoveTables)
+    pub fn create<W: Asks>(
+        &mut self,
+        watchers: &W,
+        workflow: &WorkflowName,
+        source: &KeyspaceName,
+        target: &KeyspaceName,
+        tables: &ArrayVec<TableName, MAX_TABLES>,
+    ) -> Result<(), Refusal>
+        ensures applies { Applies (W.scopes watchers.now) (W.may_answer watchers.now) self.old (plain.create workflow.now source.now target.now tables.now.items) (done_from result) self.new }
+        ensures steps { SiteSteps (W.scopes watchers.now) self.old (plain.create workflow.now source.now target.now tables.now.items) (done_from result) self.new }
+        ensures unchanged { OnErr result (self.new ≡ self.old) }
+        ensures headline { KeepsTheHeadline (W.scopes watchers.now) self.old (plain.create workflow.now source.now target.now tables.now.items ∷ []) (done_from result ∷ []) self.new }
+        ensures stood { IsSiteWith (W.scopes watchers.now) self.old → IsSiteWith (W.scopes watchers.now) self.new }
+    {
+        let tables = tables.as_slice();
+        names_are_names(source, target, tables);
+        a_site_stays_one();
+        a_create_can_be_taken_back(watchers);
+        a_create_leaves_a_site(watchers);
+        a_create_steps_and_leaves_the_ways(watchers);
+        every_run_keeps_the_headline();
+        create(
+            self.alloc,
+            &mut self.topology,
+            &mut self.primaries,
+            &mut self.workflows,
+            watchers,
+            workflow,
+            source,
+            target,
+            tables,
+        )
+    }
+
+    /// Advances a stream of a workflow: what `apply` does with the event Advance, without an event and a reply by value. It asks nobody.
+    /// `F7 NoWorkflow`, `F26 Stopped`, `F25 Stale`, `F27 Full`, `F0 Memory`; each leaves the core as it was. (Vitess: VReplication, the
+    /// copy phase and the catchup)
+    pub fn advance(
+        &mut self,
+        workflow: &WorkflowName,
+        stream: Slot,
+        at: Position,
+        max: u16,
+    ) -> Result<Advanced, Reason>
+        ensures does { AdvancesWorkflow self.old.core workflow.now (stream_name stream) at max (advanced_from result) self.new.core }
+        ensures ways { self.new.ways ≡ self.old.ways }
+        ensures steps { (scopes : List Scope) → SiteSteps scopes self.old (plain.advance workflow.now (stream_name stream) at max) (advanced_from result) self.new }
+        ensures unchanged { OnErr result (self.new ≡ self.old) }
+        ensures headline { (scopes : List Scope) → KeepsTheHeadline scopes self.old (plain.advance workflow.now (stream_name stream) at max ∷ []) (advanced_from result ∷ []) self.new }
+        ensures stood { (scopes : List Scope) → IsSiteWith scopes self.old → IsSiteWith scopes self.new }
+    {
+        workflows_of_a_core_stand_in_place();
+        streams_of_a_core_lie_in_their_logs();
+        a_site_stays_one();
+        events_on_workflows_step_and_leave_the_ways();
+        every_run_keeps_the_headline();
+        each_is_a_primary(self.alloc, &self.primaries);
+        advance::advance(
+            self.alloc,
+            &mut self.primaries,
+            &mut self.workflows,
+            workflow,
+            stream,
+            at,
+            max,
+        )
+    }
+
+    /// Tells of a workflow: what `apply` does with the event Show, without an event and a reply by value. `F7 NoWorkflow`. It takes no
+    /// memory, and asks nobody. (Vitess: Show of MoveTables)
+    pub fn shown(&self, name: &WorkflowName) -> Result<ShownOf<'_>, Reason>
+        ensures does { ShowsWorkflow self.now.core name.now (shown_answer result) self.now.core }
+        ensures steps { (scopes : List Scope) → SiteSteps scopes self.now (plain.show name.now) (shown_answer result) self.now }
+        ensures headline { (scopes : List Scope) → KeepsTheHeadline scopes self.now (plain.show name.now ∷ []) (shown_answer result ∷ []) self.now }
+    {
+        a_site_stays_one();
+        streams_of_a_core_lie_in_their_logs();
+        events_on_workflows_step_and_leave_the_ways();
+        every_run_keeps_the_headline();
+        show::show(&self.workflows, name)
+    }
+}

@@ -1,0 +1,74 @@
+//! Whole switches and reversals of traffic.
+ghost use Rattle.std.specs.Prelude.{◌≡◌, OnErr};
+ghost use Rattle.mt_plain.specs.Drive.{begins};
+ghost use Rattle.mt_plain.specs.Drive as plain;
+ghost use Rattle.mt_plain.specs.Plain.{Plain};
+ghost use Rattle.mt_site.specs.Commands.{event_of_command};
+ghost use Rattle.mt_site.specs.Drives.{DriveKeepsTheHeadline, DrivesFrom};
+
+use crate::turn::{Heard, MOST_TRIES, Turn, take};
+use crate::{Command, Core, Site};
+use mt_event::{Driven, Reason, Refusal};
+use mt_laws::{a_drive_fits_in_the_turns_that_are_left, every_run_keeps_the_headline};
+use mt_names::{TypeSet, WorkflowName};
+use mt_watch::Asks;
+
+/// More events than any drive asks for.
+const MOST_TURNS: usize = 400;
+
+/// The command that begins a switch of traffic, or its reversal.
+fn begin_of(workflow: &WorkflowName, types: TypeSet, back: bool) -> Command<'_>
+    ensures { (p : Plain) → event_of_command result ≡ plain.event_of p (begins workflow.now types back) }
+{
+    if back {
+        Command::BeginReverse(workflow, types)
+    } else {
+        Command::BeginSwitch(workflow, types)
+    }
+}
+
+/// Switches the traffic of some types of a workflow as a whole, or reverses it (`back`): begins the way, and takes each of its steps in
+/// turn. At `F18 NotLevel` the feeding stream reads at most 100 entries, and the step is tried again, at most 64 times in all. Any other
+/// refusal of a step or of the stream ends it, and so does the last `F18 NotLevel`: before the journal all is undone, and the answer
+/// is `Abandoned`; behind it the way stays open, and the answer is `Stopped`. It asks for at most 400 events, and takes no memory beside
+/// theirs. A refusal is that of the begin, which leaves all as it was. (Vitess: SwitchTraffic, ReverseTraffic)
+pub fn drive<W: Asks>(
+    site: &mut Site<W>,
+    workflow: &WorkflowName,
+    types: TypeSet,
+    back: bool,
+) -> Result<Driven, Refusal>
+    ensures watchers { site.new.watchers ≡ site.old.watchers }
+    ensures drives { DrivesFrom (W.scopes site.old.watchers) site.old.core workflow.now types back result site.new.core }
+    ensures headline { DriveKeepsTheHeadline (W.scopes site.old.watchers) site.old.core workflow.now types back result site.new.core }
+    ensures unchanged { OnErr result (site.new.core ≡ site.old.core) }
+{
+    let Site { core, watchers } = site;
+    drive_core(core, watchers, workflow, types, back)
+}
+
+/// A drive of a core to which the watchers are handed: see `drive`.
+pub fn drive_core<W: Asks>(
+    core: &mut Core,
+    watchers: &W,
+    workflow: &WorkflowName,
+    types: TypeSet,
+    back: bool,
+) -> Result<Driven, Refusal>
+    ensures drives { DrivesFrom (W.scopes watchers.now) core.old workflow.now types back result core.new }
+    ensures headline { DriveKeepsTheHeadline (W.scopes watchers.now) core.old workflow.now types back result core.new }
+    ensures unchanged { OnErr result (core.new ≡ core.old) }
+{
+    every_run_keeps_the_headline();
+    a_drive_fits_in_the_turns_that_are_left();
+    core.command(watchers, begin_of(workflow, types, back))?;
+    let mut turn = Turn::Steps(MOST_TRIES);
+    for _ in 1..MOST_TURNS {
+        match take(core, watchers, workflow, turn) {
+            Heard::GoesOn(next) => turn = next,
+            Heard::Ends(end) => return Ok(end.driven()),
+        }
+    }
+    // (no drive of a state that the definitions know has a turn more)
+    Ok(Driven::Stopped(Refusal::Other(Reason::NotLevel), 0))
+}

@@ -1,4 +1,0 @@
-pub mod Cancel
-pub mod Create
-pub mod Parts
-pub mod Target

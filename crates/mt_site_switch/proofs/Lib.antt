@@ -1,5 +1,0 @@
-pub mod BeginLemmas
-pub mod BetweenLemmas
-pub mod EndLemmas
-pub mod PrimaryLemmas
-pub mod StepLemmas

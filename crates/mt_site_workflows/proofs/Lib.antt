@@ -1,0 +1,11 @@
+pub mod BeginLemmas
+pub mod BetweenLemmas
+pub mod CancelLemmas
+pub mod CreateLemmas
+pub mod EndLemmas
+pub mod MakeLemmas
+pub mod OnceLemmas
+pub mod PrimaryLemmas
+pub mod StepLemmas
+pub mod TargetLemmas
+pub mod WriteLemmas

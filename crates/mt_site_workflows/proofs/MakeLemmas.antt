@@ -1,0 +1,123 @@
+-- Create: what a new workflow keeps, and what becomes of the core that it is made in.
+use Rattle.std.proofs.Common.{◌≡◌, ℕ, true, false, List, [], ◌∷◌, ◌++◌, map, Option, None, Some, is_some, unwrap_or, Result, Ok, Err, refl, ap, sym, subst, ◌∙◌}
+use Rattle.std.specs.Prelude.{⊤}
+use Rattle.std.proofs.lemmas.Map.Steps.{set_value_same}
+use Rattle.std.specs.Map.{set_value}
+use Rattle.indexmap.proofs.CallerLemmas.{insert_entry-new}
+use Rattle.indexmap.specs.IndexMap.{IndexMap, insert_entry}
+use Rattle.mt_names.specs.declared.keys.RuleKey.{RuleKey}
+use Rattle.mt_names.specs.declared.keys.RuleTarget.{RuleTarget}
+use Rattle.mt_names.specs.Names.{same_text}
+use Rattle.mt_names.proofs.EntryLemmas.{none_from, some_from}
+use Rattle.mt_model.specs.declared.entries.EntryKey.{EntryKey}
+use Rattle.mt_model.specs.declared.entries.EntryKey.TheVariants as about
+use Rattle.mt_model.specs.declared.entries.Scope.{Scope}
+use Rattle.mt_model.specs.declared.entries.Scope.TheVariants as scope
+use Rattle.mt_model.specs.Part.{part_keys, with_place, with_places, without_places}
+use Rattle.mt_model.specs.Topology.{KeyspaceState, Rules, TopologyState, keyspace_at, rule_at}
+use Rattle.mt_model.proofs.TopologyLemmas.{rule_at-with_rule_place}
+use Rattle.mt_event.specs.declared.reason.Reason.{Reason}
+use Rattle.mt_event.specs.declared.reason.Reason.TheVariants as reason
+use Rattle.mt_event.specs.Reasons.{done_by}
+use Rattle.mt_topology.specs.Part.{reserve_refusal}
+use Rattle.mt_watch.specs.Asking.{Answering}
+use Rattle.mt_watch.specs.Scopes.{has_scope}
+use Rattle.mt_workflow.specs.Workflows.{WorkflowState, keys_of_rules, new_workflow}
+use Rattle.mt_site_state.specs.Core.{CoreState, Primaries, Workflows, primary_at, primary_of, workflow_at}
+use Rattle.mt_site_state.specs.Workflows.{CreatesSet, change_of, create_refusal, new_of}
+use Rattle.mt_site_workflows.specs.Create.{Makes, MakesAtTarget, Prepares}
+use Rattle.mt_primary.specs.Primary.{PrimaryState, empty_primary}
+
+-- a primary that is there is the one of its keyspace
+pub found-is : (primaries : Primaries) (keyspace : List ℕ) (state : PrimaryState) → primary_at primaries keyspace ≡ Some state → primary_of primaries keyspace ≡ state
+found-is primaries keyspace state found = ap (λ o. unwrap_or o empty_primary) found
+
+-- ---- places change no rule
+
+placed-rule : (t : TopologyState) (k : EntryKey) (key : RuleKey) → rule_at (with_place t k).rules key ≡ rule_at t.rules key
+placed-rule t (about.Rule own) key = rule_at-with_rule_place t.rules own key
+placed-rule t (about.Denied keyspace table) key = refl
+placed-rule t (about.Present keyspace table) key = refl
+
+placed-rules : (t : TopologyState) (keys : List EntryKey) (key : RuleKey) → rule_at (with_places t keys).rules key ≡ rule_at t.rules key
+placed-rules t [] key = refl
+placed-rules t (k ∷ ks) key = placed-rules (with_place t k) ks key ∙ placed-rule t k key
+
+-- what is kept of a key
+abbrev kept_at : Rules → RuleKey → RuleKey × Option RuleTarget
+kept_at rules key = (key, rule_at rules key)
+
+kept-same : (rules other : Rules) → ((key : RuleKey) → rule_at rules key ≡ rule_at other key) → (keys : List RuleKey) → map (kept_at rules) keys ≡ map (kept_at other) keys
+kept-same rules other same [] = refl
+kept-same rules other same (key ∷ keys) =
+    let beside : Option RuleTarget → Rules = λ r. (key, r) ∷ map (kept_at rules) keys in
+    ap beside (same key) ∙ ap (λ l. kept_at other key ∷ l) (kept-same rules other same keys)
+
+-- a new workflow is the same once its part has its places
+pub new-placed : (t : TopologyState) (keys : List EntryKey) (name source target : List ℕ) (tables : List (List ℕ)) (position : ℕ)
+    → new_workflow (with_places t keys).rules name source target tables position ≡ new_workflow t.rules name source target tables position
+new-placed t keys name source target tables position =
+    let keeping : Rules → WorkflowState = λ kept. record (new_workflow t.rules name source target tables position) { kept = kept } in
+    ap keeping (kept-same (with_places t keys).rules t.rules (placed-rules t keys) (keys_of_rules source target tables))
+
+-- ---- both sides are there
+
+pub sides-there : (t : TopologyState) (source target : List ℕ) (tables : List (List ℕ)) → reserve_refusal t source target tables ≡ None
+    → (is_some (keyspace_at t.keyspaces source) ≡ true) × (is_some (keyspace_at t.keyspaces target) ≡ true)
+sides-there t source target tables none = by (keyspace_at t.keyspaces source) refl (keyspace_at t.keyspaces target) refl
+  where
+    by : (s : Option KeyspaceState) → keyspace_at t.keyspaces source ≡ s → (g : Option KeyspaceState) → keyspace_at t.keyspaces target ≡ g
+        → (is_some (keyspace_at t.keyspaces source) ≡ true) × (is_some (keyspace_at t.keyspaces target) ≡ true)
+    by None at_source g at_target = absurd (let h = rw at_source at none in cc)
+    by (Some s) at_source None at_target = absurd (let h = rw (at_source, at_target) at none in cc)
+    by (Some s) at_source (Some g) at_target = (ap is_some at_source, ap is_some at_target)
+
+-- ---- the primary of the target
+
+-- as it was, where it isn't made
+pub not-prepared : (scopes : List Scope) (may_answer : Answering) (made : WorkflowState) (old new : Primaries) (r : Reason) → is_some (primary_at old made.target) ≡ true
+    → has_scope scopes (scope.Primary made.target) ≡ true → MakesAtTarget scopes may_answer made (change_of made) old (Err r) new → Prepares scopes may_answer made old (Err r) new
+not-prepared scopes may_answer made old new r there watched makes = by r makes
+  where
+    kept : set_value (same_text made.target) old (primary_of old made.target) ≡ old
+    kept =
+        let found = some_from (primary_at old made.target) there in
+        ap (set_value (same_text made.target) old) (found-is old made.target found.0 found.1) ∙ set_value_same (same_text made.target) old found.0 found.1
+
+    by : (r : Reason) → MakesAtTarget scopes may_answer made (change_of made) old (Err r) new → Prepares scopes may_answer made old (Err r) new
+    by reason.Memory (primary, same, is) = is ∙ ap (set_value (same_text made.target) old) same ∙ kept
+    by (reason.WatcherRefused index) (primary, (asks, same), is) = (asks, is ∙ ap (set_value (same_text made.target) old) same ∙ kept)
+    by reason.NoWatcher (primary, (lacks, same), is) = absurd (let h = sym watched ∙ lacks in cc)
+    by other (primary, makes, is) = makes
+
+-- ---- the whole
+
+-- a set that no test refuses is created as its workflow is made
+pub made-set : (core : CoreState) (scopes : List Scope) (may_answer : Answering) (workflow source target : List ℕ) (tables : List (List ℕ)) (placed : TopologyState) (result : Result ⊤ Reason) (new : CoreState)
+    → create_refusal core scopes workflow source target tables ≡ None
+    → placed ≡ with_places core.topology (part_keys source target tables)
+    → without_places (with_places core.topology (part_keys source target tables)) (part_keys source target tables) ≡ core.topology
+    → Makes scopes may_answer (new_of core workflow source target tables) (record core { topology = placed }) result new
+    → CreatesSet core scopes may_answer workflow source target tables (done_by result) new
+made-set core scopes may_answer workflow source target tables placed result new none is back makes = by result (subst family is makes)
+  where
+    over : TopologyState → CoreState
+    over t = record core { topology = t }
+
+    family : TopologyState → Type 0
+    family t = Makes scopes may_answer (new_of core workflow source target tables) (over t) result new
+
+    by : (result : Result ⊤ Reason) → Makes scopes may_answer (new_of core workflow source target tables) (over (with_places core.topology (part_keys source target tables))) result new
+        → CreatesSet core scopes may_answer workflow source target tables (done_by result) new
+    by (Ok is-done) (notice, asks, made) = (none, (notice, asks, made))
+    by (Err reason.Memory) same = (none, same ∙ ap over back)
+    by (Err (reason.WatcherRefused index)) (asks, same) = (none, asks, same ∙ ap over back)
+    by other makes = absurd makes
+
+-- the new workflow goes last
+pub workflow_pushed : {S : Type 0} (m : IndexMap (List ℕ) WorkflowState S) (workflows : Workflows) (name copy : List ℕ) (w made : WorkflowState) → m.entries ≡ workflows → copy ≡ name → w ≡ made → is_some (workflow_at workflows name) ≡ false
+    → insert_entry same_text m.entries copy w ≡ workflows ++ (name, made) ∷ []
+workflow_pushed m workflows name copy w made kept copied is absent =
+    ap (λ n. insert_entry same_text m.entries n w) copied ∙ ap (insert_entry same_text m.entries name) is
+    ∙ insert_entry-new same_text m name made (none_from (workflow_at m.entries name) (ap (λ es. is_some (workflow_at es name)) kept ∙ absent))
+    ∙ ap (λ es. es ++ (name, made) ∷ []) kept

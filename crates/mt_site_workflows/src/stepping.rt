@@ -1,0 +1,208 @@
+//! The next step of a way.
+ghost use Rattle.std.specs.Prelude.{◌≡◌, ◌≢◌, ℕ, ◌<◌, true, false, All, [], Some, is_some, option_map};
+ghost use Rattle.mt_event.specs.Reasons.{done_by, reason_from};
+ghost use Rattle.mt_model.specs.Topology.{has_place};
+ghost use Rattle.mt_plain.specs.Plain.{next_step};
+ghost use Rattle.mt_site_state.specs.Core.{primary_at};
+ghost use Rattle.mt_site_state.specs.Switching.{StepsWorkflow, answer_by_step, step_refusal};
+ghost use Rattle.mt_site_workflows.specs.Ways.{CanStep, IsUnderWay, StepsBetween, left_open};
+ghost use Rattle.mt_steps.specs.Faults.{refusal_of};
+ghost use Rattle.mt_steps.specs.Plans.{leaves_primaries, number, step_at};
+ghost use Rattle.mt_steps.specs.Steps.{nobody_answers};
+ghost use Rattle.mt_workflow.specs.Workflows.{way_from};
+
+use crate::primaries::{exchange_at, place_of, primary_of};
+use crate::{OpenWays, Primaries, Workflows};
+use mt_event::Reason;
+use mt_journal::Journal;
+use mt_names::WorkflowName;
+use mt_primary::Primary;
+use mt_steps::{OpenWay, Sides, Step, StepFault, do_reading_step, do_step, next_step};
+use mt_topology::Topology;
+use mt_watch::Asks;
+use mt_workflow::{Way, Workflow};
+use std::alloc::Global;
+
+/// The refusal of the controller for one of a step.
+fn refusal_by_step(fault: StepFault) -> Reason
+    ensures { reason_from result ≡ refusal_of fault }
+{
+    match fault {
+        StepFault::Memory => Reason::Memory,
+        StepFault::NotLevel => Reason::NotLevel,
+        StepFault::WatcherRefused(index) => Reason::WatcherRefused(index),
+        StepFault::NoWatcher => Reason::NoWatcher,
+        StepFault::Full => Reason::Full,
+    }
+}
+
+/// What the controller answers to a step.
+fn answer_by_step(done: Result<(), StepFault>) -> Result<(), Reason>
+    ensures { done_by result ≡ answer_by_step done }
+{
+    match done {
+        Ok(()) => Ok(()),
+        Err(fault) => Err(refusal_by_step(fault)),
+    }
+}
+
+/// Forgets what was kept of the way of a workflow, if no way is open on it now. It takes no memory.
+pub(crate) fn close(opened: &mut OpenWays, name: &WorkflowName, way: Option<Way>)
+    ensures { opened.new.entries ≡ left_open opened.old.entries name.now (option_map way_from way) }
+{
+    match way {
+        None => {
+            opened.shift_remove(name);
+        }
+        Some(_) => {}
+    }
+}
+
+/// What refuses a step before it is tried: `F28 Undoing`, `F25 Stale`.
+fn step_refusal(way: Way, at: u64) -> Option<Reason>
+    ensures { option_map reason_from result ≡ step_refusal at (way_from way) }
+{
+    if way.undoing {
+        return Some(Reason::Undoing);
+    }
+    if at != u64::from(way.done) {
+        return Some(Reason::Stale(u64::from(way.done)));
+    }
+    None
+}
+
+/// Does the step that is next between the primaries of a workflow's sides, if it leaves both as they are: they stay in their places, and it
+/// reads them there. It asks nobody.
+fn reading_step_between(
+    topology: &mut Topology,
+    primaries: &Primaries,
+    workflow: &mut Workflow,
+    way: Way,
+    step: Step,
+    journal: &mut Journal,
+    kept: &mut OpenWay,
+) -> Result<(), StepFault>
+    requires reads { leaves_primaries step ≡ true }
+    requires next { step ≡ step_at (next_step (way_from way)) }
+    requires number { number step ≡ next_step (way_from way) }
+    requires stands { IsUnderWay topology.old primaries.now.entries journal.old workflow.old.name workflow.old (way_from way) kept.old }
+    ensures { StepsBetween [] nobody_answers topology.old primaries.now.entries workflow.old (way_from way) journal.old kept.old result
+        topology.new primaries.now.entries workflow.new journal.new kept.new }
+{
+    let source = primary_of(primaries, workflow.source());
+    let target = primary_of(primaries, workflow.target());
+    do_reading_step(
+        way,
+        step,
+        kept.number,
+        topology,
+        source,
+        target,
+        workflow,
+        journal,
+        &mut kept.log,
+    )
+}
+
+/// Does the step that is next between the primaries of a workflow's sides, wherever they stand: it takes both out of their places
+/// meanwhile, and leaves empty ones there, which takes no memory.
+#[inline(never)]
+fn moving_step_between<W: Asks>(
+    alloc: Global,
+    topology: &mut Topology,
+    primaries: &mut Primaries,
+    workflow: &mut Workflow,
+    way: Way,
+    step: Step,
+    journal: &mut Journal,
+    kept: &mut OpenWay,
+    watchers: &W,
+) -> Result<(), StepFault>
+    requires next { step ≡ step_at (next_step (way_from way)) }
+    requires number { number step ≡ next_step (way_from way) }
+    requires way { workflow.old.way ≡ Some (way_from way) }
+    requires stands { IsUnderWay topology.old primaries.old.entries journal.old workflow.old.name workflow.old (way_from way) kept.old }
+    ensures { StepsBetween (W.scopes watchers.now) (W.may_answer watchers.now) topology.old primaries.old.entries workflow.old (way_from way) journal.old kept.old result
+        topology.new primaries.new.entries workflow.new journal.new kept.new }
+{
+    let at_source = place_of(primaries, workflow.source());
+    let at_target = place_of(primaries, workflow.target());
+    let mut source = exchange_at(primaries, at_source, Primary::new(alloc));
+    let mut target = exchange_at(primaries, at_target, Primary::new(alloc));
+    let mut sides = Sides {
+        topology,
+        source: &mut source,
+        target: &mut target,
+        workflow,
+        journal,
+        watchers,
+        number: kept.number,
+    };
+    let result = do_step(alloc, &mut sides, &mut kept.log, step);
+    exchange_at(primaries, at_source, source);
+    exchange_at(primaries, at_target, target);
+    result
+}
+
+/// Does the step that is next between the primaries of a workflow's sides: a refresh moves both.
+fn step_between<W: Asks>(
+    alloc: Global,
+    topology: &mut Topology,
+    primaries: &mut Primaries,
+    workflow: &mut Workflow,
+    way: Way,
+    journal: &mut Journal,
+    kept: &mut OpenWay,
+    watchers: &W,
+) -> Result<(), StepFault>
+    requires way { workflow.old.way ≡ Some (way_from way) }
+    requires stands { IsUnderWay topology.old primaries.old.entries journal.old workflow.old.name workflow.old (way_from way) kept.old }
+    ensures { StepsBetween (W.scopes watchers.now) (W.may_answer watchers.now) topology.old primaries.old.entries workflow.old (way_from way) journal.old kept.old result
+        topology.new primaries.new.entries workflow.new journal.new kept.new }
+{
+    let step = next_step(way);
+    if step.leaves_primaries() {
+        return reading_step_between(topology, primaries, workflow, way, step, journal, kept);
+    }
+    moving_step_between(
+        alloc, topology, primaries, workflow, way, step, journal, kept, watchers,
+    )
+}
+
+/// Does the next step of the way that is open on a live workflow, and closes the way behind its last one: `F7 NoWorkflow`,
+/// `F14 NothingUnderWay`, `F28 Undoing`, `F25 Stale`, and what the step itself is refused by: `F18 NotLevel`, `F24 NoWatcher`,
+/// `F27 Full`, `F0 Memory`, `F23 WatcherRefused`. A refusal leaves all as it was. (Vitess: SwitchTraffic, ReverseTraffic)
+pub fn step<W: Asks>(
+    alloc: Global,
+    topology: &mut Topology,
+    primaries: &mut Primaries,
+    workflows: &mut Workflows,
+    opened: &mut OpenWays,
+    journal: &mut Journal,
+    watchers: &W,
+    name: &WorkflowName,
+    at: u64,
+) -> Result<(), Reason>
+    requires { CanStep topology.old primaries.old.entries workflows.old.entries journal.old opened.old.entries name.now }
+    ensures { (begun : ℕ) → StepsWorkflow (record { core = record { topology = topology.old; primaries = primaries.old.entries; workflows = workflows.old.entries }; ways = record { opened = opened.old.entries; journal = journal.old; begun = begun } })
+        (W.scopes watchers.now) (W.may_answer watchers.now) name.now at (done_by result)
+        (record { core = record { topology = topology.new; primaries = primaries.new.entries; workflows = workflows.new.entries }; ways = record { opened = opened.new.entries; journal = journal.new; begun = begun } }) }
+{
+    let Some(workflow) = mt_few::get_mut(workflows, name) else {
+        return Err(Reason::NoWorkflow);
+    };
+    let Some(way) = workflow.way() else {
+        return Err(Reason::NothingUnderWay);
+    };
+    if let Some(refusal) = step_refusal(way, at) {
+        return Err(refusal);
+    }
+    let Some(kept) = mt_few::get_mut(opened, name) else {
+        unreachable!()
+    };
+    let result = step_between(
+        alloc, topology, primaries, workflow, way, journal, kept, watchers,
+    );
+    close(opened, name, workflow.way());
+    answer_by_step(result)
+}
