@@ -1,5 +1,5 @@
 -- A step, and an undo, between two primaries that stay in their places, or are taken out of them meanwhile.
-use Rattle.std.proofs.Common.{◌≡◌, ◌≢◌, ℕ, true, false, List, [], None, Some, Result, is_some, unwrap_or, subst, refl, sym, ap, ◌∙◌}
+use Rattle.std.proofs.Common.{◌≡◌, ◌≢◌, ℕ, true, false, List, None, Some, Result, is_some, unwrap_or, subst, refl, sym, ap, ◌∙◌}
 use Rattle.std.proofs.lemmas.Map.Steps.{set_value_same}
 use Rattle.std.specs.Prelude.{⊤, ◌==◌}
 use Rattle.std.specs.Map.{set_value}
@@ -15,15 +15,14 @@ use Rattle.mt_primary.specs.Primary.{PrimaryState, empty_primary}
 use Rattle.mt_steps.specs.declared.fault.StepFault.{StepFault}
 use Rattle.mt_steps.specs.declared.log.OpenWay.{OpenWay}
 use Rattle.mt_steps.specs.declared.step.Step.{Step}
-use Rattle.mt_steps.specs.Plans.{last_step, leaves_primaries, step_at}
-use Rattle.mt_steps.specs.Steps.{IsUndone, SidesState, Steps, nobody_answers, open_way}
+use Rattle.mt_steps.specs.Plans.{last_step, step_at}
+use Rattle.mt_steps.specs.Steps.{IsUndone, SidesState, Steps, open_way}
 use Rattle.mt_steps.specs.Undo.{UndoState}
 use Rattle.mt_watch.specs.Asking.{Answering}
 use Rattle.mt_workflow.specs.Workflows.{WorkflowState}
 use Rattle.mt_site_state.specs.Core.{Primaries, primary_at, primary_of}
 use Rattle.mt_site_state.specs.Switching.{Undoes}
 use Rattle.mt_site_workflows.specs.Ways.{StepsBetween, UndoesBetween, sides_between, with_primaries}
-use Rattle.mt_steps.proofs.StepLemmas.{steps_unasked}
 use Rattle.mt_site_workflows.proofs.PrimaryLemmas.{put-back, second-is}
 
 -- the way that is open
@@ -59,59 +58,6 @@ closed t primaries w new_w way journal o source target none is =
       refl,
       refl,
     )
-
--- a step to which both are lent
-pub lent : (t new_t : TopologyState) (primaries : Primaries) (w new_w : WorkflowState) (way : Way) (journal new_journal : List JournalEntry) (o : OpenWay) (log : UndoState) (step : Step) (result : Result ⊤ StepFault) (source target : PrimaryState)
-    → is_some (primary_at primaries w.source) ≡ true → is_some (primary_at primaries w.target) ≡ true → source ≡ primary_of primaries w.source → target ≡ primary_of primaries w.target
-    → step ≡ step_at (next_step way) → (scopes : List Scope) (may_answer : Answering)
-    → Steps scopes may_answer o.number way step (record { topology = t; source = source; target = target; workflow = w; journal = journal }) o.log result
-    (record { topology = new_t; source = source; target = target; workflow = new_w; journal = new_journal }) log
-    → StepsBetween scopes may_answer t primaries w way journal o result new_t primaries new_w new_journal (record { number = o.number; log = log })
-lent t new_t primaries w new_w way journal new_journal o log step result source target has_source has_target source_is target_is next scopes may_answer did =
-    let from : PrimaryState → PrimaryState → SidesState = λ s r. record { topology = t; source = s; target = r; workflow = w; journal = journal } in
-    let to : PrimaryState → PrimaryState → SidesState = λ s r. record { topology = new_t; source = s; target = r; workflow = new_w; journal = new_journal } in
-    let at_source = primary_of primaries w.source in
-    let at_target = primary_of primaries w.target in (
-      to at_source at_target,
-      log,
-      subst (λ n. Steps scopes may_answer o.number way n (from at_source at_target) o.log result (to at_source at_target) log) next
-          (subst (λ r. Steps scopes may_answer o.number way step (from at_source r) o.log result (to at_source r) log) target_is
-          (subst (λ s. Steps scopes may_answer o.number way step (from s target) o.log result (to s target) log) source_is did)),
-      refl,
-      both-stay primaries w has_source has_target,
-      refl,
-      refl,
-      refl,
-    )
-
--- an undo that looks at neither
-pub lent-undone : (t new_t : TopologyState) (primaries : Primaries) (w new_w : WorkflowState) (way : Way) (journal : List JournalEntry) (o : OpenWay) (log : UndoState) (step : Step)
-    → is_some (primary_at primaries w.source) ≡ true → is_some (primary_at primaries w.target) ≡ true → (way.done == 0) ≡ false → step ≡ step_at (last_step way)
-    → ((source target : PrimaryState) (entries : List JournalEntry) → IsUndone way step (record { topology = t; source = source; target = target; workflow = w; journal = entries }) o.log
-    (record { topology = new_t; source = source; target = target; workflow = new_w; journal = entries }) log)
-    → UndoesBetween t primaries w way journal o new_t primaries new_w journal (record { number = o.number; log = log })
-lent-undone t new_t primaries w new_w way journal o log step has_source has_target some last did =
-    let source = primary_of primaries w.source in
-    let target = primary_of primaries w.target in
-    let new : SidesState = record { topology = new_t; source = source; target = target; workflow = new_w; journal = journal } in (
-      new,
-      log,
-      subst (λ none. Undoes none way (sides_between t primaries w journal) o.log new log) (sym some)
-          (subst (λ s. IsUndone way s (sides_between t primaries w journal) o.log new log) last (did source target journal)),
-      refl,
-      both-stay primaries w has_source has_target,
-      refl,
-      refl,
-      refl,
-    )
-
--- whoever watches, it is done or refused alike, since it asks nobody
-pub between-unasked : (scopes : List Scope) (may_answer : Answering) (t : TopologyState) (primaries : Primaries) (w : WorkflowState) (way : Way) (journal : List JournalEntry) (o : OpenWay) (result : Result ⊤ StepFault)
-    (new_t : TopologyState) (new_primaries : Primaries) (new_w : WorkflowState) (new_journal : List JournalEntry) (new : OpenWay)
-    → leaves_primaries (step_at (next_step way)) ≡ true → StepsBetween [] nobody_answers t primaries w way journal o result new_t new_primaries new_w new_journal new
-    → StepsBetween scopes may_answer t primaries w way journal o result new_t new_primaries new_w new_journal new
-between-unasked scopes may_answer t primaries w way journal o result new_t new_primaries new_w new_journal new leaves (sides, log, did, topology, in_place, workflow, entries, kept) =
-    (sides, log, steps_unasked scopes may_answer o.number way (step_at (next_step way)) (sides_between t primaries w journal) o.log result sides log leaves did, topology, in_place, workflow, entries, kept)
 
 -- ---- where both are taken out of them meanwhile
 

@@ -3,6 +3,7 @@ ghost use Rattle.std.specs.Prelude.{◌≡◌, ◌≢◌, ◌<◌, ◌≤◌, �
 ghost use Rattle.indexmap.specs.IndexMap.{spare};
 ghost use Rattle.indexmap.specs.IndexSet.{insert_key};
 ghost use Rattle.mt_event.specs.Events.{done_from, refusal_from};
+ghost use Rattle.mt_event.specs.Reasons.{done_by};
 ghost use Rattle.mt_model.specs.Part.{part_keys};
 ghost use Rattle.mt_model.specs.Topology.{has_place};
 ghost use Rattle.std.specs.List.{AllByRecursion};
@@ -34,6 +35,19 @@ use std::slice;
 
 /// How many workflows may be live.
 const MAX_WORKFLOWS: usize = 16;
+
+/// What a Create asks for: a workflow that moves some tables from a source to a target.
+#[derive(Clone, Copy)]
+pub struct Move<'a> {
+    /// The workflow's name.
+    pub name: &'a WorkflowName,
+    /// Where the tables are.
+    pub source: &'a KeyspaceName,
+    /// Where they move to.
+    pub target: &'a KeyspaceName,
+    /// The tables.
+    pub tables: &'a [TableName],
+}
 
 /// Whether no table is named twice, so that the tables are a set as they stand. It takes no memory.
 fn is_set(tables: &[TableName]) -> bool
@@ -148,34 +162,37 @@ fn refusal_before<W: Asks>(
     primaries: &Primaries,
     workflows: &Workflows,
     watchers: &W,
-    name: &WorkflowName,
-    source: &KeyspaceName,
-    target: &KeyspaceName,
-    tables: &[TableName],
+    asked: Move<'_>,
 ) -> Option<Refusal>
-    ensures { create_refusal (record { topology = topology.now; primaries = primaries.now.entries; workflows = workflows.now.entries }) (W.scopes watchers.now) name.now source.now target.now tables.now
+    ensures { create_refusal (record { topology = topology.now; primaries = primaries.now.entries; workflows = workflows.now.entries }) (W.scopes watchers.now) asked.entry.name.now asked.entry.source.now asked.entry.target.now asked.entry.tables.now
         ≡ or_else (option_map refusal_from result)
-        (refuse_if (is_full (record { topology = topology.now; primaries = primaries.now.entries; workflows = workflows.now.entries }) source.now target.now tables.now) full) }
+        (refuse_if (is_full (record { topology = topology.now; primaries = primaries.now.entries; workflows = workflows.now.entries }) asked.entry.source.now asked.entry.target.now asked.entry.tables.now) full) }
 {
-    if workflows.contains_key(name) {
+    if workflows.contains_key(asked.name) {
         return Some(Refusal::Other(Reason::WorkflowExists));
     }
-    if tables.is_empty() {
+    if asked.tables.is_empty() {
         return Some(Refusal::Other(Reason::NoTables));
     }
-    if source == target {
+    if asked.source == asked.target {
         return Some(Refusal::Other(Reason::SameKeyspace));
     }
-    if !primaries.contains_key(source) {
+    if !primaries.contains_key(asked.source) {
         return Some(Refusal::Other(Reason::NoKeyspace));
     }
-    if !primaries.contains_key(target) {
+    if !primaries.contains_key(asked.target) {
         return Some(Refusal::Other(Reason::NoKeyspace));
     }
-    if let Some(refusal) = tables_refusal(topology, workflows, source, target, tables) {
+    if let Some(refusal) = tables_refusal(
+        topology,
+        workflows,
+        asked.source,
+        asked.target,
+        asked.tables,
+    ) {
         return Some(refusal);
     }
-    if !watchers.has(&Scope::Primary(target.copied())) {
+    if !watchers.has(&Scope::Primary(asked.target.copied())) {
         return Some(Refusal::Other(Reason::NoWatcher));
     }
     None
@@ -238,19 +255,22 @@ fn make<W: Asks>(
     primaries: &mut Primaries,
     workflows: &mut Workflows,
     watchers: &W,
-    name: &WorkflowName,
-    source: &KeyspaceName,
-    target: &KeyspaceName,
-    tables: &[TableName],
+    asked: Move<'_>,
 ) -> Result<(), Reason>
-    requires few { length tables.now ≤ most_tables }
-    requires ready { IsReady (W.scopes watchers.now) primaries.old.entries source.now target.now tables.now }
-    requires new { is_some (workflow_at workflows.old.entries name.now) ≡ false }
-    requires places { All (λ key. has_place topology.old key ≡ true) (part_keys source.now target.now tables.now) }
-    ensures { Makes (W.scopes watchers.now) (W.may_answer watchers.now) (new_workflow topology.old.rules name.now source.now target.now tables.now (length (primary_of primaries.old.entries source.now).log))
+    requires few { length asked.tables.now ≤ most_tables }
+    requires ready { IsReady (W.scopes watchers.now) primaries.old.entries asked.source.now asked.target.now asked.tables.now }
+    requires new { is_some (workflow_at workflows.old.entries asked.name.now) ≡ false }
+    requires places { All (λ key. has_place topology.old key ≡ true) (part_keys asked.source.now asked.target.now asked.tables.now) }
+    ensures { Makes (W.scopes watchers.now) (W.may_answer watchers.now) (new_workflow topology.old.rules asked.entry.name.now asked.entry.source.now asked.entry.target.now asked.entry.tables.now (length (primary_of primaries.old.entries asked.entry.source.now).log))
         (record { topology = topology.old; primaries = primaries.old.entries; workflows = workflows.old.entries }) result
         (record { topology = topology.new; primaries = primaries.new.entries; workflows = workflows.new.entries }) }
 {
+    let Move {
+        name,
+        source,
+        target,
+        tables,
+    } = asked;
     let position = position_of(primaries, source);
     let Ok(workflow) = Workflow::new(alloc, name, source, target, tables, topology, position) else {
         topology.release_part(source, target, tables);
@@ -271,6 +291,16 @@ fn make<W: Asks>(
     }
 }
 
+/// What the controller answers to a Create that passed its tests.
+fn answer_by_reason(made: Result<(), Reason>) -> Result<(), Refusal>
+    ensures { done_from result ≡ done_by made }
+{
+    match made {
+        Ok(()) => Ok(()),
+        Err(reason) => Err(Refusal::Other(reason)),
+    }
+}
+
 /// Creates a workflow of a set of tables.
 #[inline(never)]
 fn create_set<W: Asks>(
@@ -279,32 +309,24 @@ fn create_set<W: Asks>(
     primaries: &mut Primaries,
     workflows: &mut Workflows,
     watchers: &W,
-    name: &WorkflowName,
-    source: &KeyspaceName,
-    target: &KeyspaceName,
-    tables: &[TableName],
+    asked: Move<'_>,
 ) -> Result<(), Refusal>
-    requires few { length tables.now ≤ most_tables }
-    requires once { each_once tables.now ≡ tables.now }
-    requires can { CanCreate (record { topology = topology.old; primaries = primaries.old.entries; workflows = workflows.old.entries }) (W.scopes watchers.now) name.now source.now target.now tables.now }
-    ensures { CreatesSet (record { topology = topology.old; primaries = primaries.old.entries; workflows = workflows.old.entries }) (W.scopes watchers.now) (W.may_answer watchers.now) name.now source.now target.now tables.now (done_from result)
+    requires few { length asked.tables.now ≤ most_tables }
+    requires once { each_once asked.tables.now ≡ asked.tables.now }
+    requires can { CanCreate (record { topology = topology.old; primaries = primaries.old.entries; workflows = workflows.old.entries }) (W.scopes watchers.now) asked.name.now asked.source.now asked.target.now asked.tables.now }
+    ensures { CreatesSet (record { topology = topology.old; primaries = primaries.old.entries; workflows = workflows.old.entries }) (W.scopes watchers.now) (W.may_answer watchers.now) asked.entry.name.now asked.entry.source.now asked.entry.target.now asked.entry.tables.now (done_from result)
         (record { topology = topology.new; primaries = primaries.new.entries; workflows = workflows.new.entries }) }
 {
-    if let Some(refusal) = refusal_before(
-        topology, primaries, workflows, watchers, name, source, target, tables,
-    ) {
+    if let Some(refusal) = refusal_before(topology, primaries, workflows, watchers, asked) {
         return Err(refusal);
     }
     if workflows.len() >= MAX_WORKFLOWS {
         return Err(Refusal::Other(Reason::Full));
     }
-    match topology.reserve_part(source, target, tables) {
-        Ok(()) => match make(
-            alloc, topology, primaries, workflows, watchers, name, source, target, tables,
-        ) {
-            Ok(()) => Ok(()),
-            Err(reason) => Err(Refusal::Other(reason)),
-        },
+    match topology.reserve_part(asked.source, asked.target, asked.tables) {
+        Ok(()) => answer_by_reason(make(
+            alloc, topology, primaries, workflows, watchers, asked,
+        )),
         Err(TopologyFault::Memory) => Err(Refusal::Other(Reason::Memory)),
         Err(_) => Err(Refusal::Other(Reason::Full)),
     }
@@ -320,33 +342,22 @@ pub fn create<W: Asks>(
     primaries: &mut Primaries,
     workflows: &mut Workflows,
     watchers: &W,
-    name: &WorkflowName,
-    source: &KeyspaceName,
-    target: &KeyspaceName,
-    tables: &[TableName],
+    asked: Move<'_>,
 ) -> Result<(), Refusal>
-    requires few { length tables.now ≤ most_tables }
-    requires can { CanCreate (record { topology = topology.old; primaries = primaries.old.entries; workflows = workflows.old.entries }) (W.scopes watchers.now) name.now source.now target.now (each_once tables.now) }
-    ensures { Creates (record { topology = topology.old; primaries = primaries.old.entries; workflows = workflows.old.entries }) (W.scopes watchers.now) (W.may_answer watchers.now) name.now source.now target.now tables.now (done_from result)
+    requires few { length asked.tables.now ≤ most_tables }
+    requires can { CanCreate (record { topology = topology.old; primaries = primaries.old.entries; workflows = workflows.old.entries }) (W.scopes watchers.now) asked.name.now asked.source.now asked.target.now (each_once asked.tables.now) }
+    ensures { Creates (record { topology = topology.old; primaries = primaries.old.entries; workflows = workflows.old.entries }) (W.scopes watchers.now) (W.may_answer watchers.now) asked.entry.name.now asked.entry.source.now asked.entry.target.now asked.entry.tables.now (done_from result)
         (record { topology = topology.new; primaries = primaries.new.entries; workflows = workflows.new.entries }) }
 {
-    if is_set(tables) {
-        return create_set(
-            alloc, topology, primaries, workflows, watchers, name, source, target, tables,
-        );
+    if is_set(asked.tables) {
+        return create_set(alloc, topology, primaries, workflows, watchers, asked);
     }
-    let set = each_once(tables);
-    create_set(
-        alloc,
-        topology,
-        primaries,
-        workflows,
-        watchers,
-        name,
-        source,
-        target,
-        set.as_slice(),
-    )
+    let set = each_once(asked.tables);
+    let once = Move {
+        tables: set.as_slice(),
+        ..asked
+    };
+    create_set(alloc, topology, primaries, workflows, watchers, once)
 }
 
 /// The names that a Create brings are names, for a caller's proof. It does nothing.

@@ -16,7 +16,7 @@ mod undoing;
 pub use beginning::{begin_reverse, begin_switch};
 pub use cancelling::cancel;
 pub use completing::complete;
-pub use creating::{create, names_are_names};
+pub use creating::{Move, create, names_are_names};
 pub(crate) use mt_site_state::{OpenWays, Primaries, Workflows};
 pub use primaries::{exchange_at, place_of};
 pub use stepping::step;

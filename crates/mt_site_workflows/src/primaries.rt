@@ -11,17 +11,6 @@ use mt_names::KeyspaceName;
 use mt_primary::Primary;
 use std::mem;
 
-/// The primary of a keyspace that has one. It takes no memory.
-pub(crate) fn primary_of<'a>(primaries: &'a Primaries, keyspace: &KeyspaceName) -> &'a Primary
-    requires { is_some (primary_at primaries.now.entries keyspace.now) ≡ true }
-    ensures { result.now ≡ primary_of primaries.now.entries keyspace.now }
-{
-    match mt_few::get(primaries, keyspace) {
-        None => unreachable!(),
-        Some(primary) => primary,
-    }
-}
-
 /// The place of a keyspace's primary among the others, for `exchange_at`. It takes no memory.
 pub fn place_of(primaries: &Primaries, keyspace: &KeyspaceName) -> usize
     requires { is_some (primary_at primaries.now.entries keyspace.now) ≡ true }

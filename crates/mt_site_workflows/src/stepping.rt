@@ -2,22 +2,19 @@
 ghost use Rattle.std.specs.Prelude.{◌≡◌, ◌≢◌, ℕ, ◌<◌, true, false, All, [], Some, is_some, option_map};
 ghost use Rattle.mt_event.specs.Reasons.{done_by, reason_from};
 ghost use Rattle.mt_model.specs.Topology.{has_place};
-ghost use Rattle.mt_plain.specs.Plain.{next_step};
 ghost use Rattle.mt_site_state.specs.Core.{primary_at};
 ghost use Rattle.mt_site_state.specs.Switching.{StepsWorkflow, answer_by_step, step_refusal};
 ghost use Rattle.mt_site_workflows.specs.Ways.{CanStep, IsUnderWay, StepsBetween, left_open};
 ghost use Rattle.mt_steps.specs.Faults.{refusal_of};
-ghost use Rattle.mt_steps.specs.Plans.{leaves_primaries, number, step_at};
-ghost use Rattle.mt_steps.specs.Steps.{nobody_answers};
 ghost use Rattle.mt_workflow.specs.Workflows.{way_from};
 
-use crate::primaries::{exchange_at, place_of, primary_of};
+use crate::primaries::{exchange_at, place_of};
 use crate::{OpenWays, Primaries, Workflows};
 use mt_event::Reason;
 use mt_journal::Journal;
 use mt_names::WorkflowName;
 use mt_primary::Primary;
-use mt_steps::{OpenWay, Sides, Step, StepFault, do_reading_step, do_step, next_step};
+use mt_steps::{OpenWay, Sides, StepFault, do_step, next_step};
 use mt_topology::Topology;
 use mt_watch::Asks;
 use mt_workflow::{Way, Workflow};
@@ -71,55 +68,19 @@ fn step_refusal(way: Way, at: u64) -> Option<Reason>
     None
 }
 
-/// Does the step that is next between the primaries of a workflow's sides, if it leaves both as they are: they stay in their places, and it
-/// reads them there. It asks nobody.
-fn reading_step_between(
-    topology: &mut Topology,
-    primaries: &Primaries,
-    workflow: &mut Workflow,
-    way: Way,
-    step: Step,
-    journal: &mut Journal,
-    kept: &mut OpenWay,
-) -> Result<(), StepFault>
-    requires reads { leaves_primaries step ≡ true }
-    requires next { step ≡ step_at (next_step (way_from way)) }
-    requires number { number step ≡ next_step (way_from way) }
-    requires stands { IsUnderWay topology.old primaries.now.entries journal.old workflow.old.name workflow.old (way_from way) kept.old }
-    ensures { StepsBetween [] nobody_answers topology.old primaries.now.entries workflow.old (way_from way) journal.old kept.old result
-        topology.new primaries.now.entries workflow.new journal.new kept.new }
-{
-    let source = primary_of(primaries, workflow.source());
-    let target = primary_of(primaries, workflow.target());
-    do_reading_step(
-        way,
-        step,
-        kept.number,
-        topology,
-        source,
-        target,
-        workflow,
-        journal,
-        &mut kept.log,
-    )
-}
-
 /// Does the step that is next between the primaries of a workflow's sides, wherever they stand: it takes both out of their places
 /// meanwhile, and leaves empty ones there, which takes no memory.
 #[inline(never)]
-fn moving_step_between<W: Asks>(
+fn step_between<W: Asks>(
     alloc: Global,
     topology: &mut Topology,
     primaries: &mut Primaries,
     workflow: &mut Workflow,
     way: Way,
-    step: Step,
     journal: &mut Journal,
     kept: &mut OpenWay,
     watchers: &W,
 ) -> Result<(), StepFault>
-    requires next { step ≡ step_at (next_step (way_from way)) }
-    requires number { number step ≡ next_step (way_from way) }
     requires way { workflow.old.way ≡ Some (way_from way) }
     requires stands { IsUnderWay topology.old primaries.old.entries journal.old workflow.old.name workflow.old (way_from way) kept.old }
     ensures { StepsBetween (W.scopes watchers.now) (W.may_answer watchers.now) topology.old primaries.old.entries workflow.old (way_from way) journal.old kept.old result
@@ -138,35 +99,10 @@ fn moving_step_between<W: Asks>(
         watchers,
         number: kept.number,
     };
-    let result = do_step(alloc, &mut sides, &mut kept.log, step);
+    let result = do_step(alloc, &mut sides, &mut kept.log, next_step(way));
     exchange_at(primaries, at_source, source);
     exchange_at(primaries, at_target, target);
     result
-}
-
-/// Does the step that is next between the primaries of a workflow's sides: a refresh moves both.
-fn step_between<W: Asks>(
-    alloc: Global,
-    topology: &mut Topology,
-    primaries: &mut Primaries,
-    workflow: &mut Workflow,
-    way: Way,
-    journal: &mut Journal,
-    kept: &mut OpenWay,
-    watchers: &W,
-) -> Result<(), StepFault>
-    requires way { workflow.old.way ≡ Some (way_from way) }
-    requires stands { IsUnderWay topology.old primaries.old.entries journal.old workflow.old.name workflow.old (way_from way) kept.old }
-    ensures { StepsBetween (W.scopes watchers.now) (W.may_answer watchers.now) topology.old primaries.old.entries workflow.old (way_from way) journal.old kept.old result
-        topology.new primaries.new.entries workflow.new journal.new kept.new }
-{
-    let step = next_step(way);
-    if step.leaves_primaries() {
-        return reading_step_between(topology, primaries, workflow, way, step, journal, kept);
-    }
-    moving_step_between(
-        alloc, topology, primaries, workflow, way, step, journal, kept, watchers,
-    )
 }
 
 /// Does the next step of the way that is open on a live workflow, and closes the way behind its last one: `F7 NoWorkflow`,

@@ -13,7 +13,7 @@ use mt_event::Reason;
 use mt_journal::Journal;
 use mt_names::WorkflowName;
 use mt_primary::Primary;
-use mt_steps::{OpenWay, Sides, last_step, undo_last, undo_reading_step};
+use mt_steps::{OpenWay, Sides, undo_last};
 use mt_topology::Topology;
 use mt_watch::Asks;
 use mt_workflow::{Way, Workflow};
@@ -35,7 +35,7 @@ fn undo_refusal(way: Way, at: u64) -> Option<Reason>
 /// Undoes the step that was done last between the primaries of a workflow's sides, wherever they stand: it takes both out of their places
 /// meanwhile, and leaves empty ones there, which takes no memory.
 #[inline(never)]
-fn undo_moving<W: Asks>(
+fn undo_done<W: Asks>(
     alloc: Global,
     topology: &mut Topology,
     primaries: &mut Primaries,
@@ -68,34 +68,6 @@ fn undo_moving<W: Asks>(
     undo_last(&mut sides, &mut kept.log);
     exchange_at(primaries, at_source, source);
     exchange_at(primaries, at_target, target);
-}
-
-/// Undoes the step that was done last between the primaries of a workflow's sides: that of the source's refresh moves both.
-fn undo_done<W: Asks>(
-    alloc: Global,
-    topology: &mut Topology,
-    primaries: &mut Primaries,
-    workflow: &mut Workflow,
-    way: Way,
-    journal: &mut Journal,
-    kept: &mut OpenWay,
-    watchers: &W,
-)
-    requires way { workflow.old.way ≡ Some (way_from way) }
-    requires stands { IsUnderWay topology.old primaries.old.entries journal.old workflow.old.name workflow.old (way_from way) kept.old }
-    requires before { stands_done (way_from way) write_journal ≡ false }
-    requires some { (way.done == 0) ≡ false }
-    ensures { UndoesBetween topology.old primaries.old.entries workflow.old (way_from way) journal.old kept.old
-        topology.new primaries.new.entries workflow.new journal.new kept.new }
-{
-    let step = last_step(way);
-    if step.leaves_primaries() {
-        undo_reading_step(way, step, topology, workflow, &mut kept.log);
-        return;
-    }
-    undo_moving(
-        alloc, topology, primaries, workflow, way, journal, kept, watchers,
-    );
 }
 
 /// Undoes the step that was done last between the primaries of a workflow's sides, or closes the way, if none of its steps stands done.

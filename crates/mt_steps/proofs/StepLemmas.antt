@@ -1,23 +1,18 @@
 -- What a step leaves of a workflow, and which steps a way has.
-use Rattle.std.proofs.Common.{◌≡◌, ℕ, zero, suc, ◌+◌, Bool, true, false, ◌||◌, if◌then◌else◌, List, [], ◌∷◌, ◌++◌, slice_get, length, Option, None, Some, Result, Ok, Err, refl, sym, ap, arith, map, All, subst, ◌∙◌}
+use Rattle.std.proofs.Common.{◌≡◌, ℕ, zero, suc, ◌+◌, Bool, true, false, ◌||◌, if◌then◌else◌, List, [], ◌∷◌, ◌++◌, slice_get, length, Option, Some, refl, sym, ap, arith, map, All, subst, ◌∙◌}
 use Rattle.std.specs.Bool.{⊤}
 use Rattle.mt_model.specs.declared.entries.Entry.{Entry}
-use Rattle.mt_model.specs.declared.entries.Scope.{Scope}
 use Rattle.mt_model.specs.Part.{with_entries}
-use Rattle.mt_model.specs.Topology.{Marks, TopologyState, has_place, key_of}
-use Rattle.mt_primary.specs.Primary.{PrimaryState}
+use Rattle.mt_model.specs.Topology.{TopologyState, has_place, key_of}
 use Rattle.mt_plain.specs.Events.{StreamName, forward, back, Way}
 use Rattle.mt_plain.specs.Plain.{behind_last, changed_types, deny_source, first_step, next_step, switch_reads}
 use Rattle.mt_stream.specs.Streams.{StreamValue}
-use Rattle.mt_watch.specs.Asking.{Answering}
 use Rattle.mt_workflow.specs.Workflows.{WorkflowState, keys_of_part, with_slot}
-use Rattle.mt_steps.specs.declared.fault.StepFault.{StepFault}
 use Rattle.mt_steps.specs.declared.step.Step.{Step}
 use Rattle.mt_steps.specs.declared.step.Step.TheVariants.{SwitchReads, DenySource, RefreshSource, CatchUp, StopFeeding, CreateBack, Journal, AllowTarget, RefreshTarget, SwitchWriteRules, StartBack, FreezeOld}
-use Rattle.mt_steps.specs.Plans.{leaves_primaries, number, steps_of, steps_of_writes}
+use Rattle.mt_steps.specs.Plans.{number, steps_of, steps_of_writes}
 use Rattle.mt_steps.specs.Entries.{HasPlaces, recorded}
-use Rattle.mt_steps.specs.Refreshes.{Sites}
-use Rattle.mt_steps.specs.Steps.{Attempts, IsGivenBack, SidesState, Steps, given_listed, given_slot, left_slot, log_undone, nobody_answers, sites}
+use Rattle.mt_steps.specs.Steps.{given_slot}
 use Rattle.mt_steps.specs.Streams.{feeding_name, other_name, streams_undone, with_streams, workflow_stepped, workflow_undone}
 use Rattle.mt_steps.specs.Undo.{IsLogOf, UndoState}
 use Rattle.mt_steps.proofs.BackLemmas.{part_places_stay}
@@ -111,75 +106,6 @@ module _ (way : Way) (step : Step) (t u : TopologyState) (w v : WorkflowState) (
   undone_places workflow places =
       subst (λ ks. All (λ key. has_place u key ≡ true) ks) (sym (ap keys_of_part workflow ∙ undone-part w way step log.slot))
       (subst (λ x. HasPlaces x w) (sym topology) (part_places_stay t w es places))
-
--- ---- steps that leave both primaries as they are
-
--- their undo gives nothing back to a primary
-pub none_given : (at_target : Bool) (step : Step) (listed : Option Marks) (source target : PrimaryState) → leaves_primaries step ≡ true → IsGivenBack at_target (given_listed step listed) source target source target
-none_given at_target step listed source target leaves = subst (λ m. IsGivenBack at_target m source target source target) (sym (gives_none step leaves)) (both at_target)
-  where
-    gives_none : (s : Step) → leaves_primaries s ≡ true → given_listed s listed ≡ None
-    gives_none SwitchReads is = refl
-    gives_none DenySource is = refl
-    gives_none RefreshSource is = absurd cc
-    gives_none CatchUp is = refl
-    gives_none StopFeeding is = refl
-    gives_none CreateBack is = refl
-    gives_none Journal is = refl
-    gives_none AllowTarget is = refl
-    gives_none RefreshTarget is = refl
-    gives_none SwitchWriteRules is = refl
-    gives_none StartBack is = refl
-    gives_none FreezeOld is = refl
-
-    both : (b : Bool) → IsGivenBack b None source target source target
-    both true = (refl, refl)
-    both false = (refl, refl)
-
-pub keeps_listed : (step : Step) (log : UndoState) → leaves_primaries step ≡ true → record log { slot = left_slot step log.slot } ≡ log_undone step log
-keeps_listed SwitchReads log is = refl
-keeps_listed DenySource log is = refl
-keeps_listed RefreshSource log is = absurd cc
-keeps_listed CatchUp log is = refl
-keeps_listed StopFeeding log is = refl
-keeps_listed CreateBack log is = refl
-keeps_listed Journal log is = refl
-keeps_listed AllowTarget log is = refl
-keeps_listed RefreshTarget log is = refl
-keeps_listed SwitchWriteRules log is = refl
-keeps_listed StartBack log is = refl
-keeps_listed FreezeOld log is = refl
-
--- ---- steps that ask nobody
-
--- a step that leaves both primaries as they are is tried alike, whoever watches
-pub attempts_unasked : (scopes : List Scope) (may_answer : Answering) (id : ℕ) (t : TopologyState) (w : WorkflowState) (way : Way) (step : Step) (old : Sites) (answer : Result ⊤ StepFault) (new : Sites)
-    → leaves_primaries step ≡ true → Attempts [] nobody_answers id t w way step old answer new → Attempts scopes may_answer id t w way step old answer new
-attempts_unasked scopes may_answer id t w way SwitchReads old answer new leaves did = did
-attempts_unasked scopes may_answer id t w way DenySource old answer new leaves did = did
-attempts_unasked scopes may_answer id t w way RefreshSource old answer new leaves did = absurd cc
-attempts_unasked scopes may_answer id t w way CatchUp old answer new leaves did = did
-attempts_unasked scopes may_answer id t w way StopFeeding old answer new leaves did = did
-attempts_unasked scopes may_answer id t w way CreateBack old answer new leaves did = did
-attempts_unasked scopes may_answer id t w way Journal old answer new leaves did = did
-attempts_unasked scopes may_answer id t w way AllowTarget old answer new leaves did = did
-attempts_unasked scopes may_answer id t w way RefreshTarget old answer new leaves did = absurd cc
-attempts_unasked scopes may_answer id t w way SwitchWriteRules old answer new leaves did = did
-attempts_unasked scopes may_answer id t w way StartBack old answer new leaves did = did
-attempts_unasked scopes may_answer id t w way FreezeOld old answer new leaves did = did
-
--- and it is done or refused alike
-pub steps_unasked : (scopes : List Scope) (may_answer : Answering) (id : ℕ) (way : Way) (step : Step) (old : SidesState) (log : UndoState) (result : Result ⊤ StepFault) (new : SidesState) (new_log : UndoState)
-    → leaves_primaries step ≡ true → Steps [] nobody_answers id way step old log result new new_log → Steps scopes may_answer id way step old log result new new_log
-steps_unasked scopes may_answer id way step old log (Ok done) new new_log leaves did = record {
-  attempt = attempts_unasked scopes may_answer id old.topology old.workflow way step (sites old log) (Ok tt) (sites new new_log) leaves did.attempt;
-  topology = did.topology;
-  workflow = did.workflow;
-  entries = did.entries;
-  slot = did.slot;
-}
-steps_unasked scopes may_answer id way step old log (Err fault) new new_log leaves (tried, same, kept) =
-    (attempts_unasked scopes may_answer id old.topology old.workflow way step (sites old log) (Err fault) (sites old log) leaves tried, same, kept)
 
 -- ---- plans
 

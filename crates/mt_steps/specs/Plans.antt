@@ -1,5 +1,5 @@
 -- The twelve steps of a way, and which of them a way has.
-use Rattle.std.specs.Prelude.{ℕ, ◌-◌, ◌||◌, ◌+◌, Bool, true, false, List, [], ◌∷◌, ◌++◌, if◌then◌else◌, slice_index_or}
+use Rattle.std.specs.Prelude.{ℕ, ◌-◌, ◌||◌, ◌+◌, List, [], ◌∷◌, ◌++◌, if◌then◌else◌, slice_index_or}
 use Rattle.mt_names.specs.declared.types.TypeSet.{TypeSet}
 use Rattle.mt_plain.specs.Events.{Way}
 use Rattle.mt_plain.specs.Plain.{allow_target, catch_up, create_back, deny_source, first_step, freeze_old, refresh_source, refresh_target, start_back, stop_feeding, switch_reads, switch_write_rules, write_journal}
@@ -20,12 +20,6 @@ number RefreshTarget = refresh_target
 number SwitchWriteRules = switch_write_rules
 number StartBack = start_back
 number FreezeOld = freeze_old
-
--- whether a step leaves both primaries as they are: each does but the two refreshes (How traffic is switched: RefreshState)
-abbrev pub leaves_primaries : Step → Bool
-leaves_primaries RefreshSource = false
-leaves_primaries RefreshTarget = false
-leaves_primaries other = true
 
 -- the steps that switch writes, in their order (How traffic is switched: writes)
 abbrev pub steps_of_writes : List Step

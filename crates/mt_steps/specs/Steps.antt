@@ -65,10 +65,6 @@ Attempts scopes may_answer id t w way Journal old answer new =
     × (new.source ≡ old.source) × (new.target ≡ old.target) × (new.listed ≡ old.listed)
 Attempts scopes may_answer id t w way other old answer new = (answer ≡ Ok tt) × (new ≡ old)
 
--- what watchers may answer where there are none (this profile's own)
-abbrev pub nobody_answers : Answering
-nobody_answers i change answer = ⊥
-
 -- ---- a step
 
 -- the primaries, the journal and the record of an own list, of a state and its record

@@ -1,11 +1,10 @@
 //! The part of a step that may be refused.
-ghost use Rattle.std.specs.Prelude.{◌≡◌, ◌||◌, true, not, [], Option, None};
-ghost use Rattle.mt_model.specs.Topology.{Marks, TopologyState};
+ghost use Rattle.std.specs.Prelude.{◌≡◌, ◌||◌, not, None};
 ghost use Rattle.mt_plain.specs.Plain.{write_journal};
 ghost use Rattle.mt_workflow.specs.Workflows.{way_from};
 ghost use Rattle.mt_journal.specs.Journal.{entry_of};
-ghost use Rattle.mt_steps.specs.Plans.{leaves_primaries, number};
-ghost use Rattle.mt_steps.specs.Steps.{Attempts, Journals, answer_if_level, journal_entry, nobody_answers};
+ghost use Rattle.mt_steps.specs.Plans.{number};
+ghost use Rattle.mt_steps.specs.Steps.{Attempts, Journals, answer_if_level, journal_entry};
 ghost use Rattle.mt_steps.specs.Streams.{is_fed, serves_other_side};
 
 use crate::fault::StepFault;
@@ -75,32 +74,6 @@ fn append(
     }
 }
 
-/// Does the part that may be refused of a step that leaves both primaries as they are, and leaves all as it was if it is refused. It asks
-/// nobody.
-#[inline(always)]
-pub(crate) fn attempt_reading(
-    way: Way,
-    step: Step,
-    id: u64,
-    workflow: &Workflow,
-    source: &Primary,
-    target: &Primary,
-    journal: &mut Journal,
-) -> Result<(), StepFault>
-    requires reads { leaves_primaries step ≡ true }
-    requires fresh { number step ≡ write_journal → entry_of journal.old id ≡ None }
-    ensures { (topology : TopologyState) (listed : Option Marks) → Attempts [] nobody_answers id topology workflow.now (way_from way) step
-        (record { source = source.now; target = target.now; journal = journal.old; listed = listed }) result
-        (record { source = source.now; target = target.now; journal = journal.new; listed = listed }) }
-{
-    match step {
-        Step::SwitchReads => check_reads(workflow, way, source, target),
-        Step::CatchUp => check_level(workflow, way, source, target),
-        Step::Journal => append(journal, id, workflow, way, source, target),
-        _ => Ok(()),
-    }
-}
-
 /// Does the part of a step that may be refused, and leaves all as it was if it is refused.
 pub(crate) fn attempt<W: Asks>(
     alloc: Global,
@@ -132,6 +105,9 @@ pub(crate) fn attempt<W: Asks>(
                 alloc, topology, workflow, !at_target, source, target, watchers, listed,
             )
         }
-        _ => attempt_reading(way, step, id, workflow, source, target, journal),
+        Step::SwitchReads => check_reads(workflow, way, source, target),
+        Step::CatchUp => check_level(workflow, way, source, target),
+        Step::Journal => append(journal, id, workflow, way, source, target),
+        _ => Ok(()),
     }
 }

@@ -19,6 +19,6 @@ pub use laws::{
 };
 pub use log::{OpenWay, UndoLog};
 pub use plan::Plan;
-pub use sides::{Sides, do_reading_step, do_step, undo_last, undo_reading_step};
+pub use sides::{Sides, do_step, undo_last};
 pub use step::Step;
 pub use streams::{last_step, next_step};

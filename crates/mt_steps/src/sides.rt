@@ -4,16 +4,14 @@ ghost use Rattle.mt_model.specs.Part.{with_entries};
 ghost use Rattle.mt_model.specs.Topology.{has_place, key_of};
 ghost use Rattle.mt_plain.specs.Plain.{next_step, write_journal};
 ghost use Rattle.mt_workflow.specs.Workflows.{way_from};
-ghost use Rattle.mt_primary.specs.Primary.{PrimaryState};
 ghost use Rattle.mt_journal.specs.Journal.{entry_of};
-ghost use Rattle.mt_journal.specs.declared.entry.JournalEntry.{JournalEntry};
 ghost use Rattle.mt_steps.specs.Entries.{HasPlaces, recorded, recorded_of, step_entries};
-ghost use Rattle.mt_steps.specs.Plans.{last_step, leaves_primaries, number, step_at};
-ghost use Rattle.mt_steps.specs.Steps.{IsGivenBack, IsUndone, Steps, left_slot, nobody_answers, open_way};
+ghost use Rattle.mt_steps.specs.Plans.{last_step, number, step_at};
+ghost use Rattle.mt_steps.specs.Steps.{IsGivenBack, IsUndone, Steps, left_slot, open_way};
 ghost use Rattle.mt_steps.specs.Streams.{put_away, workflow_stepped, workflow_undone};
 ghost use Rattle.mt_steps.specs.Undo.{IsLogOf};
 
-use crate::attempt::{attempt, attempt_reading};
+use crate::attempt::attempt;
 use crate::fault::StepFault;
 use crate::log::UndoLog;
 use crate::step::Step;
@@ -124,40 +122,6 @@ fn step_of_way<W: Asks>(
     Ok(())
 }
 
-/// Does the step of a way that is next, if it leaves both primaries as they are, as each step does but the two refreshes
-/// (`Step::leaves_primaries`). `source` and `target` are the primaries of the workflow's sides, which it only reads; `way` is the way that
-/// is open on the workflow, and `id` its number; `log` becomes what its undo needs. See `Step` for what each step does, and what refuses
-/// it: `F18 NotLevel`, `F27 Full`, `F0 Memory`. A refused step leaves everything as it was. It asks nobody, and of these steps only the
-/// journal takes memory. (Vitess: SwitchTraffic, ReverseTraffic)
-pub fn do_reading_step(
-    way: Way,
-    step: Step,
-    id: u64,
-    topology: &mut Topology,
-    source: &Primary,
-    target: &Primary,
-    workflow: &mut Workflow,
-    journal: &mut Journal,
-    log: &mut UndoLog,
-) -> Result<(), StepFault>
-    requires reads { leaves_primaries step ≡ true }
-    requires next { number step ≡ next_step (way_from way) }
-    requires places { HasPlaces topology.old workflow.old }
-    requires log { IsLogOf workflow.old log.old }
-    requires fresh { number step ≡ write_journal → entry_of journal.old id ≡ None }
-    ensures log { IsLogOf workflow.new log.new }
-    ensures places { HasPlaces topology.new workflow.new }
-    ensures steps { Steps [] nobody_answers id (way_from way) step
-        (record { topology = topology.old; source = source.now; target = target.now; workflow = workflow.old; journal = journal.old }) log.old
-        result
-        (record { topology = topology.new; source = source.now; target = target.now; workflow = workflow.new; journal = journal.new }) log.new }
-{
-    let end = log_end(way, source, target);
-    attempt_reading(way, step, id, workflow, source, target, journal)?;
-    finish_step(way, step, end, topology, workflow, log);
-    Ok(())
-}
-
 /// Does the part of a step that is never refused: it writes the entries that change with the step, and records what stood there; it
 /// changes the streams, and counts the step. `end` is how long the log of the new owner's primary is.
 #[inline(always)]
@@ -239,29 +203,6 @@ fn undo_of_way(
         (record { topology = topology.new; source = source.new; target = target.new; workflow = workflow.new; journal = journal.now }) log.new }
 {
     give_back(way, source, target, log.take_listed(step));
-    finish_undo(way, step, topology, workflow, log);
-}
-
-/// Takes back the step of a way that was done last, `last_step`, if it leaves both primaries as they are (`Step::leaves_primaries`) and is
-/// before the journal: its entries and the slot get what stood there before it, and all else stays as it is now. `way` is the way that is
-/// open on the workflow. It takes no memory, asks nobody, looks at no primary, and is never refused. (Vitess: Cancel of a switch of
-/// traffic before its journal)
-pub fn undo_reading_step(
-    way: Way,
-    step: Step,
-    topology: &mut Topology,
-    workflow: &mut Workflow,
-    log: &mut UndoLog,
-)
-    requires reads { leaves_primaries step ≡ true }
-    requires places { HasPlaces topology.old workflow.old }
-    requires log { IsLogOf workflow.old log.old }
-    ensures log { IsLogOf workflow.new log.new }
-    ensures places { HasPlaces topology.new workflow.new }
-    ensures undone { (source target : PrimaryState) (journal : List JournalEntry) → IsUndone (way_from way) step
-        (record { topology = topology.old; source = source; target = target; workflow = workflow.old; journal = journal }) log.old
-        (record { topology = topology.new; source = source; target = target; workflow = workflow.new; journal = journal }) log.new }
-{
     finish_undo(way, step, topology, workflow, log);
 }
 

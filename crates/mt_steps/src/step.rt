@@ -1,6 +1,6 @@
 //! The twelve steps.
 ghost use Rattle.std.specs.Prelude.{◌≡◌, ◌<◌};
-ghost use Rattle.mt_steps.specs.Plans.{leaves_primaries, number, step_at};
+ghost use Rattle.mt_steps.specs.Plans.{number, step_at};
 
 /// All steps in their order.
 pub(crate) static ALL: [Step; 12] = [
@@ -82,16 +82,6 @@ impl Step {
             Step::SwitchWriteRules => 9,
             Step::StartBack => 10,
             Step::FreezeOld => 11,
-        }
-    }
-
-    /// Whether it leaves both primaries as they are, for `do_reading_step`: each step does but the two refreshes.
-    pub fn leaves_primaries(self) -> bool
-        ensures { result ≡ leaves_primaries self }
-    {
-        match self {
-            Step::RefreshSource | Step::RefreshTarget => false,
-            _ => true,
         }
     }
 

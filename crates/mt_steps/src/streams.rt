@@ -20,7 +20,7 @@ fn feeding(way: Way) -> Slot
     if way.back { Slot::Back } else { Slot::Forward }
 }
 
-/// The other one.
+/// The workflow's other stream.
 fn other(way: Way) -> Slot
     ensures { stream_name result ≡ other_name (way_from way) }
 {

@@ -27,7 +27,7 @@ use mt_site_ways::{
     a_create_leaves_a_site, a_create_steps_and_leaves_the_ways, a_site_stays_one,
     events_on_workflows_step_and_leave_the_ways,
 };
-use mt_site_workflows::{create, names_are_names};
+use mt_site_workflows::{Move, create, names_are_names};
 use mt_stream::Advanced;
 use mt_watch::Asks;
 use mt_workflow::Slot;
@@ -63,10 +63,12 @@ impl Core {
             &mut self.primaries,
             &mut self.workflows,
             watchers,
-            workflow,
-            source,
-            target,
-            tables,
+            Move {
+                name: workflow,
+                source,
+                target,
+                tables,
+            },
         )
     }
 

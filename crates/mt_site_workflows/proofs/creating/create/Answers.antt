@@ -6,4 +6,4 @@ use Rattle.mt_site_workflows.proofs.creating.create.Goals as goal
 
 pub create_set-requires-2-clause-once : goal.create_set-requires-2-clause-once
 create_set-requires-2-clause-once g c =
-    subst (λ tables. each_once tables ≡ tables) (sym (c.as_slice.ensures.value ∙ c.each_once-set.ensures)) (once-stays (each_once c.args.tables.now) (once-distinct c.args.tables.now))
+    subst (λ tables. each_once tables ≡ tables) (sym (c.as_slice.ensures.value ∙ c.each_once-set.ensures)) (once-stays (each_once c.args.asked.tables.now) (once-distinct c.args.asked.tables.now))

@@ -1,5 +1,5 @@
 -- No test refuses it.
-use Rattle.std.proofs.Common.{◌≡◌, All, Err, None, Ok, true, false, ap, arith, is_some, length, option_map, subst, sym, ◌∙◌, ◌||◌}
+use Rattle.std.proofs.Common.{◌≡◌, All, None, true, false, ap, arith, is_some, length, option_map, subst, sym, ◌∙◌, ◌||◌}
 use Rattle.std.proofs.lemmas.Bool.{lt-leb}
 use Rattle.std.specs.Prelude.{nat_le}
 use Rattle.mt_event.specs.Events.{refusal_from}
@@ -20,49 +20,31 @@ use Rattle.mt_site_workflows.proofs.creating.create_set.Goals as goal
 pub returns-in-Some : goal.returns-in-Some
 returns-in-Some g c =
     let core : CoreState = record { topology = c.args.topology.now; primaries = c.args.primaries.now.entries; workflows = c.args.workflows.now.entries } in
-    refused-set core (g.W.Asks.scopes c.args.watchers.now) (g.W.Asks.may_answer c.args.watchers.now) c.args.name.now c.args.source.now c.args.target.now c.args.tables.now (refusal_from c.in-Some.refusal)
-    (c.refusal_before.ensures ∙ ap (λ o. or_else (option_map refusal_from o) (refuse_if (is_full core c.args.source.now c.args.target.now c.args.tables.now) full)) c.in-Some.is)
+    refused-set core (g.W.Asks.scopes c.args.watchers.now) (g.W.Asks.may_answer c.args.watchers.now) c.args.asked.name.now c.args.asked.source.now c.args.asked.target.now c.args.asked.tables.now (refusal_from c.in-Some.refusal)
+    (c.refusal_before.ensures ∙ ap (λ o. or_else (option_map refusal_from o) (refuse_if (is_full core c.args.asked.source.now c.args.asked.target.now c.args.asked.tables.now) full)) c.in-Some.is)
 
 pub make-requires-clause-places : goal.make-requires-clause-places
 make-requires-clause-places g c =
-    let there = sides-there c.args.topology.now c.args.source.now c.args.target.now c.args.tables.now c.in-Ok.ensures.0 in
-    subst (λ t. All (λ key. has_place t key ≡ true) (part_keys c.args.source.now c.args.target.now c.args.tables.now)) (sym c.in-Ok.ensures.1)
-    (part_places c.args.topology.now c.args.source.now c.args.target.now c.args.tables.now there.0 there.1)
+    let there = sides-there c.args.topology.now c.args.asked.source.now c.args.asked.target.now c.args.asked.tables.now c.in-Ok.ensures.0 in
+    subst (λ t. All (λ key. has_place t key ≡ true) (part_keys c.args.asked.source.now c.args.asked.target.now c.args.asked.tables.now)) (sym c.in-Ok.ensures.1)
+    (part_places c.args.topology.now c.args.asked.source.now c.args.asked.target.now c.args.asked.tables.now there.0 there.1)
 
-pub returns-in-Ok-make : goal.returns-in-Ok-make
-returns-in-Ok-make g c =
+pub returns-in-Ok : goal.returns-in-Ok
+returns-in-Ok g c =
     let core : CoreState = record { topology = c.args.topology.now; primaries = c.args.primaries.now.entries; workflows = c.args.workflows.now.entries } in
     let few : nat_le most_workflows (length core.workflows) ≡ false = lt-leb most_workflows (length core.workflows) (omega (arith, c.len.ensures.len)) in
-    let fits : is_full core c.args.source.now c.args.target.now c.args.tables.now ≡ false =
-    ap (λ b. b || is_some (reserve_refusal c.args.topology.now c.args.source.now c.args.target.now c.args.tables.now)) few ∙ ap is_some c.in-Ok.ensures.0 in
-    let none : create_refusal core (g.W.Asks.scopes c.args.watchers.now) c.args.name.now c.args.source.now c.args.target.now c.args.tables.now ≡ None =
-    c.refusal_before.ensures ∙ ap (λ o. or_else (option_map refusal_from o) (refuse_if (is_full core c.args.source.now c.args.target.now c.args.tables.now) full)) c.in_default.is
+    let fits : is_full core c.args.asked.source.now c.args.asked.target.now c.args.asked.tables.now ≡ false =
+    ap (λ b. b || is_some (reserve_refusal c.args.topology.now c.args.asked.source.now c.args.asked.target.now c.args.asked.tables.now)) few ∙ ap is_some c.in-Ok.ensures.0 in
+    let none : create_refusal core (g.W.Asks.scopes c.args.watchers.now) c.args.asked.name.now c.args.asked.source.now c.args.asked.target.now c.args.asked.tables.now ≡ None =
+    c.refusal_before.ensures ∙ ap (λ o. or_else (option_map refusal_from o) (refuse_if (is_full core c.args.asked.source.now c.args.asked.target.now c.args.asked.tables.now) full)) c.in_default.is
     ∙ ap (λ b. refuse_if b full) fits in
-    let position = length (primary_of c.args.primaries.now.entries c.args.source.now).log in
-    let is : new_workflow c.reserve_part.new.self.rules c.args.name.now c.args.source.now c.args.target.now c.args.tables.now position ≡ new_of core c.args.name.now c.args.source.now c.args.target.now c.args.tables.now =
-    ap (λ (t : TopologyState). new_workflow t.rules c.args.name.now c.args.source.now c.args.target.now c.args.tables.now position) c.in-Ok.ensures.1
-    ∙ new-placed c.args.topology.now (part_keys c.args.source.now c.args.target.now c.args.tables.now) c.args.name.now c.args.source.now c.args.target.now c.args.tables.now position in
-    made-set core (g.W.Asks.scopes c.args.watchers.now) (g.W.Asks.may_answer c.args.watchers.now) c.args.name.now c.args.source.now c.args.target.now c.args.tables.now c.reserve_part.new.self (Ok c.in-Ok-make.field-0)
+    let position = length (primary_of c.args.primaries.now.entries c.args.asked.source.now).log in
+    let is : new_workflow c.reserve_part.new.self.rules c.args.asked.name.now c.args.asked.source.now c.args.asked.target.now c.args.asked.tables.now position ≡ new_of core c.args.asked.name.now c.args.asked.source.now c.args.asked.target.now c.args.asked.tables.now =
+    ap (λ (t : TopologyState). new_workflow t.rules c.args.asked.name.now c.args.asked.source.now c.args.asked.target.now c.args.asked.tables.now position) c.in-Ok.ensures.1
+    ∙ new-placed c.args.topology.now (part_keys c.args.asked.source.now c.args.asked.target.now c.args.asked.tables.now) c.args.asked.name.now c.args.asked.source.now c.args.asked.target.now c.args.asked.tables.now position in
+    rw c.answer_by_reason.ensures (
+    made-set core (g.W.Asks.scopes c.args.watchers.now) (g.W.Asks.may_answer c.args.watchers.now) c.args.asked.name.now c.args.asked.source.now c.args.asked.target.now c.args.asked.tables.now c.reserve_part.new.self c.make.result
     (record { topology = c.make.new.topology; primaries = c.make.new.primaries.entries; workflows = c.make.new.workflows.entries })
     none c.in-Ok.ensures.1 (c.requires.can.back none)
-    (subst (λ w. Makes (g.W.Asks.scopes c.args.watchers.now) (g.W.Asks.may_answer c.args.watchers.now) w (record core { topology = c.reserve_part.new.self }) (Ok c.in-Ok-make.field-0)
-    (record { topology = c.make.new.topology; primaries = c.make.new.primaries.entries; workflows = c.make.new.workflows.entries })) is c.in-Ok-make.ensures)
-
-pub returns-in-Err-make : goal.returns-in-Err-make
-returns-in-Err-make g c =
-    let core : CoreState = record { topology = c.args.topology.now; primaries = c.args.primaries.now.entries; workflows = c.args.workflows.now.entries } in
-    let few : nat_le most_workflows (length core.workflows) ≡ false = lt-leb most_workflows (length core.workflows) (omega (arith, c.len.ensures.len)) in
-    let fits : is_full core c.args.source.now c.args.target.now c.args.tables.now ≡ false =
-    ap (λ b. b || is_some (reserve_refusal c.args.topology.now c.args.source.now c.args.target.now c.args.tables.now)) few ∙ ap is_some c.in-Ok.ensures.0 in
-    let none : create_refusal core (g.W.Asks.scopes c.args.watchers.now) c.args.name.now c.args.source.now c.args.target.now c.args.tables.now ≡ None =
-    c.refusal_before.ensures ∙ ap (λ o. or_else (option_map refusal_from o) (refuse_if (is_full core c.args.source.now c.args.target.now c.args.tables.now) full)) c.in_default.is
-    ∙ ap (λ b. refuse_if b full) fits in
-    let position = length (primary_of c.args.primaries.now.entries c.args.source.now).log in
-    let is : new_workflow c.reserve_part.new.self.rules c.args.name.now c.args.source.now c.args.target.now c.args.tables.now position ≡ new_of core c.args.name.now c.args.source.now c.args.target.now c.args.tables.now =
-    ap (λ (t : TopologyState). new_workflow t.rules c.args.name.now c.args.source.now c.args.target.now c.args.tables.now position) c.in-Ok.ensures.1
-    ∙ new-placed c.args.topology.now (part_keys c.args.source.now c.args.target.now c.args.tables.now) c.args.name.now c.args.source.now c.args.target.now c.args.tables.now position in
-    made-set core (g.W.Asks.scopes c.args.watchers.now) (g.W.Asks.may_answer c.args.watchers.now) c.args.name.now c.args.source.now c.args.target.now c.args.tables.now c.reserve_part.new.self (Err c.in-Err-make.reason)
-    (record { topology = c.make.new.topology; primaries = c.make.new.primaries.entries; workflows = c.make.new.workflows.entries })
-    none c.in-Ok.ensures.1 (c.requires.can.back none)
-    (subst (λ w. Makes (g.W.Asks.scopes c.args.watchers.now) (g.W.Asks.may_answer c.args.watchers.now) w (record core { topology = c.reserve_part.new.self }) (Err c.in-Err-make.reason)
-    (record { topology = c.make.new.topology; primaries = c.make.new.primaries.entries; workflows = c.make.new.workflows.entries })) is c.in-Err-make.ensures)
+    (subst (λ w. Makes (g.W.Asks.scopes c.args.watchers.now) (g.W.Asks.may_answer c.args.watchers.now) w (record core { topology = c.reserve_part.new.self }) c.make.result
+    (record { topology = c.make.new.topology; primaries = c.make.new.primaries.entries; workflows = c.make.new.workflows.entries })) is c.make.ensures))

@@ -13,16 +13,16 @@ use Rattle.mt_site_workflows.proofs.creating.make.Goals as goal
 
 pub returns-in-Ok-insert : goal.returns-in-Ok-insert
 returns-in-Ok-insert g c =
-    let made : WorkflowState = new_workflow c.args.topology.now.rules c.args.name.now c.args.source.now c.args.target.now c.args.tables.now (length (primary_of c.args.primaries.now.entries c.args.source.now).log) in
+    let made : WorkflowState = new_workflow c.args.topology.now.rules c.args.asked.name.now c.args.asked.source.now c.args.asked.target.now c.args.asked.tables.now (length (primary_of c.args.primaries.now.entries c.args.asked.source.now).log) in
     let is : c.in-Ok.workflow ≡ made =
     c.in-Ok.ensures.value
-    ∙ ap (λ ts. new_workflow c.args.topology.now.rules c.args.name.now c.args.source.now c.args.target.now ts c.position_of-position.result) c.requires.ready.once
-    ∙ ap (new_workflow c.args.topology.now.rules c.args.name.now c.args.source.now c.args.target.now c.args.tables.now) c.position_of-position.ensures in
+    ∙ ap (λ ts. new_workflow c.args.topology.now.rules c.args.asked.name.now c.args.asked.source.now c.args.asked.target.now ts c.position_of-position.result) c.requires.ready.once
+    ∙ ap (new_workflow c.args.topology.now.rules c.args.asked.name.now c.args.asked.source.now c.args.asked.target.now c.args.asked.tables.now) c.position_of-position.ensures in
     let after =
     subst (λ w. Prepares (g.W.Asks.scopes c.args.watchers.now) (g.W.Asks.may_answer c.args.watchers.now) w c.args.primaries.now.entries (Ok tt) c.prepare.new.primaries.entries) is c.in-Ok-prepare.ensures.made in
     let written : c.write_part.new.topology ≡ with_entries c.args.topology.now (part_entries made.kept (live_of made) no_types) =
     c.write_part.ensures ∙ ap (λ (w : WorkflowState). with_entries c.args.topology.now (part_entries w.kept (live_of w) no_types)) is in
-    let pushed = c.in-Ok-insert.ensures.entries ∙ workflow_pushed c.prepare.new.workflows c.args.workflows.now.entries c.args.name.now c.copied.result c.in-Ok.workflow made c.in-Ok-prepare.ensures.workflows c.copied.ensures is c.requires.new in
+    let pushed = c.in-Ok-insert.ensures.entries ∙ workflow_pushed c.prepare.new.workflows c.args.workflows.now.entries c.args.asked.name.now c.copied.result c.in-Ok.workflow made c.in-Ok-prepare.ensures.workflows c.copied.ensures is c.requires.new in
     let by_topology : TopologyState → CoreState = λ t. record { topology = t; primaries = c.prepare.new.primaries.entries; workflows = c.insert.new.self.entries } in
     let by_primaries : Primaries → CoreState = λ ps. record { topology = with_entries c.args.topology.now (part_entries made.kept (live_of made) no_types); primaries = ps; workflows = c.insert.new.self.entries } in
     let primaries = with_primary c.args.primaries.now.entries made.target (target_made made after.0) in

@@ -1,11 +1,47 @@
--- The undo of a step that leaves both primaries as they are looks at neither.
+-- Both primaries are out of their places meanwhile, and both are put back.
+use Rattle.std.proofs.Common.{ap, is_some, rules, ◌∙◌}
 use Rattle.mt_workflow.specs.Workflows.{way_from}
-use Rattle.mt_site_workflows.proofs.BetweenLemmas.{lent-undone}
+use Rattle.mt_site_workflows.proofs.PrimaryLemmas.{given-back, still-at}
+use Rattle.mt_site_workflows.proofs.BetweenLemmas.{undone}
+use Rattle.mt_site_workflows.specs.Places.{IsAt}
 use Rattle.mt_site_workflows.proofs.undoing.undo_done.Goals as goal
 
-pub returns-then-leaves_primaries : goal.returns-then-leaves_primaries
-returns-then-leaves_primaries g c =
-    let stands = c.requires.stands in
-    let after = c.undo_reading_step.new in
-    lent-undone c.args.topology.now after.topology c.args.primaries.now.entries c.args.workflow.now after.workflow (way_from c.args.way) c.args.journal.now c.args.kept.now after.log c.last_step-step.result stands.source stands.target
-    c.requires.some c.last_step-step.ensures c.undo_reading_step.ensures.undone
+pub exchange_at-source-requires : goal.exchange_at-source-requires
+exchange_at-source-requires g c = ap is_some c.place_of-at_source.ensures.at
+
+pub exchange_at-target-requires : goal.exchange_at-target-requires
+exchange_at-target-requires g c =
+    ap is_some (still-at c.args.primaries.now.entries c.exchange_at-source.new.primaries.entries _ c.place_of-at_target.result c.exchange_at-source.ensures.places c.place_of-at_target.ensures.at)
+
+pub exchange_at-requires : goal.exchange_at-requires
+exchange_at-requires g c =
+    ap is_some (still-at c.args.primaries.now.entries c.exchange_at-target.new.primaries.entries _ c.place_of-at_source.result
+    (c.exchange_at-target.ensures.places ∙ c.exchange_at-source.ensures.places) c.place_of-at_source.ensures.at)
+
+pub exchange_at-requires-2 : goal.exchange_at-requires-2
+exchange_at-requires-2 g c =
+    ap is_some (still-at c.args.primaries.now.entries c.exchange_at.new.primaries.entries _ c.place_of-at_target.result
+    (c.exchange_at.ensures.places ∙ c.exchange_at-target.ensures.places ∙ c.exchange_at-source.ensures.places) c.place_of-at_target.ensures.at)
+
+pub returns : goal.returns
+returns g c =
+    let w = c.args.workflow.now in
+    let old = c.args.primaries.now.entries in
+    let sides = c.undo_last.new.sides in
+    let at_source : IsAt old w.source c.place_of-at_source.result = search rules in
+    let at_target : IsAt old w.target c.place_of-at_target.result = search rules in
+    let by_one = c.exchange_at-source.ensures.places in
+    let by_both = c.exchange_at-target.ensures.places ∙ by_one in
+    let source_meanwhile = still-at old c.exchange_at-target.new.primaries.entries w.source c.place_of-at_source.result by_both at_source in
+    let target_meanwhile = still-at old c.exchange_at-source.new.primaries.entries w.target c.place_of-at_target.result by_one at_target in
+    let target_at_last = still-at old c.exchange_at.new.primaries.entries w.target c.place_of-at_target.result (c.exchange_at.ensures.places ∙ by_both) at_target in
+    let one_back = given-back c.exchange_at-target.new.primaries.entries c.exchange_at.new.primaries.entries w.source _ sides.source.now (c.exchange_at.ensures.after w.source source_meanwhile) (search rules) in
+    let both_back = given-back c.exchange_at.new.primaries.entries c.exchange_at-2.new.primaries.entries w.target _ sides.target.now (c.exchange_at-2.ensures.after w.target target_at_last) (search rules) in
+    undone c.args.topology.now old c.exchange_at-source.new.primaries.entries c.exchange_at-target.new.primaries.entries c.exchange_at.new.primaries.entries c.exchange_at-2.new.primaries.entries
+    w c.args.journal.now c.exchange_at-source.result c.exchange_at-target.result c.new.result c.new-2.result c.requires.stands.apart
+    (c.exchange_at-source.ensures.before w.source at_source) (c.exchange_at-source.ensures.after w.source at_source)
+    (c.exchange_at-target.ensures.before w.target target_meanwhile) (c.exchange_at-target.ensures.after w.target target_meanwhile)
+    (way_from c.args.way) c.args.kept.now
+    (record { topology = sides.topology.now; source = sides.source.now; target = sides.target.now; workflow = sides.workflow.now; journal = sides.journal.now }) c.undo_last.new.log
+    _ _ _ c.requires.way c.requires.some one_back both_back
+    (search rules) (search rules) (search rules) c.undo_last.ensures.undone
