@@ -1,20 +1,22 @@
 -- The words of an operation on a row, with its name apart.
-use Rattle.std.proofs.Common.{◌≡◌, ℕ, ◌==◌, ◌||◌, ◌⊎◌, Bool, true, false, not, if◌then◌else◌, List, [], ◌∷◌, codes, find, Option, None, Some, option_and_then, option_map, refl, sym, ap, subst, inl, inr, ⊎_elim, ◌∙◌}
+use Rattle.std.proofs.Common.{◌≡◌, ℕ, ◌==◌, ◌||◌, Bool, true, false, not, if◌then◌else◌, List, [], ◌∷◌, codes, find, Option, None, Some, option_and_then, option_map, refl, sym, ap, ◌∙◌}
 use Rattle.std.proofs.lemmas.Bool.{true≢false, eqb-true}
 use Rattle.std.specs.Option.{option_map_or}
 use Rattle.mt_names.specs.Keys.{after, at_sign, dot}
-use Rattle.std.specs.Cmp.Lexicographic.{bytes_decides}
 use Rattle.mt_names.specs.Names.{same_text}
 use Rattle.mt_model.specs.declared.rows.Op.{Op}
-use Rattle.mt_model.specs.declared.rows.Op.TheVariants.{Insert, Update, Append, Delete}
+use Rattle.mt_model.specs.declared.rows.Op.TheVariants.{Delete}
 use Rattle.mt_model.specs.Rows.{RowValue}
-use Rattle.mt_plain.specs.Script.{Command, change, change_at, change_of, get, get_at, is_for_reads, is_qualified, is_row_verb, op_of, read_at, read_command, read_get, read_number, read_row_command, read_value, without_value}
+use Rattle.mt_plain.specs.Script.{Command, change, change_at, change_of, get, get_at, is_for_reads, is_qualified, is_row_verb, read_at, read_command, read_get, read_number, read_row_command, read_value, without_value}
 use Rattle.mt_plain.specs.Script as plain
 use Rattle.mt_script.specs.declared.lines.RowAsked.{RowAsked}
 use Rattle.mt_script.specs.declared.lines.RowAsked.TheVariants as row
-use Rattle.mt_script.specs.declared.ops.OpText.{OpText}
 use Rattle.mt_script.specs.declared.ops.OpText.TheVariants as op
-use Rattle.mt_script.specs.Lines.{is_mark, may_ask, op_from, read_asked, read_last_number, row_from, with_value}
+use Rattle.mt_script.specs.declared.ops.ValueVerb.{ValueVerb}
+use Rattle.mt_script.specs.declared.ops.ValueVerb.TheVariants as with
+use Rattle.mt_script.specs.declared.commands.RowVerb.{RowVerb}
+use Rattle.mt_script.specs.declared.commands.RowVerb.TheVariants as verb
+use Rattle.mt_script.specs.Lines.{is_mark, may_ask, op_from, op_of, read_asked, read_last_number, row_from, verb_text, with_value}
 
 module _ (make : List ℕ → Op → Command) (ask : List ℕ → ℕ → Command) (name : List ℕ) where
   -- what is commanded by a name of which this is asked
@@ -30,15 +32,15 @@ module _ (make : List ℕ → Op → Command) (ask : List ℕ → ℕ → Comman
       by true = refl
       by false = refl
 
-  module _ (o : ℕ → RowValue → Op) (text : ℕ → RowValue → OpText) (same : (n : ℕ) (v : RowValue) → op_from (text n v) ≡ o n v) where
+  module _ (verb : ValueVerb) where
     value-read : (n : Option ℕ) (v : Option RowValue)
-        → change_of make name (op_of o n v)
-        ≡ option_and_then commanded (option_map (λ (w : ℕ × RowValue). row.Write (text w.0 w.1)) (option_and_then (λ number. option_map (λ value. (number, value)) v) n))
+        → change_of make name (plain.op_of (op_of verb) n v)
+        ≡ option_and_then commanded (option_map (λ (w : ℕ × RowValue). row.Write (op.Change verb w.0 w.1)) (option_and_then (λ number. option_map (λ value. (number, value)) v) n))
     value-read None v = refl
     value-read (Some n) None = refl
-    value-read (Some n) (Some v) = ap (λ x. change_of make name (Some x)) (sym (same n v))
+    value-read (Some n) (Some v) = refl
 
-    value-asked : (words : List (List ℕ)) → plain.with_value make o (name ∷ words) ≡ option_and_then commanded (with_value text words)
+    value-asked : (words : List (List ℕ)) → plain.with_value make (op_of verb) (name ∷ words) ≡ option_and_then commanded (with_value verb words)
     value-asked [] = refl
     value-asked (a ∷ []) = refl
     value-asked (a ∷ b ∷ []) = value-read (read_number a) (read_value b)
@@ -70,9 +72,9 @@ module _ (make : List ℕ → Op → Command) (ask : List ℕ → ℕ → Comman
   -- an operation is read as what is asked
   read_row-asked : (verb : List ℕ) (words : List (List ℕ)) → read_row_command make ask verb (name ∷ words) ≡ option_and_then commanded (read_asked verb words)
   read_row-asked verb words =
-      through (same_text verb (codes "insert")) _ _ _ _ (value-asked Insert op.Insert (λ n v. refl) words)
-      (through (same_text verb (codes "update")) _ _ _ _ (value-asked Update op.Update (λ n v. refl) words)
-      (through (same_text verb (codes "append")) _ _ _ _ (value-asked Append op.Append (λ n v. refl) words)
+      through (same_text verb (codes "insert")) _ _ _ _ (value-asked with.Insert words)
+      (through (same_text verb (codes "update")) _ _ _ _ (value-asked with.Update words)
+      (through (same_text verb (codes "append")) _ _ _ _ (value-asked with.Append words)
       (through (same_text verb (codes "delete")) _ _ _ _ (delete-asked words)
       (through (same_text verb (codes "get")) _ _ _ _ (get-asked words) refl))))
 
@@ -87,30 +89,26 @@ module _ (make : List ℕ → Op → Command) (ask : List ℕ → ℕ → Comman
 -- ---- the verb
 
 -- a verb of a row is no other
-pub row-verb : (verb : List ℕ) (words : List (List ℕ)) → is_row_verb verb ≡ true → read_row_command change get verb words ≡ read_command verb words
-row-verb verb words is =
-    ⊎_elim (λ four. ⊎_elim (λ three. ⊎_elim (λ two. ⊎_elim (is_word (codes "insert") refl) (is_word (codes "update") refl) (one_of insert update two)) (is_word (codes "append") refl) (one_of (insert || update) append three))
-    (is_word (codes "delete") refl) (one_of (insert || update || append) delete four))
-    (is_word (codes "get") refl) (one_of (insert || update || append || delete) (same_text verb (codes "get")) is)
+pub row-verb : (verb : RowVerb) (words : List (List ℕ)) → read_row_command change get (verb_text verb) words ≡ read_command (verb_text verb) words
+row-verb (verb.Change with.Insert) words = refl
+row-verb (verb.Change with.Update) words = refl
+row-verb (verb.Change with.Append) words = refl
+row-verb verb.Delete words = refl
+row-verb verb.Get words = refl
+
+-- another verb asks for no row
+pub no-row-verb : (make : List ℕ → Op → Command) (ask : List ℕ → ℕ → Command) (verb : List ℕ) (words : List (List ℕ)) → is_row_verb verb ≡ false → None ≡ read_row_command make ask verb words
+no-row-verb make ask verb words other =
+    by (same_text verb (codes "insert")) (same_text verb (codes "update")) (same_text verb (codes "append")) (same_text verb (codes "delete")) (same_text verb (codes "get")) refl refl refl refl refl other
   where
-    insert : Bool
-    insert = same_text verb (codes "insert")
-
-    update : Bool
-    update = same_text verb (codes "update")
-
-    append : Bool
-    append = same_text verb (codes "append")
-
-    delete : Bool
-    delete = same_text verb (codes "delete")
-
-    one_of : (a b : Bool) → (a || b) ≡ true → (a ≡ true) ⊎ (b ≡ true)
-    one_of true b holds = inl refl
-    one_of false b holds = inr holds
-
-    is_word : (word : List ℕ) → read_row_command change get word words ≡ read_command word words → same_text verb word ≡ true → read_row_command change get verb words ≡ read_command verb words
-    is_word word as_read same = subst (λ v. read_row_command change get v words ≡ read_command v words) (sym ((bytes_decides verb word).0 same)) as_read
+    by : (a b c d e : Bool) → same_text verb (codes "insert") ≡ a → same_text verb (codes "update") ≡ b → same_text verb (codes "append") ≡ c → same_text verb (codes "delete") ≡ d → same_text verb (codes "get") ≡ e
+        → (a || b || c || d || e) ≡ false → None ≡ read_row_command make ask verb words
+    by false false false false false a b c d e is = rw (a, b, c, d, e) refl
+    by true b c d e p q r s t is = absurd (true≢false is)
+    by false true c d e p q r s t is = absurd (true≢false is)
+    by false false true d e p q r s t is = absurd (true≢false is)
+    by false false false true e p q r s t is = absurd (true≢false is)
+    by false false false false true p q r s t is = absurd (true≢false is)
 
 -- ---- behind `at`
 
@@ -128,6 +126,9 @@ module _ {name verb : List ℕ} {words behind rest : List (List ℕ)} (is : word
 
   at-nothing : None ≡ read_row_command change_at get_at verb (name ∷ rest) → None ≡ read_at words
   at-nothing none = sym (at-words ∙ ap (qualified (is_qualified name)) (sym none) ∙ no-command (is_qualified name))
+
+  pub at-other : is_row_verb verb ≡ false → None ≡ read_at words
+  at-other other = at-nothing (no-row-verb change_at get_at verb (name ∷ rest) other)
 
   pub at-none : None ≡ read_asked verb rest → None ≡ read_at words
   at-none none = at-nothing (row-none change_at get_at name verb {rest = rest} refl none)

@@ -19,6 +19,10 @@ use Rattle.mt_script.specs.declared.lines.LineRefusal.{LineRefusal}
 use Rattle.mt_script.specs.declared.lines.LineRefusal.TheVariants as refusal
 use Rattle.mt_script.specs.declared.ops.OpText.{OpText}
 use Rattle.mt_script.specs.declared.ops.OpText.TheVariants as op
+use Rattle.mt_script.specs.declared.ops.ValueVerb.{ValueVerb}
+use Rattle.mt_script.specs.declared.ops.ValueVerb.TheVariants as with
+use Rattle.mt_script.specs.declared.commands.RowVerb.{RowVerb}
+use Rattle.mt_script.specs.declared.commands.RowVerb.TheVariants as verb
 use Rattle.mt_script.specs.declared.lines.RowAsked.{RowAsked}
 use Rattle.mt_script.specs.declared.lines.RowAsked.TheVariants as row
 use Rattle.mt_script.specs.declared.lines.WorkflowAsked.{WorkflowAsked}
@@ -26,11 +30,15 @@ use Rattle.mt_script.specs.declared.lines.WorkflowAsked.TheVariants as of_workfl
 
 -- ---- what a line says
 
+-- what a verb does with a value
+abbrev pub op_of : ValueVerb → ℕ → RowValue → Op
+op_of with.Insert = Insert
+op_of with.Update = Update
+op_of with.Append = Append
+
 -- an operation on a row
 abbrev pub op_from : OpText → Op
-op_from (op.Insert key value) = Insert key value
-op_from (op.Update key value) = Update key value
-op_from (op.Append key value) = Append key value
+op_from (op.Change verb key value) = op_of verb key value
 op_from (op.Delete key) = Delete key
 
 -- what is asked of a row by a name: how a name is written to, and how it is read
@@ -83,19 +91,27 @@ read_number_and_value words =
     option_and_then (λ w. option_and_then (λ number. option_map (λ value. (number, value)) (read_value w.1)) (read_number w.0)) (two_words words)
 
 -- an operation with a value
-abbrev pub with_value : (ℕ → RowValue → OpText) → List (List ℕ) → Option RowAsked
-with_value make words = option_map (λ w. row.Write (make w.0 w.1)) (read_number_and_value words)
+abbrev pub with_value : ValueVerb → List (List ℕ) → Option RowAsked
+with_value verb words = option_map (λ w. row.Write (op.Change verb w.0 w.1)) (read_number_and_value words)
 
 -- the number that is the last word
 abbrev pub read_last_number : List (List ℕ) → Option ℕ
 read_last_number words = option_and_then read_number (one_word words)
 
+-- the word of a verb
+abbrev pub verb_text : RowVerb → List ℕ
+verb_text (verb.Change with.Insert) = codes "insert"
+verb_text (verb.Change with.Update) = codes "update"
+verb_text (verb.Change with.Append) = codes "append"
+verb_text verb.Delete = codes "delete"
+verb_text verb.Get = codes "get"
+
 -- what is asked of a row, by the verb and the words behind the name
 abbrev pub read_asked : (verb : List ℕ) → List (List ℕ) → Option RowAsked
 read_asked verb words =
-    if same_text verb (codes "insert") then with_value op.Insert words
-    else if same_text verb (codes "update") then with_value op.Update words
-    else if same_text verb (codes "append") then with_value op.Append words
+    if same_text verb (codes "insert") then with_value with.Insert words
+    else if same_text verb (codes "update") then with_value with.Update words
+    else if same_text verb (codes "append") then with_value with.Append words
     else if same_text verb (codes "delete") then option_map (λ n. row.Write (op.Delete n)) (read_last_number words)
     else if same_text verb (codes "get") then option_map row.Read (read_last_number words)
     else None

@@ -1,12 +1,12 @@
 //! Commands: a verb, and the words behind it.
-ghost use Rattle.std.specs.Prelude.{◌≡◌, false, true, option_copied, option_map};
+ghost use Rattle.std.specs.Prelude.{◌≡◌, MatchOption, false, true, option_map};
 ghost use Rattle.mt_names.specs.Keys.{after, at_sign};
 ghost use Rattle.mt_plain.specs.Script.{change, change_at, command, command_of, get, get_at, is_for_reads, is_readable, is_row_verb, read_at, read_command, read_row_command, words_of};
-ghost use Rattle.mt_script.specs.Lines.{line_from, may_ask, read_asked, read_last_number, read_number_and_value};
+ghost use Rattle.mt_script.specs.Lines.{line_from, may_ask, read_asked, read_last_number, read_number_and_value, verb_text};
 
 use crate::lines::{Line, RowAsked};
 use crate::numbers::read_number;
-use crate::ops::{OpText, ValueText};
+use crate::ops::{OpText, ValueText, ValueVerb};
 use crate::qualified::QualifiedName;
 use crate::words::{first_word, no_word, one_word, two_words};
 use crate::workflows::workflow_command;
@@ -18,9 +18,7 @@ fn number_and_value(words: &str) -> Option<(u64, ValueText<'_>)>
     ensures { result ≡ read_number_and_value (words_of words.now) }
 {
     let (number, value) = two_words(words)?;
-    let number = read_number(number)?;
-    let value = ValueText::of(value)?;
-    Some((number, value))
+    Some((read_number(number)?, ValueText::of(value)?))
 }
 
 /// Reads the number that is the last word.
@@ -29,42 +27,58 @@ fn last_number(words: &str) -> Option<u64>
     requires { is_readable words.now ≡ true }
     ensures { result ≡ read_last_number (words_of words.now) }
 {
-    let word = one_word(words)?;
-    read_number(word)
+    read_number(one_word(words)?)
 }
 
-/// Reads what is asked of a row: the verb, and the words behind the name.
-#[inline(always)]
-fn row_asked<'a>(verb: &str, words: &'a str) -> Option<RowAsked<'a>>
-    requires { is_readable words.now ≡ true }
-    ensures { result ≡ read_asked verb.now (words_of words.now) }
+/// The verb of an operation on a row.
+#[derive(Clone, Copy)]
+enum RowVerb {
+    /// `insert`, `update` or `append`.
+    Change(ValueVerb),
+    /// `delete`.
+    Delete,
+    /// `get`.
+    Get,
+}
+
+/// The verb of an operation on a row that a word is.
+fn row_verb(word: &str) -> Option<RowVerb>
+    ensures { MatchOption result (is_row_verb word.now ≡ false) (λ verb. word.now ≡ verb_text verb) }
 {
-    match verb {
-        "insert" => {
-            let (number, value) = number_and_value(words)?;
-            Some(RowAsked::Write(OpText::Insert(number, value)))
-        }
-        "update" => {
-            let (number, value) = number_and_value(words)?;
-            Some(RowAsked::Write(OpText::Update(number, value)))
-        }
-        "append" => {
-            let (number, value) = number_and_value(words)?;
-            Some(RowAsked::Write(OpText::Append(number, value)))
-        }
-        "delete" => Some(RowAsked::Write(OpText::Delete(last_number(words)?))),
-        "get" => Some(RowAsked::Read(last_number(words)?)),
+    match word {
+        "insert" => Some(RowVerb::Change(ValueVerb::Insert)),
+        "update" => Some(RowVerb::Change(ValueVerb::Update)),
+        "append" => Some(RowVerb::Change(ValueVerb::Append)),
+        "delete" => Some(RowVerb::Delete),
+        "get" => Some(RowVerb::Get),
         _ => None,
     }
 }
 
-/// The word behind the first `@` of a name.
-fn type_word(name: &str) -> Option<&str>
-    ensures { option_copied result ≡ after at_sign name.now }
+/// Reads what is asked of a row: the verb, and the words behind the name.
+#[inline(always)]
+fn row_asked(verb: RowVerb, words: &str) -> Option<RowAsked<'_>>
+    requires { is_readable words.now ≡ true }
+    ensures { result ≡ read_asked (verb_text verb) (words_of words.now) }
+{
+    match verb {
+        RowVerb::Change(verb) => {
+            let (number, value) = number_and_value(words)?;
+            Some(RowAsked::Write(OpText::Change(verb, number, value)))
+        }
+        RowVerb::Delete => Some(RowAsked::Write(OpText::Delete(last_number(words)?))),
+        RowVerb::Get => Some(RowAsked::Read(last_number(words)?)),
+    }
+}
+
+/// Whether the type behind a name's first `@` is one of those that are only read.
+#[inline(never)]
+fn has_type_for_reads(name: &str) -> bool
+    ensures { result ≡ is_for_reads (after at_sign name.now) }
 {
     match name.split_once('@') {
-        Some((_name, word)) => Some(word),
-        None => None,
+        Some((_name, word)) => word == "replica" || word == "rdonly",
+        None => false,
     }
 }
 
@@ -77,10 +91,7 @@ fn is_for_reads(name: &str) -> bool
     if last != b'a' && last != b'y' {
         return false;
     }
-    match type_word(name) {
-        Some(word) => word == "replica" || word == "rdonly",
-        None => false,
-    }
+    has_type_for_reads(name)
 }
 
 /// Whether this may be asked of a row by this name: a name for reads isn't written to.
@@ -88,17 +99,14 @@ fn is_for_reads(name: &str) -> bool
 fn may_ask(name: &str, asked: &RowAsked<'_>) -> bool
     ensures { result ≡ may_ask name.now asked.now }
 {
-    match asked {
-        RowAsked::Write(_) => !is_for_reads(name),
-        RowAsked::Read(_) => true,
-    }
+    matches!(asked, RowAsked::Read(_)) || !is_for_reads(name)
 }
 
 /// Reads an operation on a row, behind its verb: the name of its table, which is looked up, and what is asked.
 #[inline(always)]
-fn row_command<'a>(verb: &str, words: &'a str) -> Option<Line<'a>>
+fn row_command(verb: RowVerb, words: &str) -> Option<Line<'_>>
     requires { is_readable words.now ≡ true }
-    ensures { option_map line_from result ≡ option_map command (read_row_command change get verb.now (words_of words.now)) }
+    ensures { option_map line_from result ≡ option_map command (read_row_command change get (verb_text verb) (words_of words.now)) }
 {
     let (name, rest) = first_word(words)?;
     let asked = row_asked(verb, rest)?;
@@ -114,20 +122,13 @@ fn at_command(words: &str) -> Option<Line<'_>>
     ensures { option_map line_from result ≡ option_map command (read_at (words_of words.now)) }
 {
     let (name, rest) = first_word(words)?;
-    let (verb, rest) = first_word(rest)?;
+    let (word, rest) = first_word(rest)?;
+    let verb = row_verb(word)?;
     let asked = row_asked(verb, rest)?;
     if !may_ask(name, &asked) {
         return None;
     }
     Some(Line::At(QualifiedName::of(name)?, asked))
-}
-
-/// Whether a verb is that of an operation on a row.
-#[inline(always)]
-fn is_row_verb(verb: &str) -> bool
-    ensures { result ≡ is_row_verb verb.now }
-{
-    verb == "insert" || verb == "update" || verb == "append" || verb == "delete" || verb == "get"
 }
 
 /// Reads a command that isn't an operation on a row, behind its verb.
@@ -166,9 +167,9 @@ pub fn read_command(line: &str) -> Option<Line<'_>>
     requires { is_readable line.now ≡ true }
     ensures { option_map line_from result ≡ option_map command (command_of (words_of line.now)) }
 {
-    let (verb, rest) = first_word(line)?;
-    if is_row_verb(verb) {
-        return row_command(verb, rest);
+    let (word, rest) = first_word(line)?;
+    match row_verb(word) {
+        Some(verb) => row_command(verb, rest),
+        None => other_command(word, rest),
     }
-    other_command(verb, rest)
 }

@@ -14,7 +14,7 @@ mod workflows;
 
 pub use cut::first_line;
 pub use lines::{CreateWords, Line, LineRefusal, MAX_LINE_LENGTH, RowAsked, WorkflowAsked, read};
-pub use ops::{OpText, ValueText};
+pub use ops::{OpText, ValueText, ValueVerb};
 pub use qualified::QualifiedName;
 pub use shown::LineText;
 pub use texts::{

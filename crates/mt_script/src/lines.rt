@@ -126,8 +126,7 @@ pub fn read(line: &[u8]) -> Line<'_>
     if !is_readable(line) {
         return Line::Refused(LineRefusal::BadLine);
     }
-    match str::from_utf8(line) {
-        Ok(text) => read_command(text).unwrap_or(Line::Refused(LineRefusal::BadLine)),
-        Err(_) => unreachable!(),
-    }
+    // a readable line is ASCII
+    let text = unsafe { str::from_utf8_unchecked(line) };
+    read_command(text).unwrap_or(Line::Refused(LineRefusal::BadLine))
 }

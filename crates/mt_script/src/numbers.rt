@@ -13,10 +13,12 @@ fn digits(word: &[u8]) -> Option<u64>
 {
     let mut number = 0;
     for byte in word {
-        if !byte.is_ascii_digit() {
+        // a byte below `0` wraps to a number above 9
+        let digit = (*byte as u64).wrapping_sub(48);
+        if digit > 9 {
             return None;
         }
-        number = number * 10 + (*byte - b'0') as u64;
+        number = number * 10 + digit;
     }
     Some(number)
 }

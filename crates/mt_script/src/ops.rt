@@ -35,27 +35,24 @@ impl<'a> ValueText<'a> {
         }
         Some(ValueText { text })
     }
+}
 
-    /// The value.
-    fn value(&self) -> Value
-        ensures { result ≡ self.now }
-    {
-        match Value::try_from(self.text.as_bytes()) {
-            Ok(value) => value,
-            Err(_) => unreachable!(),
-        }
-    }
+/// A verb behind whose name stand a number and a value.
+#[derive(Clone, Copy, Debug)]
+pub enum ValueVerb {
+    /// `insert`.
+    Insert,
+    /// `update`.
+    Update,
+    /// `append`.
+    Append,
 }
 
 /// An operation on a row, as it stands in a line.
 #[derive(Debug, Drop)]
 pub enum OpText<'a> {
-    /// `insert NAME N V`.
-    Insert(u64, ValueText<'a>),
-    /// `update NAME N V`.
-    Update(u64, ValueText<'a>),
-    /// `append NAME N V`.
-    Append(u64, ValueText<'a>),
+    /// `insert NAME N V`, or `update`, `append`.
+    Change(ValueVerb, u64, ValueText<'a>),
     /// `delete NAME N`.
     Delete(u64),
 }
@@ -67,9 +64,15 @@ impl OpText<'_> {
         ensures { result ≡ op_from self.now }
     {
         match self {
-            OpText::Insert(key, value) => Op::Insert(*key, value.value()),
-            OpText::Update(key, value) => Op::Update(*key, value.value()),
-            OpText::Append(key, value) => Op::Append(*key, value.value()),
+            OpText::Change(verb, key, word) => {
+                let mut value = Value::new();
+                let _fits = value.try_extend_from_slice(word.text.as_bytes());
+                match verb {
+                    ValueVerb::Insert => Op::Insert(*key, value),
+                    ValueVerb::Update => Op::Update(*key, value),
+                    ValueVerb::Append => Op::Append(*key, value),
+                }
+            }
             OpText::Delete(key) => Op::Delete(*key),
         }
     }

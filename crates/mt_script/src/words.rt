@@ -1,5 +1,5 @@
 //! The words of a line.
-ghost use Rattle.std.specs.Prelude.{◌≡◌, ◌≤◌, ◌<◌, ◌+◌, ◌∷◌, [], not, length, position, MatchOption, IfSome, Some, option_copied, option_map, true};
+ghost use Rattle.std.specs.Prelude.{◌≡◌, ◌≤◌, ◌<◌, ◌+◌, ◌∷◌, [], not, length, position, MatchOption, IfSome, Some, option_copied, option_map, true, unwrap_or};
 ghost use Rattle.std.specs.List.{list_all};
 ghost use Rattle.mt_plain.specs.Script.{Command, four_words, is_blank, is_readable, is_visible, no_word, one_word, two_words, words_of};
 
@@ -38,8 +38,8 @@ fn ends_are_readable<const N: usize>(line: &[u8]) -> bool
     are_readable(&line[..N]) & are_readable(&line[line.len() - N..])
 }
 
-/// Whether each byte of a line may stand in a line.
-#[inline(always)]
+/// Whether each byte of a line may stand in a line. That it is no part of its caller is faster.
+#[inline(never)]
 pub fn is_readable(line: &[u8]) -> bool
     ensures { result ≡ is_readable line.now }
 {
@@ -80,38 +80,42 @@ fn lack_blanks(word: &[u8]) -> bool
     word.iter().fold(true, |all, &byte| all & !is_blank(byte))
 }
 
-/// Whether no byte is blank of 8 to 16, of which the first eight and the last eight are tested all at once.
+/// Whether no byte is blank of a word that isn't longer than its first bytes and its last ones together. As many as these are
+/// tested all at once.
 #[inline(always)]
-fn ends_lack_blanks(word: &[u8]) -> bool
-    requires long { 8 ≤ length word.now }
-    requires short { length word.now ≤ 16 }
+fn ends_lack_blanks<const N: usize>(word: &[u8]) -> bool
+    requires long { N ≤ length word.now }
+    requires short { length word.now ≤ N + N }
     ensures { result ≡ list_all (λ byte. not (is_blank byte)) word.now }
 {
-    lack_blanks(&word[..8]) & lack_blanks(&word[word.len() - 8..])
+    lack_blanks(&word[..N]) & lack_blanks(&word[word.len() - N..])
 }
 
-/// The place of the first blank. Its loop is a function of its own, which is faster.
-#[inline(never)]
+/// The place of the first blank.
 fn first_blank(line: &[u8]) -> Option<usize>
     ensures { result ≡ position is_blank line.now }
 {
     line.iter().position(|&byte| is_blank(byte))
 }
 
-/// The place where the first word ends, of a line that begins with one: that of the first blank.
-#[inline(always)]
-fn word_end(line: &[u8]) -> Option<usize>
-    ensures { result ≡ position is_blank line.now }
+/// The place where the first word ends, of a line that begins with one: that of the first blank, or the line's end. That it is
+/// no part of its callers is faster.
+#[inline(never)]
+fn word_end(line: &[u8]) -> usize
+    ensures { result ≡ unwrap_or (position is_blank line.now) (length line.now) }
 {
     if line.len() >= 16 {
         let near = before_blank(line);
         if near < 16 {
-            return Some(near);
+            return near;
         }
-    } else if line.len() >= 8 && ends_lack_blanks(line) {
-        return None;
     }
-    first_blank(line)
+    match line.len() {
+        8..=16 if ends_lack_blanks::<8>(line) => line.len(),
+        17..=32 if ends_lack_blanks::<16>(line) => line.len(),
+        33..=64 if ends_lack_blanks::<32>(line) => line.len(),
+        length => first_blank(line).unwrap_or(length),
+    }
 }
 
 /// The first word of a line, and what follows it.
@@ -124,8 +128,7 @@ pub fn first_word(line: &str) -> Option<(&str, &str)>
 {
     let start = word_start(line.as_bytes())?;
     let (_blanks, rest) = line.split_at(start);
-    let end = word_end(rest.as_bytes()).unwrap_or(rest.len());
-    Some(rest.split_at(end))
+    Some(rest.split_at(word_end(rest.as_bytes())))
 }
 
 /// Nothing, of a line that has no word.

@@ -7,4 +7,4 @@ pub overflow_mul-number : goal.overflow_mul-number
 overflow_mul-number c = record { fits = omega (arith, next-fits c.loop-byte.number c.loop-byte.byte-index c.loop-byte.invariant.2 (omega (arith, c.loop-byte-test.true, c.requires))) }
 
 pub overflow_add-number : goal.overflow_add-number
-overflow_add-number c = record { fits = omega (arith, next-fits c.loop-byte.number c.loop-byte.byte-index c.loop-byte.invariant.2 (omega (arith, c.loop-byte-test.true, c.requires)), c.is_ascii_digit.ensures.bound, (c.type_inv.word c.loop-byte.byte-index).fits) }
+overflow_add-number c = record { fits = omega (arith, next-fits c.loop-byte.number c.loop-byte.byte-index c.loop-byte.invariant.2 (omega (arith, c.loop-byte-test.true, c.requires)), c.if-digit-gt9.false) }

@@ -7,7 +7,7 @@ use Rattle.mt_script.proofs.AllLemmas.{all_by_ends}
 use Rattle.mt_script.proofs.words.ends_lack_blanks.Goals as goal
 
 pub returns : goal.returns
-returns c =
+returns g c =
     let word = c.args.word.now in
-    ap₂ (λ a b. a && b) c.lack_blanks.ensures (c.lack_blanks-2.ensures ∙ ap (list_all (λ byte. not (is_blank byte))) (take_rest word (length word - 8)))
-    ∙ all_by_ends (λ byte. not (is_blank byte)) 8 word c.requires.long c.requires.short
+    ap₂ (λ a b. a && b) c.lack_blanks.ensures (c.lack_blanks-2.ensures ∙ ap (list_all (λ byte. not (is_blank byte))) (take_rest word (length word - g.row.N)))
+    ∙ all_by_ends (λ byte. not (is_blank byte)) g.row.N word c.requires.long c.requires.short

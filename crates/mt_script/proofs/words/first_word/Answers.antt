@@ -13,4 +13,4 @@ returns-clause-words c =
     search (rules, first)
 
 pub returns-clause-readable : goal.returns-clause-readable
-returns-clause-readable c = let rest = rest_is_readable c.args.line.now c.in_ok-start.start c.unwrap_or-end.result c.requires in search (rules, rest)
+returns-clause-readable c = let rest = rest_is_readable c.args.line.now c.in_ok-start.start c.word_end.result c.requires in search (rules, rest)
