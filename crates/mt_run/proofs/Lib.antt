@@ -1,4 +1,6 @@
 pub mod AskLemmas
 pub mod CanonLemmas
+pub mod NameLemmas
 pub mod RowLemmas
 pub mod RunLemmas
+pub mod ThroughLemmas

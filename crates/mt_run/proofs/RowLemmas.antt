@@ -1,6 +1,5 @@
 -- A row that is asked for by a name is answered where the name leads.
 use Rattle.std.proofs.Common.{◌≡◌, ℕ, true, false, List, ◌++◌, Some, Option, Result, Ok, Err, is_ok, refl, sym, ap, subst, ◌∙◌}
-use Rattle.std.specs.Prelude.{⊤}
 use Rattle.std.proofs.lemmas.Bool.{true≢false}
 use Rattle.mt_event.specs.declared.reason.Reason.{Reason}
 use Rattle.mt_event.specs.Reasons.{done_by}
@@ -21,15 +20,14 @@ use Rattle.mt_names.specs.Keys.{at_sign, dot, read_key}
 use Rattle.mt_names.specs.Names.{IsTableName, allows, read_table}
 use Rattle.mt_names.specs.Results.{◌>>=◌}
 use Rattle.mt_plain.specs.Events as plain
-use Rattle.mt_plain.specs.Output.{asked_there, line_feed, refused_text, told_request}
+use Rattle.mt_plain.specs.Output.{line_feed, refused_text, told_request}
 use Rattle.mt_plain.specs.Plain.{Plain}
 use Rattle.mt_plain.specs.Script.{Command, change, get, read_through, request_of, type_of, write_through}
 use Rattle.mt_plain.specs.Serve.{served}
 use Rattle.mt_site.specs.ByHand.{read_from}
-use Rattle.mt_cache.specs.Through.{IsThrough}
-use Rattle.mt_site_state.specs.Ways.{SiteStands, SiteState, SiteSteps}
-use Rattle.mt_cache.specs.Names.{plain_key}
-use Rattle.mt_cache.specs.Rows.{WrittenThrough}
+use Rattle.mt_site_state.specs.Ways.{SiteStands, SiteState}
+use Rattle.mt_run.specs.Names.{plain_key}
+use Rattle.mt_run.specs.Rows.{ReadThrough, WrittenThrough}
 use Rattle.mt_run.specs.Runs.{Tells, through_text}
 use Rattle.mt_run.proofs.RunLemmas.{through_told}
 
@@ -55,26 +53,21 @@ table_key name reads = by (read_table name) refl
 -- ---- answers
 
 module _ (scopes : List Scope) (p : Plain) (old new : SiteState) (stands : SiteStands p scopes old) (name : List ℕ) where
-  pub write_told : (op : Op) (key : RuleKey) (told : Result (Result Unit Reason) TopologyFault) → read_key name ≡ Ok key
-      → resolution old.core.topology key Primary ≡ resolution (served p) key Primary → WrittenThrough old key op told new
+  pub write_told : (op : Op) (key : RuleKey) (told : Result (Result Unit Reason) TopologyFault) → read_key name ≡ Ok key → WrittenThrough old key op told new
       → Tells scopes p (told_request p (request_of (change name op))) (Some (through_text done_by told)) new
-  write_told op key told reads serves written =
+  write_told op key told reads written =
       let ask : (keyspace table : List ℕ) → plain.Event = λ keyspace table. plain.write keyspace table op in
       subst (λ r. Tells scopes p (told_request p (r >>= λ k. Ok (write_through k op))) (Some (through_text done_by told)) new) (sym reads)
-      (subst (λ r. Tells scopes p (asked_there r ask) (Some (through_text done_by told)) new) serves
-      (through_told _ scopes p old new (resolution old.core.topology key Primary) ask done_by told _ refl (written.steps scopes) (λ same. subst (SiteStands p scopes) (sym same) stands) stands))
+      (through_told _ scopes p old new (resolution (served p) key Primary) ask done_by told _ refl (written scopes p stands) (λ same. subst (SiteStands p scopes) (sym same) stands) stands)
 
-  pub read_told : (number : ℕ) (key : RuleKey) (for_type : TabletType) (told : Result (Result (Option RowValue) Reason) TopologyFault) → new ≡ old → read_key name ≡ Ok key → for_type ≡ type_of key
-      → resolution old.core.topology key for_type ≡ resolution (served p) key for_type
-      → IsThrough (resolution old.core.topology key for_type) ⊤ (λ target answer. SiteSteps scopes old (plain.read target.keyspace target.table number for_type) (read_from answer) old) told
+  pub read_told : (number : ℕ) (key : RuleKey) (for_type : TabletType) (told : Result (Result (Option RowValue) Reason) TopologyFault) → new ≡ old → read_key name ≡ Ok key → for_type ≡ type_of key → ReadThrough old key number for_type told
       → Tells scopes p (told_request p (request_of (get name number))) (Some (through_text read_from told)) new
-  read_told number key for_type told same reads is serves through =
+  read_told number key for_type told same reads is read =
       let ask : (keyspace table : List ℕ) → plain.Event = λ keyspace table. plain.read keyspace table number for_type in
       subst (Tells scopes p (told_request p (request_of (get name number))) (Some (through_text read_from told))) (sym same)
       (subst (λ r. Tells scopes p (told_request p (r >>= λ k. Ok (read_through k number (type_of k)))) (Some (through_text read_from told)) old) (sym reads)
       (subst (λ t. Tells scopes p (told_request p (Ok (read_through key number t))) (Some (through_text read_from told)) old) is
-      (subst (λ r. Tells scopes p (asked_there r ask) (Some (through_text read_from told)) old) serves
-      (through_told _ scopes p old old (resolution old.core.topology key for_type) ask read_from told _ refl through (λ stays. stands) stands))))
+      (through_told _ scopes p old old (resolution (served p) key for_type) ask read_from told _ refl (read scopes p stands) (λ stays. stands) stands)))
 
   -- the fault of a name
   pub fault_told : (c : Command) (fault : NameFault) → request_of c ≡ Err fault → Tells scopes p (told_request p (request_of c)) (Some (refused_text (fault_text fault) ++ line_feed)) old

@@ -29,8 +29,8 @@ use Rattle.mt_io.specs.declared.fault.ScriptFault.{ScriptFault}
 use Rattle.mt_io.specs.declared.fault.ScriptFault.TheVariants as fault
 use Rattle.mt_io.specs.Bytes.{GoesOut, Known, Reads, Writes}
 use Rattle.mt_io.proofs.GoesLemmas.{cut_before, goes_on, nothing_out}
-use Rattle.mt_cache.specs.Through.{IsThrough}
 use Rattle.mt_site_state.specs.Ways.{SiteStands, SiteState, SiteSteps}
+use Rattle.mt_run.specs.Rows.{IsThrough}
 use Rattle.mt_run.specs.Runs.{AsksDocument, IsAnswered, IsNamed, IsTold, Runs, RunsLine, RunsLines, Tells, bytes_of, is_document, through_text}
 
 -- ---- a line

@@ -1,11 +1,11 @@
-//! Commands of a script: each is asked of the core, and its answer added to what waits to be written.
+//! Commands of a script: each is asked of the site, and its answer added to what waits to be written.
 ghost use Rattle.std.specs.Prelude.{◌≡◌, ◌+◌, ◌≤◌, ◌++◌, List, length};
 ghost use Rattle.mt_event.specs.Events.{event_of};
 ghost use Rattle.mt_event.specs.Reasons.{done_by};
 ghost use Rattle.mt_plain.specs.Events as plain;
 ghost use Rattle.mt_plain.specs.Output.{answer_text, line_feed};
 ghost use Rattle.mt_plain.specs.Script as language;
-ghost use Rattle.mt_plain.specs.Script.{drive, event};
+ghost use Rattle.mt_plain.specs.Script.{event};
 ghost use Rattle.mt_model.specs.declared.entries.Scope.{Scope};
 ghost use Rattle.mt_script.specs.Lines.{asked_from, row_from};
 ghost use Rattle.mt_site.specs.Advance.{advanced_from};
@@ -14,7 +14,7 @@ ghost use Rattle.mt_site.specs.Show.{shown_answer};
 ghost use Rattle.mt_workflow.specs.Workflows.{stream_name};
 ghost use Rattle.mt_run.specs.Runs.{IsAnswered, IsNamed};
 
-use mt_cache::CachedCore;
+use crate::cached::CachedSite;
 use mt_event::{Event, Reason, ShownOf};
 use mt_io::{LONGEST_LINE, ROOM, Waiting};
 use mt_names::{
@@ -25,7 +25,7 @@ use mt_script::{
     CreateWords, QualifiedName, RowAsked, WorkflowAsked, put_advanced, put_answer, put_created,
     put_driven, put_reason, put_shown, put_written,
 };
-use mt_site::{Command, drive_core};
+use mt_site::{Command, drive};
 use mt_stream::Advanced;
 use mt_watch::Asks;
 use mt_workflow::Slot;
@@ -43,47 +43,44 @@ fn tell_done(told: &Result<(), Reason>, waiting: &mut Waiting)
 
 /// Asks for what a command does.
 #[inline(never)]
-fn command<A: Asks>(core: &mut CachedCore, watchers: &A, asked: Command<'_>, waiting: &mut Waiting)
+fn command<A: Asks>(cached: &mut CachedSite<A>, asked: Command<'_>, waiting: &mut Waiting)
     requires room { length waiting.old.items + LONGEST_LINE ≤ ROOM }
-    ensures { IsAnswered (A.scopes watchers.now) core.old (event (event_of_command asked.entry)) waiting.old.items waiting.new.items core.new }
+    ensures watchers { cached.new.site.watchers ≡ cached.old.site.watchers }
+    ensures answered { IsAnswered (A.scopes cached.old.site.watchers) cached.old.site.core (event (event_of_command asked.entry)) waiting.old.items waiting.new.items cached.new.site.core }
 {
-    tell_done(&core.core_mut().command(watchers, asked), waiting);
+    cached.names.forget();
+    tell_done(&cached.site.command(asked), waiting);
 }
 
 /// Makes a keyspace.
 pub fn add_keyspace<A: Asks>(
-    core: &mut CachedCore,
-    watchers: &A,
+    cached: &mut CachedSite<A>,
     name: &str,
     waiting: &mut Waiting,
 ) -> Result<(), NameFault>
     requires room { length waiting.old.items + LONGEST_LINE ≤ ROOM }
-    ensures { IsNamed (A.scopes watchers.now) core.old (language.keyspace name.now) waiting.old.items waiting.new.items result core.new }
+    ensures watchers { cached.new.site.watchers ≡ cached.old.site.watchers }
+    ensures named { IsNamed (A.scopes cached.old.site.watchers) cached.old.site.core (language.keyspace name.now) waiting.old.items waiting.new.items result cached.new.site.core }
 {
     let keyspace = KeyspaceName::parse(name)?;
-    command(core, watchers, Command::AddKeyspace(&keyspace), waiting);
+    command(cached, Command::AddKeyspace(&keyspace), waiting);
     Ok(())
 }
 
 /// Makes a table.
 pub fn add_table<A: Asks>(
-    core: &mut CachedCore,
-    watchers: &A,
+    cached: &mut CachedSite<A>,
     keyspace: &str,
     name: &str,
     waiting: &mut Waiting,
 ) -> Result<(), NameFault>
     requires room { length waiting.old.items + LONGEST_LINE ≤ ROOM }
-    ensures { IsNamed (A.scopes watchers.now) core.old (language.table keyspace.now name.now) waiting.old.items waiting.new.items result core.new }
+    ensures watchers { cached.new.site.watchers ≡ cached.old.site.watchers }
+    ensures named { IsNamed (A.scopes cached.old.site.watchers) cached.old.site.core (language.table keyspace.now name.now) waiting.old.items waiting.new.items result cached.new.site.core }
 {
     let keyspace = KeyspaceName::parse(keyspace)?;
     let table = TableName::parse(name)?;
-    command(
-        core,
-        watchers,
-        Command::AddTable(&keyspace, &table),
-        waiting,
-    );
+    command(cached, Command::AddTable(&keyspace, &table), waiting);
     Ok(())
 }
 
@@ -100,45 +97,42 @@ fn rule_target(word: &str) -> Result<Option<RuleTarget>, NameFault>
 
 /// Sets a routing rule, or takes it away.
 pub fn edit_rule<A: Asks>(
-    core: &mut CachedCore,
-    watchers: &A,
+    cached: &mut CachedSite<A>,
     key: &str,
     target: &str,
     waiting: &mut Waiting,
 ) -> Result<(), NameFault>
     requires room { length waiting.old.items + LONGEST_LINE ≤ ROOM }
-    ensures { IsNamed (A.scopes watchers.now) core.old (language.rule key.now target.now) waiting.old.items waiting.new.items result core.new }
+    ensures watchers { cached.new.site.watchers ≡ cached.old.site.watchers }
+    ensures named { IsNamed (A.scopes cached.old.site.watchers) cached.old.site.core (language.rule key.now target.now) waiting.old.items waiting.new.items result cached.new.site.core }
 {
     let key = RuleKey::parse(key)?;
     let target = rule_target(target)?;
-    command(
-        core,
-        watchers,
-        Command::EditRule(&key, target.as_ref()),
-        waiting,
-    );
+    command(cached, Command::EditRule(&key, target.as_ref()), waiting);
     Ok(())
 }
 
 /// Asks for an event.
-fn ask<A: Asks>(core: &mut CachedCore, watchers: &A, asked: &Event, waiting: &mut Waiting)
+fn ask<A: Asks>(cached: &mut CachedSite<A>, asked: &Event, waiting: &mut Waiting)
     requires room { length waiting.old.items + LONGEST_LINE ≤ ROOM }
-    ensures { IsAnswered (A.scopes watchers.now) core.old (event (event_of asked.now)) waiting.old.items waiting.new.items core.new }
+    ensures watchers { cached.new.site.watchers ≡ cached.old.site.watchers }
+    ensures answered { IsAnswered (A.scopes cached.old.site.watchers) cached.old.site.core (event (event_of asked.now)) waiting.old.items waiting.new.items cached.new.site.core }
 {
-    put_answer(waiting, &core.core_mut().apply(watchers, asked));
+    cached.names.forget();
+    put_answer(waiting, &cached.site.apply(asked));
 }
 
 /// Writes or reads a row of a table of a keyspace.
 #[inline(never)]
 pub fn row_at<A: Asks>(
-    core: &mut CachedCore,
-    watchers: &A,
+    cached: &mut CachedSite<A>,
     name: &QualifiedName<'_>,
     asked: &RowAsked<'_>,
     waiting: &mut Waiting,
 ) -> Result<(), NameFault>
     requires room { length waiting.old.items + LONGEST_LINE ≤ ROOM }
-    ensures { IsNamed (A.scopes watchers.now) core.old (row_from language.change_at language.get_at name.now asked.now) waiting.old.items waiting.new.items result core.new }
+    ensures watchers { cached.new.site.watchers ≡ cached.old.site.watchers }
+    ensures named { IsNamed (A.scopes cached.old.site.watchers) cached.old.site.core (row_from language.change_at language.get_at name.now asked.now) waiting.old.items waiting.new.items result cached.new.site.core }
 {
     let (RuleTarget { keyspace, table }, type_of) = name.parse()?;
     match asked {
@@ -149,7 +143,7 @@ pub fn row_at<A: Asks>(
                 table,
                 op,
             };
-            ask(core, watchers, &write, waiting);
+            ask(cached, &write, waiting);
         }
         RowAsked::Read(key) => {
             let read = Event::Read {
@@ -158,7 +152,7 @@ pub fn row_at<A: Asks>(
                 key: *key,
                 type_of,
             };
-            ask(core, watchers, &read, waiting);
+            ask(cached, &read, waiting);
         }
     }
     Ok(())
@@ -167,23 +161,23 @@ pub fn row_at<A: Asks>(
 /// Makes a workflow.
 #[inline(never)]
 pub fn create<A: Asks>(
-    core: &mut CachedCore,
-    watchers: &A,
+    cached: &mut CachedSite<A>,
     words: CreateWords<'_>,
     waiting: &mut Waiting,
 ) -> Result<(), NameFault>
     requires room { length waiting.old.items + LONGEST_LINE ≤ ROOM }
-    ensures { IsNamed (A.scopes watchers.now) core.old (language.create words.entry.workflow.now words.entry.source.now words.entry.target.now words.entry.tables.now) waiting.old.items waiting.new.items result core.new }
+    ensures watchers { cached.new.site.watchers ≡ cached.old.site.watchers }
+    ensures named { IsNamed (A.scopes cached.old.site.watchers) cached.old.site.core (language.create words.entry.workflow.now words.entry.source.now words.entry.target.now words.entry.tables.now) waiting.old.items waiting.new.items result cached.new.site.core }
 {
     let workflow = WorkflowName::parse(words.workflow)?;
     let source = KeyspaceName::parse(words.source)?;
     let target = KeyspaceName::parse(words.target)?;
     match &table_list(words.tables) {
         Ok(tables) => {
-            let core = core.core_mut();
+            cached.names.forget();
             put_created(
                 waiting,
-                &core.create(watchers, &workflow, &source, &target, tables),
+                &cached.site.create(&workflow, &source, &target, tables),
             );
             Ok(())
         }
@@ -203,8 +197,8 @@ fn tell_advanced(told: &Result<Advanced, Reason>, waiting: &mut Waiting)
 }
 
 /// Advances a stream of a workflow, which leaves where names lead. It asks nobody.
-fn advance(
-    core: &mut CachedCore,
+fn advance<A: Asks>(
+    cached: &mut CachedSite<A>,
     workflow: &WorkflowName,
     stream: Slot,
     at: Position,
@@ -212,9 +206,10 @@ fn advance(
     waiting: &mut Waiting,
 )
     requires room { length waiting.old.items + LONGEST_LINE ≤ ROOM }
-    ensures { (scopes : List Scope) → IsAnswered scopes core.old (event (plain.advance workflow.now (stream_name stream) at max)) waiting.old.items waiting.new.items core.new }
+    ensures watchers { cached.new.site.watchers ≡ cached.old.site.watchers }
+    ensures answered { (scopes : List Scope) → IsAnswered scopes cached.old.site.core (event (plain.advance workflow.now (stream_name stream) at max)) waiting.old.items waiting.new.items cached.new.site.core }
 {
-    tell_advanced(&core.advance(workflow, stream, at, max), waiting);
+    tell_advanced(&cached.site.advance(workflow, stream, at, max), waiting);
 }
 
 /// Tells what is told of a workflow, or why it is refused.
@@ -229,70 +224,68 @@ fn tell_shown(told: &Result<ShownOf<'_>, Reason>, waiting: &mut Waiting)
 }
 
 /// Tells of a workflow, which leaves all as it is. It asks nobody.
-fn show(core: &CachedCore, workflow: &WorkflowName, waiting: &mut Waiting)
+fn show<A: Asks>(cached: &CachedSite<A>, workflow: &WorkflowName, waiting: &mut Waiting)
     requires room { length waiting.old.items + LONGEST_LINE ≤ ROOM }
-    ensures { (scopes : List Scope) → IsAnswered scopes core.now (event (plain.show workflow.now)) waiting.old.items waiting.new.items core.now }
+    ensures { (scopes : List Scope) → IsAnswered scopes cached.now.site.core (event (plain.show workflow.now)) waiting.old.items waiting.new.items cached.now.site.core }
 {
-    tell_shown(&core.core().shown(workflow), waiting);
+    tell_shown(&cached.site.core().shown(workflow), waiting);
 }
 
 /// Switches the traffic of a workflow as a whole, or reverses it.
 #[inline(never)]
 fn drive_whole<A: Asks>(
-    core: &mut CachedCore,
-    watchers: &A,
+    cached: &mut CachedSite<A>,
     workflow: &WorkflowName,
     types: TypeSet,
     back: bool,
     waiting: &mut Waiting,
 )
     requires room { length waiting.old.items + LONGEST_LINE ≤ ROOM }
-    ensures { IsAnswered (A.scopes watchers.now) core.old (drive workflow.now types back) waiting.old.items waiting.new.items core.new }
+    ensures watchers { cached.new.site.watchers ≡ cached.old.site.watchers }
+    ensures answered { IsAnswered (A.scopes cached.old.site.watchers) cached.old.site.core (language.drive workflow.now types back) waiting.old.items waiting.new.items cached.new.site.core }
 {
-    put_driven(
-        waiting,
-        &drive_core(core.core_mut(), watchers, workflow, types, back),
-    );
+    cached.names.forget();
+    put_driven(waiting, &drive(&mut cached.site, workflow, types, back));
 }
 
 /// Does what is asked for of a workflow.
 #[inline(never)]
 pub fn workflow<A: Asks>(
-    core: &mut CachedCore,
-    watchers: &A,
+    cached: &mut CachedSite<A>,
     name: &str,
     asked: WorkflowAsked<'_>,
     waiting: &mut Waiting,
 ) -> Result<(), NameFault>
     requires room { length waiting.old.items + LONGEST_LINE ≤ ROOM }
-    ensures { IsNamed (A.scopes watchers.now) core.old (asked_from name.now asked.entry) waiting.old.items waiting.new.items result core.new }
+    ensures watchers { cached.new.site.watchers ≡ cached.old.site.watchers }
+    ensures named { IsNamed (A.scopes cached.old.site.watchers) cached.old.site.core (asked_from name.now asked.entry) waiting.old.items waiting.new.items result cached.new.site.core }
 {
     let workflow = &WorkflowName::parse(name)?;
     match asked {
         WorkflowAsked::Advance(stream, at, max) => advance(
-            core, workflow, stream, at, max, waiting,
+            cached, workflow, stream, at, max, waiting,
         ),
         WorkflowAsked::BeginSwitch(types) => {
             let begin = Command::BeginSwitch(workflow, TypeSet::parse(types)?);
-            command(core, watchers, begin, waiting);
+            command(cached, begin, waiting);
         }
         WorkflowAsked::BeginReverse(types) => {
             let begin = Command::BeginReverse(workflow, TypeSet::parse(types)?);
-            command(core, watchers, begin, waiting);
+            command(cached, begin, waiting);
         }
-        WorkflowAsked::Step(at) => command(core, watchers, Command::Step(workflow, at), waiting),
-        WorkflowAsked::Undo(at) => command(core, watchers, Command::Undo(workflow, at), waiting),
+        WorkflowAsked::Step(at) => command(cached, Command::Step(workflow, at), waiting),
+        WorkflowAsked::Undo(at) => command(cached, Command::Undo(workflow, at), waiting),
         WorkflowAsked::Switch(types) => {
             let types = TypeSet::parse(types)?;
-            drive_whole(core, watchers, workflow, types, false, waiting);
+            drive_whole(cached, workflow, types, false, waiting);
         }
         WorkflowAsked::Reverse(types) => {
             let types = TypeSet::parse(types)?;
-            drive_whole(core, watchers, workflow, types, true, waiting);
+            drive_whole(cached, workflow, types, true, waiting);
         }
-        WorkflowAsked::Cancel => command(core, watchers, Command::Cancel(workflow), waiting),
-        WorkflowAsked::Complete => command(core, watchers, Command::Complete(workflow), waiting),
-        WorkflowAsked::Show => show(core, workflow, waiting),
+        WorkflowAsked::Cancel => command(cached, Command::Cancel(workflow), waiting),
+        WorkflowAsked::Complete => command(cached, Command::Complete(workflow), waiting),
+        WorkflowAsked::Show => show(cached, workflow, waiting),
     }
     Ok(())
 }

@@ -3,8 +3,11 @@
 #![tactic(auto)]
 
 mod asking;
+mod cached;
 mod canon;
 mod command;
+mod name_text;
+mod names;
 mod rows;
 mod script;
 mod watching;

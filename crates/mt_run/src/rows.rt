@@ -7,12 +7,13 @@ ghost use Rattle.mt_script.specs.Lines.{op_from, row_from};
 ghost use Rattle.mt_site.specs.ByHand.{read_from};
 ghost use Rattle.mt_run.specs.Runs.{IsRowTold, through_text};
 
-use mt_cache::CachedCore;
+use crate::cached::CachedSite;
 use mt_event::Reason;
 use mt_io::{LONGEST_LINE, ROOM, Waiting};
 use mt_model::{Op, TopologyFault};
 use mt_names::{RuleKey, TabletType, Value};
 use mt_script::{OpText, RowAsked, put_fault, put_look_up, put_reason, put_row, put_written};
+use mt_watch::Asks;
 
 /// Tells of a write through a name.
 #[inline(always)]
@@ -53,38 +54,40 @@ fn tell_read(told: &Result<Result<Option<Value>, Reason>, TopologyFault>, waitin
 
 /// Writes a row of the table that a name leads to, which has a keyspace or a type, or is in fault.
 #[inline(never)]
-fn write_by_key(core: &mut CachedCore, name: &str, op: Op, waiting: &mut Waiting)
+fn write_by_key<A: Asks>(cached: &mut CachedSite<A>, name: &str, op: Op, waiting: &mut Waiting)
     requires room { length waiting.old.items + LONGEST_LINE ≤ ROOM }
-    ensures { IsRowTold core.old (change name.now op) waiting.old.items waiting.new.items core.new }
+    ensures watchers { cached.new.site.watchers ≡ cached.old.site.watchers }
+    ensures told { IsRowTold cached.old.site.core (change name.now op) waiting.old.items waiting.new.items cached.new.site.core }
 {
     match RuleKey::parse(name) {
-        Ok(key) => tell_written(&core.write_through(&key, op), waiting),
+        Ok(key) => tell_written(&cached.write_through(&key, op), waiting),
         Err(fault) => put_fault(waiting, fault),
     }
 }
 
 /// Writes a row of the table that a name leads to, which most often is a table's name alone.
 #[inline(always)]
-fn write(core: &mut CachedCore, name: &str, text: &OpText<'_>, waiting: &mut Waiting)
+fn write<A: Asks>(cached: &mut CachedSite<A>, name: &str, text: &OpText<'_>, waiting: &mut Waiting)
     requires room { length waiting.old.items + LONGEST_LINE ≤ ROOM }
-    ensures { IsRowTold core.old (change name.now (op_from text.now)) waiting.old.items waiting.new.items core.new }
+    ensures watchers { cached.new.site.watchers ≡ cached.old.site.watchers }
+    ensures told { IsRowTold cached.old.site.core (change name.now (op_from text.now)) waiting.old.items waiting.new.items cached.new.site.core }
 {
-    match core.write_named(name.as_bytes(), text.op()) {
+    match cached.write_named(name.as_bytes(), text.op()) {
         Some(told) => tell_written(&told, waiting),
-        None => write_by_key(core, name, text.op(), waiting),
+        None => write_by_key(cached, name, text.op(), waiting),
     }
 }
 
 /// Reads a row of the table that a name leads to, which has a keyspace or a type, or is in fault.
 #[inline(never)]
-fn read_by_key(core: &CachedCore, name: &str, key: u64, waiting: &mut Waiting)
+fn read_by_key<A: Asks>(cached: &CachedSite<A>, name: &str, key: u64, waiting: &mut Waiting)
     requires room { length waiting.old.items + LONGEST_LINE ≤ ROOM }
-    ensures { IsRowTold core.now (get name.now key) waiting.old.items waiting.new.items core.now }
+    ensures { IsRowTold cached.now.site.core (get name.now key) waiting.old.items waiting.new.items cached.now.site.core }
 {
     match RuleKey::parse(name) {
         Ok(name) => {
             let tablet_type = name.tablet_type.unwrap_or(TabletType::Primary);
-            tell_read(&core.read_through(&name, key, tablet_type), waiting)
+            tell_read(&cached.read_through(&name, key, tablet_type), waiting)
         }
         Err(fault) => put_fault(waiting, fault),
     }
@@ -92,24 +95,31 @@ fn read_by_key(core: &CachedCore, name: &str, key: u64, waiting: &mut Waiting)
 
 /// Reads a row of the table that a name leads to, which most often is a table's name alone.
 #[inline(always)]
-fn read(core: &mut CachedCore, name: &str, key: u64, waiting: &mut Waiting)
+fn read<A: Asks>(cached: &mut CachedSite<A>, name: &str, key: u64, waiting: &mut Waiting)
     requires room { length waiting.old.items + LONGEST_LINE ≤ ROOM }
-    ensures { IsRowTold core.old (get name.now key) waiting.old.items waiting.new.items core.new }
+    ensures watchers { cached.new.site.watchers ≡ cached.old.site.watchers }
+    ensures told { IsRowTold cached.old.site.core (get name.now key) waiting.old.items waiting.new.items cached.new.site.core }
 {
-    match core.read_named(name.as_bytes(), key) {
+    match cached.read_named(name.as_bytes(), key) {
         Some(told) => tell_read(&told, waiting),
-        None => read_by_key(core, name, key, waiting),
+        None => read_by_key(cached, name, key, waiting),
     }
 }
 
 /// Answers a line that asks for a row where a name leads.
 #[inline(always)]
-pub fn row(core: &mut CachedCore, name: &str, asked: &RowAsked<'_>, waiting: &mut Waiting)
+pub fn row<A: Asks>(
+    cached: &mut CachedSite<A>,
+    name: &str,
+    asked: &RowAsked<'_>,
+    waiting: &mut Waiting,
+)
     requires room { length waiting.old.items + LONGEST_LINE ≤ ROOM }
-    ensures { IsRowTold core.old (row_from change get name.now asked.now) waiting.old.items waiting.new.items core.new }
+    ensures watchers { cached.new.site.watchers ≡ cached.old.site.watchers }
+    ensures told { IsRowTold cached.old.site.core (row_from change get name.now asked.now) waiting.old.items waiting.new.items cached.new.site.core }
 {
     match asked {
-        RowAsked::Write(text) => write(core, name, text, waiting),
-        RowAsked::Read(key) => read(core, name, *key, waiting),
+        RowAsked::Write(text) => write(cached, name, text, waiting),
+        RowAsked::Read(key) => read(cached, name, *key, waiting),
     }
 }

@@ -1,4 +1,4 @@
-//! Running a script: a line is read, asked of the core, and its answer written, one after the other.
+//! Running a script: a line is read, asked of the site, and its answer written, one after the other.
 ghost use Rattle.std.specs.Prelude.{◌≡◌, ℕ, ◌+◌, ◌≤◌, List, IfSome, length, string_bytes};
 ghost use Rattle.mt_model.specs.declared.entries.Scope.{Scope};
 ghost use Rattle.mt_plain.specs.Output.{says, told};
@@ -8,8 +8,8 @@ ghost use Rattle.mt_site_state.specs.Ways.{SiteStands, SiteState};
 ghost use Rattle.mt_run.specs.Runs.{AsksDocument, Runs, RunsLine, RunsLines};
 
 use crate::asking::{add_keyspace, add_table, create, edit_rule, row_at, workflow};
+use crate::cached::CachedSite;
 use crate::rows::row;
-use mt_cache::CachedCore;
 use mt_io::{
     LONGEST_LINE, ROOM, ScriptFault, Waiting, flush, make_room, put_document, read_script,
 };
@@ -40,15 +40,15 @@ fn put_made<W: Write>(
 
 /// Answers a line of a script, where a line of output has room, and adds the answer to what waits to be written.
 fn run_line<W: Write, A: Asks>(
-    core: &mut CachedCore,
-    watchers: &A,
+    cached: &mut CachedSite<A>,
     waiting: &mut Waiting,
     writer: &mut W,
     line: &[u8],
 ) -> Result<(), ScriptFault>
     requires room { length waiting.old.items + LONGEST_LINE ≤ ROOM }
-    ensures { (p : Plain) → SiteStands p (A.scopes watchers.now) core.old
-        → RunsLine (A.scopes watchers.now) p line.now core.new (W.contents writer.old) (W.contents writer.new) waiting.old.items waiting.new.items result }
+    ensures watchers { cached.new.site.watchers ≡ cached.old.site.watchers }
+    ensures runs { (p : Plain) → SiteStands p (A.scopes cached.old.site.watchers) cached.old.site.core
+        → RunsLine (A.scopes cached.old.site.watchers) p line.now cached.new.site.core (W.contents writer.old) (W.contents writer.new) waiting.old.items waiting.new.items result }
 {
     let named = match read(line) {
         Line::Silent => Ok(()),
@@ -57,17 +57,17 @@ fn run_line<W: Write, A: Asks>(
             Ok(())
         }
         Line::Row(name, asked) => {
-            row(core, name, &asked, waiting);
+            row(cached, name, &asked, waiting);
             Ok(())
         }
-        Line::At(name, asked) => row_at(core, watchers, &name, &asked, waiting),
-        Line::Workflow(name, asked) => workflow(core, watchers, name, asked, waiting),
-        Line::Create(words) => create(core, watchers, words, waiting),
-        Line::Keyspace(name) => add_keyspace(core, watchers, name, waiting),
-        Line::Table(keyspace, name) => add_table(core, watchers, keyspace, name, waiting),
-        Line::Rule(key, target) => edit_rule(core, watchers, key, target, waiting),
-        Line::Rules => return put_made(core.core().rules_json().ok(), waiting, writer),
-        Line::Dump => return put_made(core.core().dump().ok(), waiting, writer),
+        Line::At(name, asked) => row_at(cached, &name, &asked, waiting),
+        Line::Workflow(name, asked) => workflow(cached, name, asked, waiting),
+        Line::Create(words) => create(cached, words, waiting),
+        Line::Keyspace(name) => add_keyspace(cached, name, waiting),
+        Line::Table(keyspace, name) => add_table(cached, keyspace, name, waiting),
+        Line::Rule(key, target) => edit_rule(cached, key, target, waiting),
+        Line::Rules => return put_made(cached.site.rules_json().ok(), waiting, writer),
+        Line::Dump => return put_made(cached.site.dump().ok(), waiting, writer),
     };
     if let Err(fault) = named {
         put_fault(waiting, fault);
@@ -77,18 +77,17 @@ fn run_line<W: Write, A: Asks>(
 
 /// Answers each line of a script, and writes the answers in pieces.
 fn run_lines<W: Write, A: Asks>(
-    core: &mut CachedCore,
-    watchers: &A,
+    cached: &mut CachedSite<A>,
     script: &[u8],
     writer: &mut W,
 ) -> Result<(), ScriptFault>
-    ensures { (p : Plain) → SiteStands p (A.scopes watchers.now) core.old → RunsLines p script.now (W.contents writer.old) (W.contents writer.new) result }
+    ensures { (p : Plain) → SiteStands p (A.scopes cached.old.site.watchers) cached.old.site.core → RunsLines p script.now (W.contents writer.old) (W.contents writer.new) result }
 {
     let mut waiting = Waiting::new();
     let mut rest = script;
     while let Some((line, after)) = first_line(rest) {
         make_room(&mut waiting, writer)?;
-        run_line(core, watchers, &mut waiting, writer, line)?;
+        run_line(cached, &mut waiting, writer, line)?;
         rest = after;
     }
     flush(&mut waiting, writer)
@@ -99,15 +98,15 @@ fn run_lines<W: Write, A: Asks>(
 /// finds no memory is answered `refused F0 Memory`; a fault ends the run, and `ScriptFault` says what each leaves written.
 /// Where a document finds no memory, the lines before it are answered and the run ends as `Memory`. An event that asks,
 /// as `create` and a step that refreshes a primary do, asks these watchers.
-pub fn run_script<R: Read, W: Write, A: Asks>(
+pub fn run_script<R: Read, W: Write, A: Asks + Drop>(
     alloc: Global,
     reader: &mut R,
     writer: &mut W,
-    watchers: &A,
+    watchers: A,
 ) -> Result<(), ScriptFault>
-    ensures { Runs (A.scopes watchers.now) (R.remaining reader.old) (R.remaining reader.new) (W.contents writer.old) (W.contents writer.new) result }
+    ensures { Runs (A.scopes watchers) (R.remaining reader.old) (R.remaining reader.new) (W.contents writer.old) (W.contents writer.new) result }
 {
     let script = read_script(alloc, reader)?;
-    let mut core = CachedCore::new(alloc);
-    run_lines(&mut core, watchers, &script, writer)
+    let mut cached = CachedSite::open(alloc, watchers);
+    run_lines(&mut cached, &script, writer)
 }

@@ -49,5 +49,5 @@ pub fn run_watched<R: Read, W: Write>(
             return Err(ScriptFault::Memory);
         }
     }
-    run_script(alloc, reader, writer, &watchers)
+    run_script(alloc, reader, writer, watchers)
 }

@@ -196,7 +196,7 @@ fn writes(
     want: &[u8],
 ) -> bool {
     let mut reader = script;
-    let result = run_script(alloc, &mut reader, &mut writer, &Watchers::new(alloc));
+    let result = run_script(alloc, &mut reader, &mut writer, Watchers::new(alloc));
     result == end && writer.held() == want
 }
 

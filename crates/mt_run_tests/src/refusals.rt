@@ -26,7 +26,7 @@ const LINES: [&str; 9] = [
     "dump",
 ];
 
-/// The same lines, each too long.
+/// Tries those lines, each too long.
 fn long_lines(case: &mut Case) -> Result<(), Fail> {
     for line in LINES.iter() {
         long_line(case, line)?;

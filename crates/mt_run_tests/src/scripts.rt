@@ -73,7 +73,7 @@ impl Case {
         prints(alloc, self.script(), self.want())
     }
 
-    /// The same where watchers stand for the primaries of these keyspaces.
+    /// Whether the script prints what it must where watchers stand for the primaries of these keyspaces.
     fn holds_watched(&self, alloc: Global, watched: &[&str]) -> bool {
         let Ok(names) = keyspaces(watched) else {
             return false;
@@ -108,7 +108,7 @@ pub fn answers_watched(
     Ok(case.holds_watched(alloc, watched))
 }
 
-/// The same of lists of lines, one behind the other.
+/// Whether lists of lines, one behind the other, are answered so where those watchers stand.
 pub fn answers_in_turn(
     alloc: Global,
     watched: &[&str],
@@ -129,7 +129,7 @@ pub fn ends<R: Read>(
     want: &[u8],
 ) -> bool {
     let mut written = Vec::new(alloc);
-    let result = run_script(alloc, reader, &mut written, &Watchers::new(alloc));
+    let result = run_script(alloc, reader, &mut written, Watchers::new(alloc));
     result == end && written.as_slice() == want
 }
 

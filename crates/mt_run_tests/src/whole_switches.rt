@@ -167,7 +167,7 @@ fn holds_refused(alloc: Global, case: &Case) -> bool {
     }
     let mut script = case.script();
     let mut written = Vec::new(alloc);
-    let result = run_script(alloc, &mut script, &mut written, &watchers);
+    let result = run_script(alloc, &mut script, &mut written, watchers);
     result == Ok(()) && written.as_slice() == case.want()
 }
 

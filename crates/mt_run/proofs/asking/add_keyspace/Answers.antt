@@ -7,15 +7,15 @@ use Rattle.mt_plain.specs.Script.{event}
 use Rattle.mt_run.proofs.AskLemmas.{then_err, then_ok}
 use Rattle.mt_run.proofs.asking.add_keyspace.Goals as goal
 
-pub returns-in_err-keyspace : goal.returns-in_err-keyspace
-returns-in_err-keyspace g c =
+pub returns-in_err-keyspace-clause-named : goal.returns-in_err-keyspace-clause-named
+returns-in_err-keyspace-clause-named g c =
     let e = err_from_is_err_and c.from_residual.result c.from_residual.ensures.1 in
     let same : e.0 ≡ c.in_err-keyspace.field-0.0 = search (e.2) in
     rw (e.1, same) (then_err (λ k. Ok (event (plain.add_keyspace k))) (read_keyspace c.args.name.now) c.in_err-keyspace.field-0.0 c.in_err-keyspace.ensures.value, refl, refl)
 
-pub returns : goal.returns
-returns g c = (
+pub returns-clause-named : goal.returns-clause-named
+returns-clause-named g c = (
   event (plain.add_keyspace c.in_ok-keyspace.keyspace),
   then_ok (λ k. Ok (event (plain.add_keyspace k))) (read_keyspace c.args.name.now) c.in_ok-keyspace.keyspace _ c.in_ok-keyspace.ensures.value refl,
-  c.command.ensures,
+  c.command.ensures.answered,
 )

@@ -8,15 +8,15 @@ use Rattle.mt_plain.specs.Script.{event}
 use Rattle.mt_run.proofs.AskLemmas.{then_err, then_ok}
 use Rattle.mt_run.proofs.asking.add_table.Goals as goal
 
-pub returns-in_err-keyspace : goal.returns-in_err-keyspace
-returns-in_err-keyspace g c =
+pub returns-in_err-keyspace-clause-named : goal.returns-in_err-keyspace-clause-named
+returns-in_err-keyspace-clause-named g c =
     let e = err_from_is_err_and c.from_residual.result c.from_residual.ensures.1 in
     let same : e.0 ≡ c.in_err-keyspace.field-0.0 = search (e.2) in
     rw (e.1, same)
     (then_err (λ k. read_table c.args.name.now >>= λ t. Ok (event (plain.add_table k t))) (read_keyspace c.args.keyspace.now) c.in_err-keyspace.field-0.0 c.in_err-keyspace.ensures.value, refl, refl)
 
-pub returns-in_err-table : goal.returns-in_err-table
-returns-in_err-table g c =
+pub returns-in_err-table-clause-named : goal.returns-in_err-table-clause-named
+returns-in_err-table-clause-named g c =
     let e = err_from_is_err_and c.from_residual-in_err-table.result c.from_residual-in_err-table.ensures.1 in
     let same : e.0 ≡ c.in_err-table.field-0.0 = search (e.2) in
     rw (e.1, same) (
@@ -26,11 +26,11 @@ returns-in_err-table g c =
       refl,
     )
 
-pub returns : goal.returns
-returns g c =
+pub returns-clause-named : goal.returns-clause-named
+returns-clause-named g c =
     let keyspace = c.in_ok-keyspace.keyspace in (
       event (plain.add_table keyspace c.in_ok-table.table),
       then_ok (λ k. read_table c.args.name.now >>= λ t. Ok (event (plain.add_table k t))) (read_keyspace c.args.keyspace.now) keyspace _ c.in_ok-keyspace.ensures.value
           (then_ok (λ t. Ok (event (plain.add_table keyspace t))) (read_table c.args.name.now) c.in_ok-table.table _ c.in_ok-table.ensures.value refl),
-      c.command.ensures,
+      c.command.ensures.answered,
     )

@@ -1,14 +1,12 @@
--- The answer is that of the core that is lent.
-use Rattle.std.proofs.Common.{subst}
+-- The answer is that of the site; no name is kept.
 use Rattle.mt_event.specs.Events.{answer_from, event_of}
-use Rattle.mt_site_state.specs.Ways.{SiteSteps}
 use Rattle.mt_run.proofs.RunLemmas.{answered}
 use Rattle.mt_run.proofs.asking.ask.Goals as goal
 
-pub returns : goal.returns
-returns g c =
-    let scopes = g.A.Asks.scopes c.args.watchers.now in
+pub returns-clause-answered : goal.returns-clause-answered
+returns-clause-answered g c =
+    let scopes = g.A.Asks.scopes c.args.cached.now.site.watchers in
     let event = event_of c.args.asked.now in
     let answer = answer_from c.apply.result in
-    answered scopes c.args.core.now c.apply.new.self event answer c.args.waiting.now.items c.put_answer.new.text.items c.put_answer.ensures
-    (subst (λ s. SiteSteps scopes s event answer c.apply.new.self) c.core_mut.ensures.value c.apply.ensures.steps)
+    answered scopes c.args.cached.now.site.core c.apply.new.self.core event answer c.args.waiting.now.items c.put_answer.new.text.items c.put_answer.ensures
+    c.apply.ensures.steps

@@ -10,14 +10,14 @@ use Rattle.mt_script.specs.Lines.{row_from}
 use Rattle.mt_run.proofs.AskLemmas.{row_asked, row_refused}
 use Rattle.mt_run.proofs.asking.row_at.Goals as goal
 
-pub returns-in_err-keyspace : goal.returns-in_err-keyspace
-returns-in_err-keyspace g c =
+pub returns-in_err-keyspace-clause-named : goal.returns-in_err-keyspace-clause-named
+returns-in_err-keyspace-clause-named g c =
     let e = err_from_is_err_and c.from_residual.result c.from_residual.ensures.1 in
     let same : e.0 ≡ c.in_err-keyspace.field-0.0 = search (e.2) in
     rw (e.1, same) (row_refused c.args.name.now c.args.asked.now (read_key c.args.name.now) c.in_err-keyspace.field-0.0 refl c.in_err-keyspace.ensures, refl, refl)
 
-pub returns-in-Write : goal.returns-in-Write
-returns-in-Write g c =
+pub returns-in-Write-clause-named : goal.returns-in-Write-clause-named
+returns-in-Write-clause-named g c =
     let there = c.in_ok-keyspace.field-0-0 in
     let text = c.in-Write.text in
     let request = event (plain.write there.keyspace there.table c.op-op.result) in (
@@ -25,16 +25,16 @@ returns-in-Write g c =
       subst (λ a. request_of (row_from change_at get_at c.args.name.now a) ≡ Ok request) (sym c.in-Write.is)
           (row_asked c.args.name.now (row.Write text) (read_key c.args.name.now) (there, c.in_ok-keyspace.type_of) refl c.in_ok-keyspace.ensures
           ∙ ap (λ (op : Op). Ok (event (plain.write there.keyspace there.table op))) (sym c.op-op.ensures)),
-      c.ask.ensures,
+      c.ask.ensures.answered,
     )
 
-pub returns-in-Read : goal.returns-in-Read
-returns-in-Read g c =
+pub returns-in-Read-clause-named : goal.returns-in-Read-clause-named
+returns-in-Read-clause-named g c =
     let there = c.in_ok-keyspace.field-0-0 in
     let for_type = c.in_ok-keyspace.type_of in
     let request = event (plain.read there.keyspace there.table c.in-Read.key for_type) in (
       request,
       subst (λ a. request_of (row_from change_at get_at c.args.name.now a) ≡ Ok request) (sym c.in-Read.is)
           (row_asked c.args.name.now (row.Read c.in-Read.key) (read_key c.args.name.now) (there, for_type) refl c.in_ok-keyspace.ensures),
-      c.ask-in-Read.ensures,
+      c.ask-in-Read.ensures.answered,
     )

@@ -1,4 +1,4 @@
--- The answer is that of the core, which stays as it is.
+-- The answer is that of the site, which stays as it is.
 use Rattle.std.proofs.Common.{subst}
 use Rattle.mt_plain.specs.Events as plain
 use Rattle.mt_site.specs.Show.{shown_answer}
@@ -7,7 +7,7 @@ use Rattle.mt_run.proofs.RunLemmas.{answered}
 use Rattle.mt_run.proofs.asking.show.Goals as goal
 
 pub returns : goal.returns
-returns c = λ scopes.
+returns g c = λ scopes.
     let answer = shown_answer c.shown.result in
-    answered scopes c.args.core.now c.args.core.now (plain.show c.args.workflow.now) answer c.args.waiting.now.items c.tell_shown.new.waiting.items c.tell_shown.ensures
+    answered scopes c.args.cached.now.site.core c.args.cached.now.site.core (plain.show c.args.workflow.now) answer c.args.waiting.now.items c.tell_shown.new.waiting.items c.tell_shown.ensures
     (subst (λ s. SiteSteps scopes s (plain.show c.args.workflow.now) answer s) c.core.ensures (c.shown.ensures.steps scopes))

@@ -7,62 +7,62 @@ use Rattle.mt_workflow.specs.Workflows.{stream_name}
 use Rattle.mt_run.proofs.AskLemmas.{types_read, workflow_read}
 use Rattle.mt_run.proofs.asking.workflow.Goals as goal
 
-pub returns-in-Advance : goal.returns-in-Advance
-returns-in-Advance g c =
+pub returns-in-Advance-clause-named : goal.returns-in-Advance-clause-named
+returns-in-Advance-clause-named g c =
     let w = c.in_ok-workflow.field-0 in
     let request = event (plain.advance w (stream_name c.in-Advance.stream) c.in-Advance.at c.in-Advance.max) in
-    (request, workflow_read c.args.name.now c.args.asked (asked.Advance c.in-Advance.stream c.in-Advance.at c.in-Advance.max) w request c.in-Advance.is c.in_ok-workflow.ensures.value refl, c.advance.ensures (g.A.Asks.scopes c.args.watchers.now))
+    (request, workflow_read c.args.name.now c.args.asked (asked.Advance c.in-Advance.stream c.in-Advance.at c.in-Advance.max) w request c.in-Advance.is c.in_ok-workflow.ensures.value refl, c.advance.ensures.answered (g.A.Asks.scopes c.args.cached.now.site.watchers))
 
-pub returns-in_ok-parse-in-BeginSwitch : goal.returns-in_ok-parse-in-BeginSwitch
-returns-in_ok-parse-in-BeginSwitch g c =
+pub returns-in_ok-parse-in-BeginSwitch-clause-named : goal.returns-in_ok-parse-in-BeginSwitch-clause-named
+returns-in_ok-parse-in-BeginSwitch-clause-named g c =
     let w = c.in_ok-workflow.field-0 in
     let request = event (plain.begin_switch w c.in_ok-parse-in-BeginSwitch.field-0) in
-    (request, workflow_read c.args.name.now c.args.asked (asked.BeginSwitch c.in-BeginSwitch.types) w request c.in-BeginSwitch.is c.in_ok-workflow.ensures.value (types_read (λ t. event (plain.begin_switch w t)) c.in-BeginSwitch.types.now c.in_ok-parse-in-BeginSwitch.field-0 c.in_ok-parse-in-BeginSwitch.ensures.value), c.command.ensures)
+    (request, workflow_read c.args.name.now c.args.asked (asked.BeginSwitch c.in-BeginSwitch.types) w request c.in-BeginSwitch.is c.in_ok-workflow.ensures.value (types_read (λ t. event (plain.begin_switch w t)) c.in-BeginSwitch.types.now c.in_ok-parse-in-BeginSwitch.field-0 c.in_ok-parse-in-BeginSwitch.ensures.value), c.command.ensures.answered)
 
-pub returns-in_ok-parse-in-BeginReverse : goal.returns-in_ok-parse-in-BeginReverse
-returns-in_ok-parse-in-BeginReverse g c =
+pub returns-in_ok-parse-in-BeginReverse-clause-named : goal.returns-in_ok-parse-in-BeginReverse-clause-named
+returns-in_ok-parse-in-BeginReverse-clause-named g c =
     let w = c.in_ok-workflow.field-0 in
     let request = event (plain.begin_reverse w c.in_ok-parse-in-BeginReverse.field-0) in
-    (request, workflow_read c.args.name.now c.args.asked (asked.BeginReverse c.in-BeginReverse.types) w request c.in-BeginReverse.is c.in_ok-workflow.ensures.value (types_read (λ t. event (plain.begin_reverse w t)) c.in-BeginReverse.types.now c.in_ok-parse-in-BeginReverse.field-0 c.in_ok-parse-in-BeginReverse.ensures.value), c.command-in-BeginReverse.ensures)
+    (request, workflow_read c.args.name.now c.args.asked (asked.BeginReverse c.in-BeginReverse.types) w request c.in-BeginReverse.is c.in_ok-workflow.ensures.value (types_read (λ t. event (plain.begin_reverse w t)) c.in-BeginReverse.types.now c.in_ok-parse-in-BeginReverse.field-0 c.in_ok-parse-in-BeginReverse.ensures.value), c.command-in-BeginReverse.ensures.answered)
 
-pub returns-in-Step : goal.returns-in-Step
-returns-in-Step g c =
+pub returns-in-Step-clause-named : goal.returns-in-Step-clause-named
+returns-in-Step-clause-named g c =
     let w = c.in_ok-workflow.field-0 in
     let request = event (plain.step w c.in-Step.at) in
-    (request, workflow_read c.args.name.now c.args.asked (asked.Step c.in-Step.at) w request c.in-Step.is c.in_ok-workflow.ensures.value refl, c.command-in-Step.ensures)
+    (request, workflow_read c.args.name.now c.args.asked (asked.Step c.in-Step.at) w request c.in-Step.is c.in_ok-workflow.ensures.value refl, c.command-in-Step.ensures.answered)
 
-pub returns-in-Undo : goal.returns-in-Undo
-returns-in-Undo g c =
+pub returns-in-Undo-clause-named : goal.returns-in-Undo-clause-named
+returns-in-Undo-clause-named g c =
     let w = c.in_ok-workflow.field-0 in
     let request = event (plain.undo w c.in-Undo.at) in
-    (request, workflow_read c.args.name.now c.args.asked (asked.Undo c.in-Undo.at) w request c.in-Undo.is c.in_ok-workflow.ensures.value refl, c.command-in-Undo.ensures)
+    (request, workflow_read c.args.name.now c.args.asked (asked.Undo c.in-Undo.at) w request c.in-Undo.is c.in_ok-workflow.ensures.value refl, c.command-in-Undo.ensures.answered)
 
-pub returns-in_ok-types-in-Switch : goal.returns-in_ok-types-in-Switch
-returns-in_ok-types-in-Switch g c =
+pub returns-in_ok-types-in-Switch-clause-named : goal.returns-in_ok-types-in-Switch-clause-named
+returns-in_ok-types-in-Switch-clause-named g c =
     let w = c.in_ok-workflow.field-0 in
     let request = drive w c.in_ok-types-in-Switch.types false in
-    (request, workflow_read c.args.name.now c.args.asked (asked.Switch c.in-Switch.types) w request c.in-Switch.is c.in_ok-workflow.ensures.value (types_read (λ t. drive w t false) c.in-Switch.types.now c.in_ok-types-in-Switch.types c.in_ok-types-in-Switch.ensures.value), c.drive_whole.ensures)
+    (request, workflow_read c.args.name.now c.args.asked (asked.Switch c.in-Switch.types) w request c.in-Switch.is c.in_ok-workflow.ensures.value (types_read (λ t. drive w t false) c.in-Switch.types.now c.in_ok-types-in-Switch.types c.in_ok-types-in-Switch.ensures.value), c.drive_whole.ensures.answered)
 
-pub returns-in_ok-types-in-Reverse : goal.returns-in_ok-types-in-Reverse
-returns-in_ok-types-in-Reverse g c =
+pub returns-in_ok-types-in-Reverse-clause-named : goal.returns-in_ok-types-in-Reverse-clause-named
+returns-in_ok-types-in-Reverse-clause-named g c =
     let w = c.in_ok-workflow.field-0 in
     let request = drive w c.in_ok-types-in-Reverse.types true in
-    (request, workflow_read c.args.name.now c.args.asked (asked.Reverse c.in-Reverse.types) w request c.in-Reverse.is c.in_ok-workflow.ensures.value (types_read (λ t. drive w t true) c.in-Reverse.types.now c.in_ok-types-in-Reverse.types c.in_ok-types-in-Reverse.ensures.value), c.drive_whole-in-Reverse.ensures)
+    (request, workflow_read c.args.name.now c.args.asked (asked.Reverse c.in-Reverse.types) w request c.in-Reverse.is c.in_ok-workflow.ensures.value (types_read (λ t. drive w t true) c.in-Reverse.types.now c.in_ok-types-in-Reverse.types c.in_ok-types-in-Reverse.ensures.value), c.drive_whole-in-Reverse.ensures.answered)
 
-pub returns-in-Cancel : goal.returns-in-Cancel
-returns-in-Cancel g c =
+pub returns-in-Cancel-clause-named : goal.returns-in-Cancel-clause-named
+returns-in-Cancel-clause-named g c =
     let w = c.in_ok-workflow.field-0 in
     let request = event (plain.cancel w) in
-    (request, workflow_read c.args.name.now c.args.asked (asked.Cancel) w request c.in-Cancel.is c.in_ok-workflow.ensures.value refl, c.command-in-Cancel.ensures)
+    (request, workflow_read c.args.name.now c.args.asked (asked.Cancel) w request c.in-Cancel.is c.in_ok-workflow.ensures.value refl, c.command-in-Cancel.ensures.answered)
 
-pub returns-in-Complete : goal.returns-in-Complete
-returns-in-Complete g c =
+pub returns-in-Complete-clause-named : goal.returns-in-Complete-clause-named
+returns-in-Complete-clause-named g c =
     let w = c.in_ok-workflow.field-0 in
     let request = event (plain.complete w) in
-    (request, workflow_read c.args.name.now c.args.asked (asked.Complete) w request c.in-Complete.is c.in_ok-workflow.ensures.value refl, c.command-in-Complete.ensures)
+    (request, workflow_read c.args.name.now c.args.asked (asked.Complete) w request c.in-Complete.is c.in_ok-workflow.ensures.value refl, c.command-in-Complete.ensures.answered)
 
-pub returns-in-Show : goal.returns-in-Show
-returns-in-Show g c =
+pub returns-in-Show-clause-named : goal.returns-in-Show-clause-named
+returns-in-Show-clause-named g c =
     let w = c.in_ok-workflow.field-0 in
     let request = event (plain.show w) in
-    (request, workflow_read c.args.name.now c.args.asked (asked.Show) w request c.in-Show.is c.in_ok-workflow.ensures.value refl, c.show.ensures (g.A.Asks.scopes c.args.watchers.now))
+    (request, workflow_read c.args.name.now c.args.asked (asked.Show) w request c.in-Show.is c.in_ok-workflow.ensures.value refl, c.show.ensures (g.A.Asks.scopes c.args.cached.now.site.watchers))

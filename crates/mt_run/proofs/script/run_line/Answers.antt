@@ -7,100 +7,99 @@ use Rattle.mt_plain.specs.Script as language
 use Rattle.mt_plain.specs.Script.{command, read_line}
 use Rattle.mt_plain.specs.Serve.{served}
 use Rattle.mt_script.specs.Lines.{asked_from, row_from}
-use Rattle.mt_site_state.specs.Ways.{SiteStands}
 use Rattle.mt_run.proofs.AskLemmas.{IsLineNamed, line_named, made_says, refused_waits}
 use Rattle.mt_run.proofs.RunLemmas.{command_waits, line_silent}
 use Rattle.mt_run.proofs.script.run_line.Goals.{in-Silent, in-Refused, in-Row, in-At, in-Workflow, in-Create, in-Keyspace, in-Table, in-Rule}
 use Rattle.mt_run.proofs.script.run_line.Goals as goal
 
-pub returns-in-Rules : goal.returns-in-Rules
-returns-in-Rules g c = λ p stands.
-    let scopes = g.A.Asks.scopes c.args.watchers.now in
+pub returns-in-Rules-clause-runs : goal.returns-in-Rules-clause-runs
+returns-in-Rules-clause-runs g c = λ p stands.
+    let scopes = g.A.Asks.scopes c.args.cached.now.site.watchers in
     let line = c.args.line.now in
     let is : told read_line p line ≡ says (rules_text (served p).rules) = sym (ap (told_line p) c.in-Rules.ensures) in
-    c.put_made.ensures scopes p line c.args.core.now stands (language.rules, refl, sym c.in-Rules.ensures)
+    c.put_made.ensures scopes p line c.args.cached.now.site.core stands (language.rules, refl, sym c.in-Rules.ensures)
     (subst (λ d. IfSome d (λ text. told read_line p line ≡ says (string_bytes text))) (sym c.ok.ensures.value)
-    (made_says c.rules_json.result string_bytes (rules_text (served p).rules) (told read_line p line) is (c.rules_json.ensures.served p scopes (subst (SiteStands p scopes) (sym c.core.ensures) stands))))
+    (made_says c.rules_json.result string_bytes (rules_text (served p).rules) (told read_line p line) is (c.rules_json.ensures.served p scopes stands)))
 
-pub returns-in-Dump : goal.returns-in-Dump
-returns-in-Dump g c = λ p stands.
-    let scopes = g.A.Asks.scopes c.args.watchers.now in
+pub returns-in-Dump-clause-runs : goal.returns-in-Dump-clause-runs
+returns-in-Dump-clause-runs g c = λ p stands.
+    let scopes = g.A.Asks.scopes c.args.cached.now.site.watchers in
     let line = c.args.line.now in
     let is : told read_line p line ≡ says (dump_text (served p)) = sym (ap (told_line p) c.in-Dump.ensures) in
-    c.put_made-in-Dump.ensures scopes p line c.args.core.now stands (language.dump, refl, sym c.in-Dump.ensures)
+    c.put_made-in-Dump.ensures scopes p line c.args.cached.now.site.core stands (language.dump, refl, sym c.in-Dump.ensures)
     (subst (λ d. IfSome d (λ text. told read_line p line ≡ says (string_bytes text))) (sym c.ok-in-Dump.ensures.value)
-    (made_says c.dump.result string_bytes (dump_text (served p)) (told read_line p line) is (c.dump.ensures.served p scopes (subst (SiteStands p scopes) (sym c.core-in-Dump.ensures) stands))))
+    (made_says c.dump.result string_bytes (dump_text (served p)) (told read_line p line) is (c.dump.ensures.served p scopes stands)))
 
-pub returns-in-Err : goal.returns-in-Err
-returns-in-Err g c = λ p stands.
-    let scopes = g.A.Asks.scopes c.args.watchers.now in
+pub returns-in-Err-clause-runs : goal.returns-in-Err-clause-runs
+returns-in-Err-clause-runs g c = λ p stands.
+    let scopes = g.A.Asks.scopes c.args.cached.now.site.watchers in
     let held = g.W.Write.contents c.args.writer.now in
     let line = c.args.line.now in
-    let old = c.args.core.now in
+    let old = c.args.cached.now.site.core in
     let before = c.args.waiting.now.items in
-    let said : IsLineNamed scopes p line c.match-read.core held before c.match-read.waiting.items c.match-read.named =
+    let said : IsLineNamed scopes p line c.match-read.cached.site.core held before c.match-read.waiting.items c.match-read.named =
     elim c.match-read.branch [
-      | in-Silent w ↦ rw (w.named-is, w.core-is, w.waiting-is) (line_silent scopes p line old held before before (sym (ap (told_line p) w.in-Silent.ensures)) stands refl)
+      | in-Silent w ↦ rw (w.named-is, w.cached-is, w.waiting-is) (line_silent scopes p line old held before before (sym (ap (told_line p) w.in-Silent.ensures)) stands refl)
       | in-Refused w ↦
-          rw (w.named-is, w.core-is, w.waiting-is)
+          rw (w.named-is, w.cached-is, w.waiting-is)
           (refused_waits scopes p line old held before w.put_refusal.new.text.items w.in-Refused.refusal w.in-Refused.ensures stands w.put_refusal.ensures)
       | in-Row w ↦
-          rw (w.named-is, w.core-is, w.waiting-is)
-          (command_waits scopes p line w.row.new.core held before w.row.new.waiting.items (row_from language.change language.get w.in-Row.name.now w.in-Row.asked) (sym w.in-Row.ensures) (w.row.ensures scopes p stands))
+          rw (w.named-is, w.cached-is, w.waiting-is)
+          (command_waits scopes p line w.row.new.cached.site.core held before w.row.new.waiting.items (row_from language.change language.get w.in-Row.name.now w.in-Row.asked) (sym w.in-Row.ensures) (w.row.ensures.told scopes p stands))
       | in-At w ↦
-          rw (w.named-is, w.core-is, w.waiting-is)
-          (line_named scopes p line old w.row_at-named.new.core held before w.row_at-named.new.waiting.items (row_from language.change_at language.get_at w.in-At.name w.in-At.asked) w.row_at-named.result w.in-At.ensures stands w.row_at-named.ensures)
+          rw (w.named-is, w.cached-is, w.waiting-is)
+          (line_named scopes p line old w.row_at-named.new.cached.site.core held before w.row_at-named.new.waiting.items (row_from language.change_at language.get_at w.in-At.name w.in-At.asked) w.row_at-named.result w.in-At.ensures stands w.row_at-named.ensures.named)
       | in-Workflow w ↦
-          rw (w.named-is, w.core-is, w.waiting-is)
-          (line_named scopes p line old w.workflow-named.new.core held before w.workflow-named.new.waiting.items (asked_from w.in-Workflow.name.now w.in-Workflow.asked) w.workflow-named.result w.in-Workflow.ensures stands w.workflow-named.ensures)
+          rw (w.named-is, w.cached-is, w.waiting-is)
+          (line_named scopes p line old w.workflow-named.new.cached.site.core held before w.workflow-named.new.waiting.items (asked_from w.in-Workflow.name.now w.in-Workflow.asked) w.workflow-named.result w.in-Workflow.ensures stands w.workflow-named.ensures.named)
       | in-Create w ↦
-          rw (w.named-is, w.core-is, w.waiting-is)
-          (line_named scopes p line old w.create-named.new.core held before w.create-named.new.waiting.items (language.create w.in-Create.words.workflow.now w.in-Create.words.source.now w.in-Create.words.target.now w.in-Create.words.tables.now) w.create-named.result w.in-Create.ensures stands w.create-named.ensures)
+          rw (w.named-is, w.cached-is, w.waiting-is)
+          (line_named scopes p line old w.create-named.new.cached.site.core held before w.create-named.new.waiting.items (language.create w.in-Create.words.workflow.now w.in-Create.words.source.now w.in-Create.words.target.now w.in-Create.words.tables.now) w.create-named.result w.in-Create.ensures stands w.create-named.ensures.named)
       | in-Keyspace w ↦
-          rw (w.named-is, w.core-is, w.waiting-is)
-          (line_named scopes p line old w.add_keyspace-named.new.core held before w.add_keyspace-named.new.waiting.items (language.keyspace w.in-Keyspace.name.now) w.add_keyspace-named.result w.in-Keyspace.ensures stands w.add_keyspace-named.ensures)
+          rw (w.named-is, w.cached-is, w.waiting-is)
+          (line_named scopes p line old w.add_keyspace-named.new.cached.site.core held before w.add_keyspace-named.new.waiting.items (language.keyspace w.in-Keyspace.name.now) w.add_keyspace-named.result w.in-Keyspace.ensures stands w.add_keyspace-named.ensures.named)
       | in-Table w ↦
-          rw (w.named-is, w.core-is, w.waiting-is)
-          (line_named scopes p line old w.add_table-named.new.core held before w.add_table-named.new.waiting.items (language.table w.in-Table.keyspace.now w.in-Table.name.now) w.add_table-named.result w.in-Table.ensures stands w.add_table-named.ensures)
+          rw (w.named-is, w.cached-is, w.waiting-is)
+          (line_named scopes p line old w.add_table-named.new.cached.site.core held before w.add_table-named.new.waiting.items (language.table w.in-Table.keyspace.now w.in-Table.name.now) w.add_table-named.result w.in-Table.ensures stands w.add_table-named.ensures.named)
       | in-Rule w ↦
-          rw (w.named-is, w.core-is, w.waiting-is)
-          (line_named scopes p line old w.edit_rule-named.new.core held before w.edit_rule-named.new.waiting.items (language.rule w.in-Rule.key.now w.in-Rule.target.now) w.edit_rule-named.result w.in-Rule.ensures stands w.edit_rule-named.ensures)
+          rw (w.named-is, w.cached-is, w.waiting-is)
+          (line_named scopes p line old w.edit_rule-named.new.cached.site.core held before w.edit_rule-named.new.waiting.items (language.rule w.in-Rule.key.now w.in-Rule.target.now) w.edit_rule-named.result w.in-Rule.ensures stands w.edit_rule-named.ensures.named)
     ] in
-    subst (IsLineNamed scopes p line c.match-read.core held before c.match-read.waiting.items) c.in-Err.is said c.put_fault.new.text.items c.put_fault.ensures
+    subst (IsLineNamed scopes p line c.match-read.cached.site.core held before c.match-read.waiting.items) c.in-Err.is said c.put_fault.new.text.items c.put_fault.ensures
 
-pub returns-in_default : goal.returns-in_default
-returns-in_default g c = λ p stands.
-    let scopes = g.A.Asks.scopes c.args.watchers.now in
+pub returns-in_default-clause-runs : goal.returns-in_default-clause-runs
+returns-in_default-clause-runs g c = λ p stands.
+    let scopes = g.A.Asks.scopes c.args.cached.now.site.watchers in
     let held = g.W.Write.contents c.args.writer.now in
     let line = c.args.line.now in
-    let old = c.args.core.now in
+    let old = c.args.cached.now.site.core in
     let before = c.args.waiting.now.items in
-    let said : IsLineNamed scopes p line c.match-read.core held before c.match-read.waiting.items c.match-read.named =
+    let said : IsLineNamed scopes p line c.match-read.cached.site.core held before c.match-read.waiting.items c.match-read.named =
     elim c.match-read.branch [
-      | in-Silent w ↦ rw (w.named-is, w.core-is, w.waiting-is) (line_silent scopes p line old held before before (sym (ap (told_line p) w.in-Silent.ensures)) stands refl)
+      | in-Silent w ↦ rw (w.named-is, w.cached-is, w.waiting-is) (line_silent scopes p line old held before before (sym (ap (told_line p) w.in-Silent.ensures)) stands refl)
       | in-Refused w ↦
-          rw (w.named-is, w.core-is, w.waiting-is)
+          rw (w.named-is, w.cached-is, w.waiting-is)
           (refused_waits scopes p line old held before w.put_refusal.new.text.items w.in-Refused.refusal w.in-Refused.ensures stands w.put_refusal.ensures)
       | in-Row w ↦
-          rw (w.named-is, w.core-is, w.waiting-is)
-          (command_waits scopes p line w.row.new.core held before w.row.new.waiting.items (row_from language.change language.get w.in-Row.name.now w.in-Row.asked) (sym w.in-Row.ensures) (w.row.ensures scopes p stands))
+          rw (w.named-is, w.cached-is, w.waiting-is)
+          (command_waits scopes p line w.row.new.cached.site.core held before w.row.new.waiting.items (row_from language.change language.get w.in-Row.name.now w.in-Row.asked) (sym w.in-Row.ensures) (w.row.ensures.told scopes p stands))
       | in-At w ↦
-          rw (w.named-is, w.core-is, w.waiting-is)
-          (line_named scopes p line old w.row_at-named.new.core held before w.row_at-named.new.waiting.items (row_from language.change_at language.get_at w.in-At.name w.in-At.asked) w.row_at-named.result w.in-At.ensures stands w.row_at-named.ensures)
+          rw (w.named-is, w.cached-is, w.waiting-is)
+          (line_named scopes p line old w.row_at-named.new.cached.site.core held before w.row_at-named.new.waiting.items (row_from language.change_at language.get_at w.in-At.name w.in-At.asked) w.row_at-named.result w.in-At.ensures stands w.row_at-named.ensures.named)
       | in-Workflow w ↦
-          rw (w.named-is, w.core-is, w.waiting-is)
-          (line_named scopes p line old w.workflow-named.new.core held before w.workflow-named.new.waiting.items (asked_from w.in-Workflow.name.now w.in-Workflow.asked) w.workflow-named.result w.in-Workflow.ensures stands w.workflow-named.ensures)
+          rw (w.named-is, w.cached-is, w.waiting-is)
+          (line_named scopes p line old w.workflow-named.new.cached.site.core held before w.workflow-named.new.waiting.items (asked_from w.in-Workflow.name.now w.in-Workflow.asked) w.workflow-named.result w.in-Workflow.ensures stands w.workflow-named.ensures.named)
       | in-Create w ↦
-          rw (w.named-is, w.core-is, w.waiting-is)
-          (line_named scopes p line old w.create-named.new.core held before w.create-named.new.waiting.items (language.create w.in-Create.words.workflow.now w.in-Create.words.source.now w.in-Create.words.target.now w.in-Create.words.tables.now) w.create-named.result w.in-Create.ensures stands w.create-named.ensures)
+          rw (w.named-is, w.cached-is, w.waiting-is)
+          (line_named scopes p line old w.create-named.new.cached.site.core held before w.create-named.new.waiting.items (language.create w.in-Create.words.workflow.now w.in-Create.words.source.now w.in-Create.words.target.now w.in-Create.words.tables.now) w.create-named.result w.in-Create.ensures stands w.create-named.ensures.named)
       | in-Keyspace w ↦
-          rw (w.named-is, w.core-is, w.waiting-is)
-          (line_named scopes p line old w.add_keyspace-named.new.core held before w.add_keyspace-named.new.waiting.items (language.keyspace w.in-Keyspace.name.now) w.add_keyspace-named.result w.in-Keyspace.ensures stands w.add_keyspace-named.ensures)
+          rw (w.named-is, w.cached-is, w.waiting-is)
+          (line_named scopes p line old w.add_keyspace-named.new.cached.site.core held before w.add_keyspace-named.new.waiting.items (language.keyspace w.in-Keyspace.name.now) w.add_keyspace-named.result w.in-Keyspace.ensures stands w.add_keyspace-named.ensures.named)
       | in-Table w ↦
-          rw (w.named-is, w.core-is, w.waiting-is)
-          (line_named scopes p line old w.add_table-named.new.core held before w.add_table-named.new.waiting.items (language.table w.in-Table.keyspace.now w.in-Table.name.now) w.add_table-named.result w.in-Table.ensures stands w.add_table-named.ensures)
+          rw (w.named-is, w.cached-is, w.waiting-is)
+          (line_named scopes p line old w.add_table-named.new.cached.site.core held before w.add_table-named.new.waiting.items (language.table w.in-Table.keyspace.now w.in-Table.name.now) w.add_table-named.result w.in-Table.ensures stands w.add_table-named.ensures.named)
       | in-Rule w ↦
-          rw (w.named-is, w.core-is, w.waiting-is)
-          (line_named scopes p line old w.edit_rule-named.new.core held before w.edit_rule-named.new.waiting.items (language.rule w.in-Rule.key.now w.in-Rule.target.now) w.edit_rule-named.result w.in-Rule.ensures stands w.edit_rule-named.ensures)
+          rw (w.named-is, w.cached-is, w.waiting-is)
+          (line_named scopes p line old w.edit_rule-named.new.cached.site.core held before w.edit_rule-named.new.waiting.items (language.rule w.in-Rule.key.now w.in-Rule.target.now) w.edit_rule-named.result w.in-Rule.ensures stands w.edit_rule-named.ensures.named)
     ] in
-    subst (IsLineNamed scopes p line c.match-read.core held before c.match-read.waiting.items) c.in_default.is said
+    subst (IsLineNamed scopes p line c.match-read.cached.site.core held before c.match-read.waiting.items) c.in_default.is said

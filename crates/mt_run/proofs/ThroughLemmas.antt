@@ -1,0 +1,36 @@
+-- What is asked for at the place where a name leads is asked for through the name.
+use Rattle.std.proofs.Common.{◌≡◌, ℕ, List, Option, None, Some, Result, Ok, Err, refl, sym, ap, subst}
+use Rattle.mt_model.specs.declared.faults.TopologyFault.{TopologyFault}
+use Rattle.mt_model.specs.Topology.{TopologyState}
+use Rattle.mt_names.specs.declared.keys.RuleTarget.{RuleTarget}
+use Rattle.mt_plain.specs.Events.{Answer, StreamName}
+use Rattle.mt_workflow.specs.Workflows.{WorkflowState, slot_of}
+use Rattle.mt_stream.specs.Streams.{StreamValue}
+use Rattle.mt_site_state.specs.Workflows.{AdvancesAt, AdvancesStream, AdvancesWorkflow}
+use Rattle.mt_site_state.specs.Core.{CoreState, workflow_at}
+use Rattle.mt_run.specs.Rows.{IsThrough}
+
+module _ {A : Type 0} (Stays : Type 0) (P : RuleTarget → A → Type 0) (led : Result RuleTarget TopologyFault) where
+  -- what holds at the target holds through a name that leads there
+  pub at_target : (target : RuleTarget) (told : A) → led ≡ Ok target → P target told → IsThrough led Stays P (Ok told)
+  at_target target told leads holds = subst (λ r. IsThrough r Stays P (Ok told)) (sym leads) holds
+
+  -- a name that leads nowhere changes nothing
+  pub nowhere : (fault : TopologyFault) → led ≡ Err fault → Stays → IsThrough led Stays P (Err fault)
+  nowhere fault leads stays = subst (λ r. IsThrough r Stays P (Err fault)) (sym leads) (refl, stays)
+
+-- an advance leaves the topology
+pub advance_leaves_topology : (old new : CoreState) (workflow : List ℕ) (name : StreamName) (at at_most : ℕ) (answer : Answer) → AdvancesWorkflow old workflow name at at_most answer new
+    → new.topology ≡ old.topology
+advance_leaves_topology old new workflow name at at_most answer = of_workflow (workflow_at old.workflows workflow)
+  where
+    topology_of : CoreState → TopologyState
+    topology_of core = core.topology
+
+    of_stream : (w : WorkflowState) (stream : Option StreamValue) → AdvancesStream stream old w name at at_most answer new → new.topology ≡ old.topology
+    of_stream w None is = ap topology_of is.1
+    of_stream w (Some stream) (result, after, sink, advances, told, same) = ap topology_of same
+
+    of_workflow : (w : Option WorkflowState) → AdvancesAt w old name at at_most answer new → new.topology ≡ old.topology
+    of_workflow None is = ap topology_of is.1
+    of_workflow (Some w) is = of_stream w (slot_of w name) is
