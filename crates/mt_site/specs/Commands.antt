@@ -1,5 +1,8 @@
--- A command, as the event that it is (this profile's own).
+-- A command, as the event that it is, and which events are commands (this profile's own).
+use Rattle.std.specs.Prelude.{Bool, false, true}
 use Rattle.std.specs.Option.{option_copied}
+use Rattle.mt_event.specs.declared.event.Event as asked
+use Rattle.mt_event.specs.declared.event.Event.TheVariants as asked_for
 use Rattle.mt_plain.specs.Events.{Event, add_keyspace, add_table, begin_reverse, begin_switch, cancel, complete, edit_rule, step, undo}
 use Rattle.mt_site.specs.declared.controller.commands.Command.{Command}
 use Rattle.mt_site.specs.declared.controller.commands.Command.TheVariants as command
@@ -14,3 +17,12 @@ event_of_command (command.Step workflow at) = step workflow.now at
 event_of_command (command.Undo workflow at) = undo workflow.now at
 event_of_command (command.Cancel workflow) = cancel workflow.now
 event_of_command (command.Complete workflow) = complete workflow.now
+
+-- what is answered by nothing but that it is done, and carries neither rows nor a list
+abbrev pub is_command : asked.Event → Bool
+is_command (asked_for.Write keyspace table op) = false
+is_command (asked_for.Read keyspace table key type_of) = false
+is_command (asked_for.Create workflow source target tables) = false
+is_command (asked_for.Advance workflow stream at max) = false
+is_command (asked_for.Show workflow) = false
+is_command other = true

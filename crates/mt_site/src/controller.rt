@@ -1,5 +1,5 @@
 //! The core of the controller: the topology, a primary for each of its keyspaces, the live workflows, and what is kept of ways.
-ghost use Rattle.std.specs.Prelude.{◌≡◌, IfErr, IfOk, List, [], ◌∷◌, OnErr, option_copied, string_bytes};
+ghost use Rattle.std.specs.Prelude.{◌≡◌, false, IfErr, IfOk, List, [], ◌∷◌, OnErr, option_copied, string_bytes};
 ghost use Rattle.mt_event.specs.Events.{answer_from, event_of};
 ghost use Rattle.mt_model.specs.declared.entries.Scope.{Scope};
 ghost use Rattle.mt_model.specs.Documents.{dump_text, rules_text};
@@ -11,6 +11,7 @@ ghost use Rattle.mt_plain.specs.Serve.{served};
 ghost use Rattle.mt_site_state.specs.Core.{workflow_at};
 ghost use Rattle.mt_site_state.specs.Ways.{SiteStands, SiteSteps, empty_site};
 ghost use Rattle.mt_site.specs.Applies.{Applies};
+ghost use Rattle.mt_site.specs.Commands.{is_command};
 ghost use Rattle.mt_site.specs.GivenUp.{CanBeGivenUp};
 ghost use Rattle.mt_site.specs.Headline.{KeepsTheHeadline};
 ghost use Rattle.mt_site.specs.Owed.{owed_to};
@@ -167,41 +168,29 @@ impl Core {
         ensures headline { KeepsTheHeadline (W.scopes watchers.now) self.old (event_of event.now ∷ []) (answer_from result ∷ []) self.new }
         ensures stood { IsSiteWith (W.scopes watchers.now) self.old → IsSiteWith (W.scopes watchers.now) self.new }
     {
-        let told = match event {
-            Event::AddKeyspace { keyspace } => {
-                done(self.command(watchers, Command::AddKeyspace(keyspace)))
-            }
-            Event::AddTable { keyspace, table } => {
-                done(self.command(watchers, Command::AddTable(keyspace, table)))
-            }
-            Event::EditRule { key, target } => {
-                done(self.command(watchers, Command::EditRule(key, target.as_ref())))
-            }
+        let told = match Command::of(event) {
+            Some(command) => done(self.command(watchers, command)),
+            None => self.apply_other(watchers, event),
+        };
+        a_move_can_be_given_up(watchers);
+        every_run_keeps_the_headline();
+        told
+    }
+
+    /// Applies an event that is no command: a Create, a write, a read, an advance or a Show.
+    fn apply_other<W: Asks>(&mut self, watchers: &W, event: &Event) -> Result<Reply, Refusal>
+        requires { is_command event.now ≡ false }
+        ensures applies { Applies (W.scopes watchers.now) (W.may_answer watchers.now) self.old (event_of event.now) (answer_from result) self.new }
+        ensures steps { SiteSteps (W.scopes watchers.now) self.old (event_of event.now) (answer_from result) self.new }
+        ensures unchanged { OnErr result (self.new ≡ self.old) }
+    {
+        match event {
             Event::Create {
                 workflow,
                 source,
                 target,
                 tables,
             } => created(self.create(watchers, workflow, source, target, tables)),
-            Event::BeginSwitch { workflow, types } => {
-                done(self.command(watchers, Command::BeginSwitch(workflow, *types)))
-            }
-            Event::BeginReverse { workflow, types } => {
-                done(self.command(watchers, Command::BeginReverse(workflow, *types)))
-            }
-            Event::Step { workflow, at } => done(self.command(
-                watchers,
-                Command::Step(workflow, *at),
-            )),
-            Event::Undo { workflow, at } => done(self.command(
-                watchers,
-                Command::Undo(workflow, *at),
-            )),
-            Event::Cancel { workflow } => done(self.command(watchers, Command::Cancel(workflow))),
-            Event::Complete { workflow } => done(self.command(
-                watchers,
-                Command::Complete(workflow),
-            )),
             Event::Write {
                 keyspace,
                 table,
@@ -220,9 +209,7 @@ impl Core {
                 max,
             } => advanced(self.advance(workflow, *stream, *at, *max)),
             Event::Show { workflow } => show(self.shown(workflow)),
-        };
-        a_move_can_be_given_up(watchers);
-        every_run_keeps_the_headline();
-        told
+            _ => unreachable!(),
+        }
     }
 }

@@ -7,7 +7,7 @@ ghost use Rattle.mt_site.specs.Commands.{event_of_command};
 ghost use Rattle.mt_site.specs.Drives.{DriveKeepsTheHeadline, DrivesFrom};
 
 use crate::turn::{Heard, MOST_TRIES, Turn, take};
-use crate::{Command, Core, Site};
+use crate::{Command, Site};
 use mt_event::{Driven, Reason, Refusal};
 use mt_laws::{a_drive_fits_in_the_turns_that_are_left, every_run_keeps_the_headline};
 use mt_names::{TypeSet, WorkflowName};
@@ -43,28 +43,12 @@ pub fn drive<W: Asks>(
     ensures headline { DriveKeepsTheHeadline (W.scopes site.old.watchers) site.old.core workflow.now types back result site.new.core }
     ensures unchanged { OnErr result (site.new.core ≡ site.old.core) }
 {
-    let Site { core, watchers } = site;
-    drive_core(core, watchers, workflow, types, back)
-}
-
-/// A drive of a core to which the watchers are handed: see `drive`.
-pub fn drive_core<W: Asks>(
-    core: &mut Core,
-    watchers: &W,
-    workflow: &WorkflowName,
-    types: TypeSet,
-    back: bool,
-) -> Result<Driven, Refusal>
-    ensures drives { DrivesFrom (W.scopes watchers.now) core.old workflow.now types back result core.new }
-    ensures headline { DriveKeepsTheHeadline (W.scopes watchers.now) core.old workflow.now types back result core.new }
-    ensures unchanged { OnErr result (core.new ≡ core.old) }
-{
     every_run_keeps_the_headline();
     a_drive_fits_in_the_turns_that_are_left();
-    core.command(watchers, begin_of(workflow, types, back))?;
+    site.command(begin_of(workflow, types, back))?;
     let mut turn = Turn::Steps(MOST_TRIES);
     for _ in 1..MOST_TURNS {
-        match take(core, watchers, workflow, turn) {
+        match take(&mut site.core, &site.watchers, workflow, turn) {
             Heard::GoesOn(next) => turn = next,
             Heard::Ends(end) => return Ok(end.driven()),
         }

@@ -17,7 +17,7 @@ mod site;
 mod turn;
 
 pub use controller::{Command, Core, Place};
-pub use driving::{drive, drive_core};
+pub use driving::drive;
 pub use given_up::a_move_can_be_given_up;
 pub use mt_event::{Driven, Event, Refusal, Reply, Shown};
 pub(crate) use mt_site_state::{OpenWays, Primaries, Workflows};

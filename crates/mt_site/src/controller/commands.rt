@@ -17,7 +17,7 @@ use crate::by_hand;
 use crate::controller::Core;
 use crate::given_up::a_move_can_be_given_up;
 use crate::primaries::each_is_a_primary;
-use mt_event::Reason;
+use mt_event::{Event, Reason};
 use mt_laws::every_run_keeps_the_headline;
 use mt_names::{KeyspaceName, RuleKey, RuleTarget, TableName, TypeSet, WorkflowName};
 use mt_site_events::{
@@ -54,6 +54,33 @@ pub enum Command<'a> {
     Cancel(&'a WorkflowName),
     /// Ends a workflow whose traffic is switched as a whole.
     Complete(&'a WorkflowName),
+}
+
+impl<'a> Command<'a> {
+    ghost use Rattle.std.specs.Prelude.{◌≡◌, IfSome, is_some};
+    ghost use Rattle.mt_event.specs.Events.{event_of};
+    ghost use Rattle.mt_site.specs.Commands.{event_of_command, is_command};
+
+    /// The command that an event is, with its names lent, if it is one. It takes no memory.
+    pub(crate) fn of(event: &'a Event) -> Option<Command<'a>>
+        ensures is { is_some result ≡ is_command event.now }
+        ensures event { IfSome result (λ command. event_of_command command ≡ event_of event.now) }
+    {
+        match event {
+            Event::AddKeyspace { keyspace } => Some(Command::AddKeyspace(keyspace)),
+            Event::AddTable { keyspace, table } => Some(Command::AddTable(keyspace, table)),
+            Event::EditRule { key, target } => Some(Command::EditRule(key, target.as_ref())),
+            Event::BeginSwitch { workflow, types } => Some(Command::BeginSwitch(workflow, *types)),
+            Event::BeginReverse { workflow, types } => {
+                Some(Command::BeginReverse(workflow, *types))
+            }
+            Event::Step { workflow, at } => Some(Command::Step(workflow, *at)),
+            Event::Undo { workflow, at } => Some(Command::Undo(workflow, *at)),
+            Event::Cancel { workflow } => Some(Command::Cancel(workflow)),
+            Event::Complete { workflow } => Some(Command::Complete(workflow)),
+            _ => None,
+        }
+    }
 }
 
 impl Core {
@@ -129,6 +156,7 @@ impl Core {
             target.map(RuleTarget::copied),
         )
     }
+
     /// Cancels a workflow: `F7 NoWorkflow`, `F13 UnderWay`, `F20 TrafficSwitched`. It takes no memory, and asks nobody.
     fn cancel(&mut self, name: &WorkflowName) -> Result<(), Reason>
         ensures does { Cancels self.old.core name.now (done_by result) self.new.core }
@@ -146,6 +174,7 @@ impl Core {
             name,
         )
     }
+
     /// Begins a way forward on a workflow: `F7 NoWorkflow`, `F13 UnderWay`, `F15 NothingToSwitch`, `F17 Copying`, `F27 Full`,
     /// `F0 Memory`.
     fn begin_switch(&mut self, name: &WorkflowName, types: TypeSet) -> Result<(), Reason>

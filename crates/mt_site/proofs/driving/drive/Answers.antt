@@ -1,28 +1,26 @@
 -- The drive goes further with each turn, and never runs out of turns.
-use Rattle.std.proofs.Common.{◌≡◌, ◌+◌, ◌-◌, suc, Ok, Err, Result, arith, subst, sym, ap, ◌∙◌}
+use Rattle.std.proofs.Common.{◌≡◌, ◌+◌, ◌-◌, suc, Ok, Err, arith, subst, sym, ap, ◌∙◌}
 use Rattle.std.proofs.lemmas.Result.{err_from_is_err_and}
-use Rattle.mt_event.specs.declared.refusal.Refusal.{Refusal}
 use Rattle.mt_event.specs.declared.reason.Reason.TheVariants as reason
 use Rattle.mt_event.specs.declared.refusal.Refusal.TheVariants as refusal
 use Rattle.mt_event.specs.Events.{refusal_from}
 use Rattle.mt_event.specs.Reasons.{done_by}
 use Rattle.mt_plain.specs.Drive as plain
 use Rattle.mt_plain.specs.Drive.{begins, most_turns}
-use Rattle.mt_event.specs.declared.driven.Driven.{Driven}
 use Rattle.mt_event.specs.declared.driven.Driven.TheVariants as driven
 use Rattle.mt_event.specs.Drives.{driven_from}
 use Rattle.mt_site.specs.Commands.{event_of_command}
 use Rattle.mt_site.specs.Drives.{DrivesFrom, IsOnItsWay, Turns, turn_from}
 use Rattle.mt_site.proofs.DriveLemmas.{drive_keeps}
 use Rattle.mt_site.proofs.TurnLemmas.{ends_so, goes_further, never_out, refused_begin, starts, turn_taken}
-use Rattle.mt_site.proofs.driving.drive_core.Goals as goal
+use Rattle.mt_site.proofs.driving.drive.Goals as goal
 
 pub returns-in_err-command-clause-drives : goal.returns-in_err-command-clause-drives
 returns-in_err-command-clause-drives g c =
-    let scopes = g.W.Asks.scopes c.args.watchers.now in
+    let scopes = g.W.Asks.scopes c.args.site.now.watchers in
     let start = begins c.args.workflow.now c.args.types c.args.back in
-    let old = c.args.core.now in
-    let new = c.command.new.self in
+    let old = c.args.site.now.core in
+    let new = c.command.new.self.core in
     let e = err_from_is_err_and c.from_residual.result c.from_residual.ensures.1 in
     subst (λ r. DrivesFrom scopes old c.args.workflow.now c.args.types c.args.back r new) (sym e.1)
     (refused_begin scopes old new c.args.workflow.now c.args.types c.args.back e.0 399
@@ -31,71 +29,78 @@ returns-in_err-command-clause-drives g c =
 
 pub returns-in_err-command-clause-headline : goal.returns-in_err-command-clause-headline
 returns-in_err-command-clause-headline g c =
-    drive_keeps (g.W.Asks.scopes c.args.watchers.now) c.args.core.now c.command.new.self c.args.workflow.now c.args.types c.args.back c.from_residual.result most_turns
+    drive_keeps (g.W.Asks.scopes c.args.site.now.watchers) c.args.site.now.core c.command.new.self.core c.args.workflow.now c.args.types c.args.back c.from_residual.result most_turns
     (returns-in_err-command-clause-drives g c) c.every_run_keeps_the_headline.ensures.with_earlier_lines
 
 pub loop-init : goal.loop-init
 loop-init g c =
-    let scopes = g.W.Asks.scopes c.args.watchers.now in
+    let scopes = g.W.Asks.scopes c.args.site.now.watchers in
     let start = begins c.args.workflow.now c.args.types c.args.back in
-    let old = c.args.core.now in
-    let new = c.command.new.self in
+    let old = c.args.site.now.core in
+    let new = c.command.new.self.core in
     let law = c.a_drive_fits_in_the_turns_that_are_left.ensures in
-    goes_further scopes old old new start start (plain.steps c.args.workflow.now 64) 399 law.goes_on
-    (starts scopes old start (λ p. law.begins p c.args.workflow.now c.args.types c.args.back))
-    (turn_taken scopes old new start (plain.goes_on (plain.steps c.args.workflow.now 64)) (event_of_command c.begin_of.result) (done_by c.command.result) c.command.ensures.steps
-    (λ p stands. c.begin_of.ensures p)
-    (λ q stands. ap (λ r. plain.heard q start (done_by r)) c.in_ok-command.was))
+    record {
+      watchers = c.command.ensures.watchers;
+      way = goes_further scopes old old new start start (plain.steps c.args.workflow.now 64) 399 law.goes_on
+          (starts scopes old start (λ p. law.begins p c.args.workflow.now c.args.types c.args.back))
+          (turn_taken scopes old new start (plain.goes_on (plain.steps c.args.workflow.now 64)) (event_of_command c.begin_of.result) (done_by c.command.result) c.command.ensures.steps
+          (λ p stands. c.begin_of.ensures p)
+          (λ q stands. ap (λ r. plain.heard q start (done_by r)) c.in_ok-command.was));
+    }
 
 pub returns-in-Ends-clause-drives : goal.returns-in-Ends-clause-drives
 returns-in-Ends-clause-drives g c =
     let name = c.args.workflow.now in
-    let scopes = g.W.Asks.scopes c.args.watchers.now in
+    let scopes = g.W.Asks.scopes c.args.site.now.watchers in
     let start = begins name c.args.types c.args.back in
-    let old = c.args.core.now in
-    let now = c.loop.core in
+    let old = c.args.site.now.core in
+    let now = c.loop.site.core in
     let new = c.take.new.core in
     let driving = turn_from name c.loop.turn in
     let turn : Turns scopes now driving (plain.ends (Ok (driven_from c.driven.result))) new
-    = subst (λ d. Turns scopes now driving (plain.ends (Ok d)) new) (sym c.driven.ensures) c.in-Ends.ensures in
+    = subst (λ w. Turns (g.W.Asks.scopes w) now driving (plain.ends (Ok (driven_from c.driven.result))) new) c.loop.invariant.watchers
+    (subst (λ d. Turns (g.W.Asks.scopes c.loop.site.watchers) now driving (plain.ends (Ok d)) new) (sym c.driven.ensures) c.in-Ends.ensures) in
     let left : 400 - c.loop.counter ≡ suc (399 - c.loop.counter) = omega (arith, c.loop-test.true) in
     ends_so scopes old now new start driving c.driven.result (399 - c.loop.counter)
-    (subst (λ n. IsOnItsWay scopes old start n driving now) left c.loop.invariant) turn
+    (subst (λ n. IsOnItsWay scopes old start n driving now) left c.loop.invariant.way) turn
 
 pub returns-in-Ends-clause-headline : goal.returns-in-Ends-clause-headline
 returns-in-Ends-clause-headline g c =
-    drive_keeps (g.W.Asks.scopes c.args.watchers.now) c.args.core.now c.take.new.core c.args.workflow.now c.args.types c.args.back (Ok c.driven.result) most_turns
+    drive_keeps (g.W.Asks.scopes c.args.site.now.watchers) c.args.site.now.core c.take.new.core c.args.workflow.now c.args.types c.args.back (Ok c.driven.result) most_turns
     (returns-in-Ends-clause-drives g c) c.every_run_keeps_the_headline.ensures.with_earlier_lines
 
 pub loop-preserved : goal.loop-preserved
 loop-preserved g c =
     let name = c.args.workflow.now in
-    let scopes = g.W.Asks.scopes c.args.watchers.now in
+    let scopes = g.W.Asks.scopes c.args.site.now.watchers in
     let start = begins name c.args.types c.args.back in
-    let old = c.args.core.now in
-    let now = c.loop.core in
+    let old = c.args.site.now.core in
+    let now = c.loop.site.core in
     let new = c.take.new.core in
     let driving = turn_from name c.loop.turn in
     let after = turn_from name c.in-GoesOn.next in
     let turn : Turns scopes now driving (plain.goes_on after) new
-    = c.in-GoesOn.ensures in
+    = subst (λ w. Turns (g.W.Asks.scopes w) now driving (plain.goes_on after) new) c.loop.invariant.watchers c.in-GoesOn.ensures in
     let left : 400 - c.loop.counter ≡ suc (400 - (c.loop.counter + 1)) = omega (arith, c.loop-test.true) in
-    goes_further scopes old now new start driving after (400 - (c.loop.counter + 1)) c.a_drive_fits_in_the_turns_that_are_left.ensures.goes_on
-    (subst (λ n. IsOnItsWay scopes old start n driving now) left c.loop.invariant) turn
+    record {
+      watchers = c.loop.invariant.watchers;
+      way = goes_further scopes old now new start driving after (400 - (c.loop.counter + 1)) c.a_drive_fits_in_the_turns_that_are_left.ensures.goes_on
+          (subst (λ n. IsOnItsWay scopes old start n driving now) left c.loop.invariant.way) turn;
+    }
 
 pub returns-clause-drives : goal.returns-clause-drives
 returns-clause-drives g c =
     let name = c.args.workflow.now in
-    let scopes = g.W.Asks.scopes c.args.watchers.now in
+    let scopes = g.W.Asks.scopes c.args.site.now.watchers in
     let start = begins name c.args.types c.args.back in
-    let old = c.args.core.now in
-    let now = c.loop.core in
+    let old = c.args.site.now.core in
+    let now = c.loop.site.core in
     let driving = turn_from name c.loop.turn in
     let none : 400 - c.loop.counter ≡ 0 = omega (arith, c.loop-test.false) in
     never_out scopes old now now start driving (Ok (driven.Stopped (refusal.Other reason.NotLevel) 0)) c.a_drive_fits_in_the_turns_that_are_left.ensures.never_runs_out
-    (subst (λ n. IsOnItsWay scopes old start n driving now) none c.loop.invariant)
+    (subst (λ n. IsOnItsWay scopes old start n driving now) none c.loop.invariant.way)
 
 pub returns-clause-headline : goal.returns-clause-headline
 returns-clause-headline g c =
-    drive_keeps (g.W.Asks.scopes c.args.watchers.now) c.args.core.now c.loop.core c.args.workflow.now c.args.types c.args.back (Ok (driven.Stopped (refusal.Other reason.NotLevel) 0)) most_turns
+    drive_keeps (g.W.Asks.scopes c.args.site.now.watchers) c.args.site.now.core c.loop.site.core c.args.workflow.now c.args.types c.args.back (Ok (driven.Stopped (refusal.Other reason.NotLevel) 0)) most_turns
     (returns-clause-drives g c) c.every_run_keeps_the_headline.ensures.with_earlier_lines
