@@ -1,6 +1,6 @@
 -- What is counted of passes, and what is asked, with one more; and what a race is.
 use Rattle.std.specs.Prelude.{IfOk, OnOk, is_ok}
-use Rattle.std.proofs.Common.{◌≡◌, ◌∙◌, ◌+◌, ◌<◌, ℕ, zero, suc, add-one, add-zero, zero-add, true, List, [], ◌∷◌, ◌++◌, append-nil, append_assoc, get_or, length, map, take, Result, Ok, Err, refl, sym, ap, subst, arith}
+use Rattle.std.proofs.Common.{◌≡◌, ◌∙◌, ◌+◌, ◌<◌, ℕ, zero, suc, add-one, add-zero, zero-add, true, List, [], ◌∷◌, ◌++◌, append-nil, append_assoc, get_or, length, map, take, Result, Ok, Err, sym, ap, subst, arith}
 use Rattle.std.specs.List.{flat_map, range_with_len}
 use Rattle.std.proofs.lemmas.Grind.{flat_map-append}
 use Rattle.std.proofs.lemmas.List.{length-map, map-append, map_more}

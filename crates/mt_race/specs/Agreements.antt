@@ -1,5 +1,5 @@
 -- What is so of a race that agrees (this profile's own).
-use Rattle.std.specs.Prelude.{◌≡◌, ◌+◌, ◌*◌, ⊤, ℕ, Bool, true, false, List, [], ◌∷◌, ◌++◌, codes, length, map, None, Some, Result, Ok, Err}
+use Rattle.std.specs.Prelude.{◌≡◌, ◌+◌, ◌*◌, ⊤, ℕ, Bool, true, false, List, [], ◌∷◌, ◌++◌, codes, length, map, None, Some, Result, Ok}
 use Rattle.std.specs.List.{count_by, flat_map, range_with_len, sum_by}
 use Rattle.mt_desk.specs.declared.history.Call.{Call}
 use Rattle.mt_desk.specs.Passes.{HaveOneHistory}
@@ -7,6 +7,7 @@ use Rattle.mt_event.specs.declared.refusal.Refusal.{Refusal}
 use Rattle.mt_event.specs.declared.reply.Reply.{Reply}
 use Rattle.mt_event.specs.declared.reply.Reply.TheVariants.{Done, Row}
 use Rattle.mt_model.specs.declared.entries.Scope.{Scope}
+use Rattle.mt_model.specs.declared.entries.Scope.TheVariants.{Primary, Routes}
 use Rattle.mt_model.specs.declared.rows.Op.TheVariants.{Insert}
 use Rattle.mt_model.specs.Rows.{RowValue}
 use Rattle.mt_names.specs.declared.keys.RuleKey.{RuleKey}
@@ -68,6 +69,10 @@ all_reads clients writes = flat_map (reads_of writes) (range_with_len 0 clients)
 -- some calls are those of a worker that asked for all of some lines by name, and was answered each
 abbrev pub AreAsked : List Line → List Call → Type 0
 AreAsked lines calls = ∥ ((known : List Publication) × Queries known lines calls (length lines)) ∥₁
+
+-- the scopes of the watchers of a race: the routers', and those of the primaries of both keyspaces
+abbrev pub race_scopes : List Scope
+race_scopes = Routes ∷ Primary (codes "commerce") ∷ Primary (codes "customer") ∷ []
 
 -- ---- the passes of a race
 

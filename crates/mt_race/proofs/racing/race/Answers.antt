@@ -1,5 +1,5 @@
 -- There is an opening, with the scopes of these watchers.
-use Rattle.std.proofs.Common.{◌≡◌, ◌∙◌, ap}
+use Rattle.std.proofs.Common.{◌∙◌, ap}
 use Rattle.mt_race.proofs.RaceLemmas.{raced_at}
 use Rattle.mt_race.proofs.racing.race.Goals as goal
 
