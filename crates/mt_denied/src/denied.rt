@@ -110,7 +110,8 @@ impl TableMarks {
         }
     }
 
-    /// The same, and answers whether it made one: not if the table had one. It looks a table that has none up once, and another twice.
+    /// Makes a place for a table as `reserve` does, and answers whether it made one: not if the table had one. It looks a table that has
+    /// none up once, and another twice.
     pub fn make_place(&mut self, table: &TableName) -> Result<bool, DeniedFault>
         ensures made { IfOk result (λ made. made ≡ not (has_mark_place self.old table.now)) }
         ensures reserves { Reserves self.old table.now (done result) self.new }

@@ -27,7 +27,7 @@ pub struct Call {
     pub answer: Answer,
 }
 
-/// The same answer. It takes no memory.
+/// A copy of an answer. It takes no memory.
 pub(crate) fn copied_answer(answer: &Answer) -> Answer
     ensures { result ≡ answer.now }
 {

@@ -67,7 +67,7 @@ fn ask_both<D: DeskName, W: Asks + Drop, R: Wait + Drop>(
     }
 }
 
-/// The same at a desk that is opened under the name of a blank.
+/// Both ask as in `ask_both`, at a desk that is opened under the name of a blank.
 fn ask_both_anew<D: DeskName, W: Asks + Drop, R: Wait + Drop + Copy>(
     rt: R,
     alloc: Global,

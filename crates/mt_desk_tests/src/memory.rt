@@ -190,7 +190,7 @@ fn is_answered_from<V: Venue, R: Wait>(
     is_written(&answer, turn.asked.1) || is_done_in_two(rt, venue, turn, event, &answer)
 }
 
-/// The same from how the move stands before the line.
+/// Whether a line is answered so, from how the move stands before it.
 fn is_answered<V: Venue, R: Wait>(rt: &R, venue: &mut V, turn: Turn) -> bool {
     let before = standing_of(rt, venue, turn.of);
     let is_so = is_answered_from(rt, venue, turn, &before);

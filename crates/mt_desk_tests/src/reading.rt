@@ -55,7 +55,7 @@ fn follows<D: DeskName>(router: &mut Router<D>) -> bool {
     false
 }
 
-/// The same of a new router.
+/// Whether the answers of a new router follow each other so.
 fn reads_on<D: DeskName, W: Asks + Drop, R: Wait + Drop>(
     rt: &impl Wait,
     desk: &Desk<D, W, R>,

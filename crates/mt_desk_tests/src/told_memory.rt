@@ -98,7 +98,7 @@ fn first_untold<D: DeskName, W: Asks + Drop, R: Wait + Drop>(
     None
 }
 
-/// The same of a new router.
+/// The index of the first rule that isn't told to a new router.
 fn first_untold_anew<D: DeskName, W: Asks + Drop, R: Wait + Drop>(
     rt: &impl Wait,
     desk: &Desk<D, W, R>,

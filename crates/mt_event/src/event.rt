@@ -122,7 +122,7 @@ pub enum Event {
 impl Event {
     ghost use Rattle.std.specs.Prelude.{◌≡◌};
 
-    /// The same event. It takes no memory.
+    /// A copy. It takes no memory.
     pub fn copied(&self) -> Self
         ensures { result ≡ self.now }
     {

@@ -39,7 +39,7 @@ pub struct Shown {
     pub back: Option<ShownStream>,
 }
 
-/// The same, with its names and its tables lent. (Vitess: Show of MoveTables)
+/// What is told of a workflow, with its names and its tables lent: see `Shown`. (Vitess: Show of MoveTables)
 #[derive(Debug, Drop)]
 pub struct ShownOf<'a> {
     /// Its name.
@@ -79,7 +79,7 @@ impl Shown {
     ghost use Rattle.std.specs.Prelude.{◌≡◌};
     ghost use Rattle.mt_event.specs.Events.{lent_shown, shown_from};
 
-    /// The same. It takes no memory.
+    /// A copy. It takes no memory.
     pub fn copied(&self) -> Self
         ensures { result ≡ self.now }
     {
@@ -96,7 +96,7 @@ impl Shown {
         }
     }
 
-    /// The same, lent. It takes no memory.
+    /// What it tells, with its names and its tables lent. It takes no memory.
     pub fn lent(&self) -> ShownOf<'_>
         ensures { lent_shown result ≡ shown_from self.now }
     {
@@ -118,7 +118,7 @@ impl ShownOf<'_> {
     ghost use Rattle.std.specs.Prelude.{◌≡◌};
     ghost use Rattle.mt_event.specs.Events.{lent_shown, shown_from};
 
-    /// The same, with names and tables of its own. It takes no memory.
+    /// What it tells, with names and tables of its own. It takes no memory.
     pub fn owned(&self) -> Shown
         ensures { shown_from result ≡ lent_shown self.now }
     {
@@ -140,7 +140,7 @@ impl ShownOf<'_> {
 impl Reply {
     ghost use Rattle.std.specs.Prelude.{◌≡◌};
 
-    /// The same answer. It takes no memory.
+    /// A copy. It takes no memory.
     pub fn copied(&self) -> Self
         ensures { result ≡ self.now }
     {

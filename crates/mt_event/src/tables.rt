@@ -41,7 +41,7 @@ impl<'a> Tables<'a> {
     }
 }
 
-/// The same tables, as a list of their own. It takes no memory.
+/// A copy of the tables, as a list of its own. It takes no memory.
 pub(crate) fn copied_tables(tables: &[TableName]) -> ArrayVec<TableName, MAX_TABLES>
     requires { length tables.now ≤ most_tables }
     ensures { result.items ≡ tables.now }

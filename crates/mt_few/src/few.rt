@@ -26,7 +26,7 @@ pub fn place_of<K: Eq + Hash, V, S: BuildHasher, A: Allocator>(
     map.keys().position(|there| key == there)
 }
 
-/// The same in a map of more entries. It stands apart, so that a look-up among a few has no frame to make.
+/// The place of a key in a map of more entries. It stands apart, so that a look-up among a few has no frame to make.
 #[inline(never)]
 fn place_by_hash<K: Eq + Hash, V, S: BuildHasher, A: Allocator>(
     map: &IndexMap<K, V, S, A>,

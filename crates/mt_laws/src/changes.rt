@@ -30,7 +30,7 @@ pub fn only_named_events_change_the_state()
     ensures told { (p : Plain) (event : Event) (answer : Answer) → OnlyTells event → next p event answer ≡ p }
 {}
 
-/// The same of a live workflow: Create, Cancel and Complete alone change which are live, a step alone what is switched, a
+/// What only named events change of a live workflow: Create, Cancel and Complete alone change which are live, a step alone what is switched, a
 /// begin, a step and an undo alone the way, an advance alone what is fed and copied, an advance and a step alone the
 /// positions of its streams. Its sides and tables stay, and an event on another workflow leaves it as it is.
 pub fn only_named_events_change_a_workflow()

@@ -72,8 +72,8 @@ pub fn drives_end_within_their_turns()
         → Drives Answers most_turns (λ ended q. (ended ≡ result) × (q ≡ left)) (begins workflow types backward) p }
 {}
 
-/// The same, turn by turn, for a loop that drives: a drive that begins fits in its turns, each answer leaves one that fits in one turn
-/// fewer, and none fits in no turns.
+/// Drives end within their turns, told turn by turn for a loop that drives: a drive that begins fits in its turns, each answer leaves
+/// one that fits in one turn fewer, and none fits in no turns.
 pub fn a_drive_fits_in_the_turns_that_are_left()
     ensures begins { (p : Plain) (workflow : List ℕ) (types : TypeSet) (backward : Bool) → Fits most_turns p (begins workflow types backward) }
     ensures goes_on { (turns : ℕ) (p : Plain) (d : Driving) (answer : Answer) → Fits (suc turns) p d → Answers p (event_of p d) answer

@@ -54,7 +54,7 @@ impl Entry {
         }
     }
 
-    /// The same entry. It takes no memory.
+    /// A copy. It takes no memory.
     pub fn copied(&self) -> Self
         ensures { result ≡ self.now }
     {
@@ -73,7 +73,7 @@ impl Entry {
 }
 
 impl Scope {
-    /// The same scope. It takes no memory.
+    /// A copy. It takes no memory.
     pub fn copied(&self) -> Self
         ensures { result ≡ self.now }
     {

@@ -28,7 +28,7 @@ impl Op {
         }
     }
 
-    /// The same operation. It takes no memory.
+    /// A copy. It takes no memory.
     pub fn copied(&self) -> Self
         ensures { result ≡ self.now }
     {

@@ -138,7 +138,7 @@ impl RuleKey {
         }
         text
     }
-    /// The same key. It takes no memory.
+    /// A copy. It takes no memory.
     pub fn copied(&self) -> Self
         ensures { result ≡ self.now }
     {
@@ -207,7 +207,7 @@ impl RuleTarget {
         text
     }
 
-    /// The same target. It takes no memory.
+    /// A copy of the target. It takes no memory.
     pub fn copied(&self) -> Self
         ensures { result ≡ self.now }
     {

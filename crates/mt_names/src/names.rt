@@ -50,7 +50,7 @@ impl KeyspaceName {
         self.text.as_str()
     }
 
-    /// The same name. It takes no memory.
+    /// A copy. It takes no memory.
     pub fn copied(&self) -> Self
         ensures { result ≡ self.now }
     {
@@ -115,7 +115,7 @@ impl TableName {
         self.text.as_str()
     }
 
-    /// The same name. It takes no memory.
+    /// A copy. It takes no memory.
     pub fn copied(&self) -> Self
         ensures { result ≡ self.now }
     {
@@ -184,7 +184,7 @@ impl WorkflowName {
         self.text.as_str()
     }
 
-    /// The same name. It takes no memory.
+    /// A copy. It takes no memory.
     pub fn copied(&self) -> Self
         ensures { result ≡ self.now }
     {

@@ -125,7 +125,7 @@ impl Text {
         self.chars.as_str()
     }
 
-    /// The same text. It takes no memory.
+    /// A copy. It takes no memory.
     pub fn copied(&self) -> Self
         ensures { result ≡ self.now }
     {

@@ -12,7 +12,7 @@ pub type Value = ArrayVec<u8, MAX_VALUE_LENGTH>;
 /// A position in a log: how many entries stand before it.
 pub type Position = u64;
 
-/// The same value. It takes no memory.
+/// A copy of a value. It takes no memory.
 pub fn copied_value(value: &Value) -> Value
     ensures { result ≡ value.now }
 {

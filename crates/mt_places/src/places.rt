@@ -264,7 +264,7 @@ impl Places {
     }
 }
 
-/// The same places, with no name and no slot of those that were dropped, and with room for as many slots.
+/// The places anew, with no name and no slot of those that were dropped, and with room for as many slots.
 fn swept(alloc: Global, links: &Links) -> Result<Places, AllocError>
     requires { IsIndexed links.now.names.entries links.now.slots.items }
     ensures { IfOk result (λ swept. swept ≡ in_order (keys_of links.now.names.entries) links.now.slots.items) }

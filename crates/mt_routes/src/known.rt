@@ -17,7 +17,7 @@ pub struct Known {
 }
 
 impl Known {
-    /// The same. It takes no memory.
+    /// A copy. It takes no memory.
     pub(crate) fn again(&self) -> Known
         ensures { result.seen ≡ self.now.seen }
     {

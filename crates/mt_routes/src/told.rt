@@ -60,7 +60,7 @@ impl<J: Naming> Told<J> {
         self.front
     }
 
-    /// The same. It takes no memory.
+    /// A copy. It takes no memory.
     pub fn again(&self) -> Told<J>
         ensures { result ≡ self.now }
     {
@@ -111,7 +111,7 @@ impl<J: Naming> Told<J> {
         true
     }
 
-    /// The same, without the list's name.
+    /// What is told, without the list's name.
     pub(crate) fn known(&self) -> Known
         ensures list { result.seen.log ≡ self.now }
         ensures book { result.seen.book ≡ J.book }

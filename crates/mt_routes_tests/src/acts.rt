@@ -137,7 +137,7 @@ fn played<J: Naming, R: Wait + Drop + Copy>(
     acts.len()
 }
 
-/// The same by a new router, if there is a place for it.
+/// The index of the first act that isn't answered so by a new router, if there is a place for it.
 fn plays_at<J: Naming, R: Wait + Drop + Copy>(
     alloc: Global,
     scene: &mut Scene<J, R>,
@@ -149,7 +149,7 @@ fn plays_at<J: Naming, R: Wait + Drop + Copy>(
     }
 }
 
-/// The same at a new list, if there is memory for it.
+/// The index of the first act that isn't answered so at a new list, if there is memory for it.
 fn plays<J: Naming, R: Wait + Drop + Copy>(
     alloc: Global,
     rt: R,

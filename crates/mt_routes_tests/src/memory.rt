@@ -62,7 +62,7 @@ fn are_all_shown<J: Naming, R: Wait + Drop + Copy>(
     true
 }
 
-/// The same by a new router, if there is memory for it.
+/// Whether so many publications are shown to a new router, if there is memory for it.
 fn are_shown_at<J: Naming, R: Wait + Drop + Copy>(
     alloc: Global,
     scene: &mut Scene<J, R>,

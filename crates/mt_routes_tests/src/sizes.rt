@@ -90,7 +90,7 @@ fn led<J: Naming>(alloc: Global, router: &mut Router<J>, many: usize) -> usize {
     right
 }
 
-/// The same behind a publication that may be refused; then none of them does.
+/// How many of so many names lead where they should behind a publication; none of them where it is refused.
 fn led_behind<J: Naming, R: Wait + Drop + Copy>(
     alloc: Global,
     scene: &mut Scene<J, R>,

@@ -127,7 +127,7 @@ fn are_found_in<R: Threads + Wait + Sync>(
     }
 }
 
-/// The same of as many rules as there may be.
+/// Whether all look-ups behind a lock lead somewhere, of as many rules as there may be.
 fn are_found<R: Threads + Wait + Sync>(rt: &R, alloc: Global, readers: u64, many: u64) -> bool {
     let Some(keys) = many_keys(alloc) else {
         return false;

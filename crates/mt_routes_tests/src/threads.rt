@@ -139,7 +139,7 @@ fn all_go_on_at<J: Naming + Send + Sync, R: Threads + Wait + Sync>(
     }
 }
 
-/// The same at a new list.
+/// Whether they do so at a new list.
 fn all_go_on<J: Naming + Send + Sync, R: Threads + Wait + Sync>(
     rt: &R,
     alloc: Global,

@@ -36,7 +36,7 @@ impl SharedName {
         Ok(SharedName { name })
     }
 
-    /// The same name for one holder more. It takes no memory, and is refused if its holders can't be counted any
+    /// The name, for one holder more. It takes no memory, and is refused if its holders can't be counted any
     /// further.
     pub fn try_clone(&self) -> Result<Self, AllocError>
         ensures { IfOk result (λ shared. shared ≡ self.now) }

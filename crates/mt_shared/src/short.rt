@@ -42,7 +42,7 @@ impl ShortValue {
         })
     }
 
-    /// The same value.
+    /// A copy.
     pub fn copied(&self) -> Self
         ensures { result ≡ self.now }
     {

@@ -46,7 +46,7 @@ impl SharedValue {
         Ok(SharedValue { place })
     }
 
-    /// The same value for one holder more. It takes no memory, and is refused if its holders can't be counted any
+    /// The value, for one holder more. It takes no memory, and is refused if its holders can't be counted any
     /// further.
     pub fn try_clone(&self) -> Result<Self, AllocError>
         ensures value { IfOk result (λ shared. shared ≡ self.now) }

@@ -53,7 +53,7 @@ const STEPPED: Way = Way {
     undoing: false,
 };
 
-/// The same way once a step was undone.
+/// That way once a step was undone.
 const UNDOING: Way = Way {
     back: false,
     before: TypeSet::NONE,
@@ -62,7 +62,7 @@ const UNDOING: Way = Way {
     undoing: true,
 };
 
-/// The same of replies.
+/// Replies, each another than all others.
 static REPLIES: [Answer; 16] = [
     Answer::Done,
     Answer::NoRow,
@@ -235,13 +235,13 @@ fn first_equal(own: &[Refusal], others: &[Refusal]) -> Option<usize> {
     None
 }
 
-/// The same of those that carry a value among the others.
+/// The index of the first refusal that carries a value and isn't told apart.
 fn first_carrying() -> Result<Option<usize>, NameFault> {
     let carrying = carrying()?;
     Ok(first_equal(&carrying, &plain()))
 }
 
-/// The same of the others among those that carry one.
+/// The index of the first refusal that carries none and isn't told apart.
 fn first_plain() -> Result<Option<usize>, NameFault> {
     let carrying = carrying()?;
     Ok(first_equal(&plain(), &carrying))

@@ -107,7 +107,7 @@ fn first_other(site: &mut Site<Watchers>) -> Option<&'static str> {
     None
 }
 
-/// The same at a site that begins with nothing.
+/// The first part that goes otherwise, at a site that begins with nothing.
 fn first_wrong(alloc: Global) -> Option<&'static str> {
     match watchers_of(alloc, &BOTH) {
         Some(watchers) => {

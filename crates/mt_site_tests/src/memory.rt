@@ -17,7 +17,7 @@ const SIXTEEN: [&str; 16] = [
     "a", "b", "c", "d", "e", "f", "g", "h", "i", "j", "k", "l", "m", "n", "o", "p",
 ];
 
-/// The same, to go over.
+/// Those sixteen, to go over.
 static TABLES: [&str; 16] = SIXTEEN;
 
 /// Two keyspaces.
@@ -37,7 +37,7 @@ static FILLED: [(Ask, Answer); 4] = [
 /// A Create of all sixteen.
 const CREATE: Ask = Ask::Create("mv", "commerce", "customer", &SIXTEEN);
 
-/// The same, to ask.
+/// That Create, to ask.
 static CREATE_ASKED: Ask = CREATE;
 
 /// What takes the workflow back.
@@ -117,7 +117,7 @@ fn is_answered(site: &mut Site<Watchers>, ask: Ask, want: Answer) -> bool {
     is_answer(&answer, want)
 }
 
-/// The same of a list.
+/// Whether each event of a list is answered so.
 pub fn are_answered(site: &mut Site<Watchers>, list: &[(Ask, Answer)]) -> bool {
     for (ask, want) in list {
         if !is_answered(site, *ask, *want) {
@@ -228,7 +228,7 @@ fn first_other(site: &mut Site<Watchers>) -> Option<&'static str> {
     None
 }
 
-/// The same at a site that begins with nothing.
+/// The first part that goes otherwise, at a site that begins with nothing.
 fn first_wrong(alloc: Global) -> Option<&'static str> {
     match site_of(alloc) {
         Some(mut site) => {
@@ -299,7 +299,7 @@ fn play_without(site: &mut Site<Watchers>) -> Played {
     }
 }
 
-/// The same at a site that begins with nothing, if there is memory for one.
+/// How it goes without memory at a site that begins with nothing, if there is memory for one.
 fn played_without(alloc: Global) -> Played {
     match site_of(alloc) {
         Some(mut site) => {

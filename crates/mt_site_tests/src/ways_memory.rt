@@ -138,7 +138,7 @@ fn is_done(site: &mut Site<Watchers>, ask: Ask) -> bool {
     answer == Ok(Reply::Done)
 }
 
-/// The same of a list.
+/// Whether each event of a list is done so.
 fn are_done(site: &mut Site<Watchers>, list: &[Ask]) -> bool {
     for ask in list {
         if !is_done(site, *ask) {
@@ -190,7 +190,7 @@ fn play_phases(site: &mut Site<Watchers>) -> Played {
     Played::AllSo
 }
 
-/// The same at a site that begins with nothing.
+/// How the phases go at a site that begins with nothing.
 fn played(alloc: Global) -> Played {
     match site_of(alloc) {
         Some(mut site) => {

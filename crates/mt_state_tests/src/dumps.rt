@@ -9,7 +9,7 @@ use std::alloc::{AllocError, Global};
 const TWO: &str =
     "{\"denied\":[],\"keyspaces\":[{\"name\":\"a\",\"tables\":[]},{\"name\":\"b\",\"tables\":[\"t\"]}],\"rules\":[],\"version\":1}";
 
-/// The same with a rule and a denial.
+/// The dump of those two with a rule and a denial.
 const DENIED: &str =
     "{\"denied\":[\"b.t\"],\"keyspaces\":[{\"name\":\"a\",\"tables\":[]},{\"name\":\"b\",\"tables\":[\"t\"]}],\"rules\":[{\"from_table\":\"x\",\"to_tables\":[\"b.t\"]}],\"version\":1}";
 
@@ -301,7 +301,7 @@ fn shared_behind(
     None
 }
 
-/// The same of the topology that the calls make of none.
+/// How many of them the topology that the calls make of nothing has in common with it.
 fn shared(alloc: Global, calls: &[(Call<'_>, &str)], dump: &str) -> Option<usize> {
     let mut topology = Topology::new(alloc);
     shared_behind(alloc, &mut topology, calls, dump)

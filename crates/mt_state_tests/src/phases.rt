@@ -54,7 +54,7 @@ fn first_wrong_at(primary: &mut Primary, alloc: Global, phases: &[Phase]) -> Opt
     None
 }
 
-/// The same at a primary that begins with nothing.
+/// The index of the first of some phases that doesn't go so, at a primary that begins with nothing.
 pub fn first_wrong(alloc: Global, phases: &[Phase]) -> Option<usize> {
     let mut primary = Primary::new(alloc);
     first_wrong_at(&mut primary, alloc, phases)

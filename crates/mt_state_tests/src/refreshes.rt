@@ -22,7 +22,7 @@ fn is_told(
     Ok(notice.push(entry).is_ok())
 }
 
-/// The same of some tables.
+/// Whether a notice is told so of each of some tables.
 fn all_told(notice: &mut Notice, keyspace: &str, said: &[(&str, bool)]) -> bool {
     for (table, denied) in said {
         if !is_told(notice, keyspace, table, *denied).unwrap_or(false) {
@@ -62,7 +62,7 @@ fn goes_meanwhile(
     }
 }
 
-/// The same of what a notice of the keyspace `k` says.
+/// Whether calls are answered so as long as what a new notice says of tables of `k` is taken over.
 pub fn is_given_back(
     primary: &mut Primary,
     alloc: Global,

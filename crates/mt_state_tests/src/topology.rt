@@ -21,7 +21,7 @@ pub enum Call<'a> {
     Reserve(&'a str, &'a str),
     /// The part that moves `t` from `b` to `a` is released.
     Release,
-    /// The same part is cleared.
+    /// That part is cleared.
     Clear,
     /// It is asked whether `t` is denied at `b`.
     IsDenied,
@@ -197,7 +197,7 @@ fn first_wrong_at(topology: &mut Topology, alloc: Global, phases: &[Phase]) -> O
     None
 }
 
-/// The same at a topology that begins with nothing.
+/// The index of the first of some phases that doesn't go so, at a topology that begins with nothing.
 fn first_wrong(alloc: Global, phases: &[Phase]) -> Option<usize> {
     let mut topology = Topology::new(alloc);
     first_wrong_at(&mut topology, alloc, phases)
@@ -342,7 +342,7 @@ const AT_THE_LIMITS: [(Call<'static>, &str); 5] = [
     (Call::Table("b", "u"), "ok"),
 ];
 
-/// The same of rules: one that is there may be changed or taken away.
+/// What is refused and taken at the limit of rules: one that is there may be changed or taken away.
 const AT_THE_LAST_RULE: [(Call<'static>, &str); 5] = [
     (Call::Set("t", "k.t"), "T5 Full"),
     (Call::Take("t"), "ok"),

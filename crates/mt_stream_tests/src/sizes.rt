@@ -55,7 +55,7 @@ fn is_written(alloc: Global, rows: u64) -> Result<bool, Fail> {
     )
 }
 
-/// The same, where the rows are copied before the updates, and the entries of these are followed.
+/// Whether so many rows are inserted and each updated, where the rows are copied before the updates, and the entries of these are followed.
 fn is_streamed(alloc: Global, rows: u64) -> Result<bool, Fail> {
     let mut pair = pair_of(alloc, rows)?;
     let copied = are_inserted(&mut pair, rows)

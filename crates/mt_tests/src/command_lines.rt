@@ -146,7 +146,7 @@ static MANY: [&str; 33] = [
     "commerce",
 ];
 
-/// The same, with these words behind it.
+/// That word list, with these words behind it.
 fn many<'a>(rt: &HostRuntime, last: &[&'a str]) -> Result<Vec<&'a str>, AllocError> {
     let mut words = Vec::new(rt.alloc());
     for word in MANY.iter() {

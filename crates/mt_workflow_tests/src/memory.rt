@@ -35,7 +35,7 @@ fn made_once(
     Ok(made)
 }
 
-/// The same for the sixteen tables, at once or at a second try.
+/// What a workflow of the sixteen tables has, at once or at a second try.
 fn made(alloc: Global, topology: &Topology) -> Result<Result<(bool, usize), bool>, NameFault> {
     let tables = table_list(LISTED)?;
     match made_once(alloc, topology, &tables) {
