@@ -324,9 +324,7 @@ fn create_set<W: Asks>(
         return Err(Refusal::Other(Reason::Full));
     }
     match topology.reserve_part(asked.source, asked.target, asked.tables) {
-        Ok(()) => answer_by_reason(make(
-            alloc, topology, primaries, workflows, watchers, asked,
-        )),
+        Ok(()) => answer_by_reason(make(alloc, topology, primaries, workflows, watchers, asked)),
         Err(TopologyFault::Memory) => Err(Refusal::Other(Reason::Memory)),
         Err(_) => Err(Refusal::Other(Reason::Full)),
     }

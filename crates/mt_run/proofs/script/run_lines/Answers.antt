@@ -33,7 +33,7 @@ returns-in_err-run_line g c = λ p stands.
     let room = room_made scopes p c.args.script.now c.loop-line.rest.now now _ _ _ c.loop-line.waiting.items c.make_room.new.waiting.items (c.loop-line.invariant.so_far p stands) c.in_ok-make_room.ensures.writes in
     let runs : (q : Plain) → SiteStands q scopes now → RunsLine scopes q c.in-Some.line.now new held held' c.make_room.new.waiting.items c.run_line.new.waiting.items (Err fault)
     = subst (λ w. (q : Plain) → SiteStands q (g.A.Asks.scopes w) now → RunsLine (g.A.Asks.scopes w) q c.in-Some.line.now new held held' c.make_room.new.waiting.items c.run_line.new.waiting.items (Err fault))
-        c.loop-line.invariant.watchers c.in_err-run_line.ensures.runs in
+    c.loop-line.invariant.watchers c.in_err-run_line.ensures.runs in
     rw (e.1, same) (line_failed scopes p c.args.script.now c.loop-line.rest.now c.in-Some.line.now c.in-Some.after.now now new _ held held' c.make_room.new.waiting.items c.run_line.new.waiting.items c.in-Some.ensures fault room runs)
 
 pub loop-line-preserved : goal.loop-line-preserved
@@ -45,7 +45,7 @@ loop-line-preserved g c =
     let held' = g.W.Write.contents c.run_line.new.writer in
     let runs : (q : Plain) → SiteStands q scopes now → RunsLine scopes q c.in-Some.line.now new held held' c.make_room.new.waiting.items c.run_line.new.waiting.items (Ok tt)
     = subst (λ w. (q : Plain) → SiteStands q (g.A.Asks.scopes w) now → RunsLine (g.A.Asks.scopes w) q c.in-Some.line.now new held held' c.make_room.new.waiting.items c.run_line.new.waiting.items (Ok tt))
-        c.loop-line.invariant.watchers c.in_ok-run_line.ensures.runs in
+    c.loop-line.invariant.watchers c.in_ok-run_line.ensures.runs in
     record {
       watchers = c.run_line.ensures.watchers ∙ c.loop-line.invariant.watchers;
       so_far = λ p stands.
