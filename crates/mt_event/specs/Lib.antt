@@ -1,4 +1,5 @@
 pub mod Drives
 pub mod Events
+pub mod Kinds
 pub mod Reasons
 pub mod Same

@@ -120,7 +120,8 @@ pub enum Event {
 }
 
 impl Event {
-    ghost use Rattle.std.specs.Prelude.{◌≡◌};
+    ghost use Rattle.std.specs.Prelude.{◌≡◌, true};
+    ghost use Rattle.mt_event.specs.Kinds.{is_on_a_workflow, is_create_or_advance};
 
     /// A copy. It takes no memory.
     pub fn copied(&self) -> Self
@@ -158,28 +159,16 @@ impl Event {
                 key: key.copied(),
                 target: target.as_ref().map(|target| target.copied()),
             },
-            Event::Create {
-                workflow,
-                source,
-                target,
-                tables,
-            } => Event::Create {
-                workflow: workflow.copied(),
-                source: source.copied(),
-                target: target.copied(),
-                tables: copied_tables(tables.as_slice()),
-            },
-            Event::Advance {
-                workflow,
-                stream,
-                at,
-                max,
-            } => Event::Advance {
-                workflow: workflow.copied(),
-                stream: *stream,
-                at: *at,
-                max: *max,
-            },
+            _ => self.copied_on_a_workflow(),
+        }
+    }
+
+    /// A copy of an event that names a workflow.
+    fn copied_on_a_workflow(&self) -> Self
+        requires { is_on_a_workflow self.now ≡ true }
+        ensures { result ≡ self.now }
+    {
+        match self {
             Event::BeginSwitch { workflow, types } => Event::BeginSwitch {
                 workflow: workflow.copied(),
                 types: *types,
@@ -205,6 +194,39 @@ impl Event {
             Event::Show { workflow } => Event::Show {
                 workflow: workflow.copied(),
             },
+            _ => self.copied_move(),
+        }
+    }
+
+    /// A copy of a Create or of an advance.
+    fn copied_move(&self) -> Self
+        requires { is_create_or_advance self.now ≡ true }
+        ensures { result ≡ self.now }
+    {
+        match self {
+            Event::Create {
+                workflow,
+                source,
+                target,
+                tables,
+            } => Event::Create {
+                workflow: workflow.copied(),
+                source: source.copied(),
+                target: target.copied(),
+                tables: copied_tables(tables.as_slice()),
+            },
+            Event::Advance {
+                workflow,
+                stream,
+                at,
+                max,
+            } => Event::Advance {
+                workflow: workflow.copied(),
+                stream: *stream,
+                at: *at,
+                max: *max,
+            },
+            _ => unreachable!(),
         }
     }
 }
