@@ -6,7 +6,7 @@ ghost use Rattle.mt_event.specs.Events.{answer_from, event_of};
 ghost use Rattle.mt_plain.specs.Events as plain;
 ghost use Rattle.mt_plain.specs.Plain.{Plain};
 ghost use Rattle.mt_laws.specs.Headline.{Headline};
-ghost use Rattle.mt_site.specs.Applies.{Applies};
+ghost use Rattle.mt_site.specs.Applies.{AppliesAndPurges};
 ghost use Rattle.mt_site.specs.GivenUp.{CanBeGivenUp};
 ghost use Rattle.mt_site.specs.Owed.{owed_to};
 ghost use Rattle.mt_site.specs.Stood.{IsSiteWith};
@@ -220,7 +220,7 @@ impl<D: DeskName> Book<D> {
     ) -> Result<Answer, DeskFault>
         requires scopes { W.scopes watchers.now ≡ D.scopes }
         ensures line { IfOk result (λ r. self.new.history.items ≡ self.old.history.items ++ line client event r ∷ []) }
-        ensures applies { IfOk result (λ r. Applies (W.scopes watchers.now) (W.may_answer watchers.now) self.old.core (event_of event) (answer_from r) self.new.core) }
+        ensures applies { IfOk result (λ r. AppliesAndPurges (W.scopes watchers.now) (W.may_answer watchers.now) self.old.core (event_of event) (answer_from r) self.new.core) }
         ensures steps { IfOk result (λ r. SiteSteps (W.scopes watchers.now) self.old.core (event_of event) (answer_from r) self.new.core) }
         ensures none { OnErr result ((self.new.history.items ≡ self.old.history.items) × (self.new.core ≡ self.old.core)) }
         ensures clients { self.new.clients.items ≡ self.old.clients.items }

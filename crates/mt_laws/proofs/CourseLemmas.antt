@@ -50,7 +50,7 @@ module _ (p : Plain) (reached : IsReached p) (name : List ℕ) (w : Live) (live 
     was : old_owner w ≡ side_by w way.before.primary
     was = ap (λ o. side_by w (option_map_or (λ v. v.before) o w.switched).primary) opens
 
-    will : new_owner w ≡ side_by w (not way.before.primary)
+    pub will : new_owner w ≡ side_by w (not way.before.primary)
     will = ap (λ o. cond (option_map_or (λ v. v.before) o w.switched).primary w.source w.target) opens ∙ by way.before.primary
       where
         by : (t : Bool) → cond t w.source w.target ≡ side_by w (not t)

@@ -21,6 +21,7 @@ pub mod GoesOnLemmas
 pub mod HasNumberLemmas
 pub mod HeadlineLemmas
 pub mod IdleLemmas
+pub mod InUseLemmas
 pub mod InPlaceLemmas
 pub mod KeepLemmas
 pub mod LevelLemmas

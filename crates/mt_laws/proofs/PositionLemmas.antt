@@ -420,7 +420,7 @@ within_kept p event w bound longer turned within = record {
 
 -- ---- in each state that a run reaches
 
-read_side-same : (w v : Live) → HasSides w v → (name : StreamName) → read_side w name ≡ read_side v name
+pub read_side-same : (w v : Live) → HasSides w v → (name : StreamName) → read_side w name ≡ read_side v name
 read_side-same w v same forward = same.source
 read_side-same w v same back = same.target
 
@@ -465,10 +465,10 @@ position_within p reached name w live stream s e =
     let f = slot_position w stream s e in
     omega arith
 
-abbrev IsFurther : Live → Live → Type 0
+abbrev pub IsFurther : Live → Live → Type 0
 IsFurther w v = (name : StreamName) → position_in w name ≤ position_in v name
 
-further_kept : (p : Plain) (event : Event) (w : Live) → ¬ (Undoes event) → IsWithin p w → Keeps (IsFurther w) p event w
+pub further_kept : (p : Plain) (event : Event) (w : Live) → ¬ (Undoes event) → IsWithin p w → Keeps (IsFurther w) p event w
 further_kept p event w other is = record {
   same = λ name. omega arith;
   switch = λ types begins none name.

@@ -77,7 +77,7 @@ module _ (w v : Live) (sides : HasSides w v) (same : SameTraffic w v) where
 -- ---- one step more, and one less
 
 -- where no step is done, none stands done
-nothing_done : (way : Way) (n : ℕ) → way.done ≡ 0 → stands_done way n ≡ false
+pub nothing_done : (way : Way) (n : ℕ) → way.done ≡ 0 → stands_done way n ≡ false
 nothing_done way n none =
     false_from_ne_true (stands_done way n)
     (λ t. let r = and_parts (leb (first_step way) n) (ltb n (first_step way + way.done)) t in
@@ -91,7 +91,7 @@ same_steps way n = let e : suc way.done - 1 ≡ way.done = omega arith in ap (λ
 
 -- what a stream does on a way, by whether the way changes writes and feeds by it, and whether its feeding is stopped, a new one made, and
 -- that started
-abbrev state_by : (changes feeds stopped_by made_by started : Bool) → Option StreamState → Option StreamState
+abbrev pub state_by : (changes feeds stopped_by made_by started : Bool) → Option StreamState → Option StreamState
 state_by changes feeds stopped_by made_by started o =
     cond (not changes) o (cond feeds (option_map (λ s. cond stopped_by stopped s) o) (cond made_by (Some (cond started running stopped)) o))
 
@@ -117,19 +117,19 @@ state_at_rest v w t forward = refl
 state_at_rest v w true back = refl
 state_at_rest v w false back = refl
 
-state_before : (v w : Live) (stream : StreamName) → before_way v ≡ before_way w → state_of_slot (slot_before_way v stream) ≡ state_of_slot (slot_before_way w stream)
+pub state_before : (v w : Live) (stream : StreamName) → before_way v ≡ before_way w → state_of_slot (slot_before_way v stream) ≡ state_of_slot (slot_before_way w stream)
 state_before v w stream same = state_at_rest v w (before_way v).primary stream ∙ ap (λ types. state_of_slot (slot_at_rest w types.primary stream)) same
 
 -- of a workflow with that way open
-abbrev state_of_way : Way → StreamName → Option StreamState → Option StreamState
+abbrev pub state_of_way : Way → StreamName → Option StreamState → Option StreamState
 state_of_way way stream o = state_by (changes_primary way) (is_feeding way stream) (stands_done way stop_feeding) (stands_done way create_back) (stands_done way start_back) o
 
-state_of_open : (w : Live) (way : Way) (stream : StreamName) → w.way ≡ Some way → state_of_slot (slot_of w stream) ≡ state_of_way way stream (state_of_slot (slot_before_way w stream))
+pub state_of_open : (w : Live) (way : Way) (stream : StreamName) → w.way ≡ Some way → state_of_slot (slot_of w stream) ≡ state_of_way way stream (state_of_slot (slot_before_way w stream))
 state_of_open w way stream opens =
     ap (λ o. state_of_slot (slot_by_way w o stream)) opens
     ∙ state_on_way (changes_primary way) (is_feeding way stream) (stands_done way stop_feeding) (stands_done way create_back) (stands_done way start_back) (slot_before_way w stream) w.fresh_at
 
-state_first : (way : Way) (stream : StreamName) (o : Option StreamState) → ((n : ℕ) → stands_done way n ≡ false) → state_of_way way stream o ≡ o
+pub state_first : (way : Way) (stream : StreamName) (o : Option StreamState) → ((n : ℕ) → stands_done way n ≡ false) → state_of_way way stream o ≡ o
 state_first way stream o none =
     ap (λ t. state_by (changes_primary way) (is_feeding way stream) t (stands_done way create_back) (stands_done way start_back) o) (none stop_feeding)
     ∙ ap (λ t. state_by (changes_primary way) (is_feeding way stream) false t (stands_done way start_back) o) (none create_back)

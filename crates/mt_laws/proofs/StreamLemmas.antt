@@ -95,7 +95,7 @@ differ_not false true e = absurd (true≢false e)
 differ_not false false e = refl
 
 -- whether a stream is not the feeding one, by the way's direction
-read_by_other : (w : Live) (way : Way) (name : StreamName) → is_feeding way name ≡ false → read_side w name ≡ side_by w (not way.back)
+pub read_by_other : (w : Live) (way : Way) (name : StreamName) → is_feeding way name ≡ false → read_side w name ≡ side_by w (not way.back)
 read_by_other w way forward other = ap (λ b. cond b w.target w.source) (sym other)
 read_by_other w way back other = ap (λ b. cond (not b) w.target w.source) (sym other)
 

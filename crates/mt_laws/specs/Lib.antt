@@ -4,6 +4,7 @@ pub mod Changes
 pub mod Copies
 pub mod Effects
 pub mod Headline
+pub mod InUse
 pub mod Lines
 pub mod Numbers
 pub mod Parts

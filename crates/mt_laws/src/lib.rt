@@ -77,7 +77,7 @@ pub use steps::{
 };
 pub use streams::{
     a_stream_that_runs_reads_the_owner, at_rest_the_stream_that_reads_the_owner_runs,
-    positions_never_fall,
+    positions_never_fall, what_is_in_use_goes_on,
 };
 pub use tables::{
     an_answer_changes_a_row_by_its_operation_alone, tables_keep_numbers_of_their_own,

@@ -1,9 +1,10 @@
 //! Laws on streams.
-ghost use Rattle.std.specs.Prelude.{◌≡◌, ℕ, ◌≤◌, List, None, Some};
+ghost use Rattle.std.specs.Prelude.{◌≡◌, ◌≢◌, ℕ, ◌≤◌, List, None, Some};
 ghost use Rattle.mt_laws.specs.Copies.{Undoes, frozen_at, runs_at};
+ghost use Rattle.mt_laws.specs.InUse.{StreamGoesOn};
 ghost use Rattle.mt_laws.specs.WayBack.{IsReached};
 ghost use Rattle.mt_plain.specs.Answers.{Answers};
-ghost use Rattle.mt_plain.specs.Events.{Event, Answer, StreamName, forward, back, Slot};
+ghost use Rattle.mt_plain.specs.Events.{Event, Answer, StreamName, forward, back, frozen, Slot};
 ghost use Rattle.mt_plain.specs.Next.{next};
 ghost use Rattle.mt_plain.specs.Plain.{Live, Plain, live_at, owner};
 ghost use Rattle.mt_plain.specs.Slots.{log_length, read_side, running_at, slot_of};
@@ -35,4 +36,14 @@ pub fn positions_never_fall()
         → ¬ (Undoes event) → (name : List ℕ) (w v : Live) → live_at p name ≡ Some w
         → live_at (next p event answer) name ≡ Some v → (stream : StreamName) (a b : Slot)
         → slot_of w stream ≡ Some a → slot_of v stream ≡ Some b → a.position ≤ b.position }
+{}
+
+/// In each state that an event leads to, a stream that isn't frozen was there before, not frozen, reading the same side and no
+/// further; or it begins at the end of its log, or later. So no event lets a stream in use read again what lies below its
+/// position, and where a frozen stream stood, one in use is a new one, which begins behind all that its log has. Upper layers
+/// need this to purge logs: what lies below the positions of all streams in use that read a log is never read again.
+pub fn what_is_in_use_goes_on()
+    ensures { (p : Plain) → IsReached p → (event : Event) (answer : Answer) → Answers p event answer
+        → (name : List ℕ) (v : Live) → live_at (next p event answer) name ≡ Some v → (stream : StreamName) (b : Slot)
+        → slot_of v stream ≡ Some b → b.state ≢ frozen → StreamGoesOn p name v stream b }
 {}

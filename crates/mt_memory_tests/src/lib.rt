@@ -8,6 +8,8 @@ mod denied;
 #[cfg(test)]
 mod keyspaces;
 #[cfg(test)]
+mod pages;
+#[cfg(test)]
 mod primary;
 #[cfg(test)]
 mod rules;

@@ -62,7 +62,7 @@ fn applies(primary: &mut Primary, change: &RowChange) -> bool {
             && primary.read(table, key, TabletType::Primary) == row;
         return fault == PrimaryFault::Memory && is_kept && primary.apply_change(change).is_ok();
     }
-    primary.entry(position).is_some()
+    matches!(primary.entry(position), Ok(Some(_)))
 }
 
 /// A value to be shared, or none.
@@ -150,7 +150,7 @@ fn ends_with(
 ) -> bool {
     let (table, key) = row;
     match primary.entry(position) {
-        Some(change) => {
+        Ok(Some(change)) => {
             change.table.name() == table
                 && change.key == key
                 && change.before.as_ref().map(|row| row.as_slice()) == before
@@ -158,7 +158,7 @@ fn ends_with(
                 && primary.position() > position
                 && primary.position() - position == 1
         }
-        None => false,
+        _ => false,
     }
 }
 

@@ -70,6 +70,8 @@ pub enum PrimaryFault {
     TooLong,
     /// The log can take no entry more.
     LogFull,
+    /// The log keeps no entry at a position any more.
+    Purged,
 }
 
 impl PrimaryFault {
@@ -88,6 +90,7 @@ impl PrimaryFault {
             PrimaryFault::NoRow => "P4 NoRow",
             PrimaryFault::TooLong => "P5 TooLong",
             PrimaryFault::LogFull => "P6 LogFull",
+            PrimaryFault::Purged => "P7 Purged",
         }
     }
 }

@@ -132,7 +132,7 @@ module _ (old : PrimaryState) (name : List ℕ) (table : TableState) (mark : Boo
   IsPrimary-mark is = primary_from with_mark (IsDistinct-set_value same_text same_text_decides old.tables name marked is.distinct) each
     where
       ours : IsLogged old.log name table → IsLogged old.log name marked
-      ours was = record { ordered = was.ordered; made = was.made; rows = was.rows; befores = was.befores }
+      ours was = record { ordered = was.ordered; made = was.made; leads = was.leads }
 
       each : (other : List ℕ) (t : TableState) → table_at with_mark other ≡ Some t → IsLogged old.log other t
       each other t at =

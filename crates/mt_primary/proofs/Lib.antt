@@ -1,9 +1,9 @@
 pub mod ChangeLemmas
 pub mod DenialLemmas
 pub mod LawLemmas
+pub mod LeadLemmas
 pub mod LogLemmas
 pub mod PlacedLemmas
 pub mod PrimaryLemmas
 pub mod PutLemmas
 pub mod ReadLemmas
-pub mod TableLemmas

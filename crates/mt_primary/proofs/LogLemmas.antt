@@ -1,23 +1,10 @@
 -- What one entry more makes of what a log tells.
-use Rattle.std.proofs.Common.{◌≡◌, ◌≢◌, ℕ, suc, zero, ◌≤◌, ◌⊎◌, eqb, List, [], ◌∷◌, ◌++◌, length, drop, slice_get, Some, None, refl, ap, inl, inr, ⊎_elim}
+use Rattle.std.proofs.Common.{◌≡◌, ◌≢◌, ℕ, suc, zero, ◌⊎◌, eqb, List, [], ◌∷◌, ◌++◌, length, slice_get, Some, refl, ap, inl, inr, ⊎_elim}
 use Rattle.std.proofs.lemmas.Bool.{and_right, eqb-true, eq-eqb, false_from_ne_true}
-use Rattle.std.proofs.lemmas.List.{drop-append-le}
-use Rattle.std.proofs.lemmas.List.Sums.{fold_push}
 use Rattle.mt_names.proofs.SameLemmas.{same_text_decides}
 use Rattle.mt_names.specs.Names.{same_text}
 use Rattle.mt_model.specs.declared.rows.RowChange.{RowChange}
-use Rattle.mt_model.specs.Rows.{Row, row_since, row_with}
-
--- the row that the longer log leaves
-pub row_since-push : (log : List RowChange) (change : RowChange) (made : ℕ) (name : List ℕ) (key : ℕ) → made ≤ length log
-    → row_since (log ++ change ∷ []) made name key ≡ row_with name key (row_since log made name key) change
-row_since-push log change made name key within =
-    rw (drop-append-le made log (change ∷ []) within) (fold_push (row_with name key) None (drop made log) change)
-
--- a log that begins here leaves no row
-pub row_since-end : (log : List RowChange) (name : List ℕ) (key : ℕ) → row_since log (length log) name key ≡ None
-row_since-end [] name key = refl
-row_since-end (change ∷ log) name key = row_since-end log name key
+use Rattle.mt_model.specs.Rows.{Row, row_with}
 
 -- an entry of this row, of another row of the table, and of another table
 pub row_with-here : (row : Row) (change : RowChange) → row_with change.table change.key row change ≡ change.after

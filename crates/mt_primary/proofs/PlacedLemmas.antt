@@ -13,8 +13,8 @@ use Rattle.mt_names.specs.Names.{same_text}
 use Rattle.mt_model.specs.declared.faults.PrimaryFault.{PrimaryFault}
 use Rattle.mt_model.specs.declared.faults.PrimaryFault.TheVariants.{Denied}
 use Rattle.mt_model.specs.declared.rows.Op.{Op}
-use Rattle.mt_model.specs.declared.rows.RowChange.{RowChange}
 use Rattle.mt_model.specs.Rows.{Row}
+use Rattle.mt_log.specs.Log.{LogState}
 use Rattle.mt_primary.specs.Denials.{AreDenialsSet, told_by_mark}
 use Rattle.mt_primary.specs.Primary.{IsPrimary, PrimaryState, TableState, table_at}
 use Rattle.mt_primary.specs.Tables.{ChangesRow, Put, Write}
@@ -65,7 +65,7 @@ found-at names name i is =
     slice_get-get_or names i name found.0 ∙ ap Some (sym ((same_text_decides name (get_or names i name)).0 found.1))
 
 -- a primary with another table at a place, and another log
-abbrev pub with_table_at : PrimaryState → ℕ → TableState → List RowChange → PrimaryState
+abbrev pub with_table_at : PrimaryState → ℕ → TableState → LogState → PrimaryState
 with_table_at p place put log = record { tables = set_value_at p.tables place put; log = log }
 
 module _ (old : PrimaryState) (place : ℕ) (name at : List ℕ) (table : TableState) (is : IsPrimary old) (there : slice_get (keys_of old.tables) place ≡ Some name) (stood : slice_get old.tables place ≡ Some (at, table)) where
@@ -77,7 +77,7 @@ module _ (old : PrimaryState) (place : ℕ) (name at : List ℕ) (table : TableS
   found_at = lookup-at same_text same_text_decides old.tables place name table is.distinct there (value-at old.tables place (at, table) stood)
 
   -- it is the one with another table of this name
-  by_name : (put : TableState) (log : List RowChange) → with_table old name table put found_at log ≡ with_table_at old place put log
+  by_name : (put : TableState) (log : LogState) → with_table old name table put found_at log ≡ with_table_at old place put log
   by_name put log = ap (λ tables. record { tables = tables; log = log }) (sym (set_value-at same_text same_text_decides old.tables place name put is.distinct there))
 
   pub same_table_at : with_table_at old place table old.log ≡ old
@@ -93,7 +93,7 @@ module _ (old : PrimaryState) (place : ℕ) (name at : List ℕ) (table : TableS
       subst (λ new. IsPrimary new × AreDenialsSet old (λ n. told_by_mark n None (name, mark)) new) (by_name (record table { denied = mark }) old.log)
       (IsPrimary-mark old name table mark found_at is, denials-one old name table mark found_at is.distinct)
 
-  module _ (put : TableState) (log : List RowChange) (r : Result ℕ PrimaryFault) where
+  module _ (put : TableState) (log : LogState) (r : Result ℕ PrimaryFault) where
     pub change_at_is_write : (op : Op) → table.denied ≡ false → ChangesRow (record { table = table; log = old.log }) at (Write op) r (record { table = put; log = log })
         → IsPrimary (with_table_at old place put log) × Writes old name op r (with_table_at old place put log)
     change_at_is_write op allowed changes =

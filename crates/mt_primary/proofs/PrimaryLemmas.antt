@@ -1,11 +1,12 @@
 -- What stays true of a primary as a row of it changes, or as a table is made.
-use Rattle.std.proofs.Common.{◌≡◌, ◌≢◌, ℕ, ◌≤◌, ◌<◌, ◌⊎◌, Bool, true, false, eqb, List, [], ◌∷◌, ◌++◌, length, take, slice_get, Option, Some, None, Result, Ok, Err, refl, sym, ap, subst, ◌∙◌, inl, inr, ⊎_elim, arith, length-append}
+use Rattle.std.proofs.Common.{◌≡◌, ◌≢◌, ℕ, ◌+◌, ◌-◌, ◌≤◌, ◌<◌, ◌⊎◌, Bool, true, false, eqb, List, [], ◌∷◌, ◌++◌, length, drop, Option, Some, None, Result, Ok, Err, refl, sym, ap, subst, ◌∙◌, inl, inr, ⊎_elim, arith, length-append}
 use Rattle.std.proofs.lemmas.Bool.{eqb-true, eqb-false, true≢false}
-use Rattle.std.proofs.lemmas.List.{take-append-le, take_at}
+use Rattle.std.proofs.lemmas.Bool.{and_parts}
+use Rattle.std.proofs.lemmas.List.{drop-append-le, drop_all, length-drop}
 use Rattle.std.proofs.lemmas.Map.{keys-set_value}
 use Rattle.std.proofs.lemmas.Map.Steps.{set_value_same}
 use Rattle.std.proofs.lemmas.Option.{slice_get_within}
-use Rattle.std.specs.List.{IsDistinct}
+use Rattle.std.specs.List.{IsDistinct, find}
 use Rattle.std.specs.List.Sorted.{IsStrictlySortedBy}
 use Rattle.std.specs.Map.{keys_of, set_value}
 use Rattle.std.specs.Bool.{⊤}
@@ -18,20 +19,25 @@ use Rattle.mt_model.specs.declared.faults.PrimaryFault.{PrimaryFault}
 use Rattle.mt_model.specs.declared.faults.PrimaryFault.TheVariants.{Denied, LogFull, Memory}
 use Rattle.mt_model.specs.declared.rows.Op.{Op}
 use Rattle.mt_model.specs.declared.rows.RowChange.{RowChange}
-use Rattle.mt_model.specs.Rows.{Row, op_key, row_since, row_with}
-use Rattle.mt_primary.specs.Primary.{IsInKeyOrder, IsPrimary, PrimaryState, TableState, is_denied_at, made_at, new_table, row_at, row_in, table_at}
+use Rattle.mt_model.specs.Rows.{Row, is_change_of, op_key, row_with}
+use Rattle.mt_log.specs.Log.{LogState, entries_past, entry_in, has_room, log_end, purged_by, with_entry, without_below}
+use Rattle.mt_log.proofs.ReadLemmas.{entry_purged, past_purged, purged_within}
+use Rattle.mt_primary.specs.Primary.{IsInKeyOrder, IsPrimary, PrimaryState, TableState, end_of, is_denied_at, made_at, new_table, row_at, row_in, table_at}
 use Rattle.mt_primary.specs.Tables.{ChangesRow, IsRowPut, LoggedTable, Put, Write, changed_row}
-use Rattle.mt_primary.specs.Writes.{IsPut, IsWritten, Puts, Writes, has_room, unless_full, with_new_table, without_table, written_row}
-use Rattle.mt_primary.proofs.LogLemmas.{row_since-end, row_since-push, row_with-here, row_with-other_key, row_with-other_table, slice_get_push}
+use Rattle.mt_primary.specs.Writes.{IsPut, IsWritten, Puts, Writes, unless_full, with_new_table, with_purge, without_table, written_row}
+use Rattle.mt_primary.proofs.LogLemmas.{row_with-here, row_with-other_key, row_with-other_table, slice_get_push}
 
 -- ---- each table by itself
 
--- a table that the log leads to
-pub record IsLogged (log : List RowChange) (name : List ℕ) (table : TableState) : Type 0 where
+-- a row of a table with the entries from a position on taken back
+abbrev pub row_in_at : LogState → TableState → ℕ → List ℕ → ℕ → Row
+row_in_at log table position name key = option_map_or (λ change. change.before) (find (is_change_of name key) (entries_past log position)) (row_in table key)
+
+-- a table to whose rows the kept entries lead
+pub record IsLogged (log : LogState) (name : List ℕ) (table : TableState) : Type 0 where
   pub ordered : IsInKeyOrder table
-  pub made : table.made ≤ length log
-  pub rows : (key : ℕ) → row_in table key ≡ row_since log table.made name key
-  pub befores : (i : ℕ) (change : RowChange) → table.made ≤ i → slice_get log i ≡ Some change → change.table ≡ name → change.before ≡ row_since (take i log) table.made name change.key
+  pub made : table.made ≤ log_end log
+  pub leads : (i : ℕ) (change : RowChange) → table.made ≤ i → log.purged ≤ i → entry_in log i ≡ Some change → change.table ≡ name → row_in_at log table (i + 1) name change.key ≡ change.after
 
 -- a table is there where its position is known
 table_from_made : (p : PrimaryState) (name : List ℕ) (made : ℕ) → made_at p name ≡ Some made → (table : TableState) × (table_at p name ≡ Some table) × (table.made ≡ made)
@@ -41,14 +47,18 @@ table_from_made p name made e = by (table_at p name) refl
     by None at = absurd (let h = rw at at e in cc)
     by (Some table) at = (table, at, let h = rw at at e in cc)
 
+-- a row of a primary is one of its table
+row-of : (p : PrimaryState) (name : List ℕ) (table : TableState) → table_at p name ≡ Some table → (key : ℕ) → row_at p name key ≡ row_in table key
+row-of p name table found key = ap (λ (o : Option TableState). option_map_or (λ t. row_in t key) o None) found
+
 pub logged : (p : PrimaryState) (name : List ℕ) (table : TableState) → IsPrimary p → table_at p name ≡ Some table → IsLogged p.log name table
 logged p name table is found =
     let at : made_at p name ≡ Some table.made = ap (option_map (λ (t : TableState). t.made)) found in
     record {
       ordered = is.ordered name table found;
       made = is.made name table.made at;
-      rows = λ key. sym (ap (λ (o : Option TableState). option_map_or (λ t. row_in t key) o None) found) ∙ is.rows name table.made key at;
-      befores = λ i change within here of. is.befores name table.made i change at within here of;
+      leads = λ i change within kept here of.
+          ap (option_map_or (λ (c : RowChange). c.before) (find (is_change_of name change.key) (entries_past p.log (i + 1)))) (sym (row-of p name table found change.key)) ∙ is.leads name table.made i change at within kept here of;
     }
 
 pub primary_from : (p : PrimaryState) → IsDistinct same_text (keys_of p.tables) → ((name : List ℕ) (table : TableState) → table_at p name ≡ Some table → IsLogged p.log name table) → IsPrimary p
@@ -56,32 +66,58 @@ primary_from p distinct each = record {
   distinct = distinct;
   ordered = λ name table found. (each name table found).ordered;
   made = λ name made at.
-      let t = table_from_made p name made at in subst (λ m. m ≤ length p.log) t.2 (each name t.0 t.1).made;
-  rows = λ name made key at.
+      let t = table_from_made p name made at in subst (λ m. m ≤ end_of p) t.2 (each name t.0 t.1).made;
+  leads = λ name made i change at within kept here of.
       let t = table_from_made p name made at in
-      ap (λ (o : Option TableState). option_map_or (λ t. row_in t key) o None) t.1 ∙ (each name t.0 t.1).rows key ∙ ap (λ m. row_since p.log m name key) t.2;
-  befores = λ name made i change at within here of.
-      let t = table_from_made p name made at in
-      (each name t.0 t.1).befores i change (omega (arith, t.2)) here of ∙ ap (λ m. row_since (take i p.log) m name change.key) t.2;
+      ap (option_map_or (λ (c : RowChange). c.before) (find (is_change_of name change.key) (entries_past p.log (i + 1)))) (row-of p name t.0 t.1 change.key) ∙ (each name t.0 t.1).leads i change (omega (arith, t.2)) kept here of;
 }
+
+-- with an entry more, rows taken back are as they were
+led-append : (name : List ℕ) (key : ℕ) (xs : List RowChange) (change : RowChange) (old new : Row) → (is_change_of name key change ≡ true → change.before ≡ old) → (is_change_of name key change ≡ false → new ≡ old)
+    → option_map_or (λ c. c.before) (find (is_change_of name key) (xs ++ change ∷ [])) new ≡ option_map_or (λ c. c.before) (find (is_change_of name key) xs) old
+led-append name key [] change old new here there = by (is_change_of name key change) refl
+  where
+    by : (b : Bool) → is_change_of name key change ≡ b → option_map_or (λ (c : RowChange). c.before) (find (is_change_of name key) (change ∷ [])) new ≡ old
+    by true is = rw is (here is)
+    by false is = rw is (there is)
+led-append name key (x ∷ xs) change old new here there = by (led-append name key xs change old new here there) (is_change_of name key x) refl
+  where
+    by : option_map_or (λ (c : RowChange). c.before) (find (is_change_of name key) (xs ++ change ∷ [])) new ≡ option_map_or (λ c. c.before) (find (is_change_of name key) xs) old
+        → (b : Bool) → is_change_of name key x ≡ b
+        → option_map_or (λ (c : RowChange). c.before) (find (is_change_of name key) (x ∷ xs ++ change ∷ [])) new ≡ option_map_or (λ c. c.before) (find (is_change_of name key) (x ∷ xs)) old
+    by again true is = rw is refl
+    by again false is = rw is again
 
 -- one entry more, and a table that has its row where it is one of this table
-logged-push : (log : List RowChange) (change : RowChange) (name : List ℕ) (old new : TableState) → IsLogged log name old → new.made ≡ old.made → IsInKeyOrder new
-    → ((key : ℕ) → row_in new key ≡ row_with name key (row_in old key) change) → (change.table ≡ name → change.before ≡ row_in old change.key) → IsLogged (log ++ change ∷ []) name new
+logged-push : (log : LogState) (change : RowChange) (name : List ℕ) (old new : TableState) → IsLogged log name old → new.made ≡ old.made → IsInKeyOrder new
+    → ((key : ℕ) → row_in new key ≡ row_with name key (row_in old key) change) → (change.table ≡ name → change.before ≡ row_in old change.key) → IsLogged (with_entry log change) name new
 logged-push log change name old new was made ordered rows before = record {
   ordered = ordered;
-  made = omega (arith, made, was.made, length-append log (change ∷ []));
-  rows = λ key. rw made (rows key ∙ ap (λ r. row_with name key r change) (was.rows key) ∙ sym (row_since-push log change old.made name key was.made));
-  befores = λ i entry within here of. rw made (⊎_elim (λ inside. earlier i entry (omega (arith, made)) inside of) (λ last. latest i entry last.0 last.1 of) (slice_get_push log change entry i here));
+  made = omega (arith, made, was.made, length-append log.entries (change ∷ []));
+  leads = λ i entry within kept here of.
+      ⊎_elim (λ inside. earlier i entry (omega (arith, made)) kept inside of) (λ last. latest i entry kept last.0 last.1 of) (slice_get_push log.entries change entry (i - log.purged) here);
 }
   where
-    earlier : (i : ℕ) (entry : RowChange) → old.made ≤ i → slice_get log i ≡ Some entry → entry.table ≡ name → entry.before ≡ row_since (take i (log ++ change ∷ [])) old.made name entry.key
-    earlier i entry within inside of =
-        let below : i < length log = slice_get_within log i entry inside in
-        rw (take-append-le i log (change ∷ []) (omega arith)) (was.befores i entry within inside of)
+    same_here : (key : ℕ) → is_change_of name key change ≡ true → change.before ≡ row_in old key
+    same_here key is =
+        let parts = and_parts (same_text name change.table) (eqb key change.key) is in
+        before (sym ((same_text_decides name change.table).0 parts.0)) ∙ ap (row_in old) (sym (eqb-true key change.key parts.1))
 
-    latest : (i : ℕ) (entry : RowChange) → i ≡ length log → entry ≡ change → entry.table ≡ name → entry.before ≡ row_since (take i (log ++ change ∷ [])) old.made name entry.key
-    latest i entry end last of = rw (last, take_at log (change ∷ []) i (sym end)) (before (rw last at of) ∙ was.rows change.key)
+    same_there : (key : ℕ) → is_change_of name key change ≡ false → row_in new key ≡ row_in old key
+    same_there key is = rows key ∙ rw is refl
+
+    earlier : (i : ℕ) (entry : RowChange) → old.made ≤ i → log.purged ≤ i → entry_in log i ≡ Some entry → entry.table ≡ name → row_in_at (with_entry log change) new (i + 1) name entry.key ≡ entry.after
+    earlier i entry within kept inside of =
+        let below : i - log.purged < length log.entries = slice_get_within log.entries (i - log.purged) entry inside in
+        let moved = drop-append-le ((i + 1) - log.purged) log.entries (change ∷ []) (omega (arith, below, kept)) in
+        ap (λ xs. option_map_or (λ (c : RowChange). c.before) (find (is_change_of name entry.key) xs) (row_in new entry.key)) moved
+        ∙ led-append name entry.key (entries_past log (i + 1)) change (row_in old entry.key) (row_in new entry.key) (same_here entry.key) (same_there entry.key)
+        ∙ was.leads i entry within kept inside of
+
+    latest : (i : ℕ) (entry : RowChange) → log.purged ≤ i → i - log.purged ≡ length log.entries → entry ≡ change → entry.table ≡ name → row_in_at (with_entry log change) new (i + 1) name entry.key ≡ entry.after
+    latest i entry kept end last of =
+        let none : drop ((i + 1) - log.purged) (log.entries ++ change ∷ []) ≡ [] = drop_all ((i + 1) - log.purged) (log.entries ++ change ∷ []) (omega (arith, end, kept, length-append log.entries (change ∷ []))) in
+        rw (none, last) (rows change.key ∙ ap (λ n. row_with n change.key (row_in old change.key) change) (sym (rw last at of)) ∙ row_with-here (row_in old change.key) change)
 
 -- an answer without its position
 pub map_answer : (P : ℕ → ⊤ → Type 0) (r : Result ℕ PrimaryFault) (s : Result ⊤ PrimaryFault) → MatchResult r (λ position. IsOkAnd s (P position)) (λ fault. s ≡ Err fault) → MatchResult r (λ position. is_ok s ≡ true) (λ fault. s ≡ Err fault)
@@ -93,17 +129,17 @@ map_answer P (Err fault) s h = h
 
 module _ (old : PrimaryState) (name : List ℕ) (table put : TableState) (found : table_at old name ≡ Some table) where
   -- the primary with another table in this place, and another log
-  abbrev pub with_table : List RowChange → PrimaryState
+  abbrev pub with_table : LogState → PrimaryState
   with_table log = record { tables = set_value (same_text name) old.tables put; log = log }
 
-  pub here : (log : List RowChange) → table_at (with_table log) name ≡ Some put
+  pub here : (log : LogState) → table_at (with_table log) name ≡ Some put
   here log = lookup-set_value_here same_text same_text_decides old.tables name put table found
 
-  pub elsewhere : (log : List RowChange) (other : List ℕ) → name ≢ other → table_at (with_table log) other ≡ table_at old other
+  pub elsewhere : (log : LogState) (other : List ℕ) → name ≢ other → table_at (with_table log) other ≡ table_at old other
   elsewhere log other apart = lookup-set_value_elsewhere same_text same_text_decides old.tables name other put apart
 
   -- a table is this one, or one that stood before
-  pub table_cases : (log : List RowChange) (other : List ℕ) (t : TableState) → table_at (with_table log) other ≡ Some t → ((name ≡ other) × (put ≡ t)) ⊎ ((name ≢ other) × (table_at old other ≡ Some t))
+  pub table_cases : (log : LogState) (other : List ℕ) (t : TableState) → table_at (with_table log) other ≡ Some t → ((name ≡ other) × (put ≡ t)) ⊎ ((name ≢ other) × (table_at old other ≡ Some t))
   table_cases log other t at = by (same_text name other) refl
     where
       by : (b : Bool) → same_text name other ≡ b → ((name ≡ other) × (put ≡ t)) ⊎ ((name ≢ other) × (table_at old other ≡ Some t))
@@ -116,14 +152,14 @@ module _ (old : PrimaryState) (name : List ℕ) (table put : TableState) (found 
           inr (apart, sym (elsewhere log other apart) ∙ at)
 
   -- the rows of this table
-  row_at-here : (log : List RowChange) (key : ℕ) → row_at (with_table log) name key ≡ row_in put key
+  row_at-here : (log : LogState) (key : ℕ) → row_at (with_table log) name key ≡ row_in put key
   row_at-here log key = ap (λ (o : Option TableState). option_map_or (λ t. row_in t key) o None) (here log)
 
   row_at-old : (key : ℕ) → row_at old name key ≡ row_in table key
   row_at-old key = ap (λ (o : Option TableState). option_map_or (λ t. row_in t key) o None) found
 
   -- what is read of a table stays wherever it stays here
-  pub read_stays : {A : Type 0} (read : Option TableState → A) (log : List RowChange) (other : List ℕ) → (name ≡ other → read (Some put) ≡ read (Some table)) → read (table_at (with_table log) other) ≡ read (table_at old other)
+  pub read_stays : {A : Type 0} (read : Option TableState → A) (log : LogState) (other : List ℕ) → (name ≡ other → read (Some put) ≡ read (Some table)) → read (table_at (with_table log) other) ≡ read (table_at old other)
   read_stays read log other stays = by (same_text name other) refl
     where
       by : (b : Bool) → same_text name other ≡ b → read (table_at (with_table log) other) ≡ read (table_at old other)
@@ -147,45 +183,45 @@ module _ (old : PrimaryState) (name : List ℕ) (table put : TableState) (found 
             is_put.others k apart ∙ sym (row_with-other_key name k (row_in table k) change apart)
 
     -- what holds of every primary holds of it with the change
-    pub IsPrimary-changed : IsPrimary (with_table (old.log ++ change ∷ []))
-    IsPrimary-changed = primary_from (with_table (old.log ++ change ∷ [])) (IsDistinct-set_value same_text same_text_decides old.tables name put is.distinct) each
+    pub IsPrimary-changed : IsPrimary (with_table (with_entry old.log change))
+    IsPrimary-changed = primary_from (with_table (with_entry old.log change)) (IsDistinct-set_value same_text same_text_decides old.tables name put is.distinct) each
       where
-        each : (other : List ℕ) (t : TableState) → table_at (with_table (old.log ++ change ∷ [])) other ≡ Some t → IsLogged (old.log ++ change ∷ []) other t
-        each other t at = ⊎_elim (λ same. ours same.0 same.1) (λ apart. theirs apart.0 apart.1) (table_cases (old.log ++ change ∷ []) other t at)
+        each : (other : List ℕ) (t : TableState) → table_at (with_table (with_entry old.log change)) other ≡ Some t → IsLogged (with_entry old.log change) other t
+        each other t at = ⊎_elim (λ same. ours same.0 same.1) (λ apart. theirs apart.0 apart.1) (table_cases (with_entry old.log change) other t at)
           where
-            ours : name ≡ other → put ≡ t → IsLogged (old.log ++ change ∷ []) other t
+            ours : name ≡ other → put ≡ t → IsLogged (with_entry old.log change) other t
             ours at_name is_t =
                 let this = logged-push old.log change name table put (logged old name table is found) is_put.made is_put.ordered row_changed (λ _. refl) in
                 rw (sym at_name, sym is_t) this
 
-            theirs : name ≢ other → table_at old other ≡ Some t → IsLogged (old.log ++ change ∷ []) other t
+            theirs : name ≢ other → table_at old other ≡ Some t → IsLogged (with_entry old.log change) other t
             theirs apart stood =
                 let was = logged old other t is stood in
                 logged-push old.log change other t t was refl was.ordered (λ k. sym (row_with-other_table other k (row_in t k) change (λ h. apart (sym h)))) (λ h. absurd (apart h))
 
     -- the positions at which tables were made stay, and so do the denials
-    made_stays : (log : List RowChange) (other : List ℕ) → made_at (with_table log) other ≡ made_at old other
+    made_stays : (log : LogState) (other : List ℕ) → made_at (with_table log) other ≡ made_at old other
     made_stays log other = read_stays (option_map (λ (t : TableState). t.made)) log other (λ at. ap Some is_put.made)
 
-    denied_stays : (log : List RowChange) (other : List ℕ) → is_denied_at (with_table log) other ≡ is_denied_at old other
+    denied_stays : (log : LogState) (other : List ℕ) → is_denied_at (with_table log) other ≡ is_denied_at old other
     denied_stays log other = read_stays (λ (o : Option TableState). option_map_or (λ t. t.denied) o false) log other (λ at. is_put.denied)
 
-    others_stay : (log : List RowChange) (other : List ℕ) (k : ℕ) → ¬ ((other ≡ name) × (k ≡ key)) → row_at (with_table log) other k ≡ row_at old other k
+    others_stay : (log : LogState) (other : List ℕ) (k : ℕ) → ¬ ((other ≡ name) × (k ≡ key)) → row_at (with_table log) other k ≡ row_at old other k
     others_stay log other k apart = read_stays (λ (o : Option TableState). option_map_or (λ t. row_in t k) o None) log other (λ at. is_put.others k (λ h. apart (sym at, h)))
 
     -- a row of this table is put
-    IsPut-changed : (after : Row) → row_in put key ≡ after → IsPut old (record { table = name; key = key; after = after }) (with_table (old.log ++ change ∷ []))
+    IsPut-changed : (after : Row) → row_in put key ≡ after → IsPut old (record { table = name; key = key; after = after }) (with_table (with_entry old.log change))
     IsPut-changed after left = record {
-      row = row_at-here (old.log ++ change ∷ []) key ∙ left;
-      others = others_stay (old.log ++ change ∷ []);
+      row = row_at-here (with_entry old.log change) key ∙ left;
+      others = others_stay (with_entry old.log change);
       tables = keys-set_value (same_text name) old.tables put;
-      made = made_stays (old.log ++ change ∷ []);
-      denied = denied_stays (old.log ++ change ∷ []);
+      made = made_stays (with_entry old.log change);
+      denied = denied_stays (with_entry old.log change);
       log = rw (row_at-old key, left) refl;
     }
 
   -- a change that leaves the table and the log leaves the primary
-  unchanged : (log : List RowChange) → (let new : LoggedTable = record { table = put; log = log } in new ≡ record { table = table; log = old.log }) → with_table log ≡ old
+  unchanged : (log : LogState) → (let new : LoggedTable = record { table = put; log = log } in new ≡ record { table = table; log = old.log }) → with_table log ≡ old
   unchanged log h =
       let is_table : put ≡ table = ap (λ (s : LoggedTable). s.table) h in
       let is_log : log ≡ old.log = ap (λ (s : LoggedTable). s.log) h in
@@ -197,19 +233,19 @@ module _ (old : PrimaryState) (name : List ℕ) (table put : TableState) (found 
   written-changed op allowed = rw (found, allowed) refl
 
   -- a change of the table by an operation is a write, and what holds of every primary holds behind it
-  pub change_is_write : (op : Op) (log : List RowChange) (r : Result ℕ PrimaryFault) → table.denied ≡ false → IsPrimary old → ChangesRow (record { table = table; log = old.log }) name (Write op) r (record { table = put; log = log })
+  pub change_is_write : (op : Op) (log : LogState) (r : Result ℕ PrimaryFault) → table.denied ≡ false → IsPrimary old → ChangesRow (record { table = table; log = old.log }) name (Write op) r (record { table = put; log = log })
       → IsPrimary (with_table log) × Writes old name op r (with_table log)
   change_is_write op log (Ok position) allowed is h = by log h.log h.position
     where
       key : ℕ
       key = op_key op
 
-      by : (l : List RowChange) → l ≡ old.log ++ record { table = name; key = key; before = row_in table key; after = row_in put key } ∷ [] → position ≡ length l → IsPrimary (with_table l) × IsWritten old name op position (with_table l)
+      by : (l : LogState) → l ≡ with_entry old.log (record { table = name; key = key; before = row_in table key; after = row_in put key }) → position ≡ log_end l → IsPrimary (with_table l) × IsWritten old name op position (with_table l)
       by l is_l at = (
         rw is_l (IsPrimary-changed key is h.put),
         record {
           row = written-changed op allowed ∙ h.row ∙ ap Ok (sym (row_at-here l key));
-          put = rw is_l (IsPut-changed key is h.put (row_at (with_table (old.log ++ change key is h.put ∷ [])) name key) (sym (row_at-here (old.log ++ change key is h.put ∷ []) key)));
+          put = rw is_l (IsPut-changed key is h.put (row_at (with_table (with_entry old.log (change key is h.put))) name key) (sym (row_at-here (with_entry old.log (change key is h.put)) key)));
           position = at;
         },
       )
@@ -238,7 +274,7 @@ module _ (old : PrimaryState) (name : List ℕ) (table put : TableState) (found 
   denied_write op is = rw (found, is) refl
 
   -- a change of the table by a put is one of the primary, whose answer leaves out the position
-  pub change_is_put : (key : ℕ) (after : Row) (log : List RowChange) (r : Result ℕ PrimaryFault) (s : Result ⊤ PrimaryFault) → MatchResult r (λ position. is_ok s ≡ true) (λ fault. s ≡ Err fault) → IsPrimary old
+  pub change_is_put : (key : ℕ) (after : Row) (log : LogState) (r : Result ℕ PrimaryFault) (s : Result ⊤ PrimaryFault) → MatchResult r (λ position. is_ok s ≡ true) (λ fault. s ≡ Err fault) → IsPrimary old
       → ChangesRow (record { table = table; log = old.log }) name (Put key after) r (record { table = put; log = log })
       → IsPrimary (with_table log) × Puts old (record { table = name; key = key; after = after }) s (with_table log)
   change_is_put key after log (Ok position) (Ok done) is_s is h =
@@ -270,24 +306,24 @@ unfolding IsStrictlySortedBy
 in_order-new made = tt
 
 pub made_elsewhere : (old : PrimaryState) (name other : List ℕ) → other ≢ name → table_at (with_new_table old name) other ≡ table_at old other
-made_elsewhere old name other apart = lookup-push_elsewhere same_text same_text_decides old.tables name other (new_table (length old.log)) (λ h. apart (sym h))
+made_elsewhere old name other apart = lookup-push_elsewhere same_text same_text_decides old.tables name other (new_table (end_of old)) (λ h. apart (sym h))
 
 -- a new table is what an entry from here on leads to
-logged-new : (log : List RowChange) (name : List ℕ) → IsLogged log name (new_table (length log))
+logged-new : (log : LogState) (name : List ℕ) → IsLogged log name (new_table (log_end log))
 logged-new log name = record {
-  ordered = in_order-new (length log);
+  ordered = in_order-new (log_end log);
   made = omega arith;
-  rows = λ key. sym (row_since-end log name key);
-  befores = λ i change within at of. let below : i < length log = slice_get_within log i change at in absurd (omega arith);
+  leads = λ i change within kept at of.
+      let below : i - log.purged < length log.entries = slice_get_within log.entries (i - log.purged) change at in absurd (omega (arith, below, within, kept));
 }
 
 module _ (old : PrimaryState) (name : List ℕ) (absent : table_at old name ≡ None) where
-  pub made_here : table_at (with_new_table old name) name ≡ Some (new_table (length old.log))
-  made_here = lookup-push_here same_text same_text_decides old.tables name (new_table (length old.log)) absent
+  pub made_here : table_at (with_new_table old name) name ≡ Some (new_table (end_of old))
+  made_here = lookup-push_here same_text same_text_decides old.tables name (new_table (end_of old)) absent
 
   pub IsPrimary-new_table : IsPrimary old → IsPrimary (with_new_table old name)
   IsPrimary-new_table is =
-      primary_from (with_new_table old name) (IsDistinct-push same_text same_text_decides old.tables name (new_table (length old.log)) absent is.distinct) each
+      primary_from (with_new_table old name) (IsDistinct-push same_text same_text_decides old.tables name (new_table (end_of old)) absent is.distinct) each
     where
       each : (other : List ℕ) (t : TableState) → table_at (with_new_table old name) other ≡ Some t → IsLogged old.log other t
       each other t at = by (same_text name other) refl
@@ -295,8 +331,8 @@ module _ (old : PrimaryState) (name : List ℕ) (absent : table_at old name ≡ 
           by : (b : Bool) → same_text name other ≡ b → IsLogged old.log other t
           by true same =
               let is_name : name ≡ other = (same_text_decides name other).0 same in
-              let both : Some (new_table (length old.log)) ≡ Some t = sym made_here ∙ ap (table_at (with_new_table old name)) is_name ∙ at in
-              let is_t : new_table (length old.log) ≡ t = cc in
+              let both : Some (new_table (end_of old)) ≡ Some t = sym made_here ∙ ap (table_at (with_new_table old name)) is_name ∙ at in
+              let is_t : new_table (end_of old) ≡ t = cc in
               rw (sym is_t) (logged-new old.log other)
           by false same =
               let apart : other ≢ name = λ h. true≢false (sym ((same_text_decides name other).1 (sym h)) ∙ same) in
@@ -314,7 +350,7 @@ dropped_here old name is = lookup-remove_entry_here same_text same_text_decides 
 pub made_and_dropped : (p : PrimaryState) (name : List ℕ) → table_at p name ≡ None → without_table (with_new_table p name) name ≡ p
 made_and_dropped p name absent =
     let with_tables : List (List ℕ × TableState) → PrimaryState = λ tables. record p { tables = tables } in
-    ap with_tables (remove_entry-push same_text same_text_decides p.tables name (new_table (length p.log)) absent)
+    ap with_tables (remove_entry-push same_text same_text_decides p.tables name (new_table (end_of p)) absent)
 
 pub IsPrimary-dropped : (old : PrimaryState) (name : List ℕ) → IsPrimary old → IsPrimary (without_table old name)
 IsPrimary-dropped old name is = primary_from (without_table old name) (IsDistinct-remove_entry same_text same_text_decides (same_text name) old.tables is.distinct) each
@@ -330,3 +366,26 @@ IsPrimary-dropped old name is = primary_from (without_table old name) (IsDistinc
         by false same =
             let apart : other ≢ name = λ h. true≢false (sym ((same_text_decides name other).1 (sym h)) ∙ same) in
             logged old other t is (sym (dropped_elsewhere old name other apart) ∙ at)
+
+-- ---- a log purged
+
+-- what holds of every primary holds of it with its log purged
+pub IsPrimary-purged : (p : PrimaryState) (position : ℕ) → position ≤ end_of p → IsPrimary p → IsPrimary (with_purge p position)
+IsPrimary-purged p position within is = primary_from (with_purge p position) is.distinct each
+  where
+    less : ℕ
+    less = purged_by p.log position
+
+    inside : less ≤ length p.log.entries
+    inside = purged_within p.log position within
+
+    each : (name : List ℕ) (t : TableState) → table_at p name ≡ Some t → IsLogged (without_below p.log position) name t
+    each name t found =
+        let was = logged p name t is found in
+        record {
+          ordered = was.ordered;
+          made = let n = length-drop less p.log.entries in omega (arith, n, inside, was.made);
+          leads = λ i change low kept at of.
+              ap (λ xs. option_map_or (λ (c : RowChange). c.before) (find (is_change_of name change.key) xs) (row_in t change.key)) (past_purged p.log less (i + 1) (omega (arith, kept)))
+              ∙ was.leads i change low (omega (arith, kept)) (sym (entry_purged p.log less i kept) ∙ at) of;
+        }

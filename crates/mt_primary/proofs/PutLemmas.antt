@@ -1,11 +1,12 @@
 -- What a row that is put changes, and what stays.
-use Rattle.std.proofs.Common.{◌≡◌, ℕ, ◌≤◌, Bool, true, false, eqb, List, [], ◌∷◌, ◌++◌, drop, length, Option, Some, None, is_some, refl, sym, ap, ◌∙◌}
+use Rattle.std.proofs.Common.{◌≡◌, ℕ, ◌≤◌, Bool, true, false, eqb, List, [], ◌∷◌, ◌++◌, ◌-◌, arith, Option, Some, None, is_some, refl, sym, ap, ◌∙◌}
 use Rattle.std.proofs.lemmas.Bool.{eq-eqb, eqb-true, true≢false}
 use Rattle.std.proofs.lemmas.List.{drop-append-le}
 use Rattle.std.specs.Option.{option_map}
 use Rattle.mt_names.proofs.SameLemmas.{same_text_decides}
 use Rattle.mt_names.specs.Names.{same_text}
-use Rattle.mt_primary.specs.Primary.{PrimaryState, TableState, has_table, row_at, table_at}
+use Rattle.mt_log.specs.Log.{entries_past}
+use Rattle.mt_primary.specs.Primary.{PrimaryState, TableState, end_of, has_table, row_at, table_at}
 use Rattle.mt_primary.specs.Reads.{entries_from}
 use Rattle.mt_primary.specs.Writes.{IsPut, RowPut, change_by, row_after_put}
 
@@ -27,5 +28,5 @@ module _ (old new : PrimaryState) (put : RowPut) (is : IsPut old put new) where
       by (Some t) None e = absurd cc
       by (Some t) (Some u) e = refl
 
-  pub put-entry : (position : ℕ) → position ≤ length old.log → entries_from new position ≡ entries_from old position ++ change_by old put ∷ []
-  put-entry position within = ap (drop position) is.log ∙ drop-append-le position old.log (change_by old put ∷ []) within
+  pub put-entry : (position : ℕ) → old.log.purged ≤ position → position ≤ end_of old → entries_from new position ≡ entries_from old position ++ change_by old put ∷ []
+  put-entry position kept within = ap (λ l. entries_past l position) is.log ∙ drop-append-le (position - old.log.purged) old.log.entries (change_by old put ∷ []) (omega (arith, kept, within))

@@ -1,5 +1,5 @@
--- The log and the rows of a table, read one after the other.
-use Rattle.std.proofs.Common.{◌≡◌, ℕ, suc, zero, ◌+◌, Bool, true, false, nat_lt, List, [], ◌∷◌, drop, slice_get, filter, Option, Some, None, refl, sym, ap, ◌∙◌, arith}
+-- The rows of a table, read one after the other.
+use Rattle.std.proofs.Common.{◌≡◌, ℕ, Bool, true, false, nat_lt, List, [], ◌∷◌, filter, Option, Some, None, refl, sym, ap, ◌∙◌, arith}
 use Rattle.std.proofs.lemmas.Bool.{le-ltb, lt-ltb, ltb-true}
 use Rattle.std.specs.List.{AllByRecursion, find}
 use Rattle.std.specs.List.Sorted.{IsStrictlySortedBy}
@@ -7,21 +7,8 @@ use Rattle.std.specs.Map.{keys_of}
 use Rattle.std.specs.Ordering.{is_lt, nat_cmp}
 use Rattle.std.specs.declared.cmp.Ordering.TheVariants.{Less}
 use Rattle.mt_model.specs.Rows.{RowValue}
+use Rattle.mt_pages.proofs.OrderLemmas.{is_lt-nat_cmp}
 use Rattle.mt_primary.specs.Reads.{is_above}
-use Rattle.mt_primary.proofs.TableLemmas.{is_lt-nat_cmp}
-
--- ---- a list from a position on
-
-pub drop-entry : {X : Type 0} (xs : List X) (i : ℕ) (x : X) → slice_get xs i ≡ Some x → drop i xs ≡ x ∷ drop (i + 1) xs
-drop-entry [] i x e = absurd cc
-drop-entry (y ∷ xs) zero x e = let same : y ≡ x = cc in ap (λ z. z ∷ xs) same
-drop-entry (y ∷ xs) (suc i) x e = let next : suc (i + 1) ≡ suc i + 1 = omega arith in drop-entry xs i x e ∙ ap (λ n. x ∷ drop n (y ∷ xs)) next
-
-pub drop-end : {X : Type 0} (xs : List X) (i : ℕ) → slice_get xs i ≡ None → drop i xs ≡ []
-drop-end [] zero e = refl
-drop-end [] (suc i) e = refl
-drop-end (y ∷ xs) zero e = absurd cc
-drop-end (y ∷ xs) (suc i) e = drop-end xs i e
 
 -- ---- rows in the order of their keys
 

@@ -1,13 +1,14 @@
 -- A primary: its tables with their rows, its own denied list, and its log. What is found in it, and what holds of every one.
-use Rattle.std.specs.Prelude.{◌≡◌, ℕ, ◌≤◌, Bool, false, List, [], length, take, slice_get, Option, None, Some, is_some, nat_eq, position}
-use Rattle.std.specs.List.{IsDistinct}
+use Rattle.std.specs.Prelude.{◌≡◌, ℕ, ◌+◌, ◌≤◌, Bool, false, List, [], length, take, slice_get, Option, None, Some, is_some, nat_eq, position}
+use Rattle.std.specs.List.{IsDistinct, find}
 use Rattle.std.specs.List.Sorted.{IsStrictlySortedBy}
 use Rattle.std.specs.Map.{keys_of, lookup}
 use Rattle.std.specs.Option.{option_map, option_map_or}
 use Rattle.std.specs.Ordering.{nat_cmp}
 use Rattle.mt_names.specs.Names.{same_text}
 use Rattle.mt_model.specs.declared.rows.RowChange.{RowChange}
-use Rattle.mt_model.specs.Rows.{Row, RowValue, row_since}
+use Rattle.mt_model.specs.Rows.{Row, RowValue, is_change_of}
+use Rattle.mt_log.specs.Log.{LogState, empty_log, entries_past, entry_in, log_end}
 
 -- a table: the position of the log at which it was made, whether the primary's own list has it, and its rows by their keys
 pub record TableState : Type 0 where
@@ -17,10 +18,14 @@ pub record TableState : Type 0 where
 
 pub record PrimaryState : Type 0 where
   pub tables : List (List ℕ × TableState)
-  pub log : List RowChange
+  pub log : LogState
 
 abbrev pub empty_primary : PrimaryState
-empty_primary = record { tables = []; log = [] }
+empty_primary = record { tables = []; log = empty_log }
+
+-- the position behind the last entry of its log
+abbrev pub end_of : PrimaryState → ℕ
+end_of p = log_end p.log
 
 -- a table without rows, which is not denied
 abbrev pub new_table : ℕ → TableState
@@ -54,6 +59,11 @@ row_in table key = lookup (nat_eq key) table.rows
 abbrev pub row_at : PrimaryState → List ℕ → ℕ → Row
 row_at p name key = option_map_or (λ table. row_in table key) (table_at p name) None
 
+-- a row as of a position, with the entries from there on taken back: what stood before the first of them that is of this row; if there is
+-- none, the row that stands
+abbrev pub row_at_position : PrimaryState → ℕ → List ℕ → ℕ → Row
+row_at_position p position table key = option_map_or (λ change. change.before) (find (is_change_of table key) (entries_past p.log position)) (row_at p table key)
+
 -- ---- what holds of every primary
 
 abbrev pub IsInKeyOrder : TableState → Type 0
@@ -64,8 +74,7 @@ pub record IsPrimary (p : PrimaryState) : Type 0 where
   pub distinct : IsDistinct same_text (keys_of p.tables)
   pub ordered : (name : List ℕ) (table : TableState) → table_at p name ≡ Some table → IsInKeyOrder table
   -- it was made at a position of this log
-  pub made : (name : List ℕ) (made : ℕ) → made_at p name ≡ Some made → made ≤ length p.log
-  -- each row is what the log leaves since then
-  pub rows : (name : List ℕ) (made key : ℕ) → made_at p name ≡ Some made → row_at p name key ≡ row_since p.log made name key
-  -- and each entry since then has the row that stood before it
-  pub befores : (name : List ℕ) (made i : ℕ) (change : RowChange) → made_at p name ≡ Some made → made ≤ i → slice_get p.log i ≡ Some change → change.table ≡ name → change.before ≡ row_since (take i p.log) made name change.key
+  pub made : (name : List ℕ) (made : ℕ) → made_at p name ≡ Some made → made ≤ end_of p
+  -- each kept entry since then leads to the row as of the next position
+  pub leads : (name : List ℕ) (made i : ℕ) (change : RowChange) → made_at p name ≡ Some made → made ≤ i → p.log.purged ≤ i → entry_in p.log i ≡ Some change → change.table ≡ name
+      → row_at_position p (i + 1) name change.key ≡ change.after

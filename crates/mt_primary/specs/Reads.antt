@@ -1,5 +1,5 @@
 -- What a read of a row answers, and what a stream reads: the log from a position on, and a table's rows in the order of their keys.
-use Rattle.std.specs.Prelude.{ℕ, Bool, true, false, List, drop, slice_get, if◌then◌else◌, nat_lt, Option, None, Some, Result, Ok, Err}
+use Rattle.std.specs.Prelude.{ℕ, Bool, false, List, if◌then◌else◌, Option, None, Result, Ok, Err}
 use Rattle.std.specs.List.{filter, find}
 use Rattle.std.specs.Option.{option_map_or}
 use Rattle.mt_names.specs.declared.types.TabletType.{TabletType}
@@ -8,6 +8,8 @@ use Rattle.mt_model.specs.declared.faults.PrimaryFault.{PrimaryFault}
 use Rattle.mt_model.specs.declared.faults.PrimaryFault.TheVariants.{NoTable, Denied}
 use Rattle.mt_model.specs.declared.rows.RowChange.{RowChange}
 use Rattle.mt_model.specs.Rows.{Row, RowValue}
+use Rattle.mt_log.specs.Log.{entries_past, read_entry}
+pub use Rattle.mt_pages.specs.Pages.{is_above}
 use Rattle.mt_primary.specs.Primary.{PrimaryState, TableState, has_table, is_denied_at, row_at, row_in, table_at}
 
 -- ---- a row
@@ -29,20 +31,15 @@ read_row_in table key tablet_type = if refuses_type table.denied tablet_type the
 
 -- ---- the log
 
--- the entry at a position, if the log has one there
-abbrev pub entry_at : PrimaryState → ℕ → Option RowChange
-entry_at p position = slice_get p.log position
+-- the entry at a position, if the log has one there; below the first kept one Purged
+abbrev pub entry_at : PrimaryState → ℕ → Result (Option RowChange) PrimaryFault
+entry_at p position = read_entry p.log position
 
--- the entries from a position on
+-- the entries from a position on, which is none below the first kept one
 abbrev pub entries_from : PrimaryState → ℕ → List RowChange
-entries_from p position = drop position p.log
+entries_from p position = entries_past p.log position
 
 -- ---- the rows of a table, one after the other
-
--- whether a key lies above another one, if one is given
-abbrev pub is_above : Option ℕ → ℕ → Bool
-is_above None key = true
-is_above (Some last) key = nat_lt last key
 
 -- the rows of a table, or those above a key
 abbrev pub rows_above : TableState → Option ℕ → List (ℕ × RowValue)

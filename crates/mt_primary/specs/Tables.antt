@@ -1,15 +1,14 @@
 -- What a change of one table is, and what becomes of the log with it.
-use Rattle.std.specs.Prelude.{◌≡◌, ◌≢◌, ℕ, true, List, [], ◌∷◌, ◌++◌, length, if◌then◌else◌, Option, None, Some, Result, Ok, Err}
-use Rattle.std.specs.declared.ops.Bound.{Bound}
-use Rattle.std.specs.declared.ops.Bound.TheVariants.{Excluded, Unbounded}
+use Rattle.std.specs.Prelude.{◌≡◌, ◌≢◌, ℕ, true, List, [], ◌∷◌, ◌++◌, length, if◌then◌else◌, Result, Ok, Err}
 use Rattle.mt_names.specs.Results.{◌>>=◌}
 use Rattle.mt_model.specs.declared.faults.PrimaryFault.{PrimaryFault}
-use Rattle.mt_model.specs.declared.faults.PrimaryFault.TheVariants.{Memory, LogFull}
+use Rattle.mt_model.specs.declared.faults.PrimaryFault.TheVariants.{Memory}
 use Rattle.mt_model.specs.declared.rows.Op.{Op}
 use Rattle.mt_model.specs.declared.rows.RowChange.{RowChange}
 use Rattle.mt_model.specs.Rows.{Row, op_key, op_row}
+use Rattle.mt_log.specs.Log.{LogState, log_end, with_entry}
 use Rattle.mt_primary.specs.Primary.{TableState, IsInKeyOrder, row_in}
-use Rattle.mt_primary.specs.Writes.{has_room, unless_full}
+use Rattle.mt_primary.specs.Writes.{unless_full}
 
 -- one row is set or taken away
 pub record IsRowPut (old : TableState) (key : ℕ) (row : Row) (new : TableState) : Type 0 where
@@ -38,7 +37,7 @@ edited_row (Put key after) row = Ok after
 -- a table and the log, before or after
 pub record LoggedTable : Type 0 where
   pub table : TableState
-  pub log : List RowChange
+  pub log : LogState
 
 -- the row that an edit leaves, or the first test that refuses it
 abbrev pub changed_row : LoggedTable → RowEdit → Result Row PrimaryFault
@@ -48,24 +47,10 @@ changed_row old edit = edited_row edit (row_in old.table (edit_key edit)) >>= un
 pub record IsRowChanged (old : LoggedTable) (name : List ℕ) (edit : RowEdit) (answer : ℕ) (new : LoggedTable) : Type 0 where
   pub row : changed_row old edit ≡ Ok (row_in new.table (edit_key edit))
   pub put : IsRowPut old.table (edit_key edit) (row_in new.table (edit_key edit)) new.table
-  pub log : new.log ≡ old.log ++ record { table = name; key = edit_key edit; before = row_in old.table (edit_key edit); after = row_in new.table (edit_key edit) } ∷ []
-  pub position : answer ≡ length new.log
+  pub log : new.log ≡ with_entry old.log (record { table = name; key = edit_key edit; before = row_in old.table (edit_key edit); after = row_in new.table (edit_key edit) })
+  pub position : answer ≡ log_end new.log
 
 abbrev pub ChangesRow : LoggedTable → List ℕ → RowEdit → Result ℕ PrimaryFault → LoggedTable → Type 0
 ChangesRow old name edit (Ok position) new = IsRowChanged old name edit position new
 ChangesRow old name edit (Err Memory) new = ((row : Row) × (changed_row old edit ≡ Ok row)) × (new ≡ old)
 ChangesRow old name edit (Err fault) new = (changed_row old edit ≡ Err fault) × (new ≡ old)
-
--- ---- the room for its entry
-
--- whether the log has room for an entry, by what making it answered
-abbrev pub TellsRoom : {A : Type 0} → List RowChange → Result A PrimaryFault → Type 0
-TellsRoom log (Ok done) = has_room log ≡ true
-TellsRoom log (Err fault) = fault ≡ (if has_room log then Memory else LogFull)
-
--- ---- the rows above a key
-
--- where the keys above one begin, or all of them
-abbrev pub start_above : Option ℕ → Bound ℕ
-start_above None = Unbounded
-start_above (Some key) = Excluded key

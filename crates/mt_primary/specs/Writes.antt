@@ -9,13 +9,14 @@ use Rattle.mt_model.specs.Limits.{longest_log}
 use Rattle.mt_model.specs.declared.rows.Op.{Op}
 use Rattle.mt_model.specs.declared.rows.RowChange.{RowChange}
 use Rattle.mt_model.specs.Rows.{Row, op_key, op_row}
-use Rattle.mt_primary.specs.Primary.{PrimaryState, has_table, is_denied_at, made_at, new_table, row_at}
+use Rattle.mt_log.specs.Log.{LogState, has_room, with_entry, without_below}
+use Rattle.mt_primary.specs.Primary.{PrimaryState, end_of, has_table, is_denied_at, made_at, new_table, row_at}
 
 -- ---- a table made, and one dropped
 
 -- the table stands behind the others, without a row and not denied
 abbrev pub with_new_table : PrimaryState → List ℕ → PrimaryState
-with_new_table p name = record p { tables = p.tables ++ (name, new_table (length p.log)) ∷ [] }
+with_new_table p name = record p { tables = p.tables ++ (name, new_table (end_of p)) ∷ [] }
 
 abbrev pub Creates : PrimaryState → List ℕ → Result ⊤ PrimaryFault → PrimaryState → Type 0
 Creates old name (Ok done) new = new ≡ with_new_table old name
@@ -53,11 +54,7 @@ pub record IsPut (old : PrimaryState) (put : RowPut) (new : PrimaryState) : Type
   pub tables : keys_of new.tables ≡ keys_of old.tables
   pub made : (other : List ℕ) → made_at new other ≡ made_at old other
   pub denied : (other : List ℕ) → is_denied_at new other ≡ is_denied_at old other
-  pub log : new.log ≡ old.log ++ change_by old put ∷ []
-
--- whether a log can take one entry more
-abbrev pub has_room : List RowChange → Bool
-has_room log = nat_lt (length log) longest_log
+  pub log : new.log ≡ with_entry old.log (change_by old put)
 
 -- a put is refused where the log is full, and only there; Memory is told where it has room
 abbrev pub Puts : PrimaryState → RowPut → Result ⊤ PrimaryFault → PrimaryState → Type 0
@@ -68,7 +65,7 @@ Puts old put (Err fault) new = (fault ≡ LogFull) × (has_room old.log ≡ fals
 -- ---- a write
 
 -- a row that the log has room for
-abbrev pub unless_full : List RowChange → Row → Result Row PrimaryFault
+abbrev pub unless_full : LogState → Row → Result Row PrimaryFault
 unless_full log row = if has_room log then Ok row else Err LogFull
 
 -- the row that a write leaves, or the first test that refuses it: the table, the own list, the row, the log's room
@@ -81,10 +78,16 @@ written_row p name op =
 pub record IsWritten (old : PrimaryState) (name : List ℕ) (op : Op) (answer : ℕ) (new : PrimaryState) : Type 0 where
   pub row : written_row old name op ≡ Ok (row_at new name (op_key op))
   pub put : IsPut old (record { table = name; key = op_key op; after = row_at new name (op_key op) }) new
-  pub position : answer ≡ length new.log
+  pub position : answer ≡ end_of new
 
 -- Memory is told of a write that no test refuses
 abbrev pub Writes : PrimaryState → List ℕ → Op → Result ℕ PrimaryFault → PrimaryState → Type 0
 Writes old name op (Ok position) new = IsWritten old name op position new
 Writes old name op (Err Memory) new = ((row : Row) × (written_row old name op ≡ Ok row)) × (new ≡ old)
 Writes old name op (Err fault) new = (written_row old name op ≡ Err fault) × (new ≡ old)
+
+-- ---- a log purged
+
+-- the whole segments of the log that lie below a position are gone
+abbrev pub with_purge : PrimaryState → ℕ → PrimaryState
+with_purge p position = record p { log = without_below p.log position }

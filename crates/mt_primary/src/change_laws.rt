@@ -1,6 +1,6 @@
 //! What follows from how tables are made and dropped, and rows put.
 ghost use Rattle.std.specs.Prelude.{◌≡◌, ◌≢◌, ℕ, ◌≤◌, false, List, [], ◌∷◌, ◌++◌, None, Some, length};
-ghost use Rattle.mt_primary.specs.Primary.{IsPrimary, PrimaryState, has_table, new_table, row_at, table_at};
+ghost use Rattle.mt_primary.specs.Primary.{IsPrimary, PrimaryState, end_of, has_table, new_table, row_at, table_at};
 ghost use Rattle.mt_primary.specs.Reads.{entries_from};
 ghost use Rattle.mt_primary.specs.Writes.{IsPut, RowPut, change_by, row_after_put, with_new_table, without_table};
 
@@ -8,7 +8,7 @@ ghost use Rattle.mt_primary.specs.Writes.{IsPut, RowPut, change_by, row_after_pu
 /// leaves the very primary that stood before, if it wasn't there.
 pub fn a_table_is_made()
     ensures here { (p : PrimaryState) (name : List ℕ) → has_table p name ≡ false
-        → table_at (with_new_table p name) name ≡ Some (new_table (length p.log)) }
+        → table_at (with_new_table p name) name ≡ Some (new_table (end_of p)) }
     ensures others { (p : PrimaryState) (name other : List ℕ) → other ≢ name
         → table_at (with_new_table p name) other ≡ table_at p other }
     ensures dropped_at_once { (p : PrimaryState) (name : List ℕ) → has_table p name ≡ false
@@ -30,5 +30,5 @@ pub fn a_row_is_put()
     ensures tables { (old new : PrimaryState) (put : RowPut) → IsPut old put new
         → (name : List ℕ) → has_table new name ≡ has_table old name }
     ensures entry { (old new : PrimaryState) (put : RowPut) → IsPut old put new
-        → (position : ℕ) → position ≤ length old.log → entries_from new position ≡ entries_from old position ++ change_by old put ∷ [] }
+        → (position : ℕ) → old.log.purged ≤ position → position ≤ end_of old → entries_from new position ≡ entries_from old position ++ change_by old put ∷ [] }
 {}

@@ -1,16 +1,18 @@
 //! A primary.
 ghost use Rattle.std.specs.Prelude.{◌≡◌, ◌≤◌, true, false, None, length};
 ghost use Rattle.std.specs.Option.{option_copied, option_map};
+ghost use Rattle.std.specs.Result.{result_map_both};
 ghost use Rattle.mt_names.specs.Tables.{most_tables};
 ghost use Rattle.mt_primary.specs.Denials.{AreDenialsSet, marks_of, told_by_mark, told_by_marks, told_by_refresh};
-ghost use Rattle.mt_primary.specs.Primary.{empty_primary, has_table, is_denied_at, IsPrimary};
+ghost use Rattle.mt_primary.specs.Primary.{empty_primary, end_of, has_table, is_denied_at, IsPrimary};
 ghost use Rattle.mt_primary.specs.Reads.{entry_at, next_row, read_row};
-ghost use Rattle.mt_primary.specs.Writes.{Creates, Puts, Writes, put_of, without_table};
+ghost use Rattle.mt_primary.specs.Writes.{Creates, Puts, Writes, put_of, with_purge, without_table};
 
 use crate::before::{Before, Mark};
 use crate::table::Table;
 use arrayvec::ArrayVec;
 use indexmap::IndexMap;
+use mt_log::Log;
 use mt_model::{Entry, Op, PrimaryFault, RowChange};
 use mt_names::{KeyspaceName, Position, TableName, TabletType, Value};
 use mt_shared::{SharedName, SharedValue};
@@ -23,7 +25,7 @@ use std::marker::Model;
 #[derive(Drop)]
 pub struct Primary {
     pub(crate) tables: IndexMap<SharedName, Table>,
-    pub(crate) log: Vec<RowChange>,
+    pub(crate) log: Log,
     // Where a stream's write looks for its table first.
     streamed: usize,
 }
@@ -33,9 +35,9 @@ impl Model for Primary {
 
     ghost Value = { PrimaryState };
 
-    ghost view = { λ p. record { tables = p.tables.entries; log = p.log.items } };
+    ghost view = { λ p. record { tables = p.tables.entries; log = p.log.log } };
 
-    ghost invariant = { λ p. IsPrimary (record { tables = p.tables.entries; log = p.log.items }) };
+    ghost invariant = { λ p. IsPrimary (record { tables = p.tables.entries; log = p.log.log }) };
 }
 
 impl Primary {
@@ -45,14 +47,14 @@ impl Primary {
     {
         Primary {
             tables: IndexMap::new(alloc),
-            log: Vec::new(alloc),
+            log: Log::new(alloc),
             streamed: 0,
         }
     }
 
     /// What holds of every primary, for the proofs of callers: a table has one place and its rows in the order of their
-    /// keys, each row is what the log leaves since its table was made, and each entry since then has the row that stood
-    /// before it. It does nothing.
+    /// keys, and each entry that is kept since its table was made leads to the next one of its row, or to the row that
+    /// stands. It does nothing.
     pub fn what_holds(&self)
         ensures { IsPrimary self.now }
     {
@@ -63,9 +65,9 @@ impl Primary {
     /// How many entries the log has, which is the position behind its last one. It takes no memory. (Vitess: the
     /// position of a primary's binary log)
     pub fn position(&self) -> Position
-        ensures { result ≡ length self.now.log }
+        ensures { result ≡ end_of self.now }
     {
-        self.log.len() as u64
+        self.log.position()
     }
 
     /// Whether there is such a table. It takes no memory. (Vitess: the schema of a tablet)
@@ -83,7 +85,7 @@ impl Primary {
         ensures { Creates self.old table.now result self.new }
     {
         let alloc = *self.tables.allocator();
-        let made = self.log.len() as u64;
+        let made = self.log.position();
         let Ok(name) = SharedName::new(alloc, table.copied()) else {
             return Err(PrimaryFault::Memory);
         };
@@ -168,12 +170,30 @@ impl Primary {
         }
     }
 
-    /// The entry of the log at a position, which counts from 0; none from the primary's own position on. It takes no
-    /// memory. (Vitess: a stream reads the source's binary log from its position on)
-    pub fn entry(&self, position: Position) -> Option<&RowChange>
-        ensures { option_copied result ≡ entry_at self.now position }
+    /// The entry of the log at a position, which counts from 0; none from the primary's own position on. `P7 Purged` below
+    /// the first position that is kept. It takes no memory. (Vitess: a stream reads the source's binary log from its
+    /// position on)
+    pub fn entry(&self, position: Position) -> Result<Option<&RowChange>, PrimaryFault>
+        ensures { result_map_both option_copied (λ fault. fault) result ≡ entry_at self.now position }
     {
-        self.log.get(position as usize)
+        self.log.entry(position)
+    }
+
+    /// The first position of the log whose entry is kept; the primary's own position if none is. It takes no memory.
+    /// (Vitess: the first binary log that a primary still has, by gtid_purged)
+    pub fn first_kept(&self) -> Position
+        ensures { result ≡ self.now.log.purged }
+    {
+        self.log.first_kept()
+    }
+
+    /// Drops the whole segments of the log, of 256 entries each, that lie below a position, and leaves all else. It takes no
+    /// memory. (Vitess: PURGE BINARY LOGS on a primary tablet)
+    pub fn purge_below(&mut self, position: Position)
+        requires { position ≤ end_of self.old }
+        ensures { self.new ≡ with_purge self.old position }
+    {
+        self.log.purge_below(position);
     }
 
     /// The first row of a table in the order of the keys, or the first above a key; none where there is none, or no such

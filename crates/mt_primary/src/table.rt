@@ -3,15 +3,13 @@ ghost use Rattle.std.specs.Prelude.{◌≡◌};
 ghost use Rattle.std.specs.Option.{option_copied, option_map};
 ghost use Rattle.mt_primary.specs.Primary.{new_table, row_in};
 ghost use Rattle.mt_primary.specs.Reads.{next_row_in, read_row_in};
-ghost use Rattle.mt_primary.specs.Tables.{start_above};
 
 use mt_model::PrimaryFault;
 use mt_names::{Position, TabletType, Value};
+use mt_pages::Pages;
 use mt_shared::SharedValue;
 use std::alloc::Global;
-use std::collections::BTreeMap;
 use std::marker::Model;
-use std::ops::Bound;
 
 /// A table: its rows by their keys, the position of the log at which it was made, and whether the primary's own list
 /// has it.
@@ -19,17 +17,18 @@ use std::ops::Bound;
 pub struct Table {
     made: Position,
     denied: bool,
-    pub(crate) rows: BTreeMap<u64, SharedValue>,
+    pub(crate) rows: Pages,
 }
 
 impl Model for Table {
+    ghost use Rattle.mt_pages.specs.Pages.{rows_in};
     ghost use Rattle.mt_primary.specs.Primary.{TableState, IsInKeyOrder};
 
     ghost Value = { TableState };
 
-    ghost view = { λ t. record { made = t.made; denied = t.denied; rows = t.rows.entries } };
+    ghost view = { λ t. record { made = t.made; denied = t.denied; rows = rows_in t.rows } };
 
-    ghost invariant = { λ t. IsInKeyOrder (record { made = t.made; denied = t.denied; rows = t.rows.entries }) };
+    ghost invariant = { λ t. IsInKeyOrder (record { made = t.made; denied = t.denied; rows = rows_in t.rows }) };
 }
 
 impl Table {
@@ -40,7 +39,7 @@ impl Table {
         Table {
             made,
             denied: false,
-            rows: BTreeMap::new(alloc),
+            rows: Pages::new(alloc),
         }
     }
 
@@ -62,7 +61,7 @@ impl Table {
     pub fn row(&self, key: u64) -> Option<&SharedValue>
         ensures { option_copied result ≡ row_in self.now key }
     {
-        self.rows.get(&key)
+        self.rows.get(key)
     }
 
     /// The row of a key, as a tablet of this type has it: `P2 Denied` of type primary alone, where it is denied.
@@ -79,17 +78,7 @@ impl Table {
     pub fn row_after(&self, key: Option<u64>) -> Option<(u64, &SharedValue)>
         ensures { option_map (λ row. (row.0, row.1.now)) result ≡ next_row_in self.now key }
     {
-        let (key, row) = self.rows.range((above(key), Bound::Unbounded)).next()?;
-        Some((*key, row))
-    }
-}
-
-/// Where the keys above one begin, or all of them.
-fn above(key: Option<u64>) -> Bound<u64>
-    ensures { result ≡ start_above key }
-{
-    match key {
-        Some(key) => Bound::Excluded(key),
-        None => Bound::Unbounded,
+        let row = self.rows.row_after(key)?;
+        Some((row.0, &row.1))
     }
 }

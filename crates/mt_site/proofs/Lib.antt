@@ -11,3 +11,4 @@ pub mod RunLemmas
 pub mod SiteLemmas
 pub mod StoodLemmas
 pub mod TurnLemmas
+mod PurgeLemmas

@@ -1,25 +1,27 @@
 -- What is written at the primary that stands at a place is written at that of its keyspace.
-use Rattle.std.proofs.Common.{◌≡◌, ◌<◌, ℕ, zero, suc, List, [], ◌∷◌, get_or, length, slice_get, position, Option, None, Some, is_some, Result, arith, refl, sym, ap, subst}
+use Rattle.std.proofs.Common.{◌≡◌, ◌<◌, ℕ, zero, suc, List, [], ◌∷◌, get_or, length, slice_get, position, Option, None, Some, is_some, Result, arith, cond, Bool, true, false, refl, sym, ap, subst, ◌∙◌}
 use Rattle.std.proofs.lemmas.List.Quantifiers.{position-Some}
 use Rattle.std.specs.Prelude.{MatchOption}
 use Rattle.std.specs.List.{IsDistinct}
-use Rattle.std.specs.Map.{keys_of, values_of}
+use Rattle.std.specs.Map.{keys_of, set_value, values_of}
 use Rattle.indexmap.specs.IndexMap.{set_value_at}
 use Rattle.mt_event.specs.Reasons.{reason_from}
 use Rattle.mt_model.specs.declared.faults.PrimaryFault.{PrimaryFault}
 use Rattle.mt_model.specs.declared.faults.PrimaryFault.TheVariants as fault
 use Rattle.mt_model.specs.declared.rows.Op.{Op}
 use Rattle.mt_model.specs.Topology.{TopologyState}
-use Rattle.mt_names.proofs.EntryLemmas.{none_from}
+use Rattle.mt_names.proofs.EntryLemmas.{none_from, set_value-twice}
 use Rattle.mt_names.proofs.SameLemmas.{same_text_decides}
 use Rattle.mt_names.specs.Names.{same_text}
-use Rattle.mt_plain.specs.Events.{Answer, refused}
+use Rattle.mt_plain.specs.Events.{Answer, done, refused}
 use Rattle.mt_primary.proofs.PlacedLemmas.{lookup-at, set_value-at}
 use Rattle.mt_primary.specs.Primary.{PrimaryState}
 use Rattle.mt_primary.specs.Writes.{Writes}
 use Rattle.mt_site_rows.specs.Answers.{answer_by, refusal_by}
 use Rattle.mt_site_state.specs.ByHand.{WritesAt, WritesRow}
-use Rattle.mt_site_state.specs.Core.{CoreState, Primaries, Workflows, primary_at}
+use Rattle.mt_site_state.specs.Core.{CoreState, Primaries, Workflows, primary_at, primary_of}
+use Rattle.mt_site_state.specs.Purges.{PurgesOne, has_whole_segments, with_purge_of, without_unneeded}
+use Rattle.mt_site_events.proofs.MoveCoreLemmas.{primary-here}
 use Rattle.mt_site.specs.ByHand.{refusal_by_primary}
 
 -- a refusal of a primary, as the core tells it
@@ -31,6 +33,7 @@ refused_there fault.RowExists = refl
 refused_there fault.NoRow = refl
 refused_there fault.TooLong = refl
 refused_there fault.LogFull = refl
+refused_there fault.Purged = refl
 
 -- the key at a place, inside of the list
 at_place : (ks : List (List ℕ)) (i : ℕ) (k : List ℕ) → i < length ks → k ≡ get_or ks i k → slice_get ks i ≡ Some k
@@ -58,6 +61,27 @@ written_at t ws ps i keyspace table op before after result answer distinct at th
     let with_primaries : Primaries → CoreState = λ l. core_of t l ws in
     subst (λ o. WritesAt o (core_of t ps ws) keyspace table op answer (core_of t (set_value_at ps i after) ws)) (sym (lookup-at same_text same_text_decides ps i keyspace before distinct at there))
     (result, after, writes, told, ap with_primaries (set_value-at same_text same_text_decides ps i keyspace after distinct at))
+
+-- the log that is written is purged as a segment gets whole
+pub purged_at : (t : TopologyState) (ws : Workflows) (ps : Primaries) (i : ℕ) (keyspace : List ℕ) (before after last : PrimaryState)
+    → IsDistinct same_text (keys_of ps) → slice_get (keys_of ps) i ≡ Some keyspace → slice_get (values_of ps) i ≡ Some before
+    → last ≡ cond (has_whole_segments after) (without_unneeded ws keyspace after) after
+    → PurgesOne keyspace done (core_of t (set_value_at ps i after) ws) (core_of t (set_value_at ps i last) ws)
+purged_at t ws ps i keyspace before after last distinct at there is =
+    ap (λ x. core_of t (set_value_at ps i x) ws) is ∙ by (has_whole_segments after) ∙ ap (λ b. cond b (with_purge_of keyspace (core_of t (set_value_at ps i after) ws)) (core_of t (set_value_at ps i after) ws)) (ap has_whole_segments (sym now))
+  where
+    set : (x : PrimaryState) → set_value_at ps i x ≡ set_value (same_text keyspace) ps x
+    set x = set_value-at same_text same_text_decides ps i keyspace x distinct at
+
+    now : primary_of (set_value_at ps i after) keyspace ≡ after
+    now = ap (λ l. primary_of l keyspace) (set after) ∙ primary-here ps keyspace before after (lookup-at same_text same_text_decides ps i keyspace before distinct at there)
+
+    by : (b : Bool) → core_of t (set_value_at ps i (cond b (without_unneeded ws keyspace after) after)) ws ≡ cond b (with_purge_of keyspace (core_of t (set_value_at ps i after) ws)) (core_of t (set_value_at ps i after) ws)
+    by true =
+        let last = without_unneeded ws keyspace after in
+        ap (λ l. core_of t l ws) (set last ∙ sym (set_value-twice (same_text keyspace) ps after last) ∙ ap (λ l. set_value (same_text keyspace) l last) (sym (set after))
+        ∙ ap (λ p. set_value (same_text keyspace) (set_value_at ps i after) (without_unneeded ws keyspace p)) (sym now))
+    by false = refl
 
 -- a write leaves the topology
 pub row_leaves_topology : (old new : CoreState) (keyspace table : List ℕ) (op : Op) (answer : Answer) (o : Option PrimaryState) → WritesAt o old keyspace table op answer new → new.topology ≡ old.topology

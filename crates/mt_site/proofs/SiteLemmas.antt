@@ -24,6 +24,7 @@ use Rattle.mt_steps.specs.declared.fault.StepFault.{StepFault}
 use Rattle.mt_steps.specs.declared.log.OpenWay.{OpenWay}
 use Rattle.mt_steps.specs.Plans.{step_at}
 use Rattle.mt_steps.specs.Steps.{SidesState, Steps}
+use Rattle.mt_steps.specs.Streams.{KeepsToTest}
 use Rattle.mt_steps.specs.Undo.{IsLogOf, UndoState}
 use Rattle.mt_watch.specs.Asking.{Answering}
 use Rattle.mt_workflow.specs.Workflows.{WorkflowState, keys_of_part, live_of}
@@ -101,8 +102,10 @@ pub can_step : (s : SiteState) (name : List ℕ)
     → ((w : WorkflowState) (way : Way) → workflow_at s.core.workflows name ≡ Some w → w.way ≡ Some way → next_step way < behind_last way)
     → ((w : WorkflowState) (way : Way) (o : OpenWay) → workflow_at s.core.workflows name ≡ Some w → w.way ≡ Some way → open_at s.ways.opened name ≡ Some o
     → stands_done way write_journal ≡ false → entry_of s.ways.journal o.number ≡ None)
+    → ((w : WorkflowState) (way : Way) → workflow_at s.core.workflows name ≡ Some w → w.way ≡ Some way
+    → KeepsToTest w way (next_step way) (primary_of s.core.primaries w.source) (primary_of s.core.primaries w.target))
     → CanStep s.core.topology s.core.primaries s.core.workflows s.ways.journal s.ways.opened name
-can_step s name named source target apart places there kept within unused = record {
+can_step s name named source target apart places there kept within unused unread = record {
   there = there;
   each = λ w way o found on opened. record {
     named = named w found;
@@ -113,6 +116,7 @@ can_step s name named source target apart places there kept within unused = reco
     within = few way (within w way found on);
     kept = kept w way o found on opened;
     unused = unused w way o found on opened;
+    unread = unread w way found on;
   };
 }
 

@@ -1,14 +1,14 @@
 -- What becomes of two primaries as a stream is advanced between them (this profile's own).
-use Rattle.std.specs.Prelude.{◌≡◌, ◌≢◌, ◌≤◌, ℕ, true, List, Option, None, Some, is_some, length, Result, Ok, Err}
+use Rattle.std.specs.Prelude.{◌≡◌, ◌≢◌, ◌≤◌, ℕ, true, List, Option, None, Some, is_some, Result, Ok, Err}
 use Rattle.std.specs.Map.{set_value}
 use Rattle.mt_names.specs.Names.{same_text}
 use Rattle.mt_event.specs.declared.reason.Reason.{Reason}
 use Rattle.mt_event.specs.declared.reason.Reason.TheVariants as reason
 use Rattle.mt_event.specs.Reasons.{reason_from}
-use Rattle.mt_plain.specs.Events.{StreamName, Answer, advanced, refused, stream_stopped}
+use Rattle.mt_plain.specs.Events.{StreamName, running, Answer, advanced, refused, stream_stopped}
 use Rattle.mt_plain.specs.Plain.{among}
 use Rattle.mt_plain.specs.Slots.{read_side, written_side}
-use Rattle.mt_primary.specs.Primary.{PrimaryState, has_table}
+use Rattle.mt_primary.specs.Primary.{PrimaryState, end_of, has_table}
 use Rattle.mt_stream.specs.declared.fault.StreamFault.{StreamFault}
 use Rattle.mt_stream.specs.declared.fault.StreamFault.TheVariants as stream
 use Rattle.mt_stream.specs.declared.stream.Advanced.{Advanced}
@@ -43,13 +43,14 @@ AdvancesBetween old w name at at_most answer after new =
     × AdvancesSlot (slot_of w name) (primary_of old (read_side (live_of w) name)) (primary_of old (written_side (live_of w) name)) at at_most answer (slot_of after name) sink
     × (after ≡ with_slot w name (slot_of after name)) × (new ≡ set_value (same_text (written_side (live_of w) name)) old sink)
 
--- a stream of a workflow stands between two primaries: those of its two sides are there, its position lies in the log that it reads, and its
--- tables are there where it writes
+-- a stream of a workflow stands between two primaries: those of its two sides are there, its position lies in the log that it reads, which
+-- keeps the entries from there on if the stream runs, and its tables are there where it writes
 pub record IsBetween (primaries : Primaries) (w : WorkflowState) (name : StreamName) (stream : StreamValue) : Type 0 where
   pub read : is_some (primary_at primaries (read_side (live_of w) name)) ≡ true
   pub written : is_some (primary_at primaries (written_side (live_of w) name)) ≡ true
   pub apart : read_side (live_of w) name ≢ written_side (live_of w) name
-  pub within : stream.position ≤ length (primary_of primaries (read_side (live_of w) name)).log
+  pub within : stream.position ≤ end_of (primary_of primaries (read_side (live_of w) name))
+  pub kept : stream.state ≡ running → (primary_of primaries (read_side (live_of w) name)).log.purged ≤ stream.position
   pub there : (table : List ℕ) → among stream.tables table ≡ true → has_table (primary_of primaries (written_side (live_of w) name)) table ≡ true
 
 -- so does that of a live workflow, if there is one; and the workflow stands under its own name

@@ -1,9 +1,12 @@
 -- What an event does to the controller (this profile's own).
-use Rattle.std.specs.Prelude.{◌≡◌, List}
+use Rattle.std.specs.Prelude.{◌≡◌, ℕ, List}
+use Rattle.mt_model.specs.declared.rows.Op.{Op}
 use Rattle.mt_model.specs.declared.entries.Scope.{Scope}
 use Rattle.mt_watch.specs.Asking.{Answering}
-use Rattle.mt_plain.specs.Events.{Event, write, read, add_keyspace, add_table, edit_rule, create, advance, begin_switch, begin_reverse, step, undo, cancel, complete, show, Answer}
+use Rattle.mt_plain.specs.Events.{Event, write, read, add_keyspace, add_table, edit_rule, create, advance, begin_switch, begin_reverse, step, undo, cancel, complete, show, Answer, StreamName}
 use Rattle.mt_site_state.specs.ByHand.{AddsKeyspace, AddsTable, EditsRule, ReadsRow, WritesRow}
+use Rattle.mt_site_state.specs.Core.{CoreState}
+use Rattle.mt_site_state.specs.Purges.{PurgesAll, PurgesOne}
 use Rattle.mt_site_state.specs.Switching.{BeginsReverse, BeginsSwitch, Completes, StepsWorkflow, UndoesWorkflow}
 use Rattle.mt_site_state.specs.Ways.{SiteState}
 use Rattle.mt_site_state.specs.Workflows.{AdvancesWorkflow, Cancels, Creates, ShowsWorkflow}
@@ -30,3 +33,24 @@ Applies scopes may_answer old (undo workflow at) answer new = UndoesWorkflow old
 Applies scopes may_answer old (cancel workflow) answer new = Cancels old.core workflow answer new.core × LeavesWays old new
 Applies scopes may_answer old (complete workflow) answer new = Completes old workflow answer new
 Applies scopes may_answer old (show workflow) answer new = ShowsWorkflow old.core workflow answer new.core × LeavesWays old new
+
+-- ---- and the purge behind it
+
+-- behind an event that is taken all logs are purged, behind a client's write the one that it is entered in, and behind a read or a Show none
+abbrev pub Purges : Event → Answer → (old new : SiteState) → Type 0
+Purges (write keyspace table op) answer old new = PurgesOne keyspace answer old.core new.core × LeavesWays old new
+Purges (read keyspace table key tablet_type) answer old new = new ≡ old
+Purges (show workflow) answer old new = new ≡ old
+Purges other answer old new = PurgesAll answer old.core new.core × LeavesWays old new
+
+-- each event does what it does, and then logs are purged
+abbrev pub AppliesAndPurges : List Scope → Answering → SiteState → Event → Answer → SiteState → Type 0
+AppliesAndPurges scopes may_answer old event answer new = (made : SiteState) × Applies scopes may_answer old event answer made × Purges event answer made new
+
+-- so of a write
+abbrev pub WritesAndPurges : CoreState → (keyspace table : List ℕ) → Op → Answer → CoreState → Type 0
+WritesAndPurges old keyspace table op answer new = (made : CoreState) × WritesRow old keyspace table op answer made × PurgesOne keyspace answer made new
+
+-- and of an advance
+abbrev pub AdvancesAndPurges : CoreState → (workflow : List ℕ) → StreamName → (at at_most : ℕ) → Answer → CoreState → Type 0
+AdvancesAndPurges old workflow name at at_most answer new = (made : CoreState) × AdvancesWorkflow old workflow name at at_most answer made × PurgesAll answer made new

@@ -32,6 +32,8 @@ refusal_by_primary primary.RowExists = reason.RowExists
 refusal_by_primary primary.NoRow = reason.NoRow
 refusal_by_primary primary.TooLong = reason.TooLong
 refusal_by_primary primary.LogFull = reason.Full
+-- a write is never told this
+refusal_by_primary primary.Purged = reason.Full
 
 -- the answer of a row that is read, or not
 abbrev pub read_from : Result (Option RowValue) Reason → Answer

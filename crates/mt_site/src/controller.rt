@@ -8,9 +8,10 @@ ghost use Rattle.mt_plain.specs.Events as plain;
 ghost use Rattle.mt_plain.specs.Plain.{Plain, opening};
 ghost use Rattle.mt_plain.specs.Refuse.{owed};
 ghost use Rattle.mt_plain.specs.Serve.{served};
-ghost use Rattle.mt_site_state.specs.Core.{workflow_at};
+ghost use Rattle.mt_site_state.specs.Core.{primary_at, workflow_at};
+ghost use Rattle.mt_site_state.specs.Purges.{IsPurged, with_purges};
 ghost use Rattle.mt_site_state.specs.Ways.{SiteStands, SiteSteps, empty_site};
-ghost use Rattle.mt_site.specs.Applies.{Applies};
+ghost use Rattle.mt_site.specs.Applies.{AppliesAndPurges};
 ghost use Rattle.mt_site.specs.Commands.{is_command};
 ghost use Rattle.mt_site.specs.GivenUp.{CanBeGivenUp};
 ghost use Rattle.mt_site.specs.Headline.{KeepsTheHeadline};
@@ -21,7 +22,6 @@ mod commands;
 mod placed;
 mod workflows;
 
-use crate::given_up::a_move_can_be_given_up;
 use crate::owed::a_core_owes_what_its_state_owes;
 use crate::replies::{advanced, created, done, row, show};
 use crate::{OpenWays, Primaries, Workflows, owed};
@@ -31,10 +31,12 @@ use mt_event::{Event, Refusal, Reply};
 use mt_journal::Journal;
 use mt_laws::every_run_keeps_the_headline;
 use mt_model::TopologyFault;
-use mt_names::{RuleKey, RuleTarget, TabletType, WorkflowName};
+use mt_names::{KeyspaceName, RuleKey, RuleTarget, TabletType, WorkflowName};
+use mt_primary::Primary;
 use mt_rules::RulesFault;
-use mt_site_events::a_core_tells_what_its_state_serves;
-use mt_site_ways::a_site_stays_one;
+use mt_site_events::{a_core_tells_what_its_state_serves, a_purged_core_stands};
+use mt_site_ways::{a_purged_site_stands, a_site_stays_one};
+use mt_site_workflows::purge;
 use mt_topology::Topology;
 use mt_watch::Asks;
 use mt_workflow::Workflow;
@@ -77,6 +79,7 @@ impl Core {
     pub fn new(alloc: Global) -> Self
         ensures value { result ≡ empty_site }
         ensures stands { (scopes : List Scope) → SiteStands (opening scopes) scopes result }
+        ensures purged { IsPurged result.core }
     {
         a_site_stays_one();
         Core {
@@ -102,6 +105,14 @@ impl Core {
         ensures { option_copied result ≡ workflow_at self.now.core.workflows name.now }
     {
         mt_few::get(&self.workflows, name)
+    }
+
+    /// The primary of a keyspace, or none of that name: its rows, and its log, of which is kept what a stream has still to read. It takes
+    /// no memory.
+    pub fn primary(&self, keyspace: &KeyspaceName) -> Option<&Primary>
+        ensures { option_copied result ≡ primary_at self.now.core.primaries keyspace.now }
+    {
+        mt_few::get(&self.primaries, keyspace)
     }
 
     /// Where a name leads for a type. It takes no memory.
@@ -150,10 +161,21 @@ impl Core {
         owed::owed(&self.workflows)
     }
 
+    /// Drops what no stream will read any more of each log. It takes no memory.
+    fn purge(&mut self)
+        ensures core { self.new.core ≡ with_purges self.old.core }
+        ensures ways { self.new.ways ≡ self.old.ways }
+    {
+        a_purged_core_stands();
+        a_purged_site_stands();
+        purge(&self.workflows, &mut self.primaries);
+    }
+
     /// Applies an event, which is done whole or refused; what is refused leaves the core as it was. The answer is one that the
     /// definitions allow in each state that the core stands for, and the core then stands for the next one. Of the events Read,
     /// Undo, Cancel, Complete and Show take no memory. Create asks the watchers of its target's primary, and of the steps a refresh
-    /// those of the primary that it is about; no other event asks anybody. (Vitess: MoveTables)
+    /// those of the primary that it is about; no other event asks anybody. Behind an event that is taken each log is purged below what the
+    /// streams that read it, frozen ones apart, have still to read; behind a write as a segment gets whole. (Vitess: MoveTables)
     ///
     /// `headline` is the promise of the whole: whatever client calls, stream steps, rule edits and workflow commands were applied
     /// before, in whatever order, Cancel gives back the workflow's part of the topology from before Create, ReverseTraffic that
@@ -161,18 +183,18 @@ impl Core {
     /// each primary read answers from the acknowledged writes, each once. `steps` and `headline` speak of each state that the core
     /// stands for with these watchers. There is one if there was one before: from `new` on, if each call hands in watchers of the same scopes.
     pub fn apply<W: Asks>(&mut self, watchers: &W, event: &Event) -> Result<Reply, Refusal>
-        ensures applies { Applies (W.scopes watchers.now) (W.may_answer watchers.now) self.old (event_of event.now) (answer_from result) self.new }
+        ensures applies { AppliesAndPurges (W.scopes watchers.now) (W.may_answer watchers.now) self.old (event_of event.now) (answer_from result) self.new }
         ensures steps { SiteSteps (W.scopes watchers.now) self.old (event_of event.now) (answer_from result) self.new }
         ensures unchanged { OnErr result (self.new ≡ self.old) }
         ensures given_up { CanBeGivenUp self.old (event_of event.now) → answer_from result ≡ plain.done }
         ensures headline { KeepsTheHeadline (W.scopes watchers.now) self.old (event_of event.now ∷ []) (answer_from result ∷ []) self.new }
         ensures stood { IsSiteWith (W.scopes watchers.now) self.old → IsSiteWith (W.scopes watchers.now) self.new }
+        ensures purged { IsPurged self.old.core → IsPurged self.new.core }
     {
         let told = match Command::of(event) {
             Some(command) => done(self.command(watchers, command)),
             None => self.apply_other(watchers, event),
         };
-        a_move_can_be_given_up(watchers);
         every_run_keeps_the_headline();
         told
     }
@@ -180,9 +202,11 @@ impl Core {
     /// Applies an event that is no command: a Create, a write, a read, an advance or a Show.
     fn apply_other<W: Asks>(&mut self, watchers: &W, event: &Event) -> Result<Reply, Refusal>
         requires { is_command event.now ≡ false }
-        ensures applies { Applies (W.scopes watchers.now) (W.may_answer watchers.now) self.old (event_of event.now) (answer_from result) self.new }
+        ensures applies { AppliesAndPurges (W.scopes watchers.now) (W.may_answer watchers.now) self.old (event_of event.now) (answer_from result) self.new }
         ensures steps { SiteSteps (W.scopes watchers.now) self.old (event_of event.now) (answer_from result) self.new }
         ensures unchanged { OnErr result (self.new ≡ self.old) }
+        ensures given_up { CanBeGivenUp self.old (event_of event.now) → answer_from result ≡ plain.done }
+        ensures purged { IsPurged self.old.core → IsPurged self.new.core }
     {
         match event {
             Event::Create {

@@ -5,16 +5,17 @@ ghost use Rattle.std.specs.List.{IsDistinct};
 ghost use Rattle.std.specs.Map.{keys_of};
 ghost use Rattle.mt_model.specs.Topology.{TopologyState};
 ghost use Rattle.mt_names.specs.Names.{same_text};
-ghost use Rattle.mt_site_state.specs.ByHand.{WritesRow, read_at};
+ghost use Rattle.mt_site_state.specs.ByHand.{read_at};
 ghost use Rattle.mt_site_state.specs.Core.{primary_at};
-ghost use Rattle.mt_site_state.specs.Core as core;
+ghost use Rattle.mt_site.specs.Applies.{WritesAndPurges};
 ghost use Rattle.mt_site.specs.ByHand.{read_from, refusal_by_primary};
 
-use crate::Primaries;
+use crate::{Primaries, Workflows};
 use mt_event::Reason;
 use mt_model::{Op, PrimaryFault};
 use mt_names::{KeyspaceName, TableName, TabletType, Value};
 use mt_primary::Primary;
+use mt_site_workflows::purge_whole;
 
 /// Where the primary of a keyspace may stand among the others, and where a table may stand in it. Nothing is promised of either:
 /// there they are looked for first.
@@ -44,7 +45,8 @@ fn refusal_by_primary(fault: PrimaryFault) -> Reason
         PrimaryFault::RowExists => Reason::RowExists,
         PrimaryFault::NoRow => Reason::NoRow,
         PrimaryFault::TooLong => Reason::TooLong,
-        PrimaryFault::LogFull => Reason::Full,
+        // A write is never told the second.
+        PrimaryFault::LogFull | PrimaryFault::Purged => Reason::Full,
     }
 }
 
@@ -72,25 +74,29 @@ fn place_of(primaries: &Primaries, place: usize, keyspace: &KeyspaceName) -> Opt
     primaries.get_index_of(keyspace)
 }
 
-/// Writes a row at the primary of its keyspace, wherever that stands.
+/// Writes a row at the primary of its keyspace, wherever that stands, and purges its log as a segment gets whole.
 #[inline(always)]
 pub(crate) fn write_row(
     primaries: &mut Primaries,
+    workflows: &Workflows,
     hint: Hint,
     keyspace: &KeyspaceName,
     table: &TableName,
     op: Op,
 ) -> Result<(), Reason>
-    ensures { (topology : TopologyState) (workflows : core.Workflows)
-        → WritesRow (record { topology = topology; primaries = primaries.old.entries; workflows = workflows }) keyspace.now table.now op (done_by result)
-        (record { topology = topology; primaries = primaries.new.entries; workflows = workflows }) }
+    ensures { (topology : TopologyState)
+        → WritesAndPurges (record { topology = topology; primaries = primaries.old.entries; workflows = workflows.now.entries }) keyspace.now table.now op (done_by result)
+        (record { topology = topology; primaries = primaries.new.entries; workflows = workflows.now.entries }) }
 {
     let Some(place) = place_of(primaries, hint.primary, keyspace) else {
         return Err(Reason::NoKeyspace);
     };
     let primary = &mut primaries[place];
     match primary.write_placed(hint.table, table, op) {
-        Ok(_) => Ok(()),
+        Ok(_) => {
+            purge_whole(workflows, keyspace, primary);
+            Ok(())
+        }
         Err(fault) => Err(refusal_by_primary(fault)),
     }
 }

@@ -9,13 +9,12 @@ ghost use Rattle.mt_plain.specs.Plain.{Plain, opening};
 ghost use Rattle.mt_plain.specs.Refuse.{owed};
 ghost use Rattle.mt_plain.specs.Serve.{served};
 ghost use Rattle.mt_model.specs.declared.entries.Scope.{Scope};
-ghost use Rattle.mt_site_state.specs.ByHand.{WritesRow};
-ghost use Rattle.mt_site_state.specs.Core.{workflow_at};
+ghost use Rattle.mt_site_state.specs.Purges.{IsPurged};
+ghost use Rattle.mt_site_state.specs.Core.{primary_at, workflow_at};
 ghost use Rattle.mt_site_state.specs.Ways.{SiteStands, SiteSteps, empty_site};
-ghost use Rattle.mt_site_state.specs.Workflows.{AdvancesWorkflow};
 ghost use Rattle.mt_workflow.specs.Workflows.{stream_name};
 ghost use Rattle.mt_site.specs.Advance.{advanced_from};
-ghost use Rattle.mt_site.specs.Applies.{Applies};
+ghost use Rattle.mt_site.specs.Applies.{AdvancesAndPurges, AppliesAndPurges, WritesAndPurges};
 ghost use Rattle.mt_site.specs.Commands.{event_of_command};
 ghost use Rattle.mt_site.specs.GivenUp.{CanBeGivenUp};
 ghost use Rattle.mt_site.specs.Headline.{KeepsTheHeadline};
@@ -29,6 +28,7 @@ use mt_model::{Op, TopologyFault};
 use mt_names::{
     KeyspaceName, MAX_TABLES, Position, RuleKey, RuleTarget, TableName, TabletType, WorkflowName,
 };
+use mt_primary::Primary;
 use mt_rules::RulesFault;
 use mt_stream::Advanced;
 use mt_topology::Topology;
@@ -51,6 +51,7 @@ impl<W: Asks> Site<W> {
         ensures watchers { result.watchers ≡ watchers }
         ensures stands { SiteStands (opening (W.scopes watchers)) (W.scopes watchers) result.core }
         ensures stood { IsSiteWith (W.scopes result.watchers) result.core }
+        ensures purged { IsPurged result.core.core }
     {
         Site {
             core: Core::new(alloc),
@@ -61,12 +62,13 @@ impl<W: Asks> Site<W> {
     /// Applies an event: see `Core::apply`. The watchers are those that the site was opened with.
     pub fn apply(&mut self, event: &Event) -> Result<Reply, Refusal>
         ensures watchers { self.new.watchers ≡ self.old.watchers }
-        ensures applies { Applies (W.scopes self.old.watchers) (W.may_answer self.old.watchers) self.old.core (event_of event.now) (answer_from result) self.new.core }
+        ensures applies { AppliesAndPurges (W.scopes self.old.watchers) (W.may_answer self.old.watchers) self.old.core (event_of event.now) (answer_from result) self.new.core }
         ensures steps { SiteSteps (W.scopes self.old.watchers) self.old.core (event_of event.now) (answer_from result) self.new.core }
         ensures unchanged { OnErr result (self.new.core ≡ self.old.core) }
         ensures given_up { CanBeGivenUp self.old.core (event_of event.now) → answer_from result ≡ plain.done }
         ensures headline { KeepsTheHeadline (W.scopes self.old.watchers) self.old.core (event_of event.now ∷ []) (answer_from result ∷ []) self.new.core }
         ensures stood { IsSiteWith (W.scopes self.old.watchers) self.old.core → IsSiteWith (W.scopes self.new.watchers) self.new.core }
+        ensures purged { IsPurged self.old.core.core → IsPurged self.new.core.core }
     {
         self.core.apply(&self.watchers, event)
     }
@@ -74,12 +76,13 @@ impl<W: Asks> Site<W> {
     /// Applies a command: see `Core::command`.
     pub fn command(&mut self, command: Command<'_>) -> Result<(), Reason>
         ensures watchers { self.new.watchers ≡ self.old.watchers }
-        ensures applies { Applies (W.scopes self.old.watchers) (W.may_answer self.old.watchers) self.old.core (event_of_command command.entry) (done_by result) self.new.core }
+        ensures applies { AppliesAndPurges (W.scopes self.old.watchers) (W.may_answer self.old.watchers) self.old.core (event_of_command command.entry) (done_by result) self.new.core }
         ensures steps { SiteSteps (W.scopes self.old.watchers) self.old.core (event_of_command command.entry) (done_by result) self.new.core }
         ensures unchanged { OnErr result (self.new.core ≡ self.old.core) }
         ensures given_up { CanBeGivenUp self.old.core (event_of_command command.entry) → done_by result ≡ plain.done }
         ensures headline { KeepsTheHeadline (W.scopes self.old.watchers) self.old.core (event_of_command command.entry ∷ []) (done_by result ∷ []) self.new.core }
         ensures stood { IsSiteWith (W.scopes self.old.watchers) self.old.core → IsSiteWith (W.scopes self.new.watchers) self.new.core }
+        ensures purged { IsPurged self.old.core.core → IsPurged self.new.core.core }
     {
         self.core.command(&self.watchers, command)
     }
@@ -93,11 +96,12 @@ impl<W: Asks> Site<W> {
         tables: &ArrayVec<TableName, MAX_TABLES>,
     ) -> Result<(), Refusal>
         ensures watchers { self.new.watchers ≡ self.old.watchers }
-        ensures applies { Applies (W.scopes self.old.watchers) (W.may_answer self.old.watchers) self.old.core (plain.create workflow.now source.now target.now tables.now.items) (done_from result) self.new.core }
+        ensures applies { AppliesAndPurges (W.scopes self.old.watchers) (W.may_answer self.old.watchers) self.old.core (plain.create workflow.now source.now target.now tables.now.items) (done_from result) self.new.core }
         ensures steps { SiteSteps (W.scopes self.old.watchers) self.old.core (plain.create workflow.now source.now target.now tables.now.items) (done_from result) self.new.core }
         ensures unchanged { OnErr result (self.new.core ≡ self.old.core) }
         ensures headline { KeepsTheHeadline (W.scopes self.old.watchers) self.old.core (plain.create workflow.now source.now target.now tables.now.items ∷ []) (done_from result ∷ []) self.new.core }
         ensures stood { IsSiteWith (W.scopes self.old.watchers) self.old.core → IsSiteWith (W.scopes self.new.watchers) self.new.core }
+        ensures purged { IsPurged self.old.core.core → IsPurged self.new.core.core }
     {
         self.core
             .create(&self.watchers, workflow, source, target, tables)
@@ -112,12 +116,13 @@ impl<W: Asks> Site<W> {
         max: u16,
     ) -> Result<Advanced, Reason>
         ensures watchers { self.new.watchers ≡ self.old.watchers }
-        ensures does { AdvancesWorkflow self.old.core.core workflow.now (stream_name stream) at max (advanced_from result) self.new.core.core }
+        ensures does { AdvancesAndPurges self.old.core.core workflow.now (stream_name stream) at max (advanced_from result) self.new.core.core }
         ensures ways { self.new.core.ways ≡ self.old.core.ways }
         ensures steps { (scopes : List Scope) → SiteSteps scopes self.old.core (plain.advance workflow.now (stream_name stream) at max) (advanced_from result) self.new.core }
         ensures unchanged { OnErr result (self.new.core ≡ self.old.core) }
         ensures headline { (scopes : List Scope) → KeepsTheHeadline scopes self.old.core (plain.advance workflow.now (stream_name stream) at max ∷ []) (advanced_from result ∷ []) self.new.core }
         ensures stood { (scopes : List Scope) → IsSiteWith scopes self.old.core → IsSiteWith scopes self.new.core }
+        ensures purged { IsPurged self.old.core.core → IsPurged self.new.core.core }
     {
         self.core.advance(workflow, stream, at, max)
     }
@@ -126,7 +131,7 @@ impl<W: Asks> Site<W> {
     #[inline(always)]
     pub fn write_row(&mut self, place: &Place, op: Op) -> Result<(), Reason>
         ensures watchers { self.new.watchers ≡ self.old.watchers }
-        ensures does { WritesRow self.old.core.core place.now.target.keyspace place.now.target.table op (done_by result) self.new.core.core }
+        ensures does { WritesAndPurges self.old.core.core place.now.target.keyspace place.now.target.table op (done_by result) self.new.core.core }
         ensures topology { self.new.core.core.topology ≡ self.old.core.core.topology }
         ensures ways { self.new.core.ways ≡ self.old.core.ways }
         ensures steps { (scopes : List Scope)
@@ -135,6 +140,7 @@ impl<W: Asks> Site<W> {
         ensures headline { (scopes : List Scope)
             → KeepsTheHeadline scopes self.old.core (plain.write place.now.target.keyspace place.now.target.table op ∷ []) (done_by result ∷ []) self.new.core }
         ensures stood { (scopes : List Scope) → IsSiteWith scopes self.old.core → IsSiteWith scopes self.new.core }
+        ensures purged { IsPurged self.old.core.core → IsPurged self.new.core.core }
     {
         self.core.write_row(place, op)
     }
@@ -168,6 +174,13 @@ impl<W: Asks> Site<W> {
         ensures { option_copied result ≡ workflow_at self.now.core.core.workflows name.now }
     {
         self.core.workflow(name)
+    }
+
+    /// The primary of a keyspace: see `Core::primary`. It takes no memory.
+    pub fn primary(&self, keyspace: &KeyspaceName) -> Option<&Primary>
+        ensures { option_copied result ≡ primary_at self.now.core.core.primaries keyspace.now }
+    {
+        self.core.primary(keyspace)
     }
 
     /// The watchers. It takes no memory.

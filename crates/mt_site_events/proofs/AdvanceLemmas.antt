@@ -1,5 +1,5 @@
 -- An advance, from core to core.
-use Rattle.std.proofs.Common.{◌≡◌, ◌≢◌, ℕ, Bool, true, false, List, [], ◌∷◌, map, Option, None, Some, option_map, is_some, refl, sym, ap, ◌∙◌, subst, cond, unwrap_or, ◌+◌}
+use Rattle.std.proofs.Common.{◌≡◌, ◌≢◌, ℕ, Bool, true, false, List, [], ◌∷◌, map, Option, None, Some, option_map, is_some, refl, sym, ap, ◌∙◌, subst, cond, unwrap_or, not, eqb, ◌&&◌, ◌+◌, ◌≤◌}
 use Rattle.std.specs.Prelude.{Result, Ok, Err}
 use Rattle.std.specs.Map.{set_value}
 use Rattle.mt_model.specs.declared.entries.Scope.{Scope}
@@ -15,11 +15,11 @@ use Rattle.mt_laws.proofs.LiveLemmas.{sides_back, sides_joined}
 use Rattle.mt_laws.proofs.PartLemmas.{there_at_source, there_at_target}
 use Rattle.mt_laws.proofs.ReachLemmas.{reached_has_parts}
 use Rattle.mt_plain.specs.Answers.{Answers}
-use Rattle.mt_plain.specs.Events.{Answer, Event, StreamName, forward, back, Slot, advance, advanced, refused, stream_stopped}
+use Rattle.mt_plain.specs.Events.{Answer, Event, StreamName, StreamState, forward, back, running, stopped, frozen, Slot, advance, advanced, refused, stream_stopped}
 use Rattle.mt_plain.specs.Next.{next, with_advance, with_live}
 use Rattle.mt_plain.specs.Plain.{Live, Plain, has_keyspace, live_at, moves}
 use Rattle.mt_plain.specs.Refuse.{advance_at, advance_refusal, in_workflow}
-use Rattle.mt_plain.specs.Slots.{is_fresh, live_advanced, read_side, running_at, slot_of, written_side}
+use Rattle.mt_plain.specs.Slots.{is_fresh, live_advanced, read_side, running_at, running_by, slot_of, written_side}
 use Rattle.mt_primary.specs.Primary.{IsPrimary, PrimaryState, TableState, empty_primary, has_table, is_denied_at, made_at, table_at}
 use Rattle.mt_site_rows.specs.Answers.{answer_by_stream}
 use Rattle.mt_site_rows.specs.Rows.{IsStreamOf, OthersStay, Primaries, RowsStand, stream_of}
@@ -32,7 +32,8 @@ use Rattle.mt_site_state.specs.Workflows.{AdvancesAt, AdvancesStream, AdvancesWo
 use Rattle.mt_stream.specs.declared.fault.StreamFault.{StreamFault}
 use Rattle.mt_stream.specs.declared.fault.StreamFault.TheVariants.{Memory, Stale, Stopped, Frozen, LogFull}
 use Rattle.mt_stream.specs.declared.stream.Advanced.{Advanced}
-use Rattle.mt_stream.specs.Advance.{Advances}
+use Rattle.mt_stream.specs.Advance.{Advances, refusal_of, refused_by, writes_any}
+use Rattle.mt_log.specs.Log.{has_room}
 use Rattle.mt_stream.specs.Streams.{StreamValue}
 use Rattle.mt_workflow.specs.Workflows.{WorkflowState, live_of, with_slot}
 use Rattle.mt_workflow.specs.Workflows as work
@@ -49,6 +50,22 @@ refused_leaves stream source sink at at_most (Stale position) after new is = (is
 refused_leaves stream source sink at at_most Stopped after new is = (is.1, is.2)
 refused_leaves stream source sink at at_most Frozen after new is = (is.1, is.2)
 refused_leaves stream source sink at at_most LogFull after new is = (is.1, is.2)
+
+-- a frozen stream says that it is
+frozen_told : (stream : StreamValue) (source sink : PrimaryState) (at at_most : ℕ) → stream.state ≡ frozen → (result : Result Advanced StreamFault) (after : StreamValue) (new : PrimaryState)
+    → Advances stream source sink at at_most result after new → result ≡ Err Frozen
+frozen_told stream source sink at at_most is result after new did = by result did
+  where
+    refuses : refusal_of stream source sink at at_most ≡ Some Frozen
+    refuses = ap (λ state. refused_by state (cond (eqb at stream.position) (cond (writes_any stream source at_most && not (has_room sink.log)) (Some LogFull) None) (Some (Stale stream.position)))) is
+
+    by : (result : Result Advanced StreamFault) → Advances stream source sink at at_most result after new → result ≡ Err Frozen
+    by (Ok counts) did = absurd (let e : None ≡ Some Frozen = sym did.0 ∙ refuses in cc)
+    by (Err Memory) did = absurd (let e : None ≡ Some Frozen = sym did.0 ∙ refuses in cc)
+    by (Err (Stale position)) did = absurd (let e : Some (Stale position) ≡ Some Frozen = sym did.0 ∙ refuses in cc)
+    by (Err Stopped) did = absurd (let e : Some Stopped ≡ Some Frozen = sym did.0 ∙ refuses in cc)
+    by (Err Frozen) did = refl
+    by (Err LogFull) did = absurd (let e : Some LogFull ≡ Some Frozen = sym did.0 ∙ refuses in cc)
 
 -- rows that are put leave the tables
 made_there : (o : Option TableState) → is_some (option_map (λ (t : TableState). t.made) o) ≡ is_some o
@@ -225,11 +242,11 @@ module _ (p : Plain) (scopes : List Scope) (old : CoreState) (stands : StandsWit
 module _ (p : Plain) (reached : IsReached p)
     (named : (name : List ℕ) (w : Live) → live_at p name ≡ Some w → w.name ≡ name)
     (answers : (at : Primaries) → RowsStand p at → (name : List ℕ) (w : Live) → live_at p name ≡ Some w → (stream : StreamName) (slot : Slot) → slot_of w stream ≡ Some slot
-    → IsPrimary (at (read_side w stream)) → (position at_most : ℕ) (result : Result Advanced StreamFault) (new : StreamValue) (sink : PrimaryState)
+    → IsPrimary (at (read_side w stream)) → (at (read_side w stream)).log.purged ≤ slot.position → (position at_most : ℕ) (result : Result Advanced StreamFault) (new : StreamValue) (sink : PrimaryState)
     → Advances (stream_of w slot) (at (read_side w stream)) (at (written_side w stream)) position at_most result new sink
     → Answers p (advance name stream position at_most) (answer_by_stream result))
     (keeps : (old new : Primaries) → RowsStand p old → (name : List ℕ) (w : Live) → live_at p name ≡ Some w
-    → (stream : StreamName) (slot : Slot) → slot_of w stream ≡ Some slot → IsPrimary (old (read_side w stream))
+    → (stream : StreamName) (slot : Slot) → slot_of w stream ≡ Some slot → IsPrimary (old (read_side w stream)) → (old (read_side w stream)).log.purged ≤ slot.position
     → ((table : List ℕ) → moves w table ≡ true → has_table (old (read_side w stream)) table ≡ true) → OthersStay (written_side w stream) old new
     → (position at_most : ℕ) (result : Result Advanced StreamFault) (value : StreamValue)
     → Advances (stream_of w slot) (old (read_side w stream)) (old (written_side w stream)) position at_most result value (new (written_side w stream))
@@ -262,20 +279,36 @@ module _ (p : Plain) (reached : IsReached p)
         abbrev made : CoreState
         made = core_after p scopes old stands workflow w found live is_live for (named workflow live is_live) name slot there has after sink
 
-        by_result : (result : Result Advanced StreamFault)
-            → Advances (stream_of live slot) (primary_of old.primaries (read_side live name)) (primary_of old.primaries (written_side live name)) at at_most result after sink
-            → Stepped scopes workflow name at at_most (answer_by_stream result) made
-        by_result (Err fault) is =
-            let leaves = refused_leaves (stream_of live slot) (primary_of old.primaries (read_side live name)) (primary_of old.primaries (written_side live name)) at at_most fault after sink is in (
-              answers (primary_of old.primaries) stands.rows workflow live is_live name slot there (are (read_side live name)) at at_most (Err fault) after sink is,
-              subst (λ s. StandsWith p scopes (core_after p scopes old stands workflow w found live is_live for (named workflow live is_live) name slot there has s sink)) (sym leaves.0)
-                  (subst (λ s. StandsWith p scopes (core_after p scopes old stands workflow w found live is_live for (named workflow live is_live) name slot there has (stream_of live slot) s)) (sym leaves.1)
-                  (subst (StandsWith p scopes) (sym (same_again p scopes old stands workflow w found live is_live for (named workflow live is_live) name slot there has)) stands)),
+        abbrev Did : Result Advanced StreamFault → Type 0
+        Did result = Advances (stream_of live slot) (primary_of old.primaries (read_side live name)) (primary_of old.primaries (written_side live name)) at at_most result after sink
+
+        refused_stands : (fault : StreamFault) → Did (Err fault) → StandsWith p scopes made
+        refused_stands fault is =
+            let leaves = refused_leaves (stream_of live slot) (primary_of old.primaries (read_side live name)) (primary_of old.primaries (written_side live name)) at at_most fault after sink is in
+            subst (λ s. StandsWith p scopes (core_after p scopes old stands workflow w found live is_live for (named workflow live is_live) name slot there has s sink)) (sym leaves.0)
+            (subst (λ s. StandsWith p scopes (core_after p scopes old stands workflow w found live is_live for (named workflow live is_live) name slot there has (stream_of live slot) s)) (sym leaves.1)
+            (subst (StandsWith p scopes) (sym (same_again p scopes old stands workflow w found live is_live for (named workflow live is_live) name slot there has)) stands))
+
+        -- a frozen stream may have been overtaken by a purge, but it reads nothing
+        halted : slot.state ≡ frozen → (result : Result Advanced StreamFault) → Did result → Stepped scopes workflow name at at_most (answer_by_stream result) made
+        halted is result did =
+            let told = frozen_told (stream_of live slot) (primary_of old.primaries (read_side live name)) (primary_of old.primaries (written_side live name)) at at_most is result after sink did in
+            subst (λ r. Stepped scopes workflow name at at_most (answer_by_stream r) made) (sym told) (
+              ap (λ o. in_workflow o (advance_refusal p name at at_most)) is_live ∙ ap (λ o. advance_at p live name at at_most (running_at o)) there
+                  ∙ ap (λ state. advance_at p live name at at_most (running_by state slot.position)) is,
+              refused_stands Frozen (subst Did told did),
             )
-        by_result (Ok counts) is =
-            let given = answers (primary_of old.primaries) stands.rows workflow live is_live name slot there (are (read_side live name)) at at_most (Ok counts) after sink is in
+
+        by_result : (primary_of old.primaries (read_side live name)).log.purged ≤ slot.position → (result : Result Advanced StreamFault) → Did result
+            → Stepped scopes workflow name at at_most (answer_by_stream result) made
+        by_result unread (Err fault) is = (
+          answers (primary_of old.primaries) stands.rows workflow live is_live name slot there (are (read_side live name)) unread at at_most (Err fault) after sink is,
+          refused_stands fault is,
+        )
+        by_result unread (Ok counts) is =
+            let given = answers (primary_of old.primaries) stands.rows workflow live is_live name slot there (are (read_side live name)) unread at at_most (Ok counts) after sink is in
             let now = sink_now p scopes old stands workflow w found live is_live for (named workflow live is_live) name slot there has sink in
-            let kept = keeps (primary_of old.primaries) (primary_of made.primaries) stands.rows workflow live is_live name slot there (are (read_side live name))
+            let kept = keeps (primary_of old.primaries) (primary_of made.primaries) stands.rows workflow live is_live name slot there (are (read_side live name)) unread
             (reads_tables p scopes old stands workflow w found live is_live for (named workflow live is_live) name slot there has)
             (others_stay p scopes old stands workflow w found live is_live for (named workflow live is_live) name slot there has sink)
             at at_most (Ok counts) after
@@ -291,13 +324,18 @@ module _ (p : Plain) (reached : IsReached p)
                   kept.0 kept.1 is.1.puts.made is.1.puts.denied,
             )
 
+        by_state : (state : StreamState) → slot.state ≡ state → (result : Result Advanced StreamFault) → Did result → Stepped scopes workflow name at at_most (answer_by_stream result) made
+        by_state running is = by_result (stands.rows.unread (read_side live name) workflow live is_live name slot there (λ e. absurd (let never : running ≡ frozen = sym is ∙ e in cc)) refl)
+        by_state stopped is = by_result (stands.rows.unread (read_side live name) workflow live is_live name slot there (λ e. absurd (let never : stopped ≡ frozen = sym is ∙ e in cc)) refl)
+        by_state frozen is = halted is
+
         pub made_steps : (result : Result Advanced StreamFault)
             → Advances (stream_of live slot) (primary_of old.primaries (read_side live name)) (primary_of old.primaries (written_side live name)) at at_most result after sink
             → answer ≡ answer_by_stream result → new ≡ with_advanced old w name after sink → Stepped scopes workflow name at at_most answer new
         made_steps result is told same =
             subst (λ a. Stepped scopes workflow name at at_most a new) (sym told)
             (subst (Stepped scopes workflow name at at_most (answer_by_stream result))
-            (sym (same ∙ core_is p scopes old stands workflow w found live is_live for (named workflow live is_live) name slot there has after sink)) (by_result result is))
+            (sym (same ∙ core_is p scopes old stands workflow w found live is_live for (named workflow live is_live) name slot there has after sink)) (by_state slot.state refl result is))
 
       stream_steps : (o : Option StreamValue) → work.slot_of w name ≡ o → AdvancesStream o old w name at at_most answer new → Stepped scopes workflow name at at_most answer new
       stream_steps None none is = stopped_steps none is.0 is.1

@@ -17,8 +17,8 @@ use Rattle.mt_site_state.specs.Stands.{HasState, Stands, StandsForAny, StandsWit
 use Rattle.mt_site_events.proofs.WiderLemmas.{IsWide, row_same, wider, widened}
 
 module _ (more : List Scope) (p : Plain) where
-  pending_wide : (w : Live) (core : CoreState) → IsPending p w (primary_of core.primaries (owner w)).log → IsPending (wider more p) w (primary_of core.primaries (owner w)).log
-  pending_wide w core pending = record { before = pending.before; left = pending.left; entries = pending.entries; writes = pending.writes }
+  pending_wide : (w : Live) (core : CoreState) → IsPending p w (primary_of core.primaries (owner w)).log.entries → IsPending (wider more p) w (primary_of core.primaries (owner w)).log.entries
+  pending_wide w core pending = record { before = pending.before; left = pending.left; entries = pending.entries; writes = pending.writes; rows = pending.rows }
 
   any_wide : (o : Option Live) (v : Option WorkflowState) → StandsForAny p o v → StandsForAny (wider more p) o v
   any_wide None None stands = stands
@@ -38,6 +38,7 @@ module _ (more : List Scope) (p : Plain) where
       log = stands.rows.log;
       rows = λ keyspace table there key. stands.rows.rows keyspace table there key ∙ sym (row_same more p keyspace table key);
       pending = λ name w live. pending_wide w core (stands.rows.pending name w live);
+      unread = stands.rows.unread;
     };
     primaries = record { there = stands.primaries.there; count = stands.primaries.count; tables = stands.primaries.tables; denials = stands.primaries.denials };
     workflows = record { each = λ name. any_wide (live_at p name) (workflow_at core.workflows name) (stands.workflows.each name); names = stands.workflows.names };

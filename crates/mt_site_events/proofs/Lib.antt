@@ -31,3 +31,5 @@ pub mod StepLemmas
 pub mod WiderLemmas
 pub mod WorkflowLemmas
 pub mod WriteLemmas
+pub mod PurgeLemmas
+mod PurgedLemmas

@@ -1,6 +1,6 @@
 -- What a Create leaves stands for the next state.
-use Rattle.std.proofs.Common.{◌≡◌, ◌≢◌, ⊎_elim, ℕ, true, false, List, [], ◌∷◌, ◌++◌, length, slice_get, Option, None, Some, is_some, refl, sym, ap, subst, ◌∙◌}
-use Rattle.std.proofs.lemmas.List.{length-map, map-append}
+use Rattle.std.proofs.Common.{◌≡◌, ◌≢◌, ⊎_elim, ℕ, true, false, List, [], ◌∷◌, ◌++◌, slice_get, Option, None, Some, is_some, refl, sym, ap, subst, ◌∙◌}
+use Rattle.std.proofs.lemmas.List.{map-append}
 use Rattle.std.proofs.lemmas.List.Sums.{length-filter}
 use Rattle.std.specs.List.{AllByRecursion}
 use Rattle.std.specs.Option.{option_map_or}
@@ -22,11 +22,13 @@ use Rattle.mt_plain.specs.Next.{next}
 use Rattle.mt_plain.specs.Next as plain
 use Rattle.mt_plain.specs.Plain.{Live, LogEntry, Plain, each_once, live_at}
 use Rattle.mt_plain.specs.Refuse.{is_of_primary, refusal_of}
-use Rattle.mt_plain.specs.Slots.{log_length}
+use Rattle.mt_plain.specs.Slots.{log_length, log_of}
 use Rattle.mt_laws.specs.WayBack.{IsReached}
 use Rattle.mt_site_topology.specs.Keys.{IsKept, created_live, keys_of_part, part_entries}
 use Rattle.mt_site_topology.specs.Stands.{TopologyStands}
-use Rattle.mt_site_rows.specs.Rows.{OthersStay, RowsStand, entry_at}
+use Rattle.mt_primary.specs.Primary.{end_of}
+use Rattle.mt_site_rows.specs.Rows.{OthersStay, RowsStand}
+use Rattle.mt_site_rows.proofs.LogLemmas.{log-length}
 use Rattle.mt_site_state.specs.Core.{CoreState, primary_at, primary_of, with_primary, workflow_at}
 use Rattle.mt_site_state.specs.Stands.{AreWorkflows, StandsFor, StandsForAny, StandsWith}
 use Rattle.mt_site_state.specs.Workflows.{CreatesSet, change_of, create_refusal, new_of, target_made, with_created}
@@ -47,9 +49,9 @@ module _ (p : Plain) (scopes : List Scope) (old : CoreState) (stands : StandsWit
 
   -- ---- the workflows
 
-  log_same : length (primary_of old.primaries source).log ≡ log_length p source
+  log_same : end_of (primary_of old.primaries source) ≡ log_length p source
   log_same =
-      sym (length-map (primary_of old.primaries source).log (entry_at source)) ∙ ap length (stands.rows.log source)
+      sym (log-length (log_of p source) source (primary_of old.primaries source).log (stands.rows.log source))
       ∙ length-filter (λ (e : LogEntry). same_text e.keyspace source) p.log
 
   stands_new : IsKept p.topology v w.kept → StandsFor q v w

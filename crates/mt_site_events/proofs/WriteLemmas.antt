@@ -43,7 +43,7 @@ tables_by_made (Some t) None e = absurd cc
 tables_by_made (Some t) (Some u) e = refl
 
 -- a refused one leaves all
-refused_same : (before after : PrimaryState) (table : List ℕ) (op : Op) (fault : PrimaryFault) → Writes before table op (Err fault) after → after ≡ before
+pub refused_same : (before after : PrimaryState) (table : List ℕ) (op : Op) (fault : PrimaryFault) → Writes before table op (Err fault) after → after ≡ before
 refused_same before after table op primary.Memory did = did.1
 refused_same before after table op other did = did.1
 

@@ -10,6 +10,7 @@ mod creating;
 mod denials;
 mod facts;
 mod hand_rows;
+mod purging;
 mod showing;
 mod staying;
 mod streams;
@@ -30,6 +31,7 @@ pub use creating::{
 pub use denials::a_core_denies_only_what_a_workflow_moves;
 pub use facts::a_core_stays_one;
 pub use hand_rows::{a_read_steps, a_write_steps};
+pub use purging::{a_purged_core_stands, what_is_purged_stays_purged};
 pub use showing::a_show_steps;
 pub use staying::{a_create_can_be_taken_back, a_create_leaves_a_core};
 pub use streams::streams_of_a_core_lie_in_their_logs;

@@ -1,4 +1,5 @@
 -- An advance, by its answer.
+use Rattle.std.proofs.Common.{◌≤◌}
 use Rattle.std.proofs.Common.{◌≡◌, ◌≢◌, ℕ, true, List, Option, None, Some, Result, Ok, Err, sym, subst, ⊎_elim}
 use Rattle.std.proofs.lemmas.Map.Made.{AllPairs-from_IsDistinct}
 use Rattle.std.specs.List.{AllPairs}
@@ -21,16 +22,17 @@ use Rattle.mt_site_rows.specs.Rows.{IsStreamOf, OthersStay, Primaries, RowsStand
 use Rattle.mt_site_rows.proofs.AdvanceLemmas.{KnownStreams, advanced_keeps}
 use Rattle.mt_site_rows.proofs.KnownLemmas.{Known, same_or, same_primaries}
 use Rattle.mt_site_rows.proofs.StreamLemmas.{answered, ran}
+use Rattle.mt_site_rows.proofs.UnreadLemmas.{EventsGoOn, StreamsGoOn}
 
 module _ (p : Plain) (known : Known p) (streams : KnownStreams p) (old new : Primaries) (stands : RowsStand p old) (name : List ℕ) (w : Live) (live : live_at p name ≡ Some w)
-    (stream : StreamName) (slot : Slot) (there : slot_of w stream ≡ Some slot) (is : IsPrimary (old (read_side w stream)))
+    (stream : StreamName) (slot : Slot) (there : slot_of w stream ≡ Some slot) (is : IsPrimary (old (read_side w stream))) (held : (old (read_side w stream)).log.purged ≤ slot.position)
     (others : OthersStay (written_side w stream) old new) (has : (t : List ℕ) → moves w t ≡ true → has_table (old (read_side w stream)) t ≡ true)
     (left_law : slot.state ≡ running → places (rows_left (old (read_side w stream)) w.tables w.copied) ≡ uncopied p w)
     (next_streams : (event : Event) (answer : Answer) → Answers p event answer → KnownStreams (next p event answer))
     (after_law : (at at_most events rows : ℕ) → IsAfterAdvance p (next p (advance name stream at at_most) (advanced events rows)) name w stream at at_most events rows)
-    (follow_law : (old_value new_value : StreamValue) (source sink new_sink : PrimaryState) (at_most : ℕ) (answer : Advanced) → IsPrimary source → AllPairs ◌≢◌ old_value.tables
+    (follow_law : (old_value new_value : StreamValue) (source sink new_sink : PrimaryState) (at_most : ℕ) (answer : Advanced) → IsPrimary source → source.log.purged ≤ old_value.position → AllPairs ◌≢◌ old_value.tables
     → IsAdvanced old_value source sink at_most answer new_value new_sink → FollowsSource old_value source sink → FollowsSource new_value source new_sink)
-    (position at_most : ℕ) (after_value : StreamValue) where
+    (goes_on : EventsGoOn p) (position at_most : ℕ) (after_value : StreamValue) where
   abbrev source : PrimaryState
   source = old (read_side w stream)
 
@@ -54,26 +56,30 @@ module _ (p : Plain) (known : Known p) (streams : KnownStreams p) (old new : Pri
       to_state n o = with_advance p stream n at_most counts.events counts.rows o
 
       runs : slot.state ≡ running
-      runs = (ran p known streams.reads old stands name w live stream slot there is left_law position at_most none).0
+      runs = (ran p known streams.reads old stands name w live stream slot there is held left_law position at_most none).0
 
       at : position ≡ slot.position
-      at = (ran p known streams.reads old stands name w live stream slot there is left_law position at_most none).1
+      at = (ran p known streams.reads old stands name w live stream slot there is held left_law position at_most none).1
 
       given : Answers p (advance name stream position at_most) (advanced counts.events counts.rows)
-      given = answered p known streams.reads old stands name w live stream slot there is left_law position at_most counts.events counts.rows none did.counts
+      given = answered p known streams.reads old stands name w live stream slot there is held left_law position at_most counts.events counts.rows none did.counts
 
       after_q : KnownStreams (to_state slot.position (Some w))
       after_q = subst (λ o. KnownStreams (to_state slot.position o)) live
           (subst (λ n. KnownStreams (to_state n (live_at p name))) at (next_streams (advance name stream position at_most) (advanced counts.events counts.rows) given))
 
+      goes : StreamsGoOn p (to_state slot.position (Some w))
+      goes = subst (λ o. StreamsGoOn p (to_state slot.position o)) live
+          (subst (λ n. StreamsGoOn p (to_state n (live_at p name))) at (goes_on (advance name stream position at_most) (advanced counts.events counts.rows) given))
+
       follows : FollowsSource value source sink → FollowsSource after_value source new_sink
-      follows = follow_law value after_value source sink new_sink at_most counts is (AllPairs-from_IsDistinct same_text_decides w.tables (known.placed name w live).tables) did
+      follows = follow_law value after_value source sink new_sink at_most counts is held (AllPairs-from_IsDistinct same_text_decides w.tables (known.placed name w live).tables) did
 
       here : Kept (to_state slot.position (Some w))
       here = subst (λ v. RowsStand (to_state slot.position (Some w)) new × IsStreamOf (to_state slot.position (Some w)) name stream v) (sym did.stream)
-          (advanced_keeps p known streams old new stands name w live stream slot there is runs others at_most counts.events counts.rows (left_law runs)
+          (advanced_keeps p known streams old new stands name w live stream slot there is held runs others at_most counts.events counts.rows (left_law runs)
           (subst (λ o. IsAfterAdvance p (to_state slot.position o) name w stream slot.position at_most counts.events counts.rows) live (after_law slot.position at_most counts.events counts.rows))
-          did.puts has after_q (λ f. subst (λ v. FollowsSource v source new_sink) did.stream (follows f)))
+          did.puts has after_q (λ f. subst (λ v. FollowsSource v source new_sink) did.stream (follows f)) goes)
 
   unchanged : (f : StreamFault) → Advances value source sink position at_most (Err f) after_value new_sink → (after_value ≡ value) × (new_sink ≡ sink)
   unchanged fault.Memory did = (did.2, did.3)

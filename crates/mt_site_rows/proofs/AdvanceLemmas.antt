@@ -1,4 +1,5 @@
 -- An advance that is done: what stands behind it.
+use Rattle.std.proofs.Common.{◌-◌}
 use Rattle.std.proofs.Common.{◌≡◌, ◌≢◌, ℕ, ◌+◌, ◌≤◌, ◌⊎◌, Bool, true, false, not, cond, List, [], ◌∷◌, ◌++◌, drop, take, filter, length, Option, None, Some, refl, sym, ap, ◌∙◌, subst, arith, inl, inr, ⊎_elim, map, append-nil}
 use Rattle.std.proofs.lemmas.Bool.{true≢false, or_right}
 use Rattle.std.proofs.lemmas.List.{append_assoc, drop-map, drop_all, length-drop, length-map, map-append, take-append-drop, take-map}
@@ -7,11 +8,14 @@ use Rattle.std.proofs.lemmas.List.Sums.{fold-append, length-filter}
 use Rattle.std.specs.List.{count_by, find, fold, list_any}
 use Rattle.std.specs.Option.{option_map, option_map_or}
 use Rattle.std.specs.Prelude.{◌&&◌, ◌||◌}
+use Rattle.mt_log.specs.Log.{LogState}
+use Rattle.mt_site_rows.proofs.UnreadLemmas.{StreamsGoOn, unread_next}
+use Rattle.mt_site_rows.proofs.LogLemmas.{log-grown}
 use Rattle.mt_names.specs.Names.{same_text}
 use Rattle.mt_names.proofs.EntryLemmas.{some_from}
 use Rattle.mt_model.specs.declared.rows.RowChange.{RowChange}
 use Rattle.mt_model.specs.Rows.{is_change_of}
-use Rattle.mt_primary.specs.Primary.{IsPrimary, PrimaryState, TableState, row_at, table_at}
+use Rattle.mt_primary.specs.Primary.{IsPrimary, PrimaryState, TableState, row_at, row_at_position, table_at}
 use Rattle.mt_primary.specs.Primary as primary_words
 use Rattle.mt_primary.specs.Writes.{RowPut, put_of, row_after_put}
 use Rattle.mt_plain.specs.Events.{StreamName, forward, back, running, Slot}
@@ -22,13 +26,13 @@ use Rattle.mt_plain.specs.Slots.{copied_after, entry_of_row, is_fresh, live_adva
 use Rattle.mt_plain.specs.Slots as plain
 use Rattle.mt_plain.specs.Writes.{client_row, in_range, is_copied, other_row, row_after_write, row_after_writes, row_by_mover, row_of, writes_to}
 use Rattle.mt_stream.specs.Advance.{applies, places, puts_of, rows_left, stream_after, to_copy}
-use Rattle.mt_stream.specs.Follows.{FollowsSource, row_at_position}
+use Rattle.mt_stream.specs.Follows.{FollowsSource}
 use Rattle.mt_stream.specs.Puts.{PutsMade, changes_by}
 use Rattle.mt_stream.specs.Streams.{StreamValue, past}
 use Rattle.mt_laws.specs.Advances.{IsAfterAdvance, advanced_live}
 use Rattle.mt_laws.specs.Changes.{HasSides}
 use Rattle.mt_laws.specs.Pending.{pending}
-use Rattle.mt_site_rows.specs.Rows.{IsPending, IsStreamOf, OthersStay, Primaries, RowsStand, entry_at, is_moved, stream_of, write_of}
+use Rattle.mt_site_rows.specs.Rows.{KeepsEndOf, IsPending, IsStreamOf, OthersStay, Primaries, RowsStand, entry_at, is_moved, rows_before, stream_of, write_of}
 use Rattle.mt_site_rows.proofs.FeedLemmas.{AllMoved, all_append, all_take, applied_logged, applied_moved, changes_logged, copied_same, drop_more, fold_passed, fold_read, fold_untouched, left_moved, moved_entries, moved_to, none_moved, same_end, slot_goes, take_more, take_none, take_passing}
 use Rattle.mt_site_rows.proofs.KeepLemmas.{owner_by_switched}
 use Rattle.mt_site_rows.proofs.KnownLemmas.{Known, differs, itself, row_at_other, row_at_owner, row_elsewhere, row_free, same_or, some_is}
@@ -63,7 +67,7 @@ side_either w stream k side other = by stream other (same_or k w.source) (same_o
         absurd (true≢false (sym side ∙ ap (λ b. b || same_text w.target k) (differs w.source k (λ h. e (sym h))) ∙ differs w.target k (λ h. t (sym h))))
 
 module _ (p : Plain) (known : Known p) (streams : KnownStreams p) (old new : Primaries) (stands : RowsStand p old) (name : List ℕ) (w : Live) (live : live_at p name ≡ Some w)
-    (stream : StreamName) (slot : Slot) (there : slot_of w stream ≡ Some slot) (is : IsPrimary (old (read_side w stream))) (runs : slot.state ≡ running)
+    (stream : StreamName) (slot : Slot) (there : slot_of w stream ≡ Some slot) (is : IsPrimary (old (read_side w stream))) (held : (old (read_side w stream)).log.purged ≤ slot.position) (runs : slot.state ≡ running)
     (others : OthersStay (written_side w stream) old new) (at_most events rows : ℕ)
     (left_is : places (rows_left (old (read_side w stream)) w.tables w.copied) ≡ plain.uncopied p w) where
   abbrev from : List ℕ
@@ -94,10 +98,10 @@ module _ (p : Plain) (known : Known p) (streams : KnownStreams p) (old new : Pri
   adv v = advanced_live p name stream slot.position at_most events rows v
 
   entries_are : map (entry_at from) read ≡ plain.past p w stream slot.position
-  entries_are = past_is p known streams.reads old stands name w live stream slot there is
+  entries_are = past_is p known streams.reads old stands name w live stream slot there is held
 
   owns : from ≡ owner w
-  owns = reads_owner p known streams.reads old stands name w live stream slot there is runs
+  owns = reads_owner p known streams.reads old stands name w live stream slot there is held runs
 
   apart : from ≢ to
   apart = sides_apart w stream ((known.placed name w live).sides.apart)
@@ -147,26 +151,25 @@ module _ (p : Plain) (known : Known p) (streams : KnownStreams p) (old new : Pri
         ∙ ap (λ l. l ++ map (entry_of_row to) (places (take rows (to_copy value source read)))) (applied_logged w slot from to (take events read))
         ∙ ap (λ l. map (λ (e : LogEntry). entry_of_row to (e.table, e.key)) (filter (plain.applies w) l) ++ map (entry_of_row to) (places (take rows (to_copy value source read)))) (sym (take-map (entry_at from) events read))
         ∙ ap (λ l. map (λ (e : LogEntry). entry_of_row to (e.table, e.key)) (filter (plain.applies w) (take events (map (entry_at from) read))) ++ map (entry_of_row to) l)
-        (sym (take-map (λ (put : RowPut). (put.table, put.key)) rows (to_copy value source read)) ∙ ap (take rows) (copy_places p known streams.reads old stands name w live stream slot there is runs left_is read))
+        (sym (take-map (λ (put : RowPut). (put.table, put.key)) rows (to_copy value source read)) ∙ ap (take rows) (copy_places p known streams.reads old stands name w live stream slot there is held runs left_is read))
         ∙ ap (λ es. logged w stream (take events es) (take rows (plain.to_copy p w es))) entries_are
 
-    log_now : (k : List ℕ) → map (entry_at k) (new k).log ≡ log_of q k
+    log_now : (k : List ℕ) → KeepsEndOf (log_of q k) k (new k).log
     log_now k = ⊎_elim here elsewhere (same_or to k)
       where
-        here : to ≡ k → map (entry_at k) (new k).log ≡ log_of q k
-        here e = subst (λ x. map (entry_at x) (new x).log ≡ log_of q x) e
-            (ap (map (entry_at to)) puts.log ∙ map-append (entry_at to) sink.log (changes_by (row_at sink) (puts_of value source events rows))
-            ∙ ap (λ l. l ++ map (entry_at to) (changes_by (row_at sink) (puts_of value source events rows))) (stands.log to)
-            ∙ ap (λ l. log_of p to ++ l) (changes_logged to (row_at sink) (puts_of value source events rows) ∙ written_entries)
-            ∙ sym after.log)
+        here : to ≡ k → KeepsEndOf (log_of q k) k (new k).log
+        here e = subst (λ x. KeepsEndOf (log_of q x) x (new x).log) e
+            (subst (λ es. KeepsEndOf es to (new to).log) (ap (λ l. log_of p to ++ l) (changes_logged to (row_at sink) (puts_of value source events rows) ∙ written_entries) ∙ sym after.log)
+            (subst (KeepsEndOf (log_of p to ++ map (entry_at to) (changes_by (row_at sink) (puts_of value source events rows))) to) (sym puts.log)
+            (log-grown (log_of p to) to sink.log (stands.log to) (changes_by (row_at sink) (puts_of value source events rows)))))
 
-        elsewhere : to ≢ k → map (entry_at k) (new k).log ≡ log_of q k
-        elsewhere other = ap (λ (s : PrimaryState). map (entry_at k) s.log) (others k other) ∙ stands.log k ∙ sym (after.other_logs k other)
+        elsewhere : to ≢ k → KeepsEndOf (log_of q k) k (new k).log
+        elsewhere other = subst (λ es. KeepsEndOf es k (new k).log) (sym (after.other_logs k other)) (subst (λ (s : PrimaryState). KeepsEndOf (log_of p k) k s.log) (sym (others k other)) (stands.log k))
 
     -- ---- the writes that are left
 
-    abbrev was : IsPending p w source.log
-    was = subst (λ k. IsPending p w (old k).log) (sym owns) (stands.pending name w live)
+    abbrev was : IsPending p w source.log.entries
+    was = subst (λ k. IsPending p w (old k).log.entries) (sym owns) (stands.pending name w live)
 
     pending_length : length (filter (is_moved w) read) ≡ length (pending p w stream slot.position)
     pending_length =
@@ -174,8 +177,8 @@ module _ (p : Plain) (known : Known p) (streams : KnownStreams p) (old new : Pri
         ∙ ap (λ es. length (filter (λ (e : LogEntry). moves w e.table) es)) entries_are
 
     left_read : was.left ≡ filter (is_moved w) read
-    left_read = same_end was.before was.left (filter (is_moved w) (take slot.position source.log)) (filter (is_moved w) read)
-        (sym was.entries ∙ ap (filter (is_moved w)) (sym (take-append-drop slot.position source.log)) ∙ filter-append (is_moved w) (take slot.position source.log) read)
+    left_read = same_end was.before was.left (filter (is_moved w) (take (slot.position - source.log.purged) source.log.entries)) (filter (is_moved w) read)
+        (sym was.entries ∙ ap (filter (is_moved w)) (sym (take-append-drop (slot.position - source.log.purged) source.log.entries)) ∙ filter-append (is_moved w) (take (slot.position - source.log.purged) source.log.entries) read)
         (let a = length-map was.left (write_of p w) in
         let b = ap length was.writes in
         let c = length-drop w.fed (writes_to p w) in
@@ -249,7 +252,7 @@ module _ (p : Plain) (known : Known p) (streams : KnownStreams p) (old new : Pri
     copied_is =
         ap (λ es. copied_after w.copied es (plain.to_copy p w es) rows at_most) (sym entries_are)
         ∙ copied_same w.copied from read (plain.to_copy p w (map (entry_at from) read)) rows at_most
-        ∙ ap (λ l. copied_after w.copied read l rows at_most) (sym (copy_places p known streams.reads old stands name w live stream slot there is runs left_is read))
+        ∙ ap (λ l. copied_after w.copied read l rows at_most) (sym (copy_places p known streams.reads old stands name w live stream slot there is held runs left_is read))
 
     module _ (t : List ℕ) (moved : moves w t ≡ true) (key : ℕ) where
       sink_row : row_at sink t key ≡ other_row p w t key
@@ -302,8 +305,8 @@ module _ (p : Plain) (known : Known p) (streams : KnownStreams p) (old new : Pri
 
     module _ (none : read ≡ []) (has : (t : List ℕ) → moves w t ≡ true → primary_words.has_table source t ≡ true) (after_q : KnownStreams q) (live_q : live_at q name ≡ Some w')
         (follows : FollowsSource value source sink → FollowsSource (stream_after value source at_most events rows) source (new to)) where
-      at_end : length source.log ≤ slot.position
-      at_end = let a = length-drop slot.position source.log in let b = ap length none in omega arith
+      at_end : length source.log.entries ≤ slot.position - source.log.purged
+      at_end = let a = length-drop (slot.position - source.log.purged) source.log.entries in let b = ap length none in omega arith
 
       no_more : more ≡ 0
       no_more = more_is ∙ ap (λ l. length (filter (is_moved w) (take events l))) none ∙ ap (λ l. length (filter (is_moved w) l)) (take_none {X = RowChange} events)
@@ -315,13 +318,13 @@ module _ (p : Plain) (known : Known p) (streams : KnownStreams p) (old new : Pri
           omega arith
 
       row_there : (position : ℕ) → slot.position ≤ position → (t : List ℕ) (key : ℕ) → row_at_position source position t key ≡ row_at source t key
-      row_there position le t key = ap (λ l. option_map_or (λ (c : RowChange). c.before) (find (is_change_of t key) l) (row_at source t key)) (drop_all position source.log (let h = at_end in omega (arith, le, h)))
+      row_there position le t key = ap (λ l. option_map_or (λ (c : RowChange). c.before) (find (is_change_of t key) l) (row_at source t key)) (drop_all (position - source.log.purged) source.log.entries (let h = at_end in omega (arith, le, h)))
 
       copied_row : (t : List ℕ) → moves w t ≡ true → (key : ℕ) → is_copied w t key ≡ true → other_row p w t key ≡ row_at source t key
       copied_row t moved key copied =
           sym (ap (fold (row_after_write (number_of p w.source t) key) (other_row p w t key)) (drop_all w.fed (writes_to p w) all_fed))
           ∙ streams.catches name w live t moved key copied ∙ ap (λ k. client_row p k t key) (sym owns)
-          ∙ sym (source_row p known streams.reads old stands name w live stream slot there is runs t key moved)
+          ∙ sym (source_row p known streams.reads old stands name w live stream slot there is held runs t key moved)
 
       follows_now : FollowsSource value source sink
       follows_now = record {
@@ -351,7 +354,7 @@ module _ (p : Plain) (known : Known p) (streams : KnownStreams p) (old new : Pri
           by : (b : Bool) → is_copied w' t key ≡ b → cond (is_copied w' t key) (row_at_position source (slot.position + events) t key) None ≡ other_row q w' t key
           by true within =
               ap (λ b. cond b (row_at_position source (slot.position + events) t key) None) within ∙ row_there (slot.position + events) (omega arith) t key
-              ∙ source_row p known streams.reads old stands name w live stream slot there is runs t key moved ∙ ap (λ k. client_row p k t key) owns
+              ∙ source_row p known streams.reads old stands name w live stream slot there is held runs t key moved ∙ ap (λ k. client_row p k t key) owns
               ∙ sym (after.client_rows (owner w) t key) ∙ ap (λ k. client_row q k t key) (sym owner_same)
               ∙ sym (after_q.catches name w' live_q t (ap (λ ts. list_any (λ n. same_text n t) ts) (sym sides.tables) ∙ moved) key within)
               ∙ ap (fold (row_after_write (number_of q w'.source t) key) (other_row q w' t key)) (drop_all w'.fed (writes_to q w') fed_all)
@@ -380,30 +383,33 @@ module _ (p : Plain) (known : Known p) (streams : KnownStreams p) (old new : Pri
               (same_or to k)
           by false none = other_table k t key none ∙ before ∙ sym (unmoved k t key none)
 
-      w_pending : IsPending q w' (new (owner w')).log
-      w_pending = subst (λ (x : PrimaryState). IsPending q w' x.log) (sym (ap new (owner_same ∙ sym owns) ∙ others from (λ e. apart (sym e))))
+      w_pending : IsPending q w' (new (owner w')).log.entries
+      w_pending = subst (λ (x : PrimaryState). IsPending q w' x.log.entries) (sym (ap new (owner_same ∙ sym owns) ∙ others from (λ e. apart (sym e))))
           (record {
             before = was.before ++ take more was.left;
             left = drop more was.left;
             entries =
-                ap (λ ts. filter (λ (c : RowChange). list_any (λ n. same_text n c.table) ts) source.log) (sym sides.tables) ∙ was.entries
+                ap (λ ts. filter (λ (c : RowChange). list_any (λ n. same_text n c.table) ts) source.log.entries) (sym sides.tables) ∙ was.entries
                 ∙ ap (λ l. was.before ++ l) (sym (take-append-drop more was.left)) ∙ sym (append_assoc was.before (take more was.left) (drop more was.left));
             writes =
                 ap (λ s. map (λ (c : RowChange). let x : Write = record { table = number_of p s c.table; key = c.key; after = c.after } in x) (drop more was.left)) (sym sides.source)
                 ∙ sym (drop-map (write_of p w) more was.left) ∙ ap (drop more) was.writes ∙ drop_more w.fed more (writes_to p w) ∙ ap (drop (w.fed + more)) (sym all_same);
+            rows =
+                sym (drop-map (λ (c : RowChange). c.before) more was.left) ∙ ap (drop more) was.rows ∙ drop_more w.fed more (rows_before [] (writes_to p w))
+                ∙ ap (λ ws. drop (w.fed + more) (rows_before [] ws)) (sym all_same);
           })
 
-      other_pending : (n : List ℕ) (v : Live) → live_at p n ≡ Some v → n ≢ name → adv v ≡ v → IsPending q v (new (owner v)).log
+      other_pending : (n : List ℕ) (v : Live) → live_at p n ≡ Some v → n ≢ name → adv v ≡ v → IsPending q v (new (owner v)).log.entries
       other_pending n v found other stays = ⊎_elim
-          (λ (e : to ≡ owner v). subst (λ x. IsPending p v (old x).log → IsPending q v (new x).log) e at_sink_log (stands.pending n v found))
-          (λ (e : to ≢ owner v). subst (λ (x : PrimaryState). IsPending q v x.log) (sym (others (owner v) e)) (same (stands.pending n v found)))
+          (λ (e : to ≡ owner v). subst (λ x. IsPending p v (old x).log.entries → IsPending q v (new x).log.entries) e at_sink_log (stands.pending n v found))
+          (λ (e : to ≢ owner v). subst (λ (x : PrimaryState). IsPending q v x.log.entries) (sym (others (owner v) e)) (same (stands.pending n v found)))
           (same_or to (owner v))
         where
           writes_same : writes_to p v ≡ writes_to q v
           writes_same = sym (ap (writes_to q) (sym stays) ∙ after.all_writes v)
 
           same : {log : List RowChange} → IsPending p v log → IsPending q v log
-          same pend = record { before = pend.before; left = pend.left; entries = pend.entries; writes = pend.writes ∙ ap (drop v.fed) writes_same }
+          same pend = record { before = pend.before; left = pend.left; entries = pend.entries; writes = pend.writes ∙ ap (drop v.fed) writes_same; rows = pend.rows ∙ ap (λ ws. drop v.fed (rows_before [] ws)) writes_same }
 
           tables_apart : (t : List ℕ) → moves w t ≡ true → moves v t ≡ false
           tables_apart t moved = by (moves v t) refl
@@ -414,37 +420,44 @@ module _ (p : Plain) (known : Known p) (streams : KnownStreams p) (old new : Pri
                   let one : v ≡ w = some_is v w (sym (known.found n v found t e) ∙ known.found name w live t moved) in
                   absurd (other (sym (streams.named n v found) ∙ ap (λ (u : Live). u.name) one ∙ streams.named name w live))
 
-          at_sink_log : IsPending p v sink.log → IsPending q v (new to).log
+          at_sink_log : IsPending p v sink.log.entries → IsPending q v (new to).log.entries
           at_sink_log pend = record {
             before = pend.before;
             left = pend.left;
             entries =
-                ap (filter (is_moved v)) puts.log ∙ filter-append (is_moved v) sink.log (changes_by (row_at sink) (puts_of value source events rows))
-                ∙ ap (λ l. filter (is_moved v) sink.log ++ l) (none_moved w v tables_apart (row_at sink) (puts_of value source events rows) puts_moved)
-                ∙ append-nil (filter (is_moved v) sink.log) ∙ pend.entries;
+                ap (λ (l : LogState). filter (is_moved v) l.entries) puts.log ∙ filter-append (is_moved v) sink.log.entries (changes_by (row_at sink) (puts_of value source events rows))
+                ∙ ap (λ l. filter (is_moved v) sink.log.entries ++ l) (none_moved w v tables_apart (row_at sink) (puts_of value source events rows) puts_moved)
+                ∙ append-nil (filter (is_moved v) sink.log.entries) ∙ pend.entries;
             writes = pend.writes ∙ ap (drop v.fed) writes_same;
+            rows = pend.rows ∙ ap (λ ws. drop v.fed (rows_before [] ws)) writes_same;
           }
 
-      pending_now : (n : List ℕ) (u : Live) → live_at q n ≡ Some u → IsPending q u (new (owner u)).log
+      pending_now : (n : List ℕ) (u : Live) → live_at q n ≡ Some u → IsPending q u (new (owner u)).log.entries
       pending_now n u found = by (live_at p n) refl
         where
-          of : (v : Live) → live_at p n ≡ Some v → (n ≡ name) ⊎ (n ≢ name) → IsPending q (adv v) (new (owner (adv v))).log
+          of : (v : Live) → live_at p n ≡ Some v → (n ≡ name) ⊎ (n ≢ name) → IsPending q (adv v) (new (owner (adv v))).log.entries
           of v was_found (inl e) =
               let one : v ≡ w = some_is v w (sym was_found ∙ ap (live_at p) e ∙ live) in
-              subst (λ x. IsPending q x (new (owner x)).log) (sym (ap adv one ∙ adv_w)) w_pending
+              subst (λ x. IsPending q x (new (owner x)).log.entries) (sym (ap adv one ∙ adv_w)) w_pending
           of v was_found (inr e) =
               let stays : adv v ≡ v =
               ap (λ b. cond b (live_advanced p v stream slot.position at_most events rows) v) (differs v.name name (λ h. e (sym (streams.named n v was_found) ∙ h))) in
-              subst (λ x. IsPending q x (new (owner x)).log) (sym stays) (other_pending n v was_found e stays)
+              subst (λ x. IsPending q x (new (owner x)).log.entries) (sym stays) (other_pending n v was_found e stays)
 
-          by : (o : Option Live) → live_at p n ≡ o → IsPending q u (new (owner u)).log
+          by : (o : Option Live) → live_at p n ≡ o → IsPending q u (new (owner u)).log.entries
           by None none = absurd (let h : Some u ≡ None = sym found ∙ after.live n ∙ ap (option_map adv) none in cc)
           by (Some v) was_found =
               let one : u ≡ adv v = some_is u (adv v) (sym found ∙ after.live n ∙ ap (option_map adv) was_found) in
-              subst (λ x. IsPending q x (new (owner x)).log) (sym one) (of v was_found (same_or n name))
+              subst (λ x. IsPending q x (new (owner x)).log.entries) (sym one) (of v was_found (same_or n name))
 
-      pub advanced_stands : RowsStand q new
-      advanced_stands = record { log = log_now; rows = row_now; pending = pending_now }
+      purged_same : (k : List ℕ) → (new k).log.purged ≡ (old k).log.purged
+      purged_same k = ⊎_elim
+          (λ (e : to ≡ k). subst (λ x. (new x).log.purged ≡ (old x).log.purged) e (ap (λ (l : LogState). l.purged) puts.log))
+          (λ (other : to ≢ k). ap (λ (s : PrimaryState). s.log.purged) (others k other))
+          (same_or to k)
+
+      pub advanced_stands : StreamsGoOn p q → RowsStand q new
+      advanced_stands goes = record { log = log_now; rows = row_now; pending = pending_now; unread = unread_next p q old new stands purged_same goes }
 
       pub advanced_stream : IsStreamOf q name stream (stream_after value source at_most events rows)
       advanced_stream = record {
@@ -466,5 +479,5 @@ module _ (p : Plain) (known : Known p) (streams : KnownStreams p) (old new : Pri
           by [] e = row_copied_now e has after_q live_now follows t moved key
           by (c ∷ cs) e = row_read t moved key c cs e
 
-      pub advanced_keeps : RowsStand q new × IsStreamOf q name stream (stream_after value source at_most events rows)
-      advanced_keeps = (advanced_stands sink_now live_now, advanced_stream sink_now live_now)
+      pub advanced_keeps : StreamsGoOn p q → RowsStand q new × IsStreamOf q name stream (stream_after value source at_most events rows)
+      advanced_keeps goes = (advanced_stands sink_now live_now goes, advanced_stream sink_now live_now)

@@ -1,5 +1,5 @@
 -- Tables made, and tables dropped, one after the other.
-use Rattle.std.proofs.Common.{◌≡◌, ◌≢◌, ℕ, ◌⊎◌, Bool, true, false, not, cond, List, [], ◌∷◌, ◌++◌, fold, length, map, reverse, Option, None, Some, refl, sym, ap, ◌∙◌, subst, inl, inr, append-nil, append_assoc}
+use Rattle.std.proofs.Common.{◌≡◌, ◌≢◌, ℕ, ◌⊎◌, Bool, true, false, not, cond, List, [], ◌∷◌, ◌++◌, fold, map, reverse, Option, None, Some, refl, sym, ap, ◌∙◌, subst, inl, inr, append-nil, append_assoc}
 use Rattle.std.proofs.lemmas.Bool.{true≢false, or_right}
 use Rattle.std.proofs.lemmas.Grind.{reverse_onto}
 use Rattle.std.proofs.lemmas.List.Sums.{fold-append}
@@ -11,7 +11,7 @@ use Rattle.mt_names.proofs.EntryLemmas.{IsDistinct-remove_entry, lookup-push_new
 use Rattle.mt_names.proofs.SameLemmas.{same_text_decides}
 use Rattle.mt_names.specs.Names.{same_text}
 use Rattle.mt_plain.specs.Plain.{among}
-use Rattle.mt_primary.specs.Primary.{PrimaryState, TableState, has_table, is_denied_at, new_table, row_at, row_in, table_at}
+use Rattle.mt_primary.specs.Primary.{end_of, PrimaryState, TableState, has_table, is_denied_at, new_table, row_at, row_in, table_at}
 use Rattle.mt_primary.specs.Writes.{with_new_table, without_table}
 use Rattle.mt_site_rows.specs.Rows.{OtherTablesStay}
 use Rattle.mt_site_rows.proofs.KnownLemmas.{differs, itself, same_or}
@@ -24,20 +24,20 @@ AreAbsent p tables = (table : List ℕ) → among tables table ≡ true → has_
 
 module _ (p : PrimaryState) (name table : List ℕ) where
   -- what was there stays, and what wasn't is the new one, if that is its name
-  found-made : table_at (with_new_table p name) table ≡ option_or (table_at p table) (cond (same_text table name) (Some (new_table (length p.log))) None)
+  found-made : table_at (with_new_table p name) table ≡ option_or (table_at p table) (cond (same_text table name) (Some (new_table (end_of p))) None)
   found-made = by (table_at p table) refl
     where
       entry : List ℕ × TableState
-      entry = (name, new_table (length p.log))
+      entry = (name, new_table (end_of p))
 
-      by : (o : Option TableState) → table_at p table ≡ o → table_at (with_new_table p name) table ≡ option_or o (cond (same_text table name) (Some (new_table (length p.log))) None)
+      by : (o : Option TableState) → table_at p table ≡ o → table_at (with_new_table p name) table ≡ option_or o (cond (same_text table name) (Some (new_table (end_of p))) None)
       by None none = lookup-push_new same_text p.tables entry table none
       by (Some t) is = lookup-push_stood same_text p.tables entry table t is
 
   has-made : has_table (with_new_table p name) table ≡ (same_text name table || has_table p table)
   has-made = ap is_some found-made ∙ by (table_at p table) (same_text table name) ∙ ap (λ b. b || has_table p table) (same_turned same_text same_text_decides table name)
     where
-      by : (o : Option TableState) (b : Bool) → is_some (option_or o (cond b (Some (new_table (length p.log))) None)) ≡ (b || is_some o)
+      by : (o : Option TableState) (b : Bool) → is_some (option_or o (cond b (Some (new_table (end_of p))) None)) ≡ (b || is_some o)
       by None true = refl
       by None false = refl
       by (Some t) true = refl
@@ -46,7 +46,7 @@ module _ (p : PrimaryState) (name table : List ℕ) where
   denied-made : is_denied_at (with_new_table p name) table ≡ is_denied_at p table
   denied-made = ap (λ (o : Option TableState). option_map_or (λ t. t.denied) o false) found-made ∙ by (table_at p table) (same_text table name)
     where
-      by : (o : Option TableState) (b : Bool) → option_map_or (λ (t : TableState). t.denied) (option_or o (cond b (Some (new_table (length p.log))) None)) false ≡ option_map_or (λ (t : TableState). t.denied) o false
+      by : (o : Option TableState) (b : Bool) → option_map_or (λ (t : TableState). t.denied) (option_or o (cond b (Some (new_table (end_of p))) None)) false ≡ option_map_or (λ (t : TableState). t.denied) o false
       by None true = refl
       by None false = refl
       by (Some t) b = refl
@@ -54,7 +54,7 @@ module _ (p : PrimaryState) (name table : List ℕ) where
   row-made : (key : ℕ) → row_at (with_new_table p name) table key ≡ row_at p table key
   row-made key = ap (λ (o : Option TableState). option_map_or (λ t. row_in t key) o None) found-made ∙ by (table_at p table) (same_text table name)
     where
-      by : (o : Option TableState) (b : Bool) → option_map_or (λ (t : TableState). row_in t key) (option_or o (cond b (Some (new_table (length p.log))) None)) None ≡ option_map_or (λ (t : TableState). row_in t key) o None
+      by : (o : Option TableState) (b : Bool) → option_map_or (λ (t : TableState). row_in t key) (option_or o (cond b (Some (new_table (end_of p))) None)) None ≡ option_map_or (λ (t : TableState). row_in t key) o None
       by None true = refl
       by None false = refl
       by (Some t) b = refl
@@ -172,7 +172,7 @@ made_and_dropped [] p distinct absent = refl
 made_and_dropped (name ∷ tables) p distinct absent =
     ap (fold without_table all) (reverse_onto tables name []) ∙ fold-append without_table all (reverse tables) (name ∷ [])
     ∙ ap (λ q. without_table q name) (made_and_dropped tables (with_new_table p name) distinct.1 still)
-    ∙ ap (with_tables p) (remove_entry-push same_text same_text_decides p.tables name (new_table (length p.log)) (none_from (table_at p name) (absent name (ap (λ b. b || among tables name) (itself name)))))
+    ∙ ap (with_tables p) (remove_entry-push same_text same_text_decides p.tables name (new_table (end_of p)) (none_from (table_at p name) (absent name (ap (λ b. b || among tables name) (itself name)))))
   where
     all : PrimaryState
     all = fold with_new_table (with_new_table p name) tables
@@ -185,10 +185,10 @@ made_and_dropped (name ∷ tables) p distinct absent =
 abbrev entries : ℕ → List (List ℕ) → List (List ℕ × TableState)
 entries position tables = map (λ name. (name, new_table position)) tables
 
-tables-made : (tables : List (List ℕ)) (p : PrimaryState) → fold with_new_table p tables ≡ with_tables p (p.tables ++ entries (length p.log) tables)
+tables-made : (tables : List (List ℕ)) (p : PrimaryState) → fold with_new_table p tables ≡ with_tables p (p.tables ++ entries (end_of p) tables)
 tables-made [] p = ap (with_tables p) (sym (append-nil p.tables))
 tables-made (name ∷ tables) p =
-    tables-made tables (with_new_table p name) ∙ ap (with_tables p) (append_assoc p.tables ((name, new_table (length p.log)) ∷ []) (entries (length p.log) tables))
+    tables-made tables (with_new_table p name) ∙ ap (with_tables p) (append_assoc p.tables ((name, new_table (end_of p)) ∷ []) (entries (end_of p) tables))
 
 remove_first : (es rest : List (List ℕ × TableState)) (name : List ℕ) (t : TableState) → lookup (same_text name) es ≡ None → remove_entry (same_text name) (es ++ (name, t) ∷ rest) ≡ es ++ rest
 remove_first [] rest name t none = rw (itself name) refl
@@ -199,11 +199,11 @@ remove_first (e ∷ es) rest name t none = by (remove_first es rest name t) (sam
     by again true is = absurd (let h = rw is at none in cc)
     by again false is = rw is (ap (λ l. e ∷ l) (again (rw is at none)))
 
-tables-dropped : (tables : List (List ℕ)) (p : PrimaryState) → AreAbsent p tables → fold without_table (with_tables p (p.tables ++ entries (length p.log) tables)) tables ≡ p
+tables-dropped : (tables : List (List ℕ)) (p : PrimaryState) → AreAbsent p tables → fold without_table (with_tables p (p.tables ++ entries (end_of p) tables)) tables ≡ p
 tables-dropped [] p absent = ap (with_tables p) (append-nil p.tables)
 tables-dropped (name ∷ tables) p absent =
     ap (λ es. fold without_table (with_tables p es) tables)
-    (remove_first p.tables (entries (length p.log) tables) name (new_table (length p.log)) (none_from (table_at p name) (absent name (ap (λ b. b || among tables name) (itself name)))))
+    (remove_first p.tables (entries (end_of p) tables) name (new_table (end_of p)) (none_from (table_at p name) (absent name (ap (λ b. b || among tables name) (itself name)))))
     ∙ tables-dropped tables p (λ table named. absent table (or_right (same_text name table) (among tables table) named))
 
 pub made_and_dropped_in_order : (tables : List (List ℕ)) (p : PrimaryState) → AreAbsent p tables → fold without_table (fold with_new_table p tables) tables ≡ p

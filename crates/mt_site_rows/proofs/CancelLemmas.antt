@@ -1,9 +1,11 @@
 -- Cancel: a workflow is gone, and its tables at the target with it.
-use Rattle.std.proofs.Common.{◌≡◌, ◌≢◌, ℕ, Bool, true, false, not, cond, List, [], ◌∷◌, find, map, Option, None, Some, refl, sym, ap, ◌∙◌, subst, ⊎_elim}
+use Rattle.mt_plain.specs.Slots.{log_of}
+use Rattle.std.proofs.Common.{◌≡◌, ◌≢◌, ℕ, Bool, true, false, not, cond, List, [], ◌∷◌, find, Option, None, Some, refl, sym, ap, ◌∙◌, subst, ⊎_elim}
 use Rattle.std.proofs.lemmas.Bool.{true≢false}
 use Rattle.std.specs.List.{list_any}
 use Rattle.std.specs.Option.{option_map_or}
 use Rattle.std.specs.Prelude.{◌&&◌, ◌||◌, is_some}
+use Rattle.mt_log.specs.Log.{LogState}
 use Rattle.mt_names.specs.Names.{same_text}
 use Rattle.mt_names.proofs.SameLemmas.{same_text_decides}
 use Rattle.mt_model.specs.Topology.{is_present}
@@ -14,7 +16,8 @@ use Rattle.mt_plain.specs.Plain.{Live, Plain, is_side, live_at, mover, moves, nu
 use Rattle.mt_plain.specs.Refuse.{cancel_refusal, or_else, refuse_if}
 use Rattle.mt_plain.specs.Serve.{has_table}
 use Rattle.mt_plain.specs.Writes.{client_number, client_row, other_row, row_after_writes, row_by_mover, row_of}
-use Rattle.mt_site_rows.specs.Rows.{IsPending, OtherTablesStay, OthersStay, Primaries, RowsStand, entry_at}
+use Rattle.mt_site_rows.specs.Rows.{KeepsEndOf, IsPending, OtherTablesStay, OthersStay, Primaries, RowsStand}
+use Rattle.mt_site_rows.proofs.UnreadLemmas.{StreamsGoOn, unread_next}
 use Rattle.mt_site_rows.proofs.KnownLemmas.{Known, row_at_owner, row_elsewhere, row_free, same_or, some_is}
 
 find_without : (name : List ℕ) (ws : List Live) → find (λ w. same_text w.name name) (without_live name ws) ≡ None
@@ -154,10 +157,11 @@ module _ (p : Plain) (known : Known p) (old new : Primaries) (stands : RowsStand
                   (same_or name u.name)
           by None e b f true m = given_back e (known.found name w live t m)
 
-    pub cancel_stands : RowsStand q new
-    cancel_stands = record {
-      log = λ k. ap (map (entry_at k)) (log_same k) ∙ stands.log k;
+    pub cancel_stands : StreamsGoOn p q → RowsStand q new
+    cancel_stands goes = record {
+      log = λ k. subst (KeepsEndOf (log_of p k) k) (sym (log_same k)) (stands.log k);
       rows = row_now;
-      pending = λ n v found. subst (λ l. IsPending q v l) (sym (log_same (owner v)))
-          (let was = stands.pending n v (live_before n v found).1 in record { before = was.before; left = was.left; entries = was.entries; writes = was.writes });
+      pending = λ n v found. subst (λ l. IsPending q v l) (sym (ap (λ (l : LogState). l.entries) (log_same (owner v))))
+          (let was = stands.pending n v (live_before n v found).1 in record { before = was.before; left = was.left; entries = was.entries; writes = was.writes; rows = was.rows });
+      unread = unread_next p q old new stands (λ k. ap (λ (l : LogState). l.purged) (log_same k)) goes;
     }

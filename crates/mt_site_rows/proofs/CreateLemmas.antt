@@ -1,11 +1,13 @@
 -- Create: a workflow to which all writes are fed, and empty tables at its target.
-use Rattle.std.proofs.Common.{◌≡◌, ◌≢◌, ℕ, ◌⊎◌, Bool, true, false, not, cond, List, [], ◌∷◌, ◌++◌, filter, find, length, map, Option, None, Some, refl, sym, ap, ◌∙◌, subst, arith, inl, inr, ⊎_elim, append-nil}
+use Rattle.mt_plain.specs.Slots.{log_of}
+use Rattle.std.proofs.Common.{◌≡◌, ◌≢◌, ℕ, ◌⊎◌, Bool, true, false, not, cond, List, [], ◌∷◌, ◌++◌, filter, find, length, Option, None, Some, refl, sym, ap, ◌∙◌, subst, arith, inl, inr, ⊎_elim, append-nil}
 use Rattle.std.proofs.lemmas.Bool.{and_right, or_right}
 use Rattle.std.proofs.lemmas.List.{drop_all}
 use Rattle.std.proofs.lemmas.List.Folds.{find-append}
 use Rattle.std.specs.List.{list_any}
 use Rattle.std.specs.Option.{option_map_or, option_or}
 use Rattle.std.specs.Prelude.{◌&&◌, ◌||◌, is_some}
+use Rattle.mt_log.specs.Log.{LogState}
 use Rattle.mt_names.specs.Names.{same_text}
 use Rattle.mt_model.specs.Topology.{is_present}
 use Rattle.mt_primary.specs.Primary.{PrimaryState, row_at}
@@ -16,7 +18,9 @@ use Rattle.mt_plain.specs.Refuse.{or_else, refuse_if}
 use Rattle.mt_plain.specs.Serve.{has_table}
 use Rattle.mt_plain.specs.Slots.{log_length}
 use Rattle.mt_plain.specs.Writes.{client_row, other_row, row_after_writes, row_by_mover, row_of, writes_to}
-use Rattle.mt_site_rows.specs.Rows.{IsPending, OtherTablesStay, OthersStay, Primaries, RowsStand, entry_at, is_moved}
+use Rattle.mt_site_rows.specs.Rows.{KeepsEndOf, IsPending, OtherTablesStay, OthersStay, Primaries, RowsStand, is_moved, rows_before}
+use Rattle.mt_site_rows.proofs.BeforeLemmas.{rows_before-length}
+use Rattle.mt_site_rows.proofs.UnreadLemmas.{StreamsGoOn, unread_next}
 use Rattle.mt_site_rows.proofs.KnownLemmas.{Known, differs, itself, row_at_other, row_at_owner, row_elsewhere, row_free, same_or, some_is}
 
 pub free_name : (p : Plain) (name : List ℕ) (more : Option Refusal) → or_else (refuse_if (is_some (live_at p name)) workflow_exists) more ≡ None → live_at p name ≡ None
@@ -117,25 +121,27 @@ module _ (p : Plain) (known : Known p) (old new : Primaries) (stands : RowsStand
               let one : v ≡ w = some_is v w (sym (mover_now t ∙ ap (λ o. option_or o (cond (moves w t) (Some w) None)) e) ∙ known_q.found name w live_w t m) in
               absurd (let h : Some v ≡ None = sym (known.moving t v e).1 ∙ ap (λ (u : Live). live_at p u.name) one ∙ free in cc)
 
-    pending_now : (n : List ℕ) (v : Live) → live_at q n ≡ Some v → IsPending q v (new (owner v)).log
+    pending_now : (n : List ℕ) (v : Live) → live_at q n ≡ Some v → IsPending q v (new (owner v)).log.entries
     pending_now n v found = ⊎_elim here other (same_or name n)
       where
-        here : name ≡ n → IsPending q v (new (owner v)).log
-        here e = subst (λ x. IsPending q x (new (owner x)).log) (some_is w v (sym live_w ∙ ap (λ x. live_at q x) e ∙ found))
+        here : name ≡ n → IsPending q v (new (owner v)).log.entries
+        here e = subst (λ x. IsPending q x (new (owner x)).log.entries) (some_is w v (sym live_w ∙ ap (λ x. live_at q x) e ∙ found))
             (record {
-              before = filter (is_moved w) (new source).log;
+              before = filter (is_moved w) (new source).log.entries;
               left = [];
-              entries = sym (append-nil (filter (is_moved w) (new source).log));
+              entries = sym (append-nil (filter (is_moved w) (new source).log.entries));
               writes = sym (drop_all (length (writes_to p first)) (writes_to p first) (omega arith));
+              rows = sym (drop_all (length (writes_to p first)) (rows_before [] (writes_to p first)) (let l = rows_before-length [] (writes_to p first) in omega (arith, l)));
             })
 
-        other : name ≢ n → IsPending q v (new (owner v)).log
-        other e = subst (λ l. IsPending q v l) (sym (log_same (owner v)))
-            (let was = stands.pending n v (sym (elsewhere n e) ∙ found) in record { before = was.before; left = was.left; entries = was.entries; writes = was.writes })
+        other : name ≢ n → IsPending q v (new (owner v)).log.entries
+        other e = subst (λ l. IsPending q v l) (sym (ap (λ (l : LogState). l.entries) (log_same (owner v))))
+            (let was = stands.pending n v (sym (elsewhere n e) ∙ found) in record { before = was.before; left = was.left; entries = was.entries; writes = was.writes; rows = was.rows })
 
-    pub create_stands : RowsStand q new
-    create_stands = record {
-      log = λ k. ap (map (entry_at k)) (log_same k) ∙ stands.log k;
+    pub create_stands : StreamsGoOn p q → RowsStand q new
+    create_stands goes = record {
+      log = λ k. subst (KeepsEndOf (log_of p k) k) (sym (log_same k)) (stands.log k);
       rows = λ k t here key. row_now k t key here;
       pending = pending_now;
+      unread = unread_next p q old new stands (λ k. ap (λ (l : LogState). l.purged) (log_same k)) goes;
     }

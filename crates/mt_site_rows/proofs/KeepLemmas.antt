@@ -18,7 +18,9 @@ use Rattle.mt_plain.specs.Serve.{has_table}
 use Rattle.mt_plain.specs.Writes.{client_number, client_row, in_range, is_copied, is_write_to, other_row, row_after_writes, row_by_mover, row_of, writes_to}
 use Rattle.mt_laws.specs.Changes.{HasSides}
 use Rattle.mt_laws.specs.Numbers.{Numbers}
-use Rattle.mt_site_rows.specs.Rows.{IsPending, Primaries, RowsStand, is_moved, write_of}
+use Rattle.mt_site_rows.specs.Rows.{KeepsEndOf, IsPending, Primaries, RowsStand, is_moved, rows_before, write_of}
+use Rattle.mt_site_rows.proofs.BeforeLemmas.{rows_before-length}
+use Rattle.mt_site_rows.proofs.UnreadLemmas.{StreamsGoOn, unread_next}
 use Rattle.mt_site_rows.proofs.KnownLemmas.{Known, client_at_side, owner_is_side, row_at_other, row_at_owner, row_elsewhere, row_free, same_or, some_is}
 
 -- the other side is level with the owner: all was fed, and it has the owner's rows
@@ -168,7 +170,7 @@ module _ (p q : Plain) (known : Known p) (known_q : Known q) (alike : IsAlike p 
           → map (λ (c : RowChange). let x : Write = record { table = unwrap_or (lookup (same_target (in_keyspace source c.table)) numbers) made; key = c.key; after = c.after } in x) cs ≡ map (write_of p w) cs
       by source s numbers n made m = rw (s, n, m) refl
 
-  pending_same : (at : Primaries) → RowsStand p at → (name : List ℕ) (v : Live) → live_at q name ≡ Some v → IsPending q v (at (owner v)).log
+  pending_same : (at : Primaries) → RowsStand p at → (name : List ℕ) (v : Live) → live_at q name ≡ Some v → IsPending q v (at (owner v)).log.entries
   pending_same at stands name v live = by same.owners
     where
       w : Live
@@ -180,27 +182,33 @@ module _ (p q : Plain) (known : Known p) (known_q : Known q) (alike : IsAlike p 
       left_same : drop w.fed (writes_to p w) ≡ drop v.fed (writes_to q v)
       left_same = ap (λ n. drop n (writes_to p w)) (sym same.fed) ∙ ap (drop v.fed) (sym (all_same w v same.sides))
 
-      by : (owner v ≡ owner w) ⊎ IsLevel p w → IsPending q v (at (owner v)).log
-      by (inl owns) = subst (λ x. IsPending q v (at x).log) (sym owns)
+      rows_same : drop w.fed (rows_before [] (writes_to p w)) ≡ drop v.fed (rows_before [] (writes_to q v))
+      rows_same = ap (λ n. drop n (rows_before [] (writes_to p w))) (sym same.fed) ∙ ap (λ ws. drop v.fed (rows_before [] ws)) (sym (all_same w v same.sides))
+
+      by : (owner v ≡ owner w) ⊎ IsLevel p w → IsPending q v (at (owner v)).log.entries
+      by (inl owns) = subst (λ x. IsPending q v (at x).log.entries) (sym owns)
           (let was = stands.pending name w (alike.lives name v live).1.0 in
           record {
             before = was.before;
             left = was.left;
-            entries = is_moved_same w v same.sides (at (owner w)).log ∙ was.entries;
+            entries = is_moved_same w v same.sides (at (owner w)).log.entries ∙ was.entries;
             writes = write_same w v same.sides was.left ∙ was.writes ∙ left_same;
+            rows = was.rows ∙ rows_same;
           })
       by (inr level) = record {
-        before = filter (is_moved v) (at (owner v)).log;
+        before = filter (is_moved v) (at (owner v)).log.entries;
         left = [];
-        entries = sym (append-nil (filter (is_moved v) (at (owner v)).log));
+        entries = sym (append-nil (filter (is_moved v) (at (owner v)).log.entries));
         writes = sym (drop_all w.fed (writes_to p w) (let e = level.fed in omega (arith, e))) ∙ left_same;
+        rows = sym (drop_all w.fed (rows_before [] (writes_to p w)) (let e = level.fed in let l = rows_before-length [] (writes_to p w) in omega (arith, e, l))) ∙ rows_same;
       }
 
-  pub rows_stay : (at : Primaries) → RowsStand p at → RowsStand q at
-  rows_stay at stands = record {
-    log = λ keyspace. stands.log keyspace ∙ ap (filter (λ (e : LogEntry). same_text e.keyspace keyspace)) (sym alike.log);
+  pub rows_stay : (at : Primaries) → RowsStand p at → StreamsGoOn p q → RowsStand q at
+  rows_stay at stands goes = record {
+    log = λ keyspace. subst (λ es. KeepsEndOf es keyspace (at keyspace).log) (ap (filter (λ (e : LogEntry). same_text e.keyspace keyspace)) (sym alike.log)) (stands.log keyspace);
     rows = λ keyspace table has key. stands.rows keyspace table (alike.tables keyspace table has) key ∙ sym (row_stays keyspace table key);
     pending = pending_same at stands;
+    unread = unread_next p q at at stands (λ k. refl) goes;
   }
 
 -- ---- a next state by what stays of its workflows

@@ -1,5 +1,6 @@
 -- What is known of a state that a run reaches, and what it says of rows and of writes.
-use Rattle.std.proofs.Common.{◌≡◌, ◌≢◌, ℕ, ◌≤◌, ◌⊎◌, Bool, true, false, not, cond, eqb, List, [], ◌∷◌, length, map, Option, None, Some, refl, sym, ap, ◌∙◌, subst, inl, inr, eqb-true}
+use Rattle.mt_plain.specs.Slots.{log_of}
+use Rattle.std.proofs.Common.{◌≡◌, ◌≢◌, ℕ, ◌≤◌, ◌⊎◌, Bool, true, false, not, cond, eqb, List, [], ◌∷◌, length, Option, None, Some, refl, sym, ap, ◌∙◌, subst, inl, inr, eqb-true}
 use Rattle.std.proofs.lemmas.Bool.{true≢false, eq-eqb, and_from, and_parts, or_right}
 use Rattle.std.specs.List.{list_any}
 use Rattle.std.specs.Option.{option_map_or}
@@ -14,7 +15,7 @@ use Rattle.mt_plain.specs.Serve.{IsWritable, has_table}
 use Rattle.mt_plain.specs.Writes.{client_number, client_row, other_row, row_by_mover, row_of, writes_to}
 use Rattle.mt_laws.specs.Places.{AreSidesOfMove}
 use Rattle.mt_laws.specs.Reached.{IsInPlace}
-use Rattle.mt_site_rows.specs.Rows.{IsPending, Primaries, RowsStand, entry_at}
+use Rattle.mt_site_rows.specs.Rows.{KeepsEndOf, IsPending, Primaries, RowsStand, StandAbove}
 
 -- what the laws say of a state that a run reaches
 pub record Known (p : Plain) : Type 0 where
@@ -148,7 +149,8 @@ module _ (p : Plain) (known : Known p) where
 
 pub same_primaries : (p : Plain) (old new : Primaries) → RowsStand p old → ((k : List ℕ) → new k ≡ old k) → RowsStand p new
 same_primaries p old new stands same = record {
-  log = λ k. ap (λ (s : PrimaryState). map (entry_at k) s.log) (same k) ∙ stands.log k;
+  log = λ k. subst (λ (s : PrimaryState). KeepsEndOf (log_of p k) k s.log) (sym (same k)) (stands.log k);
   rows = λ k t has key. ap (λ s. row_at s t key) (same k) ∙ stands.rows k t has key;
-  pending = λ name w live. subst (λ (s : PrimaryState). IsPending p w s.log) (sym (same (owner w))) (stands.pending name w live);
+  pending = λ name w live. subst (λ (s : PrimaryState). IsPending p w s.log.entries) (sym (same (owner w))) (stands.pending name w live);
+  unread = λ k. subst (λ (s : PrimaryState). StandAbove p k s.log.purged) (sym (same k)) (stands.unread k);
 }

@@ -10,3 +10,9 @@ pub mod StepLemmas
 pub mod StreamLemmas
 pub mod TableLemmas
 pub mod WriteLemmas
+pub mod LogLemmas
+mod BeforeLemmas
+mod PurgeLemmas
+mod ReaderLemmas
+mod UnfedLemmas
+pub mod UnreadLemmas

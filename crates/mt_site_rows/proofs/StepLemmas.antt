@@ -1,10 +1,12 @@
 -- A step of a way: the owner of the tables changes with the journal alone, where the other side is level.
-use Rattle.std.proofs.Common.{◌≡◌, ℕ, suc, ◌⊎◌, Bool, true, false, not, cond, eqb, List, [], ◌∷◌, drop, find, map, Option, None, Some, refl, sym, ap, ◌∙◌, subst, arith, inl, inr, eqb-true, lt-ltb}
+use Rattle.mt_plain.specs.Slots.{log_of}
+use Rattle.std.proofs.Common.{◌≤◌}
+use Rattle.std.proofs.Common.{◌≡◌, ℕ, suc, ◌⊎◌, Bool, true, false, not, cond, eqb, List, [], ◌∷◌, find, map, Option, None, Some, refl, sym, ap, ◌∙◌, subst, arith, inl, inr, eqb-true, lt-ltb}
 use Rattle.std.proofs.lemmas.Bool.{true≢false, and_from}
-use Rattle.std.proofs.lemmas.List.{drop-map}
 use Rattle.std.specs.List.{list_any}
 use Rattle.std.specs.Option.{option_map, option_map_or}
 use Rattle.std.specs.Prelude.{◌||◌, nat_le, nat_lt}
+use Rattle.mt_site_rows.proofs.LogLemmas.{log-past}
 use Rattle.mt_names.specs.Names.{same_text}
 use Rattle.mt_names.specs.declared.types.TypeSet.{TypeSet}
 use Rattle.mt_model.specs.declared.rows.RowChange.{RowChange}
@@ -149,10 +151,10 @@ any_moved : (w : Live) (k : List ℕ) (cs : List RowChange) → list_any (λ e. 
 any_moved w k [] = refl
 any_moved w k (c ∷ cs) = ap (λ b. moves w c.table || b) (any_moved w k cs)
 
-pub level_by : (p : Plain) (at : Primaries) → RowsStand p at → (w : Live) (stream : StreamName) (slot : Slot) → is_behind p w ≡ list_any (λ e. moves w e.table) (plain.past p w stream slot.position)
+pub level_by : (p : Plain) (at : Primaries) → RowsStand p at → (w : Live) (stream : StreamName) (slot : Slot) → is_behind p w ≡ list_any (λ e. moves w e.table) (plain.past p w stream slot.position) → (at (read_side w stream)).log.purged ≤ slot.position
     → is_level (stream_of w slot) (at (read_side w stream)) ≡ not (is_behind p w)
-level_by p at stands w stream slot behind =
+level_by p at stands w stream slot behind held =
     ap not
     (sym (any_moved w (read_side w stream) (past (stream_of w slot) (at (read_side w stream))))
-    ∙ ap (list_any (λ (e : LogEntry). moves w e.table)) (sym (drop-map (entry_at (read_side w stream)) slot.position (at (read_side w stream)).log) ∙ ap (drop slot.position) (stands.log (read_side w stream)))
+    ∙ ap (list_any (λ (e : LogEntry). moves w e.table)) (log-past (log_of p (read_side w stream)) (read_side w stream) (at (read_side w stream)).log (stands.log (read_side w stream)) slot.position held)
     ∙ sym behind)

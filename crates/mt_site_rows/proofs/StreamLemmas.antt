@@ -1,18 +1,21 @@
 -- What an advance of a stream answers, in the primaries' words and in those of the state.
-use Rattle.std.proofs.Common.{◌≡◌, ℕ, zero, suc, ◌-◌, ◌⊎◌, Bool, true, false, not, cond, eqb, List, [], ◌∷◌, drop, take, length, min, slice_get, None, Some, Result, Ok, Err, refl, sym, ap, ◌∙◌, subst, arith, inl, inr, ⊎_elim, map, eqb-true, ltb-true}
+use Rattle.mt_plain.specs.Slots.{log_of}
+use Rattle.std.proofs.Common.{◌≤◌}
+use Rattle.std.proofs.Common.{◌≡◌, ℕ, zero, suc, ◌-◌, ◌⊎◌, Bool, true, false, not, cond, eqb, List, [], ◌∷◌, take, length, min, slice_get, None, Some, Result, Ok, Err, refl, sym, ap, ◌∙◌, subst, arith, inl, inr, ⊎_elim, map, eqb-true, ltb-true}
 use Rattle.std.proofs.lemmas.Bool.{true≢false, eq-eqb, ltb-false, ne_eqb}
-use Rattle.std.proofs.lemmas.List.{drop-map, length-map, take-map}
+use Rattle.std.proofs.lemmas.List.{length-map, take-map}
 use Rattle.std.proofs.lemmas.List.Sums.{length-filter}
 use Rattle.std.specs.List.{find, list_any}
 use Rattle.std.specs.Option.{option_map, option_map_or}
 use Rattle.std.specs.Prelude.{◌&&◌, ◌||◌, nat_lt}
+use Rattle.mt_log.specs.Log.{has_room}
+use Rattle.mt_site_rows.proofs.LogLemmas.{log-length, log-past}
 use Rattle.mt_names.specs.Names.{same_text}
 use Rattle.mt_names.proofs.SameLemmas.{same_text_decides}
 use Rattle.mt_model.specs.declared.rows.RowChange.{RowChange}
 use Rattle.mt_model.specs.Limits.{longest_log}
 use Rattle.mt_model.specs.Topology.{is_present}
-use Rattle.mt_primary.specs.Primary.{IsPrimary, PrimaryState, row_at}
-use Rattle.mt_primary.specs.Writes.{has_room}
+use Rattle.mt_primary.specs.Primary.{end_of, IsPrimary, PrimaryState, row_at}
 use Rattle.mt_plain.specs.Answers.{Answers, advanced_of}
 use Rattle.mt_plain.specs.Events.{StreamName, StreamState, running, stopped, frozen, Slot, advance, advanced, full, stale, refused}
 use Rattle.mt_plain.specs.Plain.{Live, LogEntry, Plain, is_side, live_at, moves, owner}
@@ -87,7 +90,7 @@ has_at_side p known name w live t moved k side = by (same_text w.source k) refl 
 
 module _ (p : Plain) (known : Known p) (reads : (name : List ℕ) (w : Live) → live_at p name ≡ Some w → (stream : StreamName) (at : ℕ) → running_at (slot_of w stream) ≡ Some at → read_side w stream ≡ owner w)
     (at : Primaries) (stands : RowsStand p at) (name : List ℕ) (w : Live) (live : live_at p name ≡ Some w)
-    (stream : StreamName) (slot : Slot) (there : slot_of w stream ≡ Some slot) (is : IsPrimary (at (read_side w stream))) where
+    (stream : StreamName) (slot : Slot) (there : slot_of w stream ≡ Some slot) (is : IsPrimary (at (read_side w stream))) (held : (at (read_side w stream)).log.purged ≤ slot.position) where
   abbrev pub source : PrimaryState
   source = at (read_side w stream)
 
@@ -97,17 +100,17 @@ module _ (p : Plain) (known : Known p) (reads : (name : List ℕ) (w : Live) →
   abbrev pub value : StreamValue
   value = stream_of w slot
 
-  pub log_is : (k : List ℕ) → log_length p k ≡ length (at k).log
-  log_is k = sym (length-filter (λ (e : LogEntry). same_text e.keyspace k) p.log) ∙ sym (ap length (stands.log k)) ∙ length-map (at k).log (entry_at k)
+  pub log_is : (k : List ℕ) → log_length p k ≡ end_of (at k)
+  log_is k = sym (length-filter (λ (e : LogEntry). same_text e.keyspace k) p.log) ∙ log-length (log_of p k) k (at k).log (stands.log k)
 
   pub past_is : map (entry_at (read_side w stream)) (past value source) ≡ plain.past p w stream slot.position
-  past_is = sym (drop-map (entry_at (read_side w stream)) slot.position source.log) ∙ ap (drop slot.position) (stands.log (read_side w stream))
+  past_is = log-past (log_of p (read_side w stream)) (read_side w stream) source.log (stands.log (read_side w stream)) slot.position held
 
   room_is : room_in_log p (written_side w stream) ≡ room_in sink
   room_is = ap (λ n. longest_log - n) (log_is (written_side w stream))
 
   no_room : eqb (room_in_log p (written_side w stream)) 0 ≡ not (has_room sink.log)
-  no_room = ap (λ n. eqb n 0) room_is ∙ none_left longest_log (length sink.log)
+  no_room = ap (λ n. eqb n 0) room_is ∙ none_left longest_log (end_of sink)
 
   module _ (runs : slot.state ≡ running) where
     pub reads_owner : read_side w stream ≡ owner w

@@ -1,10 +1,12 @@
 -- A new table: it has a number that no write has, and the numbers of the tables that are there stay.
+use Rattle.mt_plain.specs.Slots.{log_of}
 use Rattle.std.proofs.Common.{◌≡◌, ◌≢◌, ℕ, suc, ◌<◌, ◌≤◌, ◌⊎◌, Bool, true, false, not, cond, eqb, List, [], ◌∷◌, ◌++◌, drop, take, filter, map, Option, None, Some, refl, sym, ap, ◌∙◌, subst, arith, inl, inr, ⊎_elim}
 use Rattle.std.proofs.lemmas.Bool.{true≢false, or_right}
 use Rattle.std.specs.List.{AllByRecursion, list_any}
 use Rattle.std.specs.Map.{lookup}
 use Rattle.std.specs.Option.{option_map_or}
 use Rattle.std.specs.Prelude.{◌&&◌, ◌||◌, find, unwrap_or}
+use Rattle.mt_log.specs.Log.{LogState}
 use Rattle.mt_names.proofs.EntryLemmas.{lookup-push_here, lookup-push_stood}
 use Rattle.mt_names.proofs.SameLemmas.{same_target_decides, same_text_decides}
 use Rattle.mt_names.specs.Names.{same_text}
@@ -19,7 +21,8 @@ use Rattle.mt_plain.specs.Plain.{Live, Plain, Write, among, in_keyspace, is_side
 use Rattle.mt_plain.specs.Refuse.{or_else, refuse_if}
 use Rattle.mt_plain.specs.Serve.{has_table}
 use Rattle.mt_plain.specs.Writes.{client_number, client_row, is_copied, other_row, row_after_writes, row_by_mover, row_of, writes_to}
-use Rattle.mt_site_rows.specs.Rows.{IsPending, OtherTablesStay, OthersStay, Primaries, RowsStand, entry_at, is_moved, write_of}
+use Rattle.mt_site_rows.specs.Rows.{KeepsEndOf, IsPending, OtherTablesStay, OthersStay, Primaries, RowsStand, is_moved, rows_before, write_of}
+use Rattle.mt_site_rows.proofs.UnreadLemmas.{StreamsGoOn, unread_next}
 use Rattle.mt_site_rows.proofs.KnownLemmas.{Known, client_at_side, differs, has_at_source, itself, row_elsewhere, row_free, same_or, source_is_side}
 
 -- ---- a new table is refused where it is there
@@ -216,21 +219,23 @@ module _ (p : Plain) (known : Known p) (numbers : KnownNumbers p) (keyspace tabl
         here : keyspace ≡ k → row_at (new k) t key ≡ row_of q k t key
         here e = subst (λ x. has_table q x t ≡ true → row_at (new x) t key ≡ row_of q x t key) e (λ is. at t is (same_or table t)) has
 
-    pending_now : (name : List ℕ) (w : Live) → live_at q name ≡ Some w → IsPending q w (new (owner w)).log
-    pending_now name w live = subst (IsPending q w) (sym (log_same (owner w)))
+    pending_now : (name : List ℕ) (w : Live) → live_at q name ≡ Some w → IsPending q w (new (owner w)).log.entries
+    pending_now name w live = subst (IsPending q w) (sym (ap (λ (l : LogState). l.entries) (log_same (owner w))))
         (let was = stands.pending name w live in
         record {
           before = was.before;
           left = was.left;
           entries = was.entries;
-          writes = entries_kept name w live (old (owner w)).log was.before was.left was.entries ∙ was.writes ∙ ap (drop w.fed) (sym (writes_kept name w live));
+          writes = entries_kept name w live (old (owner w)).log.entries was.before was.left was.entries ∙ was.writes ∙ ap (drop w.fed) (sym (writes_kept name w live));
+          rows = was.rows ∙ ap (λ ws. drop w.fed (rows_before [] ws)) (sym (writes_kept name w live));
         })
 
-    pub table_stands : RowsStand q new
-    table_stands = record {
-      log = λ k. ap (map (entry_at k)) (log_same k) ∙ stands.log k;
+    pub table_stands : StreamsGoOn p q → RowsStand q new
+    table_stands goes = record {
+      log = λ k. subst (KeepsEndOf (log_of p k) k) (sym (log_same k)) (stands.log k);
       rows = row_now;
       pending = pending_now;
+      unread = unread_next p q old new stands (λ k. ap (λ (l : LogState). l.purged) (log_same k)) goes;
     }
 
 -- an entry of a table says whether it is there

@@ -1,10 +1,13 @@
 -- A client's write: its answer, and what stands behind it.
-use Rattle.std.proofs.Common.{◌≡◌, ◌≢◌, ℕ, suc, ◌+◌, ◌≤◌, Bool, true, false, not, cond, eqb, List, [], ◌∷◌, ◌++◌, drop, take, filter, length, Option, None, Some, Result, Ok, Err, refl, sym, ap, ◌∙◌, subst, arith, ⊎_elim, map, append-nil, eqb-true}
+use Rattle.std.proofs.Common.{◌≡◌, ◌≢◌, ℕ, suc, ◌+◌, ◌≤◌, Bool, true, false, not, cond, eqb, List, [], ◌∷◌, ◌++◌, drop, take, filter, length, Option, None, Some, Result, Ok, Err, refl, sym, ap, ◌∙◌, subst, arith, ⊎_elim, append-nil, eqb-true}
 use Rattle.std.proofs.lemmas.Bool.{eq-eqb, eqb-false, le-leb, lt-leb, leb-false, leb-true}
-use Rattle.std.proofs.lemmas.List.{length-map, map-append, take-append-le, drop-append-le, append_assoc}
+use Rattle.std.proofs.lemmas.List.{map-append, take-append-le, drop-append-le, append_assoc}
 use Rattle.std.proofs.lemmas.List.Elements.{filter-append}
 use Rattle.std.proofs.lemmas.List.Sums.{fold-append, length-filter}
 use Rattle.std.specs.Prelude.{◌&&◌, nat_le, nat_lt}
+use Rattle.mt_log.specs.Log.{LogState, log_end}
+use Rattle.mt_site_rows.proofs.UnreadLemmas.{EventsGoOn, StreamsGoOn, unread_next}
+use Rattle.mt_site_rows.proofs.LogLemmas.{log-length, log-grown}
 use Rattle.mt_names.specs.Names.{same_text}
 use Rattle.mt_names.specs.Results.{◌>>=◌}
 use Rattle.mt_model.specs.declared.faults.PrimaryFault.{PrimaryFault}
@@ -14,10 +17,10 @@ use Rattle.mt_model.specs.declared.rows.Op.TheVariants.{Insert, Update, Append, 
 use Rattle.mt_model.specs.declared.rows.RowChange.{RowChange}
 use Rattle.mt_model.specs.Limits.{longest_log, longest_value}
 use Rattle.mt_model.specs.Rows.{Row, op_key, op_row}
-use Rattle.mt_primary.specs.Primary.{PrimaryState, has_table, is_denied_at, row_at}
+use Rattle.mt_primary.specs.Primary.{end_of, PrimaryState, has_table, is_denied_at, row_at}
 use Rattle.mt_primary.specs.Writes.{IsWritten, Writes, unless_full, written_row}
 use Rattle.mt_plain.specs.Answers.{Answers}
-use Rattle.mt_plain.specs.Events.{Refusal, write, denied, full, no_table, refused}
+use Rattle.mt_plain.specs.Events.{Refusal, write, done, denied, full, no_table, refused}
 use Rattle.mt_plain.specs.Next.{next, next_taken, row_left}
 use Rattle.mt_plain.specs.Plain.{Live, LogEntry, Plain, Write, has_keyspace, is_side, live_at, mover, moves, number_of, owner}
 use Rattle.mt_plain.specs.Refuse.{or_else, refusal_of, refuse_if, row_refusal}
@@ -27,7 +30,8 @@ use Rattle.mt_plain.specs.Slots.{log_length, log_of}
 use Rattle.mt_plain.specs.Writes.{client_number, client_row, is_copied, is_write_to, other_row, row_after_write, row_after_writes, row_by_mover, row_of, writes_to}
 use Rattle.mt_laws.specs.Places.{AreSidesOfMove}
 use Rattle.mt_site_rows.specs.Answers.{answer_by, refusal_by}
-use Rattle.mt_site_rows.specs.Rows.{IsPending, OthersStay, Primaries, RowsStand, entry_at, is_moved, write_of}
+use Rattle.mt_site_rows.specs.Rows.{KeepsEndOf, IsPending, OthersStay, Primaries, RowsStand, is_moved, rows_before, write_of}
+use Rattle.mt_site_rows.proofs.BeforeLemmas.{row_by_own, rows_before-append, rows_before-length}
 use Rattle.mt_site_rows.proofs.KnownLemmas.{Known, client_at_side, differs, is_to, itself, owner_is_side, row_at_other, row_writable, same_or, same_primaries}
 
 -- ---- the refusals
@@ -37,18 +41,18 @@ told_row (Ok after) = None
 told_row (Err fault) = Some (refusal_by fault)
 
 -- a row that is left is written where the log has room
-left_told : (after : Row) (log : List RowChange) → refuse_if (nat_le longest_log (length log)) full ≡ told_row (unless_full log after)
-left_told after log = by (nat_lt (length log) longest_log) refl
+left_told : (after : Row) (log : LogState) → refuse_if (nat_le longest_log (log_end log)) full ≡ told_row (unless_full log after)
+left_told after log = by (nat_lt (log_end log) longest_log) refl
   where
-    by : (t : Bool) → nat_lt (length log) longest_log ≡ t → refuse_if (nat_le longest_log (length log)) full ≡ told_row (unless_full log after)
-    by true room = rw (room, lt-leb longest_log (length log) (leb-true (suc (length log)) longest_log room)) refl
-    by false none = rw (none, le-leb longest_log (length log) (at_least none)) refl
+    by : (t : Bool) → nat_lt (log_end log) longest_log ≡ t → refuse_if (nat_le longest_log (log_end log)) full ≡ told_row (unless_full log after)
+    by true room = rw (room, lt-leb longest_log (log_end log) (leb-true (suc (log_end log)) longest_log room)) refl
+    by false none = rw (none, le-leb longest_log (log_end log) (at_least none)) refl
       where
-        at_least : nat_lt (length log) longest_log ≡ false → longest_log ≤ length log
-        at_least none = let h = leb-false (suc (length log)) longest_log none in omega (arith, h)
+        at_least : nat_lt (log_end log) longest_log ≡ false → longest_log ≤ log_end log
+        at_least none = let h = leb-false (suc (log_end log)) longest_log none in omega (arith, h)
 
-row_told : (op : Op) (before : Row) (log : List RowChange)
-    → or_else (row_refusal (op_row op before)) (refuse_if (nat_le longest_log (length log)) full) ≡ told_row (op_row op before >>= unless_full log)
+row_told : (op : Op) (before : Row) (log : LogState)
+    → or_else (row_refusal (op_row op before)) (refuse_if (nat_le longest_log (log_end log)) full) ≡ told_row (op_row op before >>= unless_full log)
 row_told (Insert key value) None log = left_told (Some value) log
 row_told (Insert key value) (Some old) log = refl
 row_told (Update key value) None log = refl
@@ -59,7 +63,7 @@ row_told (Append key value) (Some old) log = by (nat_lt longest_value (length ol
     both : Row
     both = Some (record { items = old.items ++ value.items })
 
-    by : (t : Bool) → or_else (row_refusal (cond t (Err primary.TooLong) (Ok both))) (refuse_if (nat_le longest_log (length log)) full) ≡ told_row (cond t (Err primary.TooLong) (Ok both) >>= unless_full log)
+    by : (t : Bool) → or_else (row_refusal (cond t (Err primary.TooLong) (Ok both))) (refuse_if (nat_le longest_log (log_end log)) full) ≡ told_row (cond t (Err primary.TooLong) (Ok both) >>= unless_full log)
     by true = refl
     by false = left_told both log
 row_told (Delete key) None log = refl
@@ -68,9 +72,9 @@ row_told (Delete key) (Some old) log = left_told None log
 abbrev pub left_row : Row → Result Row PrimaryFault
 left_row after = Ok after
 
-row_left_by : (r : Result Row PrimaryFault) (log : List RowChange) (after : Row) → (r >>= unless_full log) ≡ Ok after → r ≡ Ok after
+row_left_by : (r : Result Row PrimaryFault) (log : LogState) (after : Row) → (r >>= unless_full log) ≡ Ok after → r ≡ Ok after
 row_left_by (Err fault) log after e = absurd cc
-row_left_by (Ok left) log after e = by (nat_lt (length log) longest_log) e
+row_left_by (Ok left) log after e = by (nat_lt (log_end log) longest_log) e
   where
     by : (t : Bool) → cond t (Ok left) (Err primary.LogFull) ≡ Ok after → left_row left ≡ Ok after
     by true e = e
@@ -91,8 +95,8 @@ module _ (state : PrimaryState) (table : List ℕ) (op : Op) (after : Row) (e : 
 module _ (p : Plain) (known : Known p) (old new : Primaries) (stands : RowsStand p old) (k t : List ℕ) (op : Op)
     (there : has_keyspace p k ≡ true) (has : has_table (old k) t ≡ plain.has_table p k t) (denies : is_denied_at (old k) t ≡ refuses p k t)
     (others : OthersStay k old new) where
-  log_there : log_length p k ≡ length (old k).log
-  log_there = sym (length-filter (λ (e : LogEntry). same_text e.keyspace k) p.log) ∙ sym (ap length (stands.log k)) ∙ length-map (old k).log (entry_at k)
+  log_there : log_length p k ≡ end_of (old k)
+  log_there = sym (length-filter (λ (e : LogEntry). same_text e.keyspace k) p.log) ∙ log-length (log_of p k) k (old k).log (stands.log k)
 
   write_told : refusal_of p (write k t op) ≡ told_row (written_row (old k) t op)
   write_told =
@@ -100,11 +104,11 @@ module _ (p : Plain) (known : Known p) (old new : Primaries) (stands : RowsStand
     where
       goal_at : (there denied : Bool) → Type 0
       goal_at a d =
-          or_else (refuse_if (not a) no_table) (or_else (refuse_if d denied) (or_else (row_refusal (op_row op (client_row p k t (op_key op)))) (refuse_if (nat_le longest_log (length (old k).log)) full)))
+          or_else (refuse_if (not a) no_table) (or_else (refuse_if d denied) (or_else (row_refusal (op_row op (client_row p k t (op_key op)))) (refuse_if (nat_le longest_log (end_of (old k))) full)))
           ≡ told_row (cond a (cond d (Err primary.Denied) (op_row op (row_at (old k) t (op_key op)) >>= unless_full (old k).log)) (Err primary.NoTable))
 
       by : (a : Bool) → has_table (old k) t ≡ a → (d : Bool) → is_denied_at (old k) t ≡ d
-          → or_else (refuse_if (not (plain.has_table p k t)) no_table) (or_else (refuse_if (refuses p k t) denied) (or_else (row_refusal (op_row op (client_row p k t (op_key op)))) (refuse_if (nat_le longest_log (length (old k).log)) full)))
+          → or_else (refuse_if (not (plain.has_table p k t)) no_table) (or_else (refuse_if (refuses p k t) denied) (or_else (row_refusal (op_row op (client_row p k t (op_key op)))) (refuse_if (nat_le longest_log (end_of (old k))) full)))
           ≡ told_row (written_row (old k) t op)
       by a f d g = rw (sym has, sym denies, f, g) (at a d f g)
         where
@@ -113,7 +117,7 @@ module _ (p : Plain) (known : Known p) (old new : Primaries) (stands : RowsStand
           at true true f g = refl
           at true false f g =
               let row = sym (row_writable p known k t (sym has ∙ f, sym denies ∙ g) (op_key op)) ∙ sym (stands.rows k t (sym has ∙ f) (op_key op)) in
-              ap (λ r. or_else (row_refusal (op_row op r)) (refuse_if (nat_le longest_log (length (old k).log)) full)) row ∙ row_told op (row_at (old k) t (op_key op)) (old k).log
+              ap (λ r. or_else (row_refusal (op_row op r)) (refuse_if (nat_le longest_log (end_of (old k))) full)) row ∙ row_told op (row_at (old k) t (op_key op)) (old k).log
 
   -- ---- a write that is done
 
@@ -225,24 +229,24 @@ module _ (p : Plain) (known : Known p) (old new : Primaries) (stands : RowsStand
 
     -- the log
 
-    log_now : (keyspace : List ℕ) → map (entry_at keyspace) (new keyspace).log ≡ log_of q keyspace
-    log_now keyspace = ⊎_elim here there_ (same_or k keyspace) ∙ sym (filter-append (λ (e : LogEntry). same_text e.keyspace keyspace) p.log (entry ∷ []))
+    log_now : (keyspace : List ℕ) → KeepsEndOf (log_of q keyspace) keyspace (new keyspace).log
+    log_now keyspace = subst (λ es. KeepsEndOf es keyspace (new keyspace).log) (sym (filter-append (λ (e : LogEntry). same_text e.keyspace keyspace) p.log (entry ∷ []))) (⊎_elim here there_ (same_or k keyspace))
       where
         entry : LogEntry
         entry = record { keyspace = k; table = t; key = op_key op }
 
         Logs : List ℕ → Type 0
-        Logs x = map (entry_at x) (new x).log ≡ log_of p x ++ cond (same_text k x) (entry ∷ []) []
+        Logs x = KeepsEndOf (log_of p x ++ cond (same_text k x) (entry ∷ []) []) x (new x).log
 
         here : k ≡ keyspace → Logs keyspace
         here at = subst Logs at
-            (ap (map (entry_at k)) written.put.log ∙ map-append (entry_at k) (old k).log (change ∷ []) ∙ ap (λ l. l ++ entry ∷ []) (stands.log k)
-            ∙ ap (λ b. log_of p k ++ cond b (entry ∷ []) []) (sym (itself k)))
+            (subst (λ b. KeepsEndOf (log_of p k ++ cond b (entry ∷ []) []) k (new k).log) (sym (itself k))
+            (subst (KeepsEndOf (log_of p k ++ entry ∷ []) k) (sym written.put.log) (log-grown (log_of p k) k (old k).log (stands.log k) (change ∷ []))))
 
         there_ : k ≢ keyspace → Logs keyspace
         there_ other =
-            ap (λ (s : PrimaryState). map (entry_at keyspace) s.log) (others keyspace other) ∙ stands.log keyspace ∙ sym (append-nil (log_of p keyspace))
-            ∙ ap (λ b. log_of p keyspace ++ cond b (entry ∷ []) []) (sym (differs k keyspace other))
+            subst (λ b. KeepsEndOf (log_of p keyspace ++ cond b (entry ∷ []) []) keyspace (new keyspace).log) (sym (differs k keyspace other))
+            (subst (λ es. KeepsEndOf es keyspace (new keyspace).log) (sym (append-nil (log_of p keyspace))) (subst (λ (s : PrimaryState). KeepsEndOf (log_of p keyspace) keyspace s.log) (sym (others keyspace other)) (stands.log keyspace)))
 
     -- what was not fed
 
@@ -257,27 +261,28 @@ module _ (p : Plain) (known : Known p) (old new : Primaries) (stands : RowsStand
       now moved side m s = all_now w ∙ ap (λ b. writes_to p w ++ cond b (wrote ∷ []) []) (to_w ∙ ap (λ b. b && is_side w k) m ∙ ap (λ b. moved && b) s)
 
       -- the log of the owner goes on
-      at_owner : k ≡ owner w → (moved : Bool) → moves w t ≡ moved → IsPending q w (new (owner w)).log
-      at_owner at moved m = subst (λ x. IsPending q w (new x).log) at (by moved m)
+      at_owner : k ≡ owner w → (moved : Bool) → moves w t ≡ moved → IsPending q w (new (owner w)).log.entries
+      at_owner at moved m = subst (λ x. IsPending q w (new x).log.entries) at (by moved m)
         where
           side : is_side w k ≡ true
           side = subst (λ x. is_side w x ≡ true) (sym at) (owner_is_side w)
 
-          was : IsPending p w (old k).log
-          was = subst (λ x. IsPending p w (old x).log) (sym at) (stands.pending name w live)
+          was : IsPending p w (old k).log.entries
+          was = subst (λ x. IsPending p w (old x).log.entries) (sym at) (stands.pending name w live)
 
-          entries : (b : Bool) → moves w t ≡ b → filter (is_moved w) (new k).log ≡ was.before ++ (was.left ++ cond b (change ∷ []) [])
+          entries : (b : Bool) → moves w t ≡ b → filter (is_moved w) (new k).log.entries ≡ was.before ++ (was.left ++ cond b (change ∷ []) [])
           entries b m =
-              ap (filter (is_moved w)) written.put.log ∙ filter-append (is_moved w) (old k).log (change ∷ [])
+              ap (λ (l : LogState). filter (is_moved w) l.entries) written.put.log ∙ filter-append (is_moved w) (old k).log.entries (change ∷ [])
               ∙ ap (λ l. l ++ filter (is_moved w) (change ∷ [])) was.entries ∙ append_assoc was.before was.left (filter (is_moved w) (change ∷ []))
               ∙ ap (λ b. was.before ++ (was.left ++ cond b (change ∷ []) [])) m
 
-          by : (b : Bool) → moves w t ≡ b → IsPending q w (new k).log
+          by : (b : Bool) → moves w t ≡ b → IsPending q w (new k).log.entries
           by false m = record {
             before = was.before;
             left = was.left;
             entries = entries false m ∙ ap (λ l. was.before ++ l) (append-nil was.left);
             writes = was.writes ∙ ap (drop w.fed) (sym (now false true m side ∙ append-nil (writes_to p w)));
+            rows = was.rows ∙ ap (λ ws. drop w.fed (rows_before [] ws)) (sym (now false true m side ∙ append-nil (writes_to p w)));
           }
           by true m = record {
             before = was.before;
@@ -287,33 +292,51 @@ module _ (p : Plain) (known : Known p) (old new : Primaries) (stands : RowsStand
                 map-append (write_of p w) was.left (change ∷ []) ∙ ap (λ l. l ++ write_of p w change ∷ []) was.writes
                 ∙ ap (λ x. drop w.fed (writes_to p w) ++ x ∷ []) is_wrote
                 ∙ sym (ap (drop w.fed) (now true true m side) ∙ drop-append-le w.fed (writes_to p w) (wrote ∷ []) (known.fed name w live));
+            rows =
+                map-append (λ (c : RowChange). c.before) was.left (change ∷ []) ∙ ap (λ l. l ++ change.before ∷ []) was.rows
+                ∙ ap (λ r. drop w.fed (rows_before [] (writes_to p w)) ++ r ∷ []) stood
+                ∙ sym (drop-append-le w.fed (rows_before [] (writes_to p w)) (row_after_writes (writes_to p w) wrote.table wrote.key ∷ []) (subst (λ n. w.fed ≤ n) (sym (rows_before-length [] (writes_to p w))) (known.fed name w live)))
+                ∙ ap (drop w.fed) (sym (rows_before-append [] (writes_to p w) wrote)) ∙ ap (λ ws. drop w.fed (rows_before [] ws)) (sym (now true true m side));
           }
             where
+              -- the row that stood is what the writes to the workflow's tables left
+              stood : change.before ≡ row_after_writes (writes_to p w) wrote.table wrote.key
+              stood =
+                  stands.rows k t writable.0 (op_key op) ∙ row_writable p known k t writable (op_key op)
+                  ∙ sym (subst (λ n. row_after_writes (writes_to p w) n (op_key op) ≡ row_after_writes p.writes n (op_key op)) (number_is m side) (row_by_own p w t m (op_key op)))
+
               is_wrote : write_of p w change ≡ wrote
               is_wrote =
                   ap (λ n. let x : Write = record { table = n; key = op_key op; after = after } in x) (number_is m side)
                   ∙ ap (λ r. let x : Write = record { table = client_number p k t; key = op_key op; after = r } in x) (sym row_is)
 
       -- the other logs stay
-      elsewhere : k ≢ owner w → IsPending q w (new (owner w)).log
-      elsewhere other = subst (λ (s : PrimaryState). IsPending q w s.log) (sym (others (owner w) other)) (by (moves w t) refl (is_side w k) refl)
+      elsewhere : k ≢ owner w → IsPending q w (new (owner w)).log.entries
+      elsewhere other = subst (λ (s : PrimaryState). IsPending q w s.log.entries) (sym (others (owner w) other)) (by (moves w t) refl (is_side w k) refl)
         where
-          was : IsPending p w (old (owner w)).log
+          was : IsPending p w (old (owner w)).log.entries
           was = stands.pending name w live
 
-          same : writes_to q w ≡ writes_to p w → IsPending q w (old (owner w)).log
-          same e = record { before = was.before; left = was.left; entries = was.entries; writes = was.writes ∙ ap (drop w.fed) (sym e) }
+          same : writes_to q w ≡ writes_to p w → IsPending q w (old (owner w)).log.entries
+          same e = record { before = was.before; left = was.left; entries = was.entries; writes = was.writes ∙ ap (drop w.fed) (sym e); rows = was.rows ∙ ap (λ ws. drop w.fed (rows_before [] ws)) (sym e) }
 
-          by : (m : Bool) → moves w t ≡ m → (s : Bool) → is_side w k ≡ s → IsPending q w (old (owner w)).log
+          by : (m : Bool) → moves w t ≡ m → (s : Bool) → is_side w k ≡ s → IsPending q w (old (owner w)).log.entries
           by false m s e = same (now false s m e ∙ append-nil (writes_to p w))
           by true m false e = same (now true false m e ∙ append-nil (writes_to p w))
           by true m true e = absurd (other (known.writable t w (known.found name w live t m) k e writable))
 
-    write_stands : RowsStand q new
-    write_stands = record {
+    purged_same : (keyspace : List ℕ) → (new keyspace).log.purged ≡ (old keyspace).log.purged
+    purged_same keyspace = ⊎_elim
+        (λ (e : k ≡ keyspace). subst (λ x. (new x).log.purged ≡ (old x).log.purged) e (ap (λ (l : LogState). l.purged) written.put.log))
+        (λ (other : k ≢ keyspace). ap (λ (s : PrimaryState). s.log.purged) (others keyspace other))
+        (same_or k keyspace)
+
+    write_stands : StreamsGoOn p q → RowsStand q new
+    write_stands goes = record {
       log = log_now;
       rows = row_now;
       pending = λ name w live. ⊎_elim (λ at. at_owner name w live at (moves w t) refl) (elsewhere name w live) (same_or k (owner w));
+      unread = unread_next p q old new stands purged_same goes;
     }
 
   -- ---- all answers
@@ -329,7 +352,10 @@ module _ (p : Plain) (known : Known p) (old new : Primaries) (stands : RowsStand
   write_refused primary.NoRow did = (write_told ∙ ap told_row did.0, did.1)
   write_refused primary.TooLong did = (write_told ∙ ap told_row did.0, did.1)
   write_refused primary.LogFull did = (write_told ∙ ap told_row did.0, did.1)
+  write_refused primary.Purged did = (write_told ∙ ap told_row did.0, did.1)
 
-  pub write_keeps : (result : Result ℕ PrimaryFault) → Writes (old k) t op result (new k) → Answers p (write k t op) (answer_by result) × RowsStand (next p (write k t op) (answer_by result)) new
-  write_keeps (Ok position) did = ((write_told ∙ ap told_row did.row, refl), write_stands position did)
-  write_keeps (Err fault) did = let r = write_refused fault did in (r.0, same_primaries p old new stands (all_same r.1))
+  pub write_keeps : EventsGoOn p → (result : Result ℕ PrimaryFault) → Writes (old k) t op result (new k) → Answers p (write k t op) (answer_by result) × RowsStand (next p (write k t op) (answer_by result)) new
+  write_keeps goes (Ok position) did =
+      let given : Answers p (write k t op) done = (write_told ∙ ap told_row did.row, refl) in
+      (given, write_stands position did (goes (write k t op) done given))
+  write_keeps goes (Err fault) did = let r = write_refused fault did in (r.0, same_primaries p old new stands (all_same r.1))

@@ -16,6 +16,8 @@ refusal_by primary.RowExists = row_exists
 refusal_by primary.NoRow = no_row
 refusal_by primary.TooLong = too_long
 refusal_by primary.LogFull = full
+-- a write is never told this
+refusal_by primary.Purged = full
 
 -- a write that is done, or refused
 abbrev pub answer_by : Result ℕ PrimaryFault → Answer

@@ -1,11 +1,13 @@
 -- Which primaries stand for the rows and logs of a state (this profile's own).
-use Rattle.std.specs.Prelude.{◌≡◌, ◌≢◌, ℕ, Bool, true, false, List, ◌++◌, drop, filter, map, Some}
+use Rattle.std.specs.Prelude.{◌≡◌, ◌≢◌, ℕ, ◌≤◌, Bool, true, false, List, [], ◌∷◌, ◌++◌, drop, filter, length, map, Some}
+use Rattle.mt_log.specs.Log.{LogState}
 use Rattle.mt_model.specs.declared.rows.RowChange.{RowChange}
+use Rattle.mt_model.specs.Rows.{Row}
 use Rattle.mt_plain.specs.Plain.{Live, LogEntry, Plain, Write, among, live_at, moves, number_of, owner}
 use Rattle.mt_plain.specs.Serve.{has_table}
-use Rattle.mt_plain.specs.Events.{StreamName, Slot}
-use Rattle.mt_plain.specs.Slots.{log_of, slot_of}
-use Rattle.mt_plain.specs.Writes.{row_of, writes_to}
+use Rattle.mt_plain.specs.Events.{StreamName, Slot, frozen}
+use Rattle.mt_plain.specs.Slots.{log_of, read_side, slot_of}
+use Rattle.mt_plain.specs.Writes.{row_after_writes, row_of, writes_to}
 use Rattle.mt_primary.specs.Primary.{PrimaryState, empty_primary, row_at}
 use Rattle.mt_stream.specs.Streams.{StreamValue}
 
@@ -29,20 +31,42 @@ write_of p w change = record { table = number_of p w.source change.table; key = 
 abbrev pub is_moved : Live → RowChange → Bool
 is_moved w change = moves w change.table
 
--- the last entries of a workflow's tables in a log are the acknowledged writes to them that were not fed, one for one, with the rows that
--- they left
+-- the rows that stood before each of a list of writes, which come behind others
+abbrev pub rows_before : (earlier : List Write) → List Write → List Row
+rows_before earlier [] = []
+rows_before earlier (write ∷ writes) = row_after_writes earlier write.table write.key ∷ rows_before (earlier ++ write ∷ []) writes
+
+-- the last entries of a workflow's tables in a log are the acknowledged writes to them that were not fed, one for one and in order, with
+-- the rows before and after
 pub record IsPending (p : Plain) (w : Live) (log : List RowChange) : Type 0 where
   pub before : List RowChange
   pub left : List RowChange
   pub entries : filter (is_moved w) log ≡ before ++ left
   pub writes : map (write_of p w) left ≡ drop w.fed (writes_to p w)
+  pub rows : map (λ change. change.before) left ≡ drop w.fed (rows_before [] (writes_to p w))
 
--- the primaries stand for the rows and logs of a state: each log has, entry by entry, what the state's log has of its keyspace; each table
--- that is there has its rows; and the owner of a live workflow's tables has the writes in its log that were not fed
+-- a log is, from its first kept entry on, the end of a list of entries of its keyspace, and is as long
+pub record KeepsEndOf (entries : List LogEntry) (keyspace : List ℕ) (log : LogState) : Type 0 where
+  pub kept : log.purged ≤ length entries
+  pub last : map (entry_at keyspace) log.entries ≡ drop log.purged entries
+
+-- no stream that reads a keyspace's log and isn't frozen stands below a position
+abbrev pub StandAbove : Plain → List ℕ → ℕ → Type 0
+StandAbove p keyspace position = (name : List ℕ) (w : Live) → live_at p name ≡ Some w → (stream : StreamName) (slot : Slot) → slot_of w stream ≡ Some slot
+    → slot.state ≢ frozen → read_side w stream ≡ keyspace → position ≤ slot.position
+
+-- each primary keeps what such streams have still to read
+abbrev pub KeepsUnread : Plain → Primaries → Type 0
+KeepsUnread p at = (keyspace : List ℕ) → StandAbove p keyspace (at keyspace).log.purged
+
+-- the primaries stand for the rows and logs of a state: each log has, entry by entry, what the state's log has of its keyspace, but for
+-- what is purged; each table that is there has its rows; the owner of a live workflow's tables has the writes in its log that were not fed;
+-- and nothing is purged that a stream has still to read
 pub record RowsStand (p : Plain) (at : Primaries) : Type 0 where
-  pub log : (keyspace : List ℕ) → map (entry_at keyspace) (at keyspace).log ≡ log_of p keyspace
+  pub log : (keyspace : List ℕ) → KeepsEndOf (log_of p keyspace) keyspace (at keyspace).log
   pub rows : (keyspace table : List ℕ) → has_table p keyspace table ≡ true → (key : ℕ) → row_at (at keyspace) table key ≡ row_of p keyspace table key
-  pub pending : (name : List ℕ) (w : Live) → live_at p name ≡ Some w → IsPending p w (at (owner w)).log
+  pub pending : (name : List ℕ) (w : Live) → live_at p name ≡ Some w → IsPending p w (at (owner w)).log.entries
+  pub unread : KeepsUnread p at
 
 -- all primaries but that of one keyspace are as they were
 abbrev pub OthersStay : (keyspace : List ℕ) → (old new : Primaries) → Type 0

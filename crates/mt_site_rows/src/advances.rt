@@ -1,5 +1,5 @@
 //! Laws on an advance of a stream.
-ghost use Rattle.std.specs.Prelude.{◌≡◌, ℕ, true, List, Some, Result};
+ghost use Rattle.std.specs.Prelude.{◌≡◌, ℕ, ◌≤◌, true, List, Some, Result};
 ghost use Rattle.mt_laws.specs.WayBack.{IsReached};
 ghost use Rattle.mt_plain.specs.Answers.{Answers};
 ghost use Rattle.mt_plain.specs.Events.{StreamName, Slot, advance};
@@ -15,8 +15,9 @@ ghost use Rattle.mt_stream.specs.Streams.{StreamValue};
 use mt_laws::{
     a_live_workflow_is_found_by_its_part, a_stream_that_runs_reads_the_owner,
     an_advance_writes_one_log, each_next_state_is_reached, each_table_has_a_number_of_its_own,
-    live_workflows_stand_in_place, the_owner_alone_serves_the_primary, what_is_pending_was_not_fed,
-    what_was_fed_stays_fed, what_was_not_fed_makes_the_rows_of_the_owner,
+    live_workflows_stand_in_place, the_owner_alone_serves_the_primary, what_is_in_use_goes_on,
+    what_is_pending_was_not_fed, what_was_fed_stays_fed,
+    what_was_not_fed_makes_the_rows_of_the_owner,
 };
 use mt_stream::{
     Advanced, StreamFault, the_copied_range_follows_the_source, the_rows_left_are_the_uncopied_rows,
@@ -26,7 +27,7 @@ use mt_stream::{
 /// one of the answers that the definitions allow.
 pub fn an_advance_answers_as_the_definitions_allow()
     ensures { (p : Plain) → IsReached p → (at : Primaries) → RowsStand p at → (name : List ℕ) (w : Live) → live_at p name ≡ Some w
-        → (stream : StreamName) (slot : Slot) → slot_of w stream ≡ Some slot → IsPrimary (at (read_side w stream))
+        → (stream : StreamName) (slot : Slot) → slot_of w stream ≡ Some slot → IsPrimary (at (read_side w stream)) → (at (read_side w stream)).log.purged ≤ slot.position
         → (position at_most : ℕ) (result : Result Advanced StreamFault) (new : StreamValue) (sink : PrimaryState)
         → Advances (stream_of w slot) (at (read_side w stream)) (at (written_side w stream)) position at_most result new sink
         → Answers p (advance name stream position at_most) (answer_by_stream result) }
@@ -34,6 +35,7 @@ pub fn an_advance_answers_as_the_definitions_allow()
     a_live_workflow_is_found_by_its_part();
     live_workflows_stand_in_place();
     what_was_fed_stays_fed();
+    what_is_in_use_goes_on();
     each_table_has_a_number_of_its_own();
     the_owner_alone_serves_the_primary();
     a_stream_that_runs_reads_the_owner();
@@ -44,7 +46,7 @@ pub fn an_advance_answers_as_the_definitions_allow()
 /// state, and the stream is that of the workflow there, if the primary that it reads has the workflow's tables.
 pub fn an_advance_keeps_rows_and_logs()
     ensures { (p : Plain) → IsReached p → (old new : Primaries) → RowsStand p old → (name : List ℕ) (w : Live) → live_at p name ≡ Some w
-        → (stream : StreamName) (slot : Slot) → slot_of w stream ≡ Some slot → IsPrimary (old (read_side w stream))
+        → (stream : StreamName) (slot : Slot) → slot_of w stream ≡ Some slot → IsPrimary (old (read_side w stream)) → (old (read_side w stream)).log.purged ≤ slot.position
         → ((table : List ℕ) → moves w table ≡ true → has_table (old (read_side w stream)) table ≡ true) → OthersStay (written_side w stream) old new
         → (position at_most : ℕ) (result : Result Advanced StreamFault) (value : StreamValue)
         → Advances (stream_of w slot) (old (read_side w stream)) (old (written_side w stream)) position at_most result value (new (written_side w stream))
@@ -54,6 +56,7 @@ pub fn an_advance_keeps_rows_and_logs()
     a_live_workflow_is_found_by_its_part();
     live_workflows_stand_in_place();
     what_was_fed_stays_fed();
+    what_is_in_use_goes_on();
     each_table_has_a_number_of_its_own();
     the_owner_alone_serves_the_primary();
     a_stream_that_runs_reads_the_owner();

@@ -12,7 +12,7 @@ use mt_laws::{
     a_live_workflow_is_found_by_its_part, each_next_state_is_reached,
     each_table_has_a_number_of_its_own, live_workflows_stand_in_place,
     only_named_events_change_a_workflow, the_owner_alone_serves_the_primary,
-    what_was_fed_stays_fed,
+    what_is_in_use_goes_on, what_was_fed_stays_fed,
 };
 
 /// Behind a Cancel the primaries stand for the rows and logs of the next state, whatever became of the workflow's tables at
@@ -25,6 +25,7 @@ pub fn a_cancel_keeps_rows_and_logs()
     a_live_workflow_is_found_by_its_part();
     live_workflows_stand_in_place();
     what_was_fed_stays_fed();
+    what_is_in_use_goes_on();
     each_table_has_a_number_of_its_own();
     the_owner_alone_serves_the_primary();
     each_next_state_is_reached();
@@ -42,6 +43,7 @@ pub fn a_create_keeps_rows_and_logs()
     a_live_workflow_is_found_by_its_part();
     live_workflows_stand_in_place();
     what_was_fed_stays_fed();
+    what_is_in_use_goes_on();
     each_table_has_a_number_of_its_own();
     the_owner_alone_serves_the_primary();
     each_next_state_is_reached();

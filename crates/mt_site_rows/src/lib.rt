@@ -6,6 +6,7 @@ mod advances;
 mod bridges;
 mod ends;
 mod opening;
+mod purges;
 mod stays;
 mod steps;
 mod tables;
@@ -15,6 +16,10 @@ pub use advances::{an_advance_answers_as_the_definitions_allow, an_advance_keeps
 pub use bridges::tables_made_and_dropped_leave_the_others;
 pub use ends::{a_cancel_keeps_rows_and_logs, a_create_keeps_rows_and_logs};
 pub use opening::the_opening_has_no_rows;
+pub use purges::{
+    a_purge_keeps_rows_and_logs, a_stream_that_reads_the_owner_is_in_use,
+    each_live_workflow_is_read, what_is_still_to_be_read_was_not_fed,
+};
 pub use stays::events_that_change_no_row_keep_rows_and_logs;
 pub use steps::{a_step_keeps_rows_and_logs, a_stream_is_level_where_all_is_fed};
 pub use tables::a_new_table_keeps_rows_and_logs;

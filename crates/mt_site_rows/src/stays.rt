@@ -16,7 +16,7 @@ use mt_laws::{
     a_live_workflow_is_found_by_its_part, each_next_state_is_reached,
     each_table_has_a_number_of_its_own, live_workflows_stand_in_place,
     only_named_events_change_a_workflow, only_named_events_change_the_state,
-    the_owner_alone_serves_the_primary, what_was_fed_stays_fed,
+    the_owner_alone_serves_the_primary, what_is_in_use_goes_on, what_was_fed_stays_fed,
 };
 
 /// What is refused, reads and Show, a rule by hand, a new keyspace, and the begins and undos of switches and reversals leave
@@ -40,6 +40,7 @@ pub fn events_that_change_no_row_keep_rows_and_logs()
     a_live_workflow_is_found_by_its_part();
     live_workflows_stand_in_place();
     what_was_fed_stays_fed();
+    what_is_in_use_goes_on();
     each_table_has_a_number_of_its_own();
     the_owner_alone_serves_the_primary();
     each_next_state_is_reached();

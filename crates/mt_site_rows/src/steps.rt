@@ -10,12 +10,13 @@ ghost use Rattle.mt_plain.specs.Slots.{read_side, slot_of};
 ghost use Rattle.mt_site_rows.specs.Rows.{Primaries, RowsStand, stream_of};
 ghost use Rattle.mt_stream.specs.Streams.{is_level};
 
+use crate::purges::a_stream_that_reads_the_owner_is_in_use;
 use mt_laws::{
     a_live_workflow_is_found_by_its_part, all_writes_are_fed_at_the_journal,
     each_next_state_is_reached, each_table_has_a_number_of_its_own, live_workflows_stand_in_place,
     only_named_events_change_a_workflow, only_named_events_change_the_state,
-    the_owner_alone_serves_the_primary, ways_keep_their_course, what_is_pending_was_not_fed,
-    what_was_fed_stays_fed,
+    the_owner_alone_serves_the_primary, ways_keep_their_course, what_is_in_use_goes_on,
+    what_is_pending_was_not_fed, what_was_fed_stays_fed,
 };
 
 /// A step of a switch or a reversal leaves primaries that stand for the rows and logs of the next state, with no change of
@@ -27,6 +28,7 @@ pub fn a_step_keeps_rows_and_logs()
     a_live_workflow_is_found_by_its_part();
     live_workflows_stand_in_place();
     what_was_fed_stays_fed();
+    what_is_in_use_goes_on();
     each_table_has_a_number_of_its_own();
     the_owner_alone_serves_the_primary();
     each_next_state_is_reached();
@@ -43,4 +45,5 @@ pub fn a_stream_is_level_where_all_is_fed()
         → is_level (stream_of w slot) (at (read_side w stream)) ≡ not (is_behind p w) }
 {
     what_is_pending_was_not_fed();
+    a_stream_that_reads_the_owner_is_in_use();
 }

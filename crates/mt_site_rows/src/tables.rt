@@ -10,7 +10,8 @@ ghost use Rattle.mt_site_rows.specs.Rows.{OtherTablesStay, OthersStay, Primaries
 
 use mt_laws::{
     a_live_workflow_is_found_by_its_part, each_table_has_a_number_of_its_own,
-    live_workflows_stand_in_place, the_owner_alone_serves_the_primary, what_was_fed_stays_fed,
+    live_workflows_stand_in_place, the_owner_alone_serves_the_primary, what_is_in_use_goes_on,
+    what_was_fed_stays_fed,
 };
 use mt_model::what_is_made_by_hand;
 
@@ -26,6 +27,7 @@ pub fn a_new_table_keeps_rows_and_logs()
     a_live_workflow_is_found_by_its_part();
     live_workflows_stand_in_place();
     what_was_fed_stays_fed();
+    what_is_in_use_goes_on();
     each_table_has_a_number_of_its_own();
     the_owner_alone_serves_the_primary();
     what_is_made_by_hand();

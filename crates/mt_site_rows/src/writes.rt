@@ -16,7 +16,8 @@ ghost use Rattle.mt_site_rows.specs.Rows.{OthersStay, Primaries, RowsStand};
 
 use mt_laws::{
     a_live_workflow_is_found_by_its_part, each_table_has_a_number_of_its_own,
-    live_workflows_stand_in_place, the_owner_alone_serves_the_primary, what_was_fed_stays_fed,
+    live_workflows_stand_in_place, the_owner_alone_serves_the_primary, what_is_in_use_goes_on,
+    what_was_fed_stays_fed,
 };
 
 /// A write at the primary of a keyspace, whose table and own list are those of the state: its answer is one that the
@@ -31,6 +32,7 @@ pub fn a_write_keeps_rows_and_logs()
     a_live_workflow_is_found_by_its_part();
     live_workflows_stand_in_place();
     what_was_fed_stays_fed();
+    what_is_in_use_goes_on();
     each_table_has_a_number_of_its_own();
     the_owner_alone_serves_the_primary();
 }

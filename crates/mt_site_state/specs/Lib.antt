@@ -1,4 +1,5 @@
 pub mod Core
+pub mod Purges
 pub mod Stands
 pub mod ByHand
 pub mod Workflows

@@ -20,7 +20,7 @@ use Rattle.mt_site_topology.specs.Stands.{TopologyStands}
 use Rattle.mt_site_rows.specs.Rows.{RowsStand, stream_of}
 use Rattle.mt_site_state.specs.Core.{CoreState, Primaries, Workflows, primary_at, primary_of, workflow_at}
 
--- each keyspace of the state has a primary, with the tables that it has there, and the own list that refuses what it refuses there
+-- each keyspace of the state has a primary, with the tables that it has there and the own list that refuses what it refuses there
 pub record ArePrimaries (p : Plain) (primaries : Primaries) : Type 0 where
   pub there : (keyspace : List ℕ) → is_some (primary_at primaries keyspace) ≡ has_keyspace p keyspace
   pub count : length primaries ≡ length p.topology.keyspaces

@@ -15,7 +15,7 @@ use Rattle.mt_watch.specs.Asking.{Answering, AsksEach}
 use Rattle.mt_watch.specs.declared.fault.WatchersFault.TheVariants as watchers
 use Rattle.mt_watch.specs.Scopes.{has_scope}
 use Rattle.mt_primary.specs.Denials.{told_by_refresh, with_denials}
-use Rattle.mt_primary.specs.Primary.{PrimaryState}
+use Rattle.mt_primary.specs.Primary.{PrimaryState, end_of}
 use Rattle.mt_primary.specs.Writes.{with_new_table, without_table}
 use Rattle.mt_stream.specs.declared.fault.StreamFault.{StreamFault}
 use Rattle.mt_stream.specs.declared.stream.Advanced.{Advanced}
@@ -80,7 +80,7 @@ create_refusal core scopes workflow source target tables =
 -- the new workflow: it keeps the rules that stand in its part, and its stream reads the source's log from its end on
 abbrev pub new_of : CoreState → (workflow source target : List ℕ) → List (List ℕ) → WorkflowState
 new_of core workflow source target tables =
-    new_workflow core.topology.rules workflow source target tables (length (primary_of core.primaries source).log)
+    new_workflow core.topology.rules workflow source target tables (end_of (primary_of core.primaries source))
 
 -- the change with which the watchers of the target's primary are asked
 abbrev pub change_of : WorkflowState → List Entry

@@ -1,9 +1,9 @@
 //! What is asked of a site, and how it stands then.
 
 use crate::answers::{Answer, is_answer};
-use crate::events::{Ask, event_of};
+use crate::events::{Ask, Place, event_of};
 use mt_event::{Refusal, Reply};
-use mt_names::{RuleKey, RuleTarget, TabletType};
+use mt_names::{KeyspaceName, Position, RuleKey, RuleTarget, TabletType};
 use mt_site::Site;
 use mt_watch::Watchers;
 
@@ -20,6 +20,10 @@ pub enum Act {
     Leads(&'static str, TabletType, &'static str),
     /// So many events are owed to the live workflows.
     Owes(usize),
+    /// The row 1 of a table is updated to `w` so many times, and each time that is done.
+    Writes(u16, Place),
+    /// The log of a keyspace keeps its entries from the first of these positions on, and ends at the second.
+    Keeps(&'static str, Position, Position),
 }
 
 /// How an event is answered; nothing if one of its names isn't one.
@@ -50,16 +54,44 @@ fn has_dump(site: &Site<Watchers>, want: &str) -> bool {
     site.dump().is_ok_and(|text| text.as_str() == want)
 }
 
+/// Whether an event is answered so.
+fn is_answered(site: &mut Site<Watchers>, ask: Ask, want: Answer) -> bool {
+    match answer(site, ask) {
+        Some(result) => is_answer(&result, want),
+        None => false,
+    }
+}
+
+/// Whether the row 1 of a table is updated so many times, and each time that is done.
+fn writes(site: &mut Site<Watchers>, times: u16, place: Place) -> bool {
+    for _ in 0..times {
+        if !is_answered(site, Ask::Update(place, 1, "w"), Answer::Done) {
+            return false;
+        }
+    }
+    true
+}
+
+/// Whether the log of a keyspace keeps its entries from a position on, and ends at another.
+fn keeps(site: &Site<Watchers>, keyspace: &str, first: Position, end: Position) -> bool {
+    let Ok(keyspace) = KeyspaceName::parse(keyspace) else {
+        return false;
+    };
+    match site.primary(&keyspace) {
+        Some(primary) => primary.first_kept() == first && primary.position() == end,
+        None => false,
+    }
+}
+
 /// Whether an act is so.
 pub fn is_so(site: &mut Site<Watchers>, act: Act) -> bool {
     match act {
-        Act::Asks(ask, want) => match answer(site, ask) {
-            Some(result) => is_answer(&result, want),
-            None => false,
-        },
+        Act::Asks(ask, want) => is_answered(site, ask, want),
         Act::Rules(want) => has_rules(site, want),
         Act::Dump(want) => has_dump(site, want),
         Act::Leads(key, tablet_type, want) => leads(site, key, tablet_type, want),
         Act::Owes(want) => site.owed() == want,
+        Act::Writes(times, place) => writes(site, times, place),
+        Act::Keeps(keyspace, first, end) => keeps(site, keyspace, first, end),
     }
 }

@@ -25,6 +25,10 @@ mod moves;
 #[cfg(test)]
 mod play;
 #[cfg(test)]
+mod purging;
+#[cfg(test)]
+mod purging_held;
+#[cfg(test)]
 mod refusals;
 #[cfg(test)]
 mod ways;

@@ -1,5 +1,5 @@
 -- Where a primary takes writes to a table, the table is writable in the state that the core stands for.
-use Rattle.std.proofs.Common.{◌≡◌, ℕ, ◌||◌, true, false, if◌then◌else◌, List, ap, sym, subst, ◌∙◌}
+use Rattle.std.proofs.Common.{◌≡◌, ℕ, ◌||◌, if◌then◌else◌, List, ap, sym, subst, ◌∙◌}
 use Rattle.mt_laws.specs.Changes.{HasSides}
 use Rattle.mt_names.specs.Names.{same_text}
 use Rattle.mt_names.specs.declared.types.TypeSet.{TypeSet}

@@ -40,7 +40,7 @@ not_back true e = absurd (true≢false (sym e))
 not_back false e = refl
 
 -- the other side serves the reads where primary was switched just if the way leads back
-turns_over : (way : Way) → serves_other_side way ≡ true → way.before.primary ≡ way.back
+pub turns_over : (way : Way) → serves_other_side way ≡ true → way.before.primary ≡ way.back
 turns_over way = by way.back way.before.primary
   where
     by : (b x : Bool) → cond b x (not x) ≡ true → x ≡ b
@@ -48,7 +48,7 @@ turns_over way = by way.back way.before.primary
     by false x e = not_back x e
 
 -- the journal isn't written where a step up to it is next
-no_journal : (way : Way) (n : ℕ) → n < 7 → n ≡ next_step way → stands_done way write_journal ≡ false
+pub no_journal : (way : Way) (n : ℕ) → n < 7 → n ≡ next_step way → stands_done way write_journal ≡ false
 no_journal way n below is = ap (λ b. nat_le (first_step way) write_journal && b) (lt-leb (suc write_journal) (next_step way) (omega (arith, below, is))) ∙ and_false (nat_le (first_step way) write_journal)
   where
     and_false : (b : Bool) → (b && false) ≡ false
@@ -56,7 +56,7 @@ no_journal way n below is = ap (λ b. nat_le (first_step way) write_journal && b
     and_false false = refl
 
 -- a way that has the catch-up changes primary
-changes_where_tested : (w : Live) (way : Way) → IsOnCourse w way → catch_up ≡ next_step way → changes_primary way ≡ true
+pub changes_where_tested : (w : Live) (way : Way) → IsOnCourse w way → catch_up ≡ next_step way → changes_primary way ≡ true
 changes_where_tested w way course is = by (changes_primary way) course.within
   where
     by : (c : Bool) → next_step way < cond c 12 1 → c ≡ true

@@ -44,3 +44,5 @@ pub mod WayStepLemmas
 pub mod WayUndoLemmas
 pub mod WaysLemmas
 pub mod WholeOpenLemmas
+mod TestLemmas
+mod PurgeLemmas

@@ -1,14 +1,16 @@
 -- Primaries with other own lists, and the next state that they stand for.
-use Rattle.std.proofs.Common.{◌≡◌, ◌≢◌, ℕ, Bool, true, false, cond, List, length, map, Option, Some, is_some, refl, sym, ap, ◌∙◌, subst}
+use Rattle.std.proofs.Common.{◌≡◌, ◌≢◌, ℕ, Bool, true, false, cond, List, length, Option, Some, is_some, refl, sym, ap, ◌∙◌, subst}
 use Rattle.std.proofs.lemmas.Bool.{or_from}
 use Rattle.std.specs.Option.{option_map_or}
 use Rattle.mt_names.specs.Names.{same_text}
 use Rattle.mt_model.specs.Topology.{keyspace_at}
+use Rattle.mt_log.specs.Log.{LogState}
 use Rattle.mt_primary.specs.Primary.{PrimaryState, is_denied_at, row_at}
 use Rattle.mt_primary.specs.Primary as primary
 use Rattle.mt_plain.specs.Plain.{Live, Plain, is_side, mover, moves, owner}
 use Rattle.mt_plain.specs.Serve.{has_table, refuses, refuses_by}
-use Rattle.mt_site_rows.specs.Rows.{IsPending, RowsStand, entry_at}
+use Rattle.mt_plain.specs.Slots.{log_of}
+use Rattle.mt_site_rows.specs.Rows.{IsPending, KeepsEndOf, RowsStand, StandAbove}
 use Rattle.mt_site_rows.proofs.KnownLemmas.{differs}
 use Rattle.mt_site_state.specs.Core.{Primaries, primary_at, primary_of}
 use Rattle.mt_site_state.specs.Stands.{ArePrimaries}
@@ -50,9 +52,10 @@ module _ (p q : Plain) (w : Live) (lists : List ℕ → Bool) (next : IsNext p q
         denials = λ keyspace table. (listed keyspace).denied table ∙ ap (cond (moves w table) (lists keyspace)) (are.denials keyspace table) ∙ sym (next.refused keyspace table);
       },
       record {
-        log = λ keyspace. ap (map (entry_at keyspace)) (listed keyspace).log ∙ stand.log keyspace;
+        log = λ keyspace. subst (KeepsEndOf (log_of q keyspace) keyspace) (sym (listed keyspace).log) (stand.log keyspace);
         rows = λ keyspace table has key. (listed keyspace).rows table key ∙ stand.rows keyspace table has key;
-        pending = λ name v is. subst (IsPending q v) (sym (listed (owner v)).log) (stand.pending name v is);
+        pending = λ name v is. subst (λ (l : LogState). IsPending q v l.entries) (sym (listed (owner v)).log) (stand.pending name v is);
+        unread = λ keyspace. subst (λ (l : LogState). StandAbove q keyspace l.purged) (sym (listed keyspace).log) (stand.unread keyspace);
       },
     )
 

@@ -1,7 +1,6 @@
 -- What is known where a core stands for a state, and the next state of a way's events.
-use Rattle.std.proofs.Common.{◌≡◌, ℕ, Bool, true, false, cond, ◌&&◌, List, length, Option, None, Some, refl, sym, ap, ◌∙◌, subst, arith, ltb, leb, ◌≤◌}
+use Rattle.std.proofs.Common.{◌≡◌, ℕ, Bool, true, false, cond, ◌&&◌, List, Option, None, Some, refl, sym, ap, ◌∙◌, subst, arith, ltb, leb, ◌≤◌}
 use Rattle.std.proofs.lemmas.Bool.{le-ltb, leb-true}
-use Rattle.std.proofs.lemmas.List.{length-map}
 use Rattle.std.proofs.lemmas.List.Sums.{length-filter}
 use Rattle.std.specs.Option.{option_map_or}
 use Rattle.mt_names.specs.declared.types.TypeSet.{TypeSet}
@@ -14,12 +13,14 @@ use Rattle.mt_plain.specs.Next.{with_live, with_way_to}
 use Rattle.mt_plain.specs.Plain.{Live, LogEntry, Plain, first_step, has_part, live_at, next_step, part_owner, stands_done}
 use Rattle.mt_plain.specs.Refuse.{new_owner}
 use Rattle.mt_plain.specs.Serve.{has_table, is_listed_at, refuses_by, step_of_list}
-use Rattle.mt_plain.specs.Slots.{log_length}
+use Rattle.mt_plain.specs.Slots.{log_length, log_of}
+use Rattle.mt_primary.specs.Primary.{end_of}
 use Rattle.mt_laws.specs.Changes.{HasSides}
 use Rattle.mt_laws.specs.Reached.{IsInPlace}
 use Rattle.mt_steps.specs.Streams.{log_end}
 use Rattle.mt_workflow.specs.Workflows.{WorkflowState}
-use Rattle.mt_site_rows.specs.Rows.{RowsStand, entry_at}
+use Rattle.mt_site_rows.specs.Rows.{RowsStand}
+use Rattle.mt_site_rows.proofs.LogLemmas.{log-length}
 use Rattle.mt_site_rows.proofs.KeepLemmas.{any_changed}
 use Rattle.mt_site_state.specs.Core.{CoreState, Primaries, primary_of, workflow_at}
 use Rattle.mt_site_state.specs.Stands.{ArePrimaries, StandsFor, StandsForAny, StandsWith}
@@ -63,9 +64,9 @@ begun_list w back change rests keyspace =
 -- ---- the end of a log
 
 module _ (p : Plain) (primaries : Primaries) (rows : RowsStand p (primary_of primaries)) where
-  log_same : (keyspace : List ℕ) → length (primary_of primaries keyspace).log ≡ log_length p keyspace
+  log_same : (keyspace : List ℕ) → end_of (primary_of primaries keyspace) ≡ log_length p keyspace
   log_same keyspace =
-      sym (length-map (primary_of primaries keyspace).log (entry_at keyspace)) ∙ ap length (rows.log keyspace)
+      sym (log-length (log_of p keyspace) keyspace (primary_of primaries keyspace).log (rows.log keyspace))
       ∙ length-filter (λ (e : LogEntry). same_text e.keyspace keyspace) p.log
 
   pub end_same : (live : Live) (way : Way) → live.way ≡ Some way → (source target : List ℕ) → live.source ≡ source → live.target ≡ target
@@ -74,6 +75,6 @@ module _ (p : Plain) (primaries : Primaries) (rows : RowsStand p (primary_of pri
       by way.before.primary
       ∙ sym (ap (λ (o : Option Way). log_length p (cond (option_map_or (λ x. x.before) o live.switched).primary live.source live.target)) opens)
     where
-      by : (b : Bool) → length (cond b (primary_of primaries source) (primary_of primaries target)).log ≡ log_length p (cond b live.source live.target)
+      by : (b : Bool) → end_of (cond b (primary_of primaries source) (primary_of primaries target)) ≡ log_length p (cond b live.source live.target)
       by true = log_same source ∙ ap (log_length p) (sym is_source)
       by false = log_same target ∙ ap (log_length p) (sym is_target)

@@ -8,6 +8,7 @@ use Rattle.mt_names.specs.Names.{same_text}
 use Rattle.mt_names.proofs.SameLemmas.{same_text_decides}
 use Rattle.mt_model.specs.declared.rows.RowChange.{RowChange}
 use Rattle.mt_model.specs.Topology.{HasDistinctPlaces, is_present}
+use Rattle.mt_log.specs.Log.{LogState}
 use Rattle.mt_primary.specs.Primary.{PrimaryState, row_at}
 use Rattle.mt_plain.specs.Next.{with_completed}
 use Rattle.mt_plain.specs.Plain.{Live, Plain, Write, is_side, live_at, mover, moves, number_of, owner}
@@ -18,7 +19,9 @@ use Rattle.mt_laws.proofs.AllWritesLemmas.{any_same, filter_same}
 use Rattle.mt_laws.proofs.EntryValueLemmas.{in_moved}
 use Rattle.mt_laws.proofs.InPlaceLemmas.{live_in}
 use Rattle.mt_laws.proofs.LiveLemmas.{Apart, IsIn, any-in, in-filter, text_apart, text_differs}
-use Rattle.mt_site_rows.specs.Rows.{IsPending, OtherTablesStay, OthersStay, Primaries, RowsStand, entry_at, is_moved, write_of}
+use Rattle.mt_plain.specs.Slots.{log_of}
+use Rattle.mt_site_rows.specs.Rows.{IsPending, KeepsEndOf, OtherTablesStay, OthersStay, Primaries, RowsStand, is_moved, rows_before, write_of}
+use Rattle.mt_site_rows.proofs.UnreadLemmas.{StreamsGoOn, unread_next}
 use Rattle.mt_site_rows.proofs.KnownLemmas.{Known, itself, row_at_owner, row_elsewhere, row_free, same_or}
 use Rattle.mt_site_events.proofs.GoneLemmas.{live_gone}
 use Rattle.mt_site_ways.proofs.CompleteNextLemmas.{client_stays, none_moves, number_away, number_stays, owner_at_target, same_mover, table_moved, table_unmoved}
@@ -178,26 +181,28 @@ module _ (p : Plain) (known : Known p) (apart : Apart p.lives) (w : Live) (live 
 
       -- ---- what was not fed
 
-      pending_now : (n : List ℕ) (v : Live) → live_at q n ≡ Some v → IsPending q v (new (owner v)).log
-      pending_now n v found = subst (IsPending q v) (sym (log_same (owner v))) (record {
+      pending_now : (n : List ℕ) (v : Live) → live_at q n ≡ Some v → IsPending q v (new (owner v)).log.entries
+      pending_now n v found = subst (λ (l : LogState). IsPending q v l.entries) (sym (log_same (owner v))) (record {
         before = was.before;
         left = was.left;
         entries = was.entries;
         writes = map_agree (write_of q v) (write_of p v) was.left (λ x is. ap (written x) (same_number n v found x.table (about_moved x is))) ∙ was.writes ∙ ap (drop v.fed) (sym (same_writes n v found));
+        rows = was.rows ∙ ap (λ ws. drop v.fed (rows_before [] ws)) (sym (same_writes n v found));
       })
         where
-          was : IsPending p v (old (owner v)).log
+          was : IsPending p v (old (owner v)).log.entries
           was = stands.pending n v (live_before n v found)
 
           written : RowChange → ℕ → Write
           written x m = record { table = m; key = x.key; after = x.after }
 
           about_moved : (x : RowChange) → IsIn x was.left → moves v x.table ≡ true
-          about_moved x is = (in-filter (is_moved v) (old (owner v)).log x (subst (IsIn x) (sym was.entries) (in_right was.before was.left x is))).1
+          about_moved x is = (in-filter (is_moved v) (old (owner v)).log.entries x (subst (IsIn x) (sym was.entries) (in_right was.before was.left x is))).1
 
-      pub complete_stands : RowsStand q new
-      complete_stands = record {
-        log = λ k. ap (map (entry_at k)) (log_same k) ∙ stands.log k;
+      pub complete_stands : StreamsGoOn p q → RowsStand q new
+      complete_stands goes = record {
+        log = λ k. subst (KeepsEndOf (log_of q k) k) (sym (log_same k)) (stands.log k);
         rows = row_now;
         pending = pending_now;
+        unread = unread_next p q old new stands (λ k. ap (λ (l : LogState). l.purged) (log_same k)) goes;
       }

@@ -8,6 +8,7 @@ mod events;
 mod headline;
 mod numbers;
 mod primaries;
+mod purging;
 mod records;
 mod rows;
 mod stays;
@@ -33,9 +34,13 @@ pub use primaries::{
     a_begin_leaves_the_primaries, a_log_ends_where_the_definitions_say,
     a_refresh_records_an_empty_list, a_step_leaves_the_primaries, an_undo_leaves_the_primaries,
 };
+pub use purging::a_purged_site_stands;
 pub use records::{steps_and_undos_leave_the_topology, what_is_kept_of_the_ways_stays};
 pub use rows::a_complete_keeps_rows_and_logs;
-pub use stays::{a_create_leaves_a_site, a_site_stays_one, each_open_way_has_a_record};
+pub use stays::{
+    a_create_leaves_a_site, a_site_stays_one, each_open_way_has_a_record,
+    what_a_step_looks_at_is_kept,
+};
 pub use ways::{a_begin_steps, a_complete_steps, a_step_steps, an_undo_steps};
 pub use workflows::{
     a_begin_leaves_the_workflows, a_step_leaves_the_workflows, an_undo_leaves_the_workflows,

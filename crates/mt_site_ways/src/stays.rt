@@ -6,11 +6,12 @@ ghost use Rattle.mt_model.specs.declared.entries.Scope.{Scope};
 ghost use Rattle.mt_plain.specs.Answers.{Answers};
 ghost use Rattle.mt_plain.specs.Events.{Answer, Event, Way, create};
 ghost use Rattle.mt_plain.specs.Plain.{behind_last, next_step, opening, stands_done, write_journal};
-ghost use Rattle.mt_site_state.specs.Core.{CoreState, workflow_at};
+ghost use Rattle.mt_site_state.specs.Core.{CoreState, primary_of, workflow_at};
 ghost use Rattle.mt_site_state.specs.Stands.{IsCore};
 ghost use Rattle.mt_site_state.specs.Ways.{HasSiteState, IsSite, SiteState, SiteStands, SiteSteps, empty_site, open_at};
 ghost use Rattle.mt_site_state.specs.Workflows.{Creates};
 ghost use Rattle.mt_steps.specs.declared.log.OpenWay.{OpenWay};
+ghost use Rattle.mt_steps.specs.Streams.{KeepsToTest};
 ghost use Rattle.mt_steps.specs.Undo.{IsLogOf};
 ghost use Rattle.mt_workflow.specs.Workflows.{WorkflowState};
 
@@ -21,6 +22,7 @@ use mt_site_events::{
     a_create_is_refused_as_the_definitions_refuse_it, an_empty_core_stands_for_the_opening,
     what_a_create_makes_stands_for_the_next_state,
 };
+use mt_site_rows::a_stream_that_reads_the_owner_is_in_use;
 use mt_watch::Asks;
 
 /// Without keyspaces, workflows and ways the controller stands for the opening. The core of a state of the controller is one. It stands
@@ -65,4 +67,13 @@ pub fn each_open_way_has_a_record()
         → w.way ≡ Some way → open_at s.ways.opened name ≡ Some o → stands_done way write_journal ≡ false → entry_of s.ways.journal o.number ≡ None }
 {
     ways_keep_their_course();
+}
+
+/// If the next step of an open way looks whether the feeding stream is level, the primary that this stream reads keeps what it has still to read.
+pub fn what_a_step_looks_at_is_kept()
+    ensures { (s : SiteState) → IsSite s → (name : List ℕ) (w : WorkflowState) (way : Way) → workflow_at s.core.workflows name ≡ Some w
+        → w.way ≡ Some way → KeepsToTest w way (next_step way) (primary_of s.core.primaries w.source) (primary_of s.core.primaries w.target) }
+{
+    ways_keep_their_course();
+    a_stream_that_reads_the_owner_is_in_use();
 }

@@ -26,7 +26,7 @@ use Rattle.mt_site_workflows.specs.Ways.{StepsBetween, UndoesBetween, sides_betw
 use Rattle.mt_site_workflows.proofs.PrimaryLemmas.{put-back, second-is}
 
 -- the way that is open
-way-is : (w : WorkflowState) (way : Way) → w.way ≡ Some way → open_way w ≡ way
+pub way-is : (w : WorkflowState) (way : Way) → w.way ≡ Some way → open_way w ≡ way
 way-is w way has_way = ap (λ o. unwrap_or o (record { back = false; before = no_types; after = no_types; done = 0; undoing = false })) has_way
 
 -- ---- where both primaries stay in their places

@@ -9,3 +9,4 @@ pub mod PrimaryLemmas
 pub mod StepLemmas
 pub mod TargetLemmas
 pub mod WriteLemmas
+mod PurgeLemmas

@@ -12,6 +12,7 @@ use Rattle.mt_steps.specs.declared.fault.StepFault.{StepFault}
 use Rattle.mt_steps.specs.declared.log.OpenWay.{OpenWay}
 use Rattle.mt_steps.specs.Plans.{step_at}
 use Rattle.mt_steps.specs.Steps.{SidesState, Steps}
+use Rattle.mt_steps.specs.Streams.{KeepsToTest}
 use Rattle.mt_steps.specs.Undo.{IsLogOf, UndoState, new_log}
 use Rattle.mt_watch.specs.Asking.{Answering}
 use Rattle.mt_workflow.specs.Workflows.{WorkflowState, keys_of_part, live_of}
@@ -22,7 +23,7 @@ use Rattle.mt_site_state.specs.Ways.{OpenWays, open_at}
 
 -- a workflow with an open way stands in its place: under its own name, with primaries at both of its sides, which are two, a place in the
 -- topology for each key of its part, a next step, and what is kept of the way kept for it; its number is new to the journal until the
--- way has written its entry
+-- way has written its entry, and the primary that the feeding stream reads keeps what it has still to read, if the next step looks at that
 pub record IsUnderWay (t : TopologyState) (primaries : Primaries) (journal : List JournalEntry) (name : List ℕ) (w : WorkflowState) (way : Way) (o : OpenWay) : Type 0 where
   pub named : w.name ≡ name
   pub source : is_some (primary_at primaries w.source) ≡ true
@@ -32,6 +33,7 @@ pub record IsUnderWay (t : TopologyState) (primaries : Primaries) (journal : Lis
   pub within : next_step way < 12
   pub kept : IsLogOf w o.log
   pub unused : stands_done way write_journal ≡ false → entry_of journal o.number ≡ None
+  pub unread : KeepsToTest w way (next_step way) (primary_of primaries w.source) (primary_of primaries w.target)
 
 -- so does each, and something is kept of each open way
 pub record CanStep (t : TopologyState) (primaries : Primaries) (workflows : Workflows) (journal : List JournalEntry) (opened : OpenWays) (name : List ℕ) : Type 0 where

@@ -12,7 +12,7 @@ ghost use Rattle.mt_names.specs.Tables.{most_tables};
 ghost use Rattle.mt_plain.specs.Events.{full};
 ghost use Rattle.mt_plain.specs.Plain.{among, each_once};
 ghost use Rattle.mt_plain.specs.Refuse.{or_else, refuse_if};
-ghost use Rattle.mt_primary.specs.Primary.{has_table};
+ghost use Rattle.mt_primary.specs.Primary.{end_of, has_table};
 ghost use Rattle.mt_site_state.specs.Core.{primary_at, primary_of, workflow_at};
 ghost use Rattle.mt_site_state.specs.Core as core;
 ghost use Rattle.mt_site_state.specs.Workflows.{Creates, CreatesSet, create_refusal, is_full, is_moved, refusal_by_table, table_refusal, tables_refusal};
@@ -201,7 +201,7 @@ fn refusal_before<W: Asks>(
 /// How long the log of a keyspace's primary is.
 fn position_of(primaries: &Primaries, keyspace: &KeyspaceName) -> Position
     requires { is_some (primary_at primaries.now.entries keyspace.now) ≡ true }
-    ensures { result ≡ length (primary_of primaries.now.entries keyspace.now).log }
+    ensures { result ≡ end_of (primary_of primaries.now.entries keyspace.now) }
 {
     match mt_few::get(primaries, keyspace) {
         None => unreachable!(),
@@ -261,7 +261,7 @@ fn make<W: Asks>(
     requires ready { IsReady (W.scopes watchers.now) primaries.old.entries asked.source.now asked.target.now asked.tables.now }
     requires new { is_some (workflow_at workflows.old.entries asked.name.now) ≡ false }
     requires places { All (λ key. has_place topology.old key ≡ true) (part_keys asked.source.now asked.target.now asked.tables.now) }
-    ensures { Makes (W.scopes watchers.now) (W.may_answer watchers.now) (new_workflow topology.old.rules asked.entry.name.now asked.entry.source.now asked.entry.target.now asked.entry.tables.now (length (primary_of primaries.old.entries asked.entry.source.now).log))
+    ensures { Makes (W.scopes watchers.now) (W.may_answer watchers.now) (new_workflow topology.old.rules asked.entry.name.now asked.entry.source.now asked.entry.target.now asked.entry.tables.now (end_of (primary_of primaries.old.entries asked.entry.source.now)))
         (record { topology = topology.old; primaries = primaries.old.entries; workflows = workflows.old.entries }) result
         (record { topology = topology.new; primaries = primaries.new.entries; workflows = workflows.new.entries }) }
 {

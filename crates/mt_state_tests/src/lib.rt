@@ -8,9 +8,13 @@ mod phases;
 #[cfg(test)]
 mod primary;
 #[cfg(test)]
+mod purges;
+#[cfg(test)]
 mod refreshes;
 #[cfg(test)]
 mod routes;
+#[cfg(test)]
+mod rows;
 #[cfg(test)]
 mod streams;
 #[cfg(test)]

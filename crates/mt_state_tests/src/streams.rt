@@ -74,13 +74,13 @@ fn has_entry(primary: &Primary, position: u64, entry: Entry<'_>) -> Result<bool,
     let ((table, key, after), before) = entry;
     let table = TableName::parse(table)?;
     Ok(match primary.entry(position) {
-        Some(change) => {
+        Ok(Some(change)) => {
             change.table.name() == &table
                 && change.key == key
                 && is_row(&change.before, before)
                 && is_row(&change.after, after)
         }
-        None => false,
+        _ => false,
     })
 }
 
@@ -92,7 +92,7 @@ pub fn has_log(primary: &Primary, entries: &[Entry<'_>]) -> bool {
         }
     }
     let end = entries.len() as u64;
-    primary.entry(end).is_none() && primary.position() == end
+    matches!(primary.entry(end), Ok(None)) && primary.position() == end
 }
 
 /// Whether this is the first row of a table, or the first above a key.

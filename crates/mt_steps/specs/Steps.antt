@@ -7,7 +7,7 @@ use Rattle.mt_model.specs.Topology.{Marks, TopologyState}
 use Rattle.mt_plain.specs.Events.{Way}
 use Rattle.mt_plain.specs.Refuse.{most_journal_entries}
 use Rattle.mt_primary.specs.Denials.{AreDenialsSet, told_by_marks}
-use Rattle.mt_primary.specs.Primary.{PrimaryState}
+use Rattle.mt_primary.specs.Primary.{PrimaryState, end_of}
 use Rattle.mt_stream.specs.Streams.{StreamValue}
 use Rattle.mt_watch.specs.Asking.{Answering}
 use Rattle.mt_workflow.specs.Workflows.{WorkflowState}
@@ -44,7 +44,7 @@ answer_if_level false = Err fault.NotLevel
 -- the entry of the journal for a way (How traffic is switched: the journal)
 abbrev pub journal_entry : (id : ℕ) → WorkflowState → Way → (source target : PrimaryState) → JournalEntry
 journal_entry id w way source target =
-    record { id = id; workflow = w.name; back = way.back; source_position = length source.log; target_position = length target.log }
+    record { id = id; workflow = w.name; back = way.back; source_position = end_of source; target_position = end_of target }
 
 -- an entry goes behind the others, if there is room and memory for it (How traffic is switched: the journal)
 abbrev pub Journals : JournalEntry → List JournalEntry → Result ⊤ StepFault → List JournalEntry → Type 0

@@ -1,10 +1,10 @@
 -- What the steps of a way, and their undo, do with the two streams of a workflow.
-use Rattle.std.specs.Prelude.{ℕ, suc, ◌-◌, ◌||◌, ◌==◌, Bool, true, false, not, List, length, if◌then◌else◌, Option, None, Some, option_map}
+use Rattle.std.specs.Prelude.{◌≡◌, ◌≤◌, ℕ, suc, ◌-◌, ◌&&◌, ◌||◌, ◌==◌, Bool, true, false, not, List, if◌then◌else◌, Option, None, Some, option_map}
 use Rattle.std.specs.Option.{option_map_or}
 use Rattle.mt_names.specs.declared.types.TypeSet.{TypeSet}
 use Rattle.mt_plain.specs.Events.{StreamName, forward, back, running, stopped, frozen, Way}
-use Rattle.mt_plain.specs.Plain.{behind_last, ended, write_journal}
-use Rattle.mt_primary.specs.Primary.{PrimaryState}
+use Rattle.mt_plain.specs.Plain.{behind_last, catch_up, ended, switch_reads, write_journal}
+use Rattle.mt_primary.specs.Primary.{PrimaryState, end_of}
 use Rattle.mt_stream.specs.Streams.{StreamValue, is_level}
 pub use Rattle.mt_workflow.specs.Workflows.{in_state}
 use Rattle.mt_workflow.specs.Workflows.{WorkflowState, slot_of, with_slot}
@@ -28,10 +28,24 @@ other_name way = if way.back then forward else back
 abbrev pub is_fed : WorkflowState → Way → (source target : PrimaryState) → Bool
 is_fed w way source target = option_map_or (λ s. is_level s (if way.back then target else source)) (slot_of w (feeding_name way)) false
 
+-- the primary that it reads keeps the entries past its position, which are looked at (this profile's own)
+abbrev pub KeepsToFeed : WorkflowState → Way → (source target : PrimaryState) → Type 0
+KeepsToFeed w way source target = (s : StreamValue) → slot_of w (feeding_name way) ≡ Some s → (if way.back then target else source).log.purged ≤ s.position
+
 -- whether the side that will serve the reads is not the owner: the target on a way forward, the source on a way back
 -- (How traffic is switched)
 abbrev pub serves_other_side : Way → Bool
 serves_other_side way = if way.back then way.before.primary else not way.before.primary
+
+-- whether a step looks whether the feeding stream is level: the catch-up, and a switch of reads to the side that is not the owner
+-- (How traffic is switched)
+abbrev pub tests_level : Way → (step : ℕ) → Bool
+tests_level way step = step == catch_up || step == switch_reads && serves_other_side way
+
+-- the primary that the feeding stream reads keeps the entries past its position, if a step looks whether it is level
+-- (this profile's own)
+abbrev pub KeepsToTest : WorkflowState → Way → (step : ℕ) → (source target : PrimaryState) → Type 0
+KeepsToTest w way step source target = tests_level way step ≡ true → KeepsToFeed w way source target
 
 -- ---- steps
 
@@ -41,7 +55,7 @@ stopped_stream tables position = record { tables = tables; copied = ended; posit
 
 -- how long the log of the new owner's primary is (How traffic is switched)
 abbrev pub log_end : Way → (source target : PrimaryState) → ℕ
-log_end way source target = length (if way.before.primary then source else target).log
+log_end way source target = end_of (if way.before.primary then source else target)
 
 -- the streams after a step: the feeding one is stopped, and at last frozen, or taken away on a way back; the other one is made at
 -- the end of a log, and started later (How traffic is switched)

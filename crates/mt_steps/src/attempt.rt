@@ -1,11 +1,11 @@
 //! The part of a step that may be refused.
-ghost use Rattle.std.specs.Prelude.{◌≡◌, ◌||◌, not, None};
+ghost use Rattle.std.specs.Prelude.{◌≡◌, ◌||◌, true, not, None};
 ghost use Rattle.mt_plain.specs.Plain.{write_journal};
 ghost use Rattle.mt_workflow.specs.Workflows.{way_from};
 ghost use Rattle.mt_journal.specs.Journal.{entry_of};
 ghost use Rattle.mt_steps.specs.Plans.{number};
 ghost use Rattle.mt_steps.specs.Steps.{Attempts, Journals, answer_if_level, journal_entry};
-ghost use Rattle.mt_steps.specs.Streams.{is_fed, serves_other_side};
+ghost use Rattle.mt_steps.specs.Streams.{KeepsToFeed, KeepsToTest, is_fed, serves_other_side};
 
 use crate::fault::StepFault;
 use crate::refresh::refresh_side;
@@ -25,6 +25,7 @@ fn check_level(
     source: &Primary,
     target: &Primary,
 ) -> Result<(), StepFault>
+    requires kept { KeepsToFeed workflow.now (way_from way) source.now target.now }
     ensures { result ≡ answer_if_level (is_fed workflow.now (way_from way) source.now target.now) }
 {
     if is_fed(workflow, way, source, target) {
@@ -40,6 +41,7 @@ fn check_reads(
     source: &Primary,
     target: &Primary,
 ) -> Result<(), StepFault>
+    requires kept { serves_other_side (way_from way) ≡ true → KeepsToFeed workflow.now (way_from way) source.now target.now }
     ensures { result ≡ answer_if_level (not (serves_other_side (way_from way)) || is_fed workflow.now (way_from way) source.now target.now) }
 {
     if serves_other_side(way) {
@@ -88,6 +90,7 @@ pub(crate) fn attempt<W: Asks>(
     watchers: &W,
     listed: &mut Option<Before>,
 ) -> Result<(), StepFault>
+    requires kept { KeepsToTest workflow.now (way_from way) (number step) source.old target.old }
     requires fresh { number step ≡ write_journal → entry_of journal.old id ≡ None }
     ensures { Attempts (W.scopes watchers.now) (W.may_answer watchers.now) id topology.now workflow.now (way_from way) step
         (record { source = source.old; target = target.old; journal = journal.old; listed = listed.old }) result

@@ -8,7 +8,7 @@ ghost use Rattle.mt_journal.specs.Journal.{entry_of};
 ghost use Rattle.mt_steps.specs.Entries.{HasPlaces, recorded, recorded_of, step_entries};
 ghost use Rattle.mt_steps.specs.Plans.{last_step, number, step_at};
 ghost use Rattle.mt_steps.specs.Steps.{IsGivenBack, IsUndone, Steps, left_slot, open_way};
-ghost use Rattle.mt_steps.specs.Streams.{put_away, workflow_stepped, workflow_undone};
+ghost use Rattle.mt_steps.specs.Streams.{KeepsToTest, put_away, workflow_stepped, workflow_undone};
 ghost use Rattle.mt_steps.specs.Undo.{IsLogOf};
 
 use crate::attempt::attempt;
@@ -57,6 +57,7 @@ pub fn do_step<W: Asks>(
     requires next { number step ≡ next_step (open_way sides.old.workflow.now) }
     requires places { HasPlaces sides.old.topology.now sides.old.workflow.now }
     requires log { IsLogOf sides.old.workflow.now log.old }
+    requires kept { KeepsToTest sides.old.workflow.now (open_way sides.old.workflow.now) (number step) sides.old.source.now sides.old.target.now }
     requires fresh { number step ≡ write_journal → entry_of sides.old.journal.now sides.old.number ≡ None }
     ensures topology { sides.new.topology.ghost_name ≡ sides.old.topology.ghost_name }
     ensures source { sides.new.source.ghost_name ≡ sides.old.source.ghost_name }
@@ -105,6 +106,7 @@ fn step_of_way<W: Asks>(
     requires next { number step ≡ next_step (way_from way) }
     requires places { HasPlaces topology.old workflow.old }
     requires log { IsLogOf workflow.old log.old }
+    requires kept { KeepsToTest workflow.old (way_from way) (number step) source.old target.old }
     requires fresh { number step ≡ write_journal → entry_of journal.old id ≡ None }
     ensures log { IsLogOf workflow.new log.new }
     ensures places { HasPlaces topology.new workflow.new }

@@ -2,10 +2,10 @@
 ghost use Rattle.std.specs.Prelude.{◌≡◌, ◌<◌, ◌≤◌, false, Some, option_copied};
 ghost use Rattle.std.specs.Option.{option_map_or};
 ghost use Rattle.mt_plain.specs.Plain.{next_step, write_journal};
-ghost use Rattle.mt_stream.specs.Streams.{is_level};
+ghost use Rattle.mt_stream.specs.Streams.{StreamValue, is_level};
 ghost use Rattle.mt_workflow.specs.Workflows.{slot_of, stream_name, way_from, with_slot};
 ghost use Rattle.mt_steps.specs.Plans.{last_step, number, step_at};
-ghost use Rattle.mt_steps.specs.Streams.{feeding_name, is_fed, is_last, log_end, other_name, put_away, serves_other_side, stopped_stream, streams_undone, types_after, way_after, way_undone, with_streams};
+ghost use Rattle.mt_steps.specs.Streams.{KeepsToFeed, feeding_name, is_fed, is_last, log_end, other_name, put_away, serves_other_side, stopped_stream, streams_undone, types_after, way_after, way_undone, with_streams};
 
 use crate::step::Step;
 use mt_names::Position;
@@ -29,6 +29,7 @@ fn other(way: Way) -> Slot
 
 /// Whether the stream that feeds on a way is there, and level with the primary that it reads.
 pub(crate) fn is_fed(workflow: &Workflow, way: Way, source: &Primary, target: &Primary) -> bool
+    requires kept { KeepsToFeed workflow.now (way_from way) source.now target.now }
     ensures { result ≡ is_fed workflow.now (way_from way) source.now target.now }
 {
     if way.back {
@@ -39,6 +40,7 @@ pub(crate) fn is_fed(workflow: &Workflow, way: Way, source: &Primary, target: &P
 
 /// Whether a stream is there, and level with a primary.
 fn is_level(workflow: &Workflow, slot: Slot, primary: &Primary) -> bool
+    requires kept { (s : StreamValue) → slot_of workflow.now (stream_name slot) ≡ Some s → primary.now.log.purged ≤ s.position }
     ensures { result ≡ option_map_or (λ s. is_level s primary.now) (slot_of workflow.now (stream_name slot)) false }
 {
     match workflow.slot(slot) {

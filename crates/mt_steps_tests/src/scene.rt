@@ -1,10 +1,12 @@
 //! Workflows between two primaries, and their steps.
-ghost use Rattle.std.specs.Prelude.{◌≡◌, ◌<◌, ◌≤◌, length, true};
+ghost use Rattle.std.specs.Prelude.{◌≡◌, ◌<◌, ◌≤◌, length, true, Some, option_copied};
 ghost use Rattle.mt_names.specs.Tables.{most_tables};
 ghost use Rattle.mt_plain.specs.Plain.{next_step, write_journal};
 ghost use Rattle.mt_workflow.specs.Workflows.{way_from};
 ghost use Rattle.mt_steps.specs.Entries.{HasPlaces};
 ghost use Rattle.mt_steps.specs.Plans.{last_step, number};
+ghost use Rattle.mt_steps.specs.Streams.{KeepsToFeed};
+ghost use Rattle.mt_stream.specs.Streams.{StreamValue};
 
 use mt_journal::Journal;
 use mt_names::{KeyspaceName, TableName, TypeSet, WorkflowName, table_list};
@@ -68,6 +70,26 @@ fn is_next(way: Way, step: Step) -> bool
     ensures { result ≡ true → number step ≡ next_step (way_from way) }
 {
     u16::from(step.number()) == way.next_step()
+}
+
+/// Whether a primary keeps what a stream, if it is there, has still to read.
+fn keeps_to_read(stream: Option<&Stream>, read: &Primary) -> bool
+    ensures { result ≡ true → (s : StreamValue) → option_copied stream.entry ≡ Some s → read.now.log.purged ≤ s.position }
+{
+    match stream {
+        Some(stream) => read.first_kept() <= stream.position(),
+        None => true,
+    }
+}
+
+/// Whether the primary that the feeding stream of a way reads keeps what that has still to read.
+fn keeps_to_feed(workflow: &Workflow, way: Way, source: &Primary, target: &Primary) -> bool
+    ensures { result ≡ true → KeepsToFeed workflow.now (way_from way) source.now target.now }
+{
+    if way.back {
+        return keeps_to_read(workflow.slot(Slot::Back), target);
+    }
+    keeps_to_read(workflow.slot(Slot::Forward), source)
 }
 
 /// Whether the last step of a way that stands done is before the journal.
@@ -137,6 +159,9 @@ impl Moved {
             return None;
         }
         if !has_places(&scene.topology, &self.workflow) {
+            return None;
+        }
+        if !keeps_to_feed(&self.workflow, way, &scene.source, &scene.target) {
             return None;
         }
         let mut sides = Sides {

@@ -8,7 +8,8 @@ use Rattle.mt_model.specs.declared.rows.RowChange.{RowChange}
 use Rattle.mt_plain.specs.Plain.{Copied, up_to, ended}
 use Rattle.mt_plain.specs.Slots.{copied_after}
 use Rattle.mt_primary.specs.Primary.{PrimaryState}
-use Rattle.mt_primary.specs.Writes.{IsPut, RowPut, has_room}
+use Rattle.mt_log.specs.Log.{has_room}
+use Rattle.mt_primary.specs.Writes.{IsPut, RowPut}
 use Rattle.mt_stream.specs.declared.fault.StreamFault.{StreamFault}
 use Rattle.mt_stream.specs.Advance.{places, room_in, rows_left}
 use Rattle.mt_stream.specs.Loops.{AreCopied, put_fault}

@@ -1,113 +1,32 @@
 -- The sink's copied range follows the source: by each entry that is read, and by each row that is copied.
-use Rattle.std.proofs.Common.{◌≡◌, ◌≢◌, ℕ, zero, suc, ◌<◌, ◌≤◌, ◌+◌, Bool, true, false, not, ◌&&◌, ◌||◌, cond, eqb, nat_lt, nat_le, AllPairs, List, [], ◌∷◌, ◌++◌, length, take, drop, filter, map, fold, get_or, slice_get, Option, Some, None, is_some, refl, sym, ap, subst, ◌∙◌, arith, append-nil}
+use Rattle.std.proofs.Common.{◌≡◌, ◌≢◌, ℕ, zero, suc, ◌<◌, ◌≤◌, ◌+◌, Bool, true, false, not, ◌&&◌, ◌||◌, cond, eqb, nat_lt, nat_le, AllPairs, List, [], ◌∷◌, ◌++◌, length, take, drop, filter, map, fold, get_or, Option, Some, None, is_some, refl, sym, ap, subst, ◌∙◌, arith, append-nil}
 use Rattle.std.proofs.lemmas.Bool.{and_parts, and_right, eq-eqb, eqb-true, false_from_ne_true, le-leb, ltb-true, ne_eqb, or_right, true≢false}
-use Rattle.std.proofs.lemmas.List.{drop-drop, drop_all, get_or-drop, length-drop, length-map, length-take-le}
+use Rattle.std.proofs.lemmas.List.{drop-drop, drop_all, get_or-drop, length-drop, length-map}
 use Rattle.std.specs.List.{find, flat_map, list_any}
 use Rattle.std.specs.Map.{lookup}
 use Rattle.std.specs.Option.{option_map_or}
 use Rattle.mt_names.specs.Names.{same_text}
 use Rattle.mt_names.proofs.SameLemmas.{same_text_decides}
 use Rattle.mt_model.specs.declared.rows.RowChange.{RowChange}
-use Rattle.mt_model.specs.Rows.{Row, RowValue, is_change_of, row_since, row_with}
+use Rattle.mt_model.specs.Rows.{Row, RowValue, is_change_of, row_with}
+use Rattle.mt_log.proofs.ReadLemmas.{past_more}
+use Rattle.mt_primary.proofs.LeadLemmas.{entries_on}
 use Rattle.mt_plain.specs.Plain.{Copied, up_to, ended, among}
 use Rattle.mt_plain.specs.Slots.{copied_after}
 use Rattle.mt_plain.specs.Writes.{in_range, place_of}
-use Rattle.mt_primary.specs.Primary.{IsPrimary, PrimaryState, TableState, made_at, row_at, table_at}
+use Rattle.mt_primary.specs.Primary.{IsPrimary, PrimaryState, TableState, made_at, row_at, row_at_position, table_at}
 use Rattle.mt_primary.specs.Reads.{is_above, next_row}
 use Rattle.mt_primary.specs.Writes.{RowPut, put_of, row_after_put}
-use Rattle.mt_primary.proofs.LogLemmas.{row_since-push}
 use Rattle.mt_stream.specs.declared.stream.Advanced.{Advanced}
 use Rattle.mt_stream.specs.Advance.{IsAdvanced, applies, left_in, places, puts_of, row_copied, rows_left, rows_of, stream_after, to_copy}
-use Rattle.mt_stream.specs.Follows.{FollowsSource, row_at_position}
+use Rattle.mt_stream.specs.Follows.{FollowsSource}
 use Rattle.mt_stream.specs.Puts.{RowsByKey, rows_after_put}
 use Rattle.mt_stream.specs.Streams.{StreamValue, past}
-use Rattle.mt_stream.proofs.CopyLemmas.{get_at, range_after}
+use Rattle.mt_stream.proofs.CopyLemmas.{range_after}
 use Rattle.mt_stream.proofs.LeftLemmas.{Ascends, begin, found-above, left-from, left-up_to, next-found, rows-ascend, rows_from, step-none, step-some}
-use Rattle.mt_stream.proofs.ListLemmas.{drop_from, take_next}
 use Rattle.mt_stream.proofs.PlaceLemmas.{Distinct, distinct_from, place_of-at, same-apart, same-self}
 
 -- ---- entries
-
-module _ (source : PrimaryState) (is : IsPrimary source) (table : List ℕ) (key made : ℕ) (at : made_at source table ≡ Some made) where
-  -- a row as it was at a position is what the log up to there leaves
-  by_log : (rest : List RowChange) (p : ℕ) → drop p source.log ≡ rest → made ≤ p → p ≤ length source.log
-      → option_map_or (λ change. change.before) (find (is_change_of table key) rest) (row_at source table key) ≡ row_since (take p source.log) made table key
-  by_log [] p e low high =
-      is.rows table made key at ∙ ap (λ l. row_since l made table key) (sym (all p source.log e))
-    where
-      all : (n : ℕ) (xs : List RowChange) → drop n xs ≡ [] → take n xs ≡ xs
-      all zero [] e = refl
-      all zero (x ∷ xs) e = absurd cc
-      all (suc n) [] e = refl
-      all (suc n) (x ∷ xs) e = ap (λ l. x ∷ l) (all n xs e)
-  by_log (change ∷ rest) p e low high = by (is_change_of table key change) refl (by_log rest (p + 1))
-    where
-      here : slice_get source.log p ≡ Some change
-      here = get_at source.log p change rest e
-
-      by : (b : Bool) → is_change_of table key change ≡ b
-          → (drop (p + 1) source.log ≡ rest → made ≤ p + 1 → p + 1 ≤ length source.log → option_map_or (λ change. change.before) (find (is_change_of table key) rest) (row_at source table key) ≡ row_since (take (p + 1) source.log) made table key)
-          → option_map_or (λ change. change.before) (cond (is_change_of table key change) (Some change) (find (is_change_of table key) rest)) (row_at source table key) ≡ row_since (take p source.log) made table key
-      by true this again =
-          let both = and_parts (same_text table change.table) (eqb key change.key) this in
-          let t : table ≡ change.table = (same_text_decides table change.table).0 both.0 in
-          let k : key ≡ change.key = eqb-true key change.key both.1 in
-          rw this (is.befores table made p change at low here (sym t) ∙ ap (λ n. row_since (take p source.log) made table n) (sym k))
-      by false other again =
-          let below : p < length source.log = within source.log p change here in
-          let same_rest : drop (p + 1) source.log ≡ rest = tail change (sym (drop_from source.log p change here) ∙ e) in
-          let long : length (take p source.log) ≡ p = length-take-le p source.log high in
-          let pushed = row_since-push (take p source.log) change made table key (omega (arith, long, low)) in
-          rw other (
-          again same_rest (omega arith) (omega arith)
-          ∙ ap (λ l. row_since l made table key) (take_next source.log p change here)
-          ∙ pushed ∙ ap (λ b. cond b change.after (row_since (take p source.log) made table key)) other
-          )
-        where
-          tail : (x : RowChange) → {xs ys : List RowChange} → x ∷ xs ≡ x ∷ ys → xs ≡ ys
-          tail x e = cc
-
-          within : (xs : List RowChange) (i : ℕ) (x : RowChange) → slice_get xs i ≡ Some x → i < length xs
-          within [] i x e = absurd cc
-          within (y ∷ xs) zero x e = omega arith
-          within (y ∷ xs) (suc i) x e = let h = within xs i x e in omega arith
-
-  -- one entry on
-  further : (change : RowChange) (rest : List RowChange) (p : ℕ) → drop p source.log ≡ change ∷ rest → made ≤ p
-      → row_with table key (row_at_position source p table key) change ≡ row_at_position source (p + 1) table key
-  further change rest p e low =
-      let here = get_at source.log p change rest e in
-      let below : p < length source.log = inside source.log p change here in
-      let long : length (take p source.log) ≡ p = length-take-le p source.log (omega arith) in
-      ap (λ r. row_with table key r change) (by_log (drop p source.log) p refl low (omega arith))
-      ∙ sym (row_since-push (take p source.log) change made table key (omega (arith, long, low)))
-      ∙ ap (λ l. row_since l made table key) (sym (take_next source.log p change here))
-      ∙ sym (by_log (drop (p + 1) source.log) (p + 1) refl (omega arith) (omega arith))
-    where
-      inside : (xs : List RowChange) (i : ℕ) (x : RowChange) → slice_get xs i ≡ Some x → i < length xs
-      inside [] i x e = absurd cc
-      inside (y ∷ xs) zero x e = omega arith
-      inside (y ∷ xs) (suc i) x e = let h = inside xs i x e in omega arith
-
-  -- so many entries on
-  entries_on : (n p : ℕ) → made ≤ p → fold (row_with table key) (row_at_position source p table key) (take n (drop p source.log)) ≡ row_at_position source (p + n) table key
-  entries_on zero p low = let z : p + 0 ≡ p = omega arith in rw z refl
-  entries_on (suc n) p low = by (drop p source.log) refl (entries_on n (p + 1) (omega arith))
-    where
-      by : (rest : List RowChange) → drop p source.log ≡ rest
-          → fold (row_with table key) (row_at_position source (p + 1) table key) (take n (drop (p + 1) source.log)) ≡ row_at_position source (p + 1 + n) table key
-          → fold (row_with table key) (row_at_position source p table key) (take (suc n) rest) ≡ row_at_position source (p + suc n) table key
-      by [] e again =
-          let none : drop (p + suc n) source.log ≡ [] = sym (drop-drop (suc n) p source.log) ∙ ap (drop (suc n)) e in
-          ap (λ l. option_map_or (λ (c : RowChange). c.before) (find (is_change_of table key) l) (row_at source table key)) (e ∙ sym none)
-      by (change ∷ rest) e again =
-          let more : p + suc n ≡ p + 1 + n = omega arith in
-          let same_rest : rest ≡ drop (p + 1) source.log = tail change (sym e ∙ drop_from source.log p change (get_at source.log p change rest e)) in
-          ap (λ r. fold (row_with table key) r (take n rest)) (further change rest p e low)
-          ∙ ap (λ l. fold (row_with table key) (row_at_position source (p + 1) table key) (take n l)) same_rest ∙ again ∙ ap (λ m. row_at_position source m table key) (sym more)
-        where
-          tail : (x : RowChange) → {xs ys : List RowChange} → x ∷ xs ≡ x ∷ ys → xs ≡ ys
-          tail x e = cc
 
 -- the entries of a row in the range are all written, and none of one outside of it
 written-here : (test : RowChange → Bool) (table : List ℕ) (key : ℕ) (row : Row) (xs : List RowChange) → ((c : RowChange) → is_change_of table key c ≡ true → test c ≡ true)
@@ -141,9 +60,9 @@ written-by_row s table key named c this =
     let k : key ≡ c.key = eqb-true key c.key both.1 in
     rw (← t, ← k) (ap (λ b. b && in_range s.tables s.copied table key) named)
 
-pub rows-read : (s : StreamValue) (source sink : PrimaryState) (n : ℕ) → IsPrimary source → FollowsSource s source sink → (table : List ℕ) (key : ℕ) → among s.tables table ≡ true
+pub rows-read : (s : StreamValue) (source sink : PrimaryState) (n : ℕ) → IsPrimary source → source.log.purged ≤ s.position → FollowsSource s source sink → (table : List ℕ) (key : ℕ) → among s.tables table ≡ true
     → fold (row_after_put table key) (row_at sink table key) (map put_of (filter (applies s) (take n (past s source)))) ≡ cond (in_range s.tables s.copied table key) (row_at_position source (s.position + n) table key) None
-rows-read s source sink n is follows table key named = by (in_range s.tables s.copied table key) refl
+rows-read s source sink n is kept follows table key named = by (in_range s.tables s.copied table key) refl
   where
     made : (made : ℕ) × ((made_at source table ≡ Some made) × (made ≤ s.position))
     made = follows.made table named
@@ -152,7 +71,7 @@ rows-read s source sink n is follows table key named = by (in_range s.tables s.c
     by true inside =
         written-here (applies s) table key (row_at sink table key) (take n (past s source)) (λ c this. written-by_row s table key named c this ∙ inside)
         ∙ ap (λ r. fold (row_with table key) r (take n (past s source))) (follows.rows table key named ∙ ap (λ b. cond b (row_at_position source s.position table key) None) inside)
-        ∙ entries_on source is table key made.0 made.1.0 n s.position made.1.1
+        ∙ entries_on source is table key made.0 made.1.0 n s.position made.1.1 kept
     by false outside =
         written-elsewhere (applies s) table key (row_at sink table key) (take n (past s source)) (λ c this. written-by_row s table key named c this ∙ outside)
         ∙ follows.rows table key named ∙ ap (λ b. cond b (row_at_position source s.position table key) None) outside
@@ -371,13 +290,13 @@ drop-nil : {X : Type 0} (n : ℕ) → drop {A = X} n [] ≡ []
 drop-nil zero = refl
 drop-nil (suc n) = refl
 
-module _ (old new : StreamValue) (source sink new_sink : PrimaryState) (at_most : ℕ) (answer : Advanced) (is : IsPrimary source) (distinct : Distinct old.tables)
+module _ (old new : StreamValue) (source sink new_sink : PrimaryState) (at_most : ℕ) (answer : Advanced) (is : IsPrimary source) (kept : source.log.purged ≤ old.position) (distinct : Distinct old.tables)
     (advanced : IsAdvanced old source sink at_most answer new new_sink) (follows : FollowsSource old source sink) where
   -- nothing stands past the position: rows are copied
   module _ (e : past old source ≡ []) where
     at_position : (n : ℕ) (table : List ℕ) (key : ℕ) → row_at_position source (old.position + n) table key ≡ row_at source table key
     at_position n table key =
-        ap (λ l. option_map_or (λ (c : RowChange). c.before) (find (is_change_of table key) l) (row_at source table key)) (sym (drop-drop n old.position source.log) ∙ ap (drop n) e ∙ drop-nil n)
+        ap (λ l. option_map_or (λ (c : RowChange). c.before) (find (is_change_of table key) l) (row_at source table key)) (sym (past_more source.log old.position n kept) ∙ ap (drop n) e ∙ drop-nil n)
 
     before : Mirrors source is old.tables distinct old.copied (row_at sink)
     before table key named =
@@ -422,7 +341,7 @@ module _ (old new : StreamValue) (source sink new_sink : PrimaryState) (at_most 
       advanced.puts.rows table key
       ∙ ap (λ l. fold (row_after_put table key) (row_at sink table key) (map put_of (filter (applies old) (take answer.events (past old source))) ++ l)) (ap (take answer.rows) none ∙ take-nil answer.rows)
       ∙ ap (λ l. fold (row_after_put table key) (row_at sink table key) l) (append-nil (map put_of (filter (applies old) (take answer.events (past old source)))))
-      ∙ rows-read old source sink answer.events is follows table key named
+      ∙ rows-read old source sink answer.events is kept follows table key named
       ∙ ap (λ es. cond (in_range old.tables (copied_after {E = RowChange} old.copied es (places (to_copy old source es)) answer.rows at_most) table key) (row_at_position source (old.position + answer.events) table key) None) (sym e)
 
   made : (table : List ℕ) → among old.tables table ≡ true → (made : ℕ) × ((made_at source table ≡ Some made) × (made ≤ old.position + answer.events))
@@ -436,7 +355,7 @@ module _ (old new : StreamValue) (source sink new_sink : PrimaryState) (at_most 
   follows-stream_after (x ∷ xs) e = record { made = made; rows = read-rows x xs e }
 
 pub follows-advanced : (old new : StreamValue) (source sink new_sink : PrimaryState) (at_most : ℕ) (answer : Advanced)
-    → IsPrimary source → AllPairs (λ a b. a ≢ b) old.tables
+    → IsPrimary source → source.log.purged ≤ old.position → AllPairs (λ a b. a ≢ b) old.tables
     → IsAdvanced old source sink at_most answer new new_sink → FollowsSource old source sink → FollowsSource new source new_sink
-follows-advanced old new source sink new_sink at_most answer is pairs advanced follows =
-    subst (λ s. FollowsSource s source new_sink) (sym advanced.stream) (follows-stream_after old new source sink new_sink at_most answer is (distinct_from old.tables pairs) advanced follows (past old source) refl)
+follows-advanced old new source sink new_sink at_most answer is kept pairs advanced follows =
+    subst (λ s. FollowsSource s source new_sink) (sym advanced.stream) (follows-stream_after old new source sink new_sink at_most answer is kept (distinct_from old.tables pairs) advanced follows (past old source) refl)

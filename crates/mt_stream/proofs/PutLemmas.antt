@@ -1,5 +1,5 @@
 -- Rows put one after another.
-use Rattle.std.proofs.Common.{◌≡◌, ℕ, ◌<◌, ◌+◌, Bool, true, false, ◌&&◌, eqb, List, [], ◌∷◌, ◌++◌, length, fold, Option, Some, None, is_some, refl, sym, ap, ◌∙◌, arith, append_assoc, append-nil, length-append}
+use Rattle.std.proofs.Common.{◌≡◌, ℕ, ◌<◌, ◌+◌, Bool, true, false, ◌&&◌, eqb, List, [], ◌∷◌, ◌++◌, fold, Option, Some, None, is_some, refl, sym, ap, ◌∙◌, arith, append_assoc, append-nil, length-append}
 use Rattle.std.proofs.lemmas.Bool.{and_parts, eqb-true, eq-eqb, ltb-false, ltb-true, true≢false}
 use Rattle.std.proofs.lemmas.List.Sums.{fold_push}
 use Rattle.std.specs.Option.{option_map}
@@ -8,10 +8,11 @@ use Rattle.mt_names.proofs.SameLemmas.{same_text_decides}
 use Rattle.mt_model.specs.declared.rows.RowChange.{RowChange}
 use Rattle.mt_model.specs.Limits.{longest_log}
 use Rattle.mt_model.specs.Rows.{Row}
-use Rattle.mt_primary.specs.Primary.{PrimaryState, TableState, has_table, made_at, row_at, table_at}
-use Rattle.mt_primary.specs.Writes.{IsPut, RowPut, change_by, has_room, row_after_put}
+use Rattle.mt_primary.specs.Primary.{PrimaryState, TableState, end_of, has_table, made_at, row_at, table_at}
+use Rattle.mt_log.specs.Log.{has_room, log_end, with_entry}
+use Rattle.mt_primary.specs.Writes.{IsPut, RowPut, change_by, row_after_put}
 use Rattle.mt_stream.specs.Advance.{room_in}
-use Rattle.mt_stream.specs.Puts.{PutsMade, RowsByKey, changes_by, rows_after_put}
+use Rattle.mt_stream.specs.Puts.{PutsMade, RowsByKey, changes_by, rows_after_put, with_entries}
 
 -- every row after a put
 pub row-put : (old : PrimaryState) (put : RowPut) (new : PrimaryState) → IsPut old put new → (table : List ℕ) (key : ℕ) → row_at new table key ≡ row_after_put table key (row_at old table key) put
@@ -33,14 +34,14 @@ changes-push rows [] put = refl
 changes-push rows (p ∷ puts) put = ap (λ l. record { table = p.table; key = p.key; before = rows p.table p.key; after = p.after } ∷ l) (changes-push (rows_after_put rows p) puts put)
 
 pub no_puts : (old : PrimaryState) → PutsMade old [] old
-no_puts old = record { rows = λ table key. refl; log = sym (append-nil old.log); made = λ table. refl; denied = λ table. refl }
+no_puts old = record { rows = λ table key. refl; log = ap (λ (es : List RowChange). record old.log { entries = es }) (sym (append-nil old.log.entries)); made = λ table. refl; denied = λ table. refl }
 
 pub puts-push : (old mid new : PrimaryState) (puts : List RowPut) (put : RowPut) → PutsMade old puts mid → IsPut mid put new → PutsMade old (puts ++ put ∷ []) new
 puts-push old mid new puts put was is = record {
   rows = λ table key. row-put mid put new is table key ∙ ap (λ r. row_after_put table key r put) (was.rows table key) ∙ sym (fold_push (row_after_put table key) (row_at old table key) puts put);
   log =
-      is.log ∙ ap (λ l. l ++ change_by mid put ∷ []) was.log ∙ append_assoc old.log (changes_by (row_at old) puts) (change_by mid put ∷ [])
-      ∙ ap (λ l. old.log ++ l) (ap (λ r. changes_by (row_at old) puts ++ entry r ∷ []) (was.rows put.table put.key) ∙ sym (changes-push (row_at old) puts put));
+      is.log ∙ ap (λ l. with_entry l (change_by mid put)) was.log ∙ ap (λ (es : List RowChange). record old.log { entries = es }) (append_assoc old.log.entries (changes_by (row_at old) puts) (change_by mid put ∷ []))
+      ∙ ap (λ l. with_entries old.log l) (ap (λ r. changes_by (row_at old) puts ++ entry r ∷ []) (was.rows put.table put.key) ∙ sym (changes-push (row_at old) puts put));
   made = λ table. is.made table ∙ was.made table;
   denied = λ table. is.denied table ∙ was.denied table;
 }
@@ -62,12 +63,13 @@ has_table-puts old new puts made table has = has_table-made new table ∙ ap is_
 -- the room of a log
 pub room-put : (old : PrimaryState) (put : RowPut) (new : PrimaryState) → has_room old.log ≡ true → IsPut old put new → room_in old ≡ room_in new + 1
 room-put old put new room is =
-    let l = ltb-true (length old.log) longest_log room in
-    let n : length new.log ≡ length old.log + 1 = ap length is.log ∙ length-append old.log (change_by old put ∷ []) in
+    let l = ltb-true (end_of old) longest_log room in
+    let m : end_of new ≡ log_end (with_entry old.log (change_by old put)) = ap log_end is.log in
+    let n = length-append old.log.entries (change_by old put ∷ []) in
     omega (arith, l, n)
 
 pub room-some : (p : PrimaryState) → has_room p.log ≡ true → 0 < room_in p
-room-some p room = let l = ltb-true (length p.log) longest_log room in omega (arith, l)
+room-some p room = let l = ltb-true (end_of p) longest_log room in omega (arith, l)
 
 pub room-none : (p : PrimaryState) → has_room p.log ≡ false → room_in p ≡ 0
-room-none p full = let l = ltb-false (length p.log) longest_log full in omega (arith, l)
+room-none p full = let l = ltb-false (end_of p) longest_log full in omega (arith, l)

@@ -7,7 +7,8 @@ use Rattle.std.specs.List.{list_any}
 use Rattle.mt_model.specs.declared.rows.RowChange.{RowChange}
 use Rattle.mt_plain.specs.Slots.{readable}
 use Rattle.mt_primary.specs.Primary.{PrimaryState}
-use Rattle.mt_primary.specs.Writes.{has_room, put_of}
+use Rattle.mt_log.specs.Log.{has_room}
+use Rattle.mt_primary.specs.Writes.{put_of}
 use Rattle.mt_stream.specs.declared.fault.StreamFault.{StreamFault}
 use Rattle.mt_stream.specs.Advance.{is_written, room_in}
 use Rattle.mt_stream.specs.Loops.{AreRead, PutsIf, is_cut_before, put_fault}

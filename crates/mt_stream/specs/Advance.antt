@@ -9,8 +9,9 @@ use Rattle.mt_plain.specs.Events.{StreamState, running, stopped, frozen}
 use Rattle.mt_plain.specs.Plain.{Copied}
 use Rattle.mt_plain.specs.Slots.{copied_after, readable}
 use Rattle.mt_plain.specs.Writes.{in_range, is_applied}
-use Rattle.mt_primary.specs.Primary.{PrimaryState, table_at}
-use Rattle.mt_primary.specs.Writes.{RowPut, has_room, put_of}
+use Rattle.mt_log.specs.Log.{has_room}
+use Rattle.mt_primary.specs.Primary.{PrimaryState, end_of, table_at}
+use Rattle.mt_primary.specs.Writes.{RowPut, put_of}
 use Rattle.mt_stream.specs.declared.fault.StreamFault.{StreamFault}
 use Rattle.mt_stream.specs.declared.fault.StreamFault.TheVariants.{Memory, Stale, Stopped, Frozen, LogFull}
 use Rattle.mt_stream.specs.declared.stream.Advanced.{Advanced}
@@ -29,7 +30,7 @@ applies s = is_written s.tables s.copied
 
 -- how many entries a primary's log can take
 abbrev pub room_in : PrimaryState → ℕ
-room_in p = longest_log - length p.log
+room_in p = longest_log - end_of p
 
 -- the rows of a table with their keys, in the order of the keys; a table that isn't there has none
 abbrev pub rows_of : PrimaryState → List ℕ → List (ℕ × RowValue)

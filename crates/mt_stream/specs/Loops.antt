@@ -6,7 +6,8 @@ use Rattle.mt_model.specs.declared.rows.RowChange.{RowChange}
 use Rattle.mt_plain.specs.Plain.{Copied, up_to}
 use Rattle.mt_plain.specs.Slots.{copied_after, readable}
 use Rattle.mt_primary.specs.Primary.{PrimaryState}
-use Rattle.mt_primary.specs.Writes.{IsPut, RowPut, has_room, put_of}
+use Rattle.mt_primary.specs.Writes.{IsPut, RowPut, put_of}
+use Rattle.mt_log.specs.Log.{has_room}
 use Rattle.mt_stream.specs.declared.copying.LeftRow.{LeftRow}
 use Rattle.mt_stream.specs.declared.fault.StreamFault.{StreamFault}
 use Rattle.mt_stream.specs.declared.fault.StreamFault.TheVariants.{Memory, LogFull}

@@ -4,7 +4,8 @@ ghost use Rattle.std.specs.List.{list_any};
 ghost use Rattle.std.specs.Option.{option_copied};
 ghost use Rattle.mt_plain.specs.Plain.{among};
 ghost use Rattle.mt_plain.specs.Writes.{place_of};
-ghost use Rattle.mt_primary.specs.Primary.{has_table};
+ghost use Rattle.mt_log.specs.Log.{entry_in};
+ghost use Rattle.mt_primary.specs.Primary.{end_of, has_table};
 ghost use Rattle.mt_primary.specs.Reads.{entries_from};
 ghost use Rattle.mt_stream.specs.Advance.{is_written};
 ghost use Rattle.mt_stream.specs.Loops.{FollowsEntry, PutsRow, ReadsEntries};
@@ -16,12 +17,24 @@ use mt_names::{Position, TableName};
 use mt_primary::{Primary, PrimaryFault, RowChange};
 use mt_shared::SharedValue;
 
+/// The entry at a position that is kept, if the log has one there.
+fn kept_entry(source: &Primary, position: Position) -> Option<&RowChange>
+    requires kept { source.now.log.purged ≤ position }
+    ensures { option_copied result ≡ entry_in source.now.log position }
+{
+    match source.entry(position) {
+        Ok(entry) => entry,
+        Err(_) => unreachable!(),
+    }
+}
+
 /// Whether an entry from a position on is about one of these tables.
 pub fn names_any(tables: &[TableName], position: Position, source: &Primary) -> bool
+    requires kept { source.now.log.purged ≤ position }
     ensures { result ≡ list_any (λ change. among tables.now change.table) (entries_from source.now position) }
 {
     for at in position..source.position() {
-        if let Some(change) = source.entry(at) {
+        if let Some(change) = kept_entry(source, at) {
             if tables.contains(change.table.name()) {
                 return true;
             }
@@ -104,14 +117,15 @@ pub fn read_entries(
 ) -> Result<u16, StreamFault>
     requires distinct { AllPairs ◌≢◌ tables.now }
     requires placed { IsPlaced tables.now range }
-    requires within { position ≤ length source.now.log }
+    requires kept { source.now.log.purged ≤ position }
+    requires within { position ≤ end_of source.now }
     requires there { (table : List ℕ) → among tables.now table ≡ true → has_table sink.old table ≡ true }
     ensures { ReadsEntries tables.now (copied_from tables.now range) (entries_from source.now position) sink.old max result sink.new }
 {
     let _end = source.position();
     let mut written = false;
     for read in 0..max {
-        let Some(change) = source.entry(position + u64::from(read)) else {
+        let Some(change) = kept_entry(source, position + u64::from(read)) else {
             return Ok(read);
         };
         match follow_entry(tables, range, change, sink) {

@@ -1,5 +1,5 @@
 //! What follows from how a stream advances.
-ghost use Rattle.std.specs.Prelude.{◌≡◌, ◌≢◌, ℕ, AllPairs};
+ghost use Rattle.std.specs.Prelude.{◌≡◌, ◌≢◌, ℕ, ◌≤◌, AllPairs};
 ghost use Rattle.mt_plain.specs.Plain.{Live, Plain};
 ghost use Rattle.mt_plain.specs.Slots.{uncopied};
 ghost use Rattle.mt_primary.specs.Primary.{IsPrimary, PrimaryState};
@@ -14,7 +14,7 @@ use crate::stream::Advanced;
 /// position, and no others, then so it has behind an advance, for the range and the position that it leaves.
 pub fn the_copied_range_follows_the_source()
     ensures { (old new : StreamValue) (source sink new_sink : PrimaryState) (at_most : ℕ) (answer : Advanced)
-        → IsPrimary source → AllPairs ◌≢◌ old.tables
+        → IsPrimary source → source.log.purged ≤ old.position → AllPairs ◌≢◌ old.tables
         → IsAdvanced old source sink at_most answer new new_sink → FollowsSource old source sink → FollowsSource new source new_sink }
 {}
 

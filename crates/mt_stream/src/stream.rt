@@ -2,7 +2,7 @@
 ghost use Rattle.std.specs.Prelude.{◌≡◌, ◌≢◌, ℕ, ◌≤◌, true, List, AllPairs, length};
 ghost use Rattle.mt_plain.specs.Events.{running, stopped, frozen};
 ghost use Rattle.mt_plain.specs.Plain.{not_begun, ended, among};
-ghost use Rattle.mt_primary.specs.Primary.{has_table};
+ghost use Rattle.mt_primary.specs.Primary.{end_of, has_table};
 ghost use Rattle.mt_stream.specs.Advance.{Advances, refusal_before};
 ghost use Rattle.mt_stream.specs.Follows.{FollowsSource};
 ghost use Rattle.mt_stream.specs.Streams.{has_ended, is_level, state_from};
@@ -143,6 +143,7 @@ impl Stream {
     /// memory, and looks at the entries past the position alone. (Vitess: how traffic is switched, the wait until the
     /// stream has caught up with the source's position)
     pub fn is_level(&self, source: &Primary) -> bool
+        requires kept { source.now.log.purged ≤ self.now.position }
         ensures { result ≡ is_level self.now source.now }
     {
         !names_any(&self.tables, self.position, source)
@@ -150,7 +151,8 @@ impl Stream {
 
     /// What refuses an advance before anything is read: `S2 Stopped` or `S3 Frozen`, then `S1 Stale`.
     fn refusal(&self, at: Position) -> Option<StreamFault>
-        ensures { result ≡ refusal_before self.now at }
+        ensures told { result ≡ refusal_before self.now at }
+        ensures runs { result ≡ None → self.now.state ≡ running }
     {
         match self.state {
             StreamState::Stopped => Some(StreamFault::Stopped),
@@ -171,8 +173,9 @@ impl Stream {
     /// takes memory, and that at the sink.
     ///
     /// A sink that has, of the stream's tables, the rows of the copied range as they were at the source at the stream's
-    /// position, and no others, has them so behind the advance too. (Vitess: a VReplication stream, which copies in
-    /// primary key order, and between applies from the source's binary log what concerns the rows already copied)
+    /// position, and no others, has them so behind the advance too. The source's log keeps the entries from the position of
+    /// a stream that runs on. (Vitess: a VReplication stream, which copies in primary key order, and between applies from
+    /// the source's binary log what concerns the rows already copied)
     pub fn advance(
         &mut self,
         source: &Primary,
@@ -180,10 +183,11 @@ impl Stream {
         at: Position,
         max: u16,
     ) -> Result<Advanced, StreamFault>
-        requires within { self.old.position ≤ length source.now.log }
+        requires kept { self.old.state ≡ running → source.now.log.purged ≤ self.old.position }
+        requires within { self.old.position ≤ end_of source.now }
         requires there { (table : List ℕ) → among self.old.tables table ≡ true → has_table sink.old table ≡ true }
         ensures advances { Advances self.old source.now sink.old at max result self.new sink.new }
-        ensures within { self.new.position ≤ length source.now.log }
+        ensures within { self.new.position ≤ end_of source.now }
         ensures follows { FollowsSource self.old source.now sink.old → FollowsSource self.new source.now sink.new }
     {
         source.what_holds();

@@ -91,9 +91,11 @@ impl Pair {
         })
     }
 
-    /// How the stream answers an advance; nothing if its position isn't in the source's log, or the sink lacks a table.
+    /// How the stream answers an advance; nothing if its position isn't in what the source's log keeps, or the sink lacks a table.
     fn advance(&mut self, at: Position, max: u16) -> Option<Result<Advanced, StreamFault>> {
-        let is_within = self.stream.position() <= self.source.position();
+        let at_least = self.source.first_kept();
+        let is_within = at_least <= self.stream.position()
+            && self.stream.position() <= self.source.position();
         if is_within && has_tables(&self.sink, &self.tables) {
             return Some(self.stream.advance(&self.source, &mut self.sink, at, max));
         }
@@ -161,8 +163,8 @@ impl Pair {
     fn has_logged(&self, position: Position, table: &str, key: u64) -> Result<bool, NameFault> {
         let table = TableName::parse(table)?;
         Ok(match self.sink.entry(position) {
-            Some(change) => change.table.name() == &table && change.key == key,
-            None => false,
+            Ok(Some(change)) => change.table.name() == &table && change.key == key,
+            _ => false,
         })
     }
 
@@ -170,6 +172,7 @@ impl Pair {
     fn stands(&self, position: Position, copied: bool, level: bool) -> bool {
         self.stream.position() == position
             && self.stream.copied() == copied
+            && self.source.first_kept() <= position
             && self.stream.is_level(&self.source) == level
     }
 

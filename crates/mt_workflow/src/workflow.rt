@@ -2,11 +2,12 @@
 ghost use Rattle.std.specs.Prelude.{◌≡◌, ◌≢◌, ℕ, ◌<◌, ◌≤◌, true, false, List, if◌then◌else◌, None, Some, AllPairs, IfOk, IfErr, length, option_copied, option_map, slice_get};
 ghost use Rattle.mt_names.specs.Tables.{most_tables};
 ghost use Rattle.mt_model.specs.Topology.{rule_at};
+ghost use Rattle.mt_plain.specs.Events.{running};
 ghost use Rattle.mt_plain.specs.Plain.{among, before_way, each_once, in_keyspace, is_side};
 ghost use Rattle.mt_plain.specs.Serve.{is_denied_at, owned_before, serve_plain, serve_rule};
 ghost use Rattle.mt_plain.specs.Slots.{written_side};
 ghost use Rattle.mt_places.specs.Rules.{lent_rule};
-ghost use Rattle.mt_primary.specs.Primary.{has_table};
+ghost use Rattle.mt_primary.specs.Primary.{end_of, has_table};
 ghost use Rattle.mt_stream.specs.Streams.{StreamValue, state_from};
 ghost use Rattle.mt_workflow.specs.Advance.{AdvancesSlot};
 ghost use Rattle.mt_workflow.specs.Workflows.{IsWorkflow, feeding, in_state, is_as_before, keys_of_part, live_of, new_stream, new_workflow, rules_only, slot_of, stream_name, wanted, way_from, with_slot};
@@ -377,7 +378,8 @@ impl Workflow {
         at: Position,
         max: u16,
     ) -> Option<Result<Advanced, StreamFault>>
-        requires within { (s : StreamValue) → slot_of self.old (stream_name slot) ≡ Some s → s.position ≤ length source.now.log }
+        requires kept { (s : StreamValue) → slot_of self.old (stream_name slot) ≡ Some s → s.state ≡ running → source.now.log.purged ≤ s.position }
+        requires within { (s : StreamValue) → slot_of self.old (stream_name slot) ≡ Some s → s.position ≤ end_of source.now }
         requires there { (s : StreamValue) → slot_of self.old (stream_name slot) ≡ Some s → (table : List ℕ) → among s.tables table ≡ true → has_table sink.old table ≡ true }
         ensures advances { AdvancesSlot (slot_of self.old (stream_name slot)) source.now sink.old at max result (slot_of self.new (stream_name slot)) sink.new }
         ensures rest { self.new ≡ with_slot self.old (stream_name slot) (slot_of self.new (stream_name slot)) }
@@ -449,7 +451,8 @@ fn advance_in(
     at: Position,
     max: u16,
 ) -> Option<Result<Advanced, StreamFault>>
-    requires within { (s : StreamValue) → stream.old ≡ Some s → s.position ≤ length source.now.log }
+    requires kept { (s : StreamValue) → stream.old ≡ Some s → s.state ≡ running → source.now.log.purged ≤ s.position }
+    requires within { (s : StreamValue) → stream.old ≡ Some s → s.position ≤ end_of source.now }
     requires there { (s : StreamValue) → stream.old ≡ Some s → (table : List ℕ) → among s.tables table ≡ true → has_table sink.old table ≡ true }
     ensures { AdvancesSlot stream.old source.now sink.old at max result stream.new sink.new }
 {

@@ -3,10 +3,11 @@ ghost use Rattle.std.specs.Prelude.{◌≡◌, List, [], ◌∷◌, OnErr, optio
 ghost use Rattle.mt_event.specs.Reasons.{done_by};
 ghost use Rattle.mt_plain.specs.Events as plain;
 ghost use Rattle.mt_site_state.specs.ByHand.{AddsKeyspace, AddsTable, EditsRule};
+ghost use Rattle.mt_site_state.specs.Purges.{IsPurged};
 ghost use Rattle.mt_site_state.specs.Switching.{BeginsReverse, BeginsSwitch, Completes, StepsWorkflow, UndoesWorkflow};
 ghost use Rattle.mt_site_state.specs.Ways.{SiteSteps};
 ghost use Rattle.mt_site_state.specs.Workflows.{Cancels};
-ghost use Rattle.mt_site.specs.Applies.{Applies};
+ghost use Rattle.mt_site.specs.Applies.{Applies, AppliesAndPurges};
 ghost use Rattle.mt_site.specs.Commands.{event_of_command};
 ghost use Rattle.mt_site.specs.GivenUp.{CanBeGivenUp};
 ghost use Rattle.mt_site.specs.Headline.{KeepsTheHeadline};
@@ -21,13 +22,14 @@ use mt_event::{Event, Reason};
 use mt_laws::every_run_keeps_the_headline;
 use mt_names::{KeyspaceName, RuleKey, RuleTarget, TableName, TypeSet, WorkflowName};
 use mt_site_events::{
-    each_keyspace_of_a_core_has_a_primary, primaries_of_a_core_have_the_tables_of_its_topology,
+    a_purged_core_stands, each_keyspace_of_a_core_has_a_primary,
+    primaries_of_a_core_have_the_tables_of_its_topology, what_is_purged_stays_purged,
     workflows_of_a_core_stand_in_place,
 };
 use mt_site_ways::{
-    a_begin_steps, a_complete_steps, a_site_stays_one, a_step_steps, an_undo_steps,
-    each_open_way_has_a_record, events_by_hand_step_and_leave_the_ways,
-    events_on_workflows_step_and_leave_the_ways,
+    a_begin_steps, a_complete_steps, a_purged_site_stands, a_site_stays_one, a_step_steps,
+    an_undo_steps, each_open_way_has_a_record, events_by_hand_step_and_leave_the_ways,
+    events_on_workflows_step_and_leave_the_ways, what_a_step_looks_at_is_kept,
 };
 use mt_site_workflows::{begin_reverse, begin_switch, cancel, complete, step, undo};
 use mt_watch::Asks;
@@ -87,12 +89,33 @@ impl Core {
     /// Applies a command: what `apply` does with its event, without an event and a reply by value, which are large. A refusal leaves
     /// the core as it was. (Vitess: MoveTables)
     pub fn command<W: Asks>(&mut self, watchers: &W, command: Command<'_>) -> Result<(), Reason>
-        ensures applies { Applies (W.scopes watchers.now) (W.may_answer watchers.now) self.old (event_of_command command.entry) (done_by result) self.new }
+        ensures applies { AppliesAndPurges (W.scopes watchers.now) (W.may_answer watchers.now) self.old (event_of_command command.entry) (done_by result) self.new }
         ensures steps { SiteSteps (W.scopes watchers.now) self.old (event_of_command command.entry) (done_by result) self.new }
         ensures unchanged { OnErr result (self.new ≡ self.old) }
         ensures given_up { CanBeGivenUp self.old (event_of_command command.entry) → done_by result ≡ plain.done }
         ensures headline { KeepsTheHeadline (W.scopes watchers.now) self.old (event_of_command command.entry ∷ []) (done_by result ∷ []) self.new }
         ensures stood { IsSiteWith (W.scopes watchers.now) self.old → IsSiteWith (W.scopes watchers.now) self.new }
+        ensures purged { IsPurged self.old.core → IsPurged self.new.core }
+    {
+        a_purged_core_stands();
+        a_purged_site_stands();
+        what_is_purged_stays_purged();
+        a_move_can_be_given_up(watchers);
+        every_run_keeps_the_headline();
+        match self.do_command(watchers, command) {
+            Ok(()) => {
+                self.purge();
+                Ok(())
+            }
+            Err(reason) => Err(reason),
+        }
+    }
+
+    /// Does what a command asks for, and leaves the logs.
+    fn do_command<W: Asks>(&mut self, watchers: &W, command: Command<'_>) -> Result<(), Reason>
+        ensures applies { Applies (W.scopes watchers.now) (W.may_answer watchers.now) self.old (event_of_command command.entry) (done_by result) self.new }
+        ensures steps { SiteSteps (W.scopes watchers.now) self.old (event_of_command command.entry) (done_by result) self.new }
+        ensures unchanged { OnErr result (self.new ≡ self.old) }
     {
         each_is_a_primary(self.alloc, &self.primaries);
         let told = match command {
@@ -107,8 +130,6 @@ impl Core {
             Command::Complete(workflow) => self.complete(workflow),
         };
         an_applied_event_steps(watchers);
-        a_move_can_be_given_up(watchers);
-        every_run_keeps_the_headline();
         told
     }
 
@@ -223,6 +244,7 @@ impl Core {
         a_site_stays_one();
         workflows_of_a_core_stand_in_place();
         each_open_way_has_a_record();
+        what_a_step_looks_at_is_kept();
         a_step_steps(watchers);
         step(
             self.alloc,
@@ -246,6 +268,7 @@ impl Core {
         a_site_stays_one();
         workflows_of_a_core_stand_in_place();
         each_open_way_has_a_record();
+        what_a_step_looks_at_is_kept();
         an_undo_steps(watchers);
         undo(
             self.alloc,

@@ -3,8 +3,10 @@ ghost use Rattle.std.specs.Prelude.{◌≡◌, List, [], ◌∷◌, OnErr};
 ghost use Rattle.mt_event.specs.Reasons.{done_by};
 ghost use Rattle.mt_model.specs.declared.entries.Scope.{Scope};
 ghost use Rattle.mt_plain.specs.Events as plain;
-ghost use Rattle.mt_site_state.specs.ByHand.{ReadsRow, WritesRow};
+ghost use Rattle.mt_site_state.specs.ByHand.{ReadsRow};
+ghost use Rattle.mt_site_state.specs.Purges.{IsPurged};
 ghost use Rattle.mt_site_state.specs.Ways.{SiteSteps};
+ghost use Rattle.mt_site.specs.Applies.{WritesAndPurges};
 ghost use Rattle.mt_site.specs.ByHand.{read_from};
 ghost use Rattle.mt_site.specs.Headline.{KeepsTheHeadline};
 ghost use Rattle.mt_site.specs.Stood.{IsSiteWith};
@@ -15,7 +17,10 @@ use mt_event::Reason;
 use mt_laws::every_run_keeps_the_headline;
 use mt_model::Op;
 use mt_names::{KeyspaceName, RuleTarget, TableName, TabletType, Value};
-use mt_site_ways::{a_site_stays_one, events_by_hand_step_and_leave_the_ways};
+use mt_site_events::{a_purged_core_stands, what_is_purged_stays_purged};
+use mt_site_ways::{
+    a_purged_site_stands, a_site_stays_one, events_by_hand_step_and_leave_the_ways,
+};
 
 /// A table of a keyspace, with a hint of where it stands.
 #[derive(Drop)]
@@ -55,10 +60,10 @@ impl Core {
 
     /// Writes a row of the table of a place. It is the event Write, as `apply` applies it, without the event and without a copy of
     /// a name: `F1 NoKeyspace`, `F2 NoTable`, `F3 Denied`, `F4 RowExists` or `F5 NoRow`, `F29 TooLong`, `F27 Full`, `F0 Memory`.
-    /// Each leaves the core as it was, and the topology stays whatever is answered.
+    /// Each leaves the core as it was, and the topology stays whatever is answered. As a segment of the log gets whole, it is purged.
     #[inline(always)]
     pub fn write_row(&mut self, place: &Place, op: Op) -> Result<(), Reason>
-        ensures does { WritesRow self.old.core place.now.target.keyspace place.now.target.table op (done_by result) self.new.core }
+        ensures does { WritesAndPurges self.old.core place.now.target.keyspace place.now.target.table op (done_by result) self.new.core }
         ensures topology { self.new.core.topology ≡ self.old.core.topology }
         ensures ways { self.new.ways ≡ self.old.ways }
         ensures steps { (scopes : List Scope)
@@ -67,12 +72,17 @@ impl Core {
         ensures headline { (scopes : List Scope)
             → KeepsTheHeadline scopes self.old (plain.write place.now.target.keyspace place.now.target.table op ∷ []) (done_by result ∷ []) self.new }
         ensures stood { (scopes : List Scope) → IsSiteWith scopes self.old → IsSiteWith scopes self.new }
+        ensures purged { IsPurged self.old.core → IsPurged self.new.core }
     {
         a_site_stays_one();
         events_by_hand_step_and_leave_the_ways();
+        a_purged_core_stands();
+        a_purged_site_stands();
+        what_is_purged_stays_purged();
         every_run_keeps_the_headline();
         rows::write_row(
             &mut self.primaries,
+            &self.workflows,
             place.hint,
             &place.target.keyspace,
             &place.target.table,

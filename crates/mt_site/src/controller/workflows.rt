@@ -3,11 +3,12 @@ ghost use Rattle.std.specs.Prelude.{◌≡◌, List, [], ◌∷◌, OnErr};
 ghost use Rattle.mt_event.specs.Events.{done_from};
 ghost use Rattle.mt_model.specs.declared.entries.Scope.{Scope};
 ghost use Rattle.mt_plain.specs.Events as plain;
+ghost use Rattle.mt_site_state.specs.Purges.{IsPurged};
 ghost use Rattle.mt_site_state.specs.Ways.{SiteSteps};
 ghost use Rattle.mt_site_state.specs.Workflows.{AdvancesWorkflow, ShowsWorkflow};
 ghost use Rattle.mt_workflow.specs.Workflows.{stream_name};
 ghost use Rattle.mt_site.specs.Advance.{advanced_from};
-ghost use Rattle.mt_site.specs.Applies.{Applies};
+ghost use Rattle.mt_site.specs.Applies.{AdvancesAndPurges, Applies, AppliesAndPurges};
 ghost use Rattle.mt_site.specs.Headline.{KeepsTheHeadline};
 ghost use Rattle.mt_site.specs.Show.{shown_answer};
 ghost use Rattle.mt_site.specs.Stood.{IsSiteWith};
@@ -20,12 +21,12 @@ use mt_event::{Reason, Refusal, ShownOf};
 use mt_laws::every_run_keeps_the_headline;
 use mt_names::{KeyspaceName, MAX_TABLES, Position, TableName, WorkflowName};
 use mt_site_events::{
-    a_create_can_be_taken_back, streams_of_a_core_lie_in_their_logs,
-    workflows_of_a_core_stand_in_place,
+    a_create_can_be_taken_back, a_purged_core_stands, streams_of_a_core_lie_in_their_logs,
+    what_is_purged_stays_purged, workflows_of_a_core_stand_in_place,
 };
 use mt_site_ways::{
-    a_create_leaves_a_site, a_create_steps_and_leaves_the_ways, a_site_stays_one,
-    events_on_workflows_step_and_leave_the_ways,
+    a_create_leaves_a_site, a_create_steps_and_leaves_the_ways, a_purged_site_stands,
+    a_site_stays_one, events_on_workflows_step_and_leave_the_ways,
 };
 use mt_site_workflows::{Move, create, names_are_names};
 use mt_stream::Advanced;
@@ -44,11 +45,38 @@ impl Core {
         target: &KeyspaceName,
         tables: &ArrayVec<TableName, MAX_TABLES>,
     ) -> Result<(), Refusal>
-        ensures applies { Applies (W.scopes watchers.now) (W.may_answer watchers.now) self.old (plain.create workflow.now source.now target.now tables.now.items) (done_from result) self.new }
+        ensures applies { AppliesAndPurges (W.scopes watchers.now) (W.may_answer watchers.now) self.old (plain.create workflow.now source.now target.now tables.now.items) (done_from result) self.new }
         ensures steps { SiteSteps (W.scopes watchers.now) self.old (plain.create workflow.now source.now target.now tables.now.items) (done_from result) self.new }
         ensures unchanged { OnErr result (self.new ≡ self.old) }
         ensures headline { KeepsTheHeadline (W.scopes watchers.now) self.old (plain.create workflow.now source.now target.now tables.now.items ∷ []) (done_from result ∷ []) self.new }
         ensures stood { IsSiteWith (W.scopes watchers.now) self.old → IsSiteWith (W.scopes watchers.now) self.new }
+        ensures purged { IsPurged self.old.core → IsPurged self.new.core }
+    {
+        a_purged_core_stands();
+        a_purged_site_stands();
+        what_is_purged_stays_purged();
+        every_run_keeps_the_headline();
+        match self.do_create(watchers, workflow, source, target, tables) {
+            Ok(()) => {
+                self.purge();
+                Ok(())
+            }
+            Err(refusal) => Err(refusal),
+        }
+    }
+
+    /// Does what a Create asks for, and leaves the logs.
+    fn do_create<W: Asks>(
+        &mut self,
+        watchers: &W,
+        workflow: &WorkflowName,
+        source: &KeyspaceName,
+        target: &KeyspaceName,
+        tables: &ArrayVec<TableName, MAX_TABLES>,
+    ) -> Result<(), Refusal>
+        ensures applies { Applies (W.scopes watchers.now) (W.may_answer watchers.now) self.old (plain.create workflow.now source.now target.now tables.now.items) (done_from result) self.new }
+        ensures steps { SiteSteps (W.scopes watchers.now) self.old (plain.create workflow.now source.now target.now tables.now.items) (done_from result) self.new }
+        ensures unchanged { OnErr result (self.new ≡ self.old) }
     {
         let tables = tables.as_slice();
         names_are_names(source, target, tables);
@@ -56,7 +84,6 @@ impl Core {
         a_create_can_be_taken_back(watchers);
         a_create_leaves_a_site(watchers);
         a_create_steps_and_leaves_the_ways(watchers);
-        every_run_keeps_the_headline();
         create(
             self.alloc,
             &mut self.topology,
@@ -82,18 +109,44 @@ impl Core {
         at: Position,
         max: u16,
     ) -> Result<Advanced, Reason>
-        ensures does { AdvancesWorkflow self.old.core workflow.now (stream_name stream) at max (advanced_from result) self.new.core }
+        ensures does { AdvancesAndPurges self.old.core workflow.now (stream_name stream) at max (advanced_from result) self.new.core }
         ensures ways { self.new.ways ≡ self.old.ways }
         ensures steps { (scopes : List Scope) → SiteSteps scopes self.old (plain.advance workflow.now (stream_name stream) at max) (advanced_from result) self.new }
         ensures unchanged { OnErr result (self.new ≡ self.old) }
         ensures headline { (scopes : List Scope) → KeepsTheHeadline scopes self.old (plain.advance workflow.now (stream_name stream) at max ∷ []) (advanced_from result ∷ []) self.new }
         ensures stood { (scopes : List Scope) → IsSiteWith scopes self.old → IsSiteWith scopes self.new }
+        ensures purged { IsPurged self.old.core → IsPurged self.new.core }
+    {
+        a_purged_core_stands();
+        a_purged_site_stands();
+        what_is_purged_stays_purged();
+        every_run_keeps_the_headline();
+        match self.do_advance(workflow, stream, at, max) {
+            Ok(counts) => {
+                self.purge();
+                Ok(counts)
+            }
+            Err(reason) => Err(reason),
+        }
+    }
+
+    /// Does what an advance asks for, and leaves the logs.
+    fn do_advance(
+        &mut self,
+        workflow: &WorkflowName,
+        stream: Slot,
+        at: Position,
+        max: u16,
+    ) -> Result<Advanced, Reason>
+        ensures does { AdvancesWorkflow self.old.core workflow.now (stream_name stream) at max (advanced_from result) self.new.core }
+        ensures ways { self.new.ways ≡ self.old.ways }
+        ensures steps { (scopes : List Scope) → SiteSteps scopes self.old (plain.advance workflow.now (stream_name stream) at max) (advanced_from result) self.new }
+        ensures unchanged { OnErr result (self.new ≡ self.old) }
     {
         workflows_of_a_core_stand_in_place();
         streams_of_a_core_lie_in_their_logs();
         a_site_stays_one();
         events_on_workflows_step_and_leave_the_ways();
-        every_run_keeps_the_headline();
         each_is_a_primary(self.alloc, &self.primaries);
         advance::advance(
             self.alloc,

@@ -1,9 +1,9 @@
 -- The primary that is written is out of its place meanwhile, and the other one stays in its own.
-use Rattle.std.proofs.Common.{◌≡◌, ◌≤◌, Some, ap, is_some, length, rules, slice_get, subst, sym, ◌∙◌}
+use Rattle.std.proofs.Common.{◌≡◌, ◌≤◌, Some, ap, is_some, rules, slice_get, subst, sym, ◌∙◌}
 use Rattle.std.specs.Map.{values_of}
 use Rattle.mt_names.proofs.EntryLemmas.{some_from}
 use Rattle.mt_plain.specs.Slots.{read_side, written_side}
-use Rattle.mt_primary.specs.Primary.{PrimaryState, has_table}
+use Rattle.mt_primary.specs.Primary.{PrimaryState, end_of, has_table}
 use Rattle.mt_site_state.specs.Core.{primary_at, primary_of}
 use Rattle.mt_site_workflows.proofs.PrimaryLemmas.{still-at}
 use Rattle.mt_site_workflows.specs.Places.{IsAt}
@@ -25,6 +25,19 @@ place_of-written-requires c =
 pub exchange_at-sink-requires : goal.exchange_at-sink-requires
 exchange_at-sink-requires c = ap is_some c.place_of-written.ensures.at
 
+pub advance-result-requires-clause-kept : goal.advance-result-requires-clause-kept
+advance-result-requires-clause-kept c = λ s found runs.
+    let old = c.args.primaries.now.entries in
+    let read = read_side (live_of c.args.workflow.now) (stream_name c.args.slot) in
+    let written = written_side (live_of c.args.workflow.now) (stream_name c.args.slot) in
+    let at_read : IsAt old read c.place_of-read.result = search rules in
+    let at_written : IsAt old written c.place_of-written.result = search rules in
+    let stood : slice_get (values_of c.exchange_at-sink.new.primaries.entries) c.place_of-read.result ≡ Some c.index.result.now = search rules in
+    subst (λ (p : PrimaryState). p.log.purged ≤ s.position)
+    (other-at old c.exchange_at-sink.new.primaries.entries read written c.new.result (c.exchange_at-sink.ensures.after written at_written) (c.requires.between s found).apart
+    c.place_of-read.result c.index.result.now c.exchange_at-sink.ensures.places c.place_of-read.ensures.distinct at_read stood)
+    ((c.requires.between s found).kept runs)
+
 pub advance-result-requires-clause-within : goal.advance-result-requires-clause-within
 advance-result-requires-clause-within c = λ s found.
     let old = c.args.primaries.now.entries in
@@ -33,7 +46,7 @@ advance-result-requires-clause-within c = λ s found.
     let at_read : IsAt old read c.place_of-read.result = search rules in
     let at_written : IsAt old written c.place_of-written.result = search rules in
     let stood : slice_get (values_of c.exchange_at-sink.new.primaries.entries) c.place_of-read.result ≡ Some c.index.result.now = search rules in
-    subst (λ (p : PrimaryState). s.position ≤ length p.log)
+    subst (λ (p : PrimaryState). s.position ≤ end_of p)
     (other-at old c.exchange_at-sink.new.primaries.entries read written c.new.result (c.exchange_at-sink.ensures.after written at_written) (c.requires.between s found).apart
     c.place_of-read.result c.index.result.now c.exchange_at-sink.ensures.places c.place_of-read.ensures.distinct at_read stood)
     (c.requires.between s found).within

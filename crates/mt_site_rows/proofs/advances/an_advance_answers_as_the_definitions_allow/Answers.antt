@@ -16,7 +16,7 @@ returns c =
       apart = c.each_table_has_a_number_of_its_own.ensures.apart p reached;
       writable = c.the_owner_alone_serves_the_primary.ensures.writable p reached;
     } in
-    λ p reached at stands name w live stream slot there is.
+    λ p reached at stands name w live stream slot there is held.
     let reads = c.a_stream_that_runs_reads_the_owner.ensures.owner p reached in
-    stream_answers p (known p reached) reads at stands name w live stream slot there is
-    (λ runs. c.the_rows_left_are_the_uncopied_rows.ensures p w _ is (client_rows p (known p reached) reads at stands name w live stream slot there is runs))
+    stream_answers p (known p reached) reads at stands name w live stream slot there is held
+    (λ runs. c.the_rows_left_are_the_uncopied_rows.ensures p w _ is (client_rows p (known p reached) reads at stands name w live stream slot there is held runs))

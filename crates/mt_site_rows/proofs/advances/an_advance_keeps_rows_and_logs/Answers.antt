@@ -25,11 +25,11 @@ returns c =
       counted = c.what_is_pending_was_not_fed.ensures.counted p reached;
       catches = c.what_was_not_fed_makes_the_rows_of_the_owner.ensures.rows p reached;
     } in
-    λ p reached old new stands name w live stream slot there is has others position at_most result value.
+    λ p reached old new stands name w live stream slot there is held has others position at_most result value.
     let reads = c.a_stream_that_runs_reads_the_owner.ensures.owner p reached in
-    advance_keeps p (known p reached) (streams p reached) old new stands name w live stream slot there is others has
-    (λ runs. c.the_rows_left_are_the_uncopied_rows.ensures p w _ is (client_rows p (known p reached) reads old stands name w live stream slot there is runs))
+    advance_keeps p (known p reached) (streams p reached) old new stands name w live stream slot there is held others has
+    (λ runs. c.the_rows_left_are_the_uncopied_rows.ensures p w _ is (client_rows p (known p reached) reads old stands name w live stream slot there is held runs))
     (λ event answer given. streams _ (c.each_next_state_is_reached.ensures.next p reached event answer given))
     (λ at most events rows. c.an_advance_writes_one_log.ensures p name w live stream at most events rows)
-    c.the_copied_range_follows_the_source.ensures
+    c.the_copied_range_follows_the_source.ensures (c.what_is_in_use_goes_on.ensures p reached)
     position at_most value result

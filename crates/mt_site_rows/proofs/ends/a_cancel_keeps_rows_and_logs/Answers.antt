@@ -25,3 +25,4 @@ returns c =
     (λ n v is. c.a_live_workflow_is_found_by_its_part.ensures.named p n v is) others stay
     (known (next p (cancel name) done) (c.each_next_state_is_reached.ensures.next p reached (cancel name) done given))
     (λ n other. c.only_named_events_change_a_workflow.ensures.elsewhere p (cancel name) done n other)
+    (c.what_is_in_use_goes_on.ensures p reached (cancel name) done given)

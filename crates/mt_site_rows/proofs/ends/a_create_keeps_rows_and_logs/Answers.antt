@@ -22,3 +22,4 @@ returns c =
     create_stands p (known p reached) old new stands name source target (each_once tables) (free_name p name _ given.0) others stay empty
     (known (next p (create name source target tables) done) (c.each_next_state_is_reached.ensures.next p reached (create name source target tables) done given))
     (λ n other. c.only_named_events_change_a_workflow.ensures.elsewhere p (create name source target tables) done n other)
+    (c.what_is_in_use_goes_on.ensures p reached (create name source target tables) done given)

@@ -34,7 +34,7 @@ returns c =
     (alike_at_rest p (next p event answer) (state.numbers p event answer numbers) (state.made p event answer numbers) (state.writes p event answer writes) (state.logs p event answer logs) tables
     (λ name. live.live p event answer name lives) (λ name w v was is. live.sides p event answer name w v was is) (λ name w v was is. live.fed p event answer name w v was is advances) (λ name w v was is. live.copied p event answer name w v was is advances)
     (λ name w v was is. live.switched p event answer name w v was is steps))
-    at stands in
+    at stands (c.what_is_in_use_goes_on.ensures p reached event answer given) in
     record {
       refused = λ p at stands event refusal. stands;
       told = λ p at stands event tells answer. subst (λ q. RowsStand q at) (sym (state.told p event answer tells)) stands;

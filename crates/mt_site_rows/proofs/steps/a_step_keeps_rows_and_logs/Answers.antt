@@ -40,4 +40,4 @@ returns c =
     (there_changed p name (λ w. on_way_of (live_stepped p w) w) (stepped_sides p))
     (λ n. live.live p (step name number) done n (λ h. h)) (λ n w v was now. live.sides p (step name number) done n w v was now)
     (λ n w v was now. live.fed p (step name number) done n w v was now (λ h. h)) (λ n w v was now. live.copied p (step name number) done n w v was now (λ h. h)) owners)
-    at stands
+    at stands (c.what_is_in_use_goes_on.ensures p reached (step name number) done given)

@@ -1,5 +1,6 @@
 -- The new table's number has no write, and the other tables keep theirs.
 use Rattle.mt_model.specs.declared.entries.EntryKey.TheVariants as about
+use Rattle.mt_plain.specs.Events.{add_table, done}
 use Rattle.mt_plain.specs.Plain.{Plain, has_keyspace}
 use Rattle.mt_plain.specs.Serve.{has_table}
 use Rattle.mt_laws.specs.WayBack.{IsReached}
@@ -30,4 +31,4 @@ returns c =
       free = free_table (has_keyspace p keyspace) (has_table p keyspace table) _ given.0;
       others = λ k t apart. present_by p keyspace table k t (c.what_is_made_by_hand.ensures.no_other_table p.topology keyspace table (about.Present k t) apart);
     })
-    old new stands others stay empty
+    old new stands others stay empty (c.what_is_in_use_goes_on.ensures p reached (add_table keyspace table) done given)

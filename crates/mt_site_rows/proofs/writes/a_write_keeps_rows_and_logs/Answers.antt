@@ -13,4 +13,4 @@ returns c = λ p reached old new stands keyspace table op there has denies other
       apart = c.each_table_has_a_number_of_its_own.ensures.apart p reached;
       writable = c.the_owner_alone_serves_the_primary.ensures.writable p reached;
     })
-    old new stands keyspace table op there has denies others
+    old new stands keyspace table op there has denies others (c.what_is_in_use_goes_on.ensures p reached)

@@ -1,5 +1,5 @@
 -- What is kept of the ways has numbers that were given, and a way that is begun is kept behind the others.
-use Rattle.std.proofs.Common.{ℕ, suc, None, Some, option_map, ap, ◌∙◌, subst}
+use Rattle.std.proofs.Common.{suc, None, Some, option_map, ap, ◌∙◌, subst}
 use Rattle.std.proofs.lemmas.List.Elements.{All-from_recursion}
 use Rattle.std.specs.List.{AllByRecursion}
 use Rattle.mt_journal.specs.declared.entry.JournalEntry.{JournalEntry}

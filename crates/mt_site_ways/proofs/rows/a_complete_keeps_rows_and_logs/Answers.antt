@@ -9,6 +9,7 @@ use Rattle.mt_laws.specs.WayBack.{IsReached}
 use Rattle.mt_laws.proofs.ReachLemmas.{reached_has_parts}
 use Rattle.mt_site_rows.specs.Rows.{RowsStand}
 use Rattle.mt_site_rows.proofs.KnownLemmas.{Known}
+use Rattle.mt_site_rows.proofs.UnreadLemmas.{StreamsGoOn}
 use Rattle.mt_site_ways.proofs.RowLemmas.{complete_stands}
 use Rattle.mt_site_ways.proofs.rows.a_complete_keeps_rows_and_logs.Goals as goal
 
@@ -32,4 +33,4 @@ returns c =
     (subst Known is_next (known (next p (complete name) done) (c.each_next_state_is_reached.ensures.next p reached (complete name) done given)))
     (λ n other. sym (ap (λ q. live_at q n) is_next) ∙ c.only_named_events_change_a_workflow.ensures.elsewhere p (complete name) done n (λ e. other (named ∙ e)))
     (λ table moved key. sym (ap (λ q. client_row q w.target table key) is_next) ∙ c.a_moved_table_keeps_its_number.ensures.rows p reached name w live given table moved key)
-    old new stands others stay)
+    old new stands others stay (subst (StreamsGoOn p) is_next (c.what_is_in_use_goes_on.ensures p reached (complete name) done given)))

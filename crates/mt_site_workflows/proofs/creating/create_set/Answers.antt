@@ -2,6 +2,7 @@
 use Rattle.std.proofs.Common.{◌≡◌, All, None, true, false, ap, arith, is_some, length, option_map, subst, sym, ◌∙◌, ◌||◌}
 use Rattle.std.proofs.lemmas.Bool.{lt-leb}
 use Rattle.std.specs.Prelude.{nat_le}
+use Rattle.mt_primary.specs.Primary.{end_of}
 use Rattle.mt_event.specs.Events.{refusal_from}
 use Rattle.mt_model.specs.Part.{part_keys}
 use Rattle.mt_model.specs.Topology.{TopologyState, has_place}
@@ -38,7 +39,7 @@ returns-in-Ok g c =
     let none : create_refusal core (g.W.Asks.scopes c.args.watchers.now) c.args.asked.name.now c.args.asked.source.now c.args.asked.target.now c.args.asked.tables.now ≡ None =
     c.refusal_before.ensures ∙ ap (λ o. or_else (option_map refusal_from o) (refuse_if (is_full core c.args.asked.source.now c.args.asked.target.now c.args.asked.tables.now) full)) c.in_default.is
     ∙ ap (λ b. refuse_if b full) fits in
-    let position = length (primary_of c.args.primaries.now.entries c.args.asked.source.now).log in
+    let position = end_of (primary_of c.args.primaries.now.entries c.args.asked.source.now) in
     let is : new_workflow c.reserve_part.new.self.rules c.args.asked.name.now c.args.asked.source.now c.args.asked.target.now c.args.asked.tables.now position ≡ new_of core c.args.asked.name.now c.args.asked.source.now c.args.asked.target.now c.args.asked.tables.now =
     ap (λ (t : TopologyState). new_workflow t.rules c.args.asked.name.now c.args.asked.source.now c.args.asked.target.now c.args.asked.tables.now position) c.in-Ok.ensures.1
     ∙ new-placed c.args.topology.now (part_keys c.args.asked.source.now c.args.asked.target.now c.args.asked.tables.now) c.args.asked.name.now c.args.asked.source.now c.args.asked.target.now c.args.asked.tables.now position in

@@ -1,8 +1,9 @@
 -- The new workflow is put behind the others.
-use Rattle.std.proofs.Common.{◌≡◌, Ok, ap, length, subst, ◌∙◌}
+use Rattle.std.proofs.Common.{◌≡◌, Ok, ap, subst, ◌∙◌}
 use Rattle.mt_names.specs.Types.{no_types}
 use Rattle.mt_model.specs.Part.{with_entries}
 use Rattle.mt_model.specs.Topology.{TopologyState}
+use Rattle.mt_primary.specs.Primary.{end_of}
 use Rattle.mt_workflow.specs.Workflows.{WorkflowState, live_of, new_workflow}
 use Rattle.mt_site_topology.specs.Keys.{part_entries}
 use Rattle.mt_site_state.specs.Core.{CoreState, Primaries, Workflows, primary_of, with_primary}
@@ -13,7 +14,7 @@ use Rattle.mt_site_workflows.proofs.creating.make.Goals as goal
 
 pub returns-in-Ok-insert : goal.returns-in-Ok-insert
 returns-in-Ok-insert g c =
-    let made : WorkflowState = new_workflow c.args.topology.now.rules c.args.asked.name.now c.args.asked.source.now c.args.asked.target.now c.args.asked.tables.now (length (primary_of c.args.primaries.now.entries c.args.asked.source.now).log) in
+    let made : WorkflowState = new_workflow c.args.topology.now.rules c.args.asked.name.now c.args.asked.source.now c.args.asked.target.now c.args.asked.tables.now (end_of (primary_of c.args.primaries.now.entries c.args.asked.source.now)) in
     let is : c.in-Ok.workflow ≡ made =
     c.in-Ok.ensures.value
     ∙ ap (λ ts. new_workflow c.args.topology.now.rules c.args.asked.name.now c.args.asked.source.now c.args.asked.target.now ts c.position_of-position.result) c.requires.ready.once

@@ -1,8 +1,12 @@
 -- Both primaries are out of their places meanwhile, and both are put back.
-use Rattle.std.proofs.Common.{ap, is_some, rules, ◌∙◌}
+use Rattle.std.proofs.Common.{◌≡◌, ap, is_some, rules, subst, sym, ◌∙◌}
 use Rattle.mt_workflow.specs.Workflows.{way_from}
-use Rattle.mt_site_workflows.proofs.PrimaryLemmas.{given-back, still-at}
-use Rattle.mt_site_workflows.proofs.BetweenLemmas.{stepped}
+use Rattle.mt_plain.specs.Plain.{next_step}
+use Rattle.mt_steps.specs.Steps.{open_way}
+use Rattle.mt_steps.specs.Streams.{KeepsToTest}
+use Rattle.mt_site_state.specs.Core.{primary_of}
+use Rattle.mt_site_workflows.proofs.PrimaryLemmas.{given-back, second-is, still-at}
+use Rattle.mt_site_workflows.proofs.BetweenLemmas.{stepped, way-is}
 use Rattle.mt_site_workflows.specs.Places.{IsAt}
 use Rattle.mt_site_workflows.proofs.stepping.step_between.Goals as goal
 
@@ -12,6 +16,23 @@ exchange_at-source-requires g c = ap is_some c.place_of-at_source.ensures.at
 pub exchange_at-target-requires : goal.exchange_at-target-requires
 exchange_at-target-requires g c =
     ap is_some (still-at c.args.primaries.now.entries c.exchange_at-source.new.primaries.entries _ c.place_of-at_target.result c.exchange_at-source.ensures.places c.place_of-at_target.ensures.at)
+
+pub do_step-result-requires-clause-kept : goal.do_step-result-requires-clause-kept
+do_step-result-requires-clause-kept g c =
+    let w = c.args.workflow.now in
+    let old = c.args.primaries.now.entries in
+    let at_source : IsAt old w.source c.place_of-at_source.result = search rules in
+    let at_target : IsAt old w.target c.place_of-at_target.result = search rules in
+    let meanwhile = still-at old c.exchange_at-source.new.primaries.entries w.target c.place_of-at_target.result c.exchange_at-source.ensures.places at_target in
+    let source : c.exchange_at-source.result ≡ primary_of old w.source = c.exchange_at-source.ensures.before w.source at_source in
+    let target : c.exchange_at-target.result ≡ primary_of old w.target
+    = c.exchange_at-target.ensures.before w.target meanwhile ∙ second-is old c.exchange_at-source.new.primaries.entries w.source c.new.result (c.exchange_at-source.ensures.after w.source at_source) w.target c.requires.stands.apart in
+    let opens = way-is w (way_from c.args.way) c.requires.way in
+    let way = way_from c.args.way in
+    subst (λ n. KeepsToTest w (open_way w) n c.exchange_at-source.result c.exchange_at-target.result) (sym c.next_step.ensures.number)
+    (subst (λ v. KeepsToTest w v (next_step way) c.exchange_at-source.result c.exchange_at-target.result) (sym opens)
+    (subst (λ s. KeepsToTest w way (next_step way) s c.exchange_at-target.result) (sym source)
+    (subst (KeepsToTest w way (next_step way) (primary_of old w.source)) (sym target) c.requires.stands.unread)))
 
 pub exchange_at-requires : goal.exchange_at-requires
 exchange_at-requires g c =

@@ -6,7 +6,7 @@ use Rattle.mt_primary.proofs.primary.Primary.set_denied.Goals.{in-Some, in_defau
 use Rattle.mt_primary.proofs.primary.Primary.set_denied.Goals as goal
 
 abbrev before : goal.Joined-get_mut → PrimaryState
-before c = record { tables = c.self.inside.tables.entries; log = c.self.inside.log.items }
+before c = record { tables = c.self.inside.tables.entries; log = c.self.inside.log.log }
 
 pub invariant_of-self : goal.invariant_of-self
 invariant_of-self c =

@@ -7,10 +7,10 @@ use Rattle.mt_primary.proofs.PlacedLemmas.{denial_at}
 use Rattle.mt_primary.proofs.primary.Primary.set_denied_at.Goals as goal
 
 abbrev before : goal.After-self-1 → PrimaryState
-before c = record { tables = c.self.inside.tables.entries; log = c.self.inside.log.items }
+before c = record { tables = c.self.inside.tables.entries; log = c.self.inside.log.log }
 
 abbrev after : goal.After-self-1 → PrimaryState
-after c = record { tables = set_value_at c.self.inside.tables.entries c.args.place c.set_denied.new.self; log = c.self.inside.log.items }
+after c = record { tables = set_value_at c.self.inside.tables.entries c.args.place c.set_denied.new.self; log = c.self.inside.log.log }
 
 marked : (c : goal.After-self-1) → IsPrimary (after c) × AreDenialsSet (before c) (λ name. told_by_mark name None (c.args.table.now, c.args.denied)) (after c)
 marked c =

@@ -1,62 +1,62 @@
--- The advance leads from each state that the controller stands for to the next one, and of a run that goes on with it the headline holds.
-use Rattle.std.proofs.Common.{◌≡◌, [], refl, subst}
-use Rattle.std.specs.Result.{OnErr}
+-- An advance leads from each state that the controller stands for to the next one, also with its logs purged, and of a run that goes on
+-- with it the headline holds.
+use Rattle.std.proofs.Common.{Ok, Err, refl, sym, subst, ◌∙◌}
 use Rattle.mt_plain.specs.Events.{advance}
-use Rattle.mt_site_state.specs.Core.{CoreState, workflow_at}
-use Rattle.mt_site_state.specs.Ways.{SiteState, SiteSteps}
+use Rattle.mt_site_state.specs.Purges.{IsPurged}
+use Rattle.mt_site_state.specs.Ways.{SiteSteps}
 use Rattle.mt_site_state.specs.Workflows.{AdvancesWorkflow}
 use Rattle.mt_workflow.specs.Workflows.{stream_name}
 use Rattle.mt_site.specs.Advance.{advanced_from}
-use Rattle.mt_site.proofs.CoreLemmas.{can_advance, written_there}
-use Rattle.mt_site.proofs.LeaveLemmas.{advances_leave}
+use Rattle.mt_site.proofs.PurgeLemmas.{site_of}
 use Rattle.mt_site.proofs.RunLemmas.{one_kept}
-use Rattle.mt_site.proofs.SiteLemmas.{lifted, site, whole}
 use Rattle.mt_site.proofs.StoodLemmas.{stood_next}
 use Rattle.mt_site.proofs.controller.Core.advance.Goals as goal
 
-pub advance-requires : goal.advance-requires
-advance-requires c =
-    let old : SiteState = site c.self.inside.topology c.self.inside.primaries.entries c.self.inside.workflows.entries c.self.inside.opened.entries c.self.inside.journal c.self.inside.begun in
-    let core = c.a_site_stays_one.ensures.core old c.self.invariant in
-    let place = c.workflows_of_a_core_stand_in_place.ensures in
-    let streams = c.streams_of_a_core_lie_in_their_logs.ensures in
-    can_advance old.core c.args.workflow.now (stream_name c.args.stream) (place.named old.core core) (place.source old.core core) (place.target old.core core) (place.apart old.core core)
-    (place.at_source old.core core) (place.at_target old.core core) (streams.tables old.core core) (streams.position old.core core)
+pub returns-in-Ok-clause-does : goal.returns-in-Ok-clause-does
+returns-in-Ok-clause-does c = (
+  c.do_advance.new.self.core,
+  subst (λ r. AdvancesWorkflow c.args.self.now.core c.args.workflow.now (stream_name c.args.stream) c.args.at c.args.max (advanced_from r) c.do_advance.new.self.core) c.in-Ok.is c.do_advance.ensures.does,
+  c.purge.ensures.core,
+)
 
-pub invariant_of-self : goal.invariant_of-self
-invariant_of-self c =
-    let old : SiteState = site c.self.inside.topology c.self.inside.primaries.entries c.self.inside.workflows.entries c.self.inside.opened.entries c.self.inside.journal c.self.inside.begun in
-    let core : CoreState = record old.core { primaries = c.advance.new.primaries.entries; workflows = c.advance.new.workflows.entries } in
-    c.a_site_stays_one.ensures.stays [] old (record old { core = core }) (advance c.args.workflow.now (stream_name c.args.stream) c.args.at c.args.max) (advanced_from c.advance.result) tt
-    (λ more. c.events_on_workflows_step_and_leave_the_ways.ensures.advance _ old core c.args.workflow.now (stream_name c.args.stream) c.args.at c.args.max (advanced_from c.advance.result) (c.advance.ensures core.topology) c.each_is_a_primary.ensures) c.self.invariant
+pub returns-in-Ok-clause-ways : goal.returns-in-Ok-clause-ways
+returns-in-Ok-clause-ways c = c.purge.ensures.ways ∙ c.do_advance.ensures.ways
 
-pub returns-clause-does : goal.returns-clause-does
-returns-clause-does c =
-    let core : CoreState = record { topology = c.self.inside.topology; primaries = c.advance.new.primaries.entries; workflows = c.advance.new.workflows.entries } in
-    subst (λ s. AdvancesWorkflow s.core c.args.workflow.now (stream_name c.args.stream) c.args.at c.args.max (advanced_from c.advance.result) core) c.self.view_is (c.advance.ensures core.topology)
+pub returns-in-Ok-clause-steps : goal.returns-in-Ok-clause-steps
+returns-in-Ok-clause-steps c = λ scopes.
+    let event = advance c.args.workflow.now (stream_name c.args.stream) c.args.at c.args.max in
+    let told = advanced_from (Ok c.in-Ok.counts) in
+    let made = c.do_advance.new.self in
+    let new = c.purge.new.self in
+    subst (SiteSteps scopes c.args.self.now event told) (site_of made new c.purge.ensures.ways)
+    (c.a_purged_site_stands.ensures.steps scopes c.args.self.now made event told new.core
+    (subst (λ r. SiteSteps scopes c.args.self.now event (advanced_from r) made) c.in-Ok.is (c.do_advance.ensures.steps scopes))
+    (c.a_purged_core_stands.ensures.all made.core new.core told c.purge.ensures.core))
 
-pub returns-clause-steps : goal.returns-clause-steps
-returns-clause-steps c = λ scopes.
-    let old : SiteState = site c.self.inside.topology c.self.inside.primaries.entries c.self.inside.workflows.entries c.self.inside.opened.entries c.self.inside.journal c.self.inside.begun in
-    let core : CoreState = record old.core { primaries = c.advance.new.primaries.entries; workflows = c.advance.new.workflows.entries } in
-    let told = advanced_from c.advance.result in
-    subst (λ s. SiteSteps scopes s (advance c.args.workflow.now (stream_name c.args.stream) c.args.at c.args.max) told (record old { core = core })) c.self.view_is
-    (c.events_on_workflows_step_and_leave_the_ways.ensures.advance scopes old core c.args.workflow.now (stream_name c.args.stream) c.args.at c.args.max told (c.advance.ensures core.topology) c.each_is_a_primary.ensures)
+pub returns-in-Ok-clause-headline : goal.returns-in-Ok-clause-headline
+returns-in-Ok-clause-headline c = λ scopes. one_kept scopes _ _ _ _ (returns-in-Ok-clause-steps c scopes) c.every_run_keeps_the_headline.ensures.with_earlier_lines
 
-pub returns-clause-unchanged : goal.returns-clause-unchanged
-returns-clause-unchanged c =
-    let old : SiteState = site c.self.inside.topology c.self.inside.primaries.entries c.self.inside.workflows.entries c.self.inside.opened.entries c.self.inside.journal c.self.inside.begun in
-    let core : CoreState = record old.core { primaries = c.advance.new.primaries.entries; workflows = c.advance.new.workflows.entries } in
-    let place = c.workflows_of_a_core_stand_in_place.ensures in
-    let is = c.a_site_stays_one.ensures.core old c.self.invariant in
-    subst (λ s. OnErr c.advance.result (whole core old.ways ≡ s)) c.self.view_is (lifted c.advance.result old.ways core old.core
-    (advances_leave old.core core c.args.workflow.now (stream_name c.args.stream) c.args.at c.args.max (place.named old.core is c.args.workflow.now)
-    (written_there old.core c.args.workflow.now (stream_name c.args.stream) (place.source old.core is) (place.target old.core is))
-    c.advance.result (workflow_at old.core.workflows c.args.workflow.now) refl (c.advance.ensures core.topology)))
+pub returns-in-Ok-clause-stood : goal.returns-in-Ok-clause-stood
+returns-in-Ok-clause-stood c = λ scopes.
+    stood_next scopes _ _ (advance c.args.workflow.now (stream_name c.args.stream) c.args.at c.args.max) (advanced_from (Ok c.in-Ok.counts)) (returns-in-Ok-clause-steps c scopes)
 
-pub returns-clause-headline : goal.returns-clause-headline
-returns-clause-headline c = λ scopes. one_kept scopes _ _ _ _ (returns-clause-steps c scopes) c.every_run_keeps_the_headline.ensures.with_earlier_lines
+pub returns-in-Ok-clause-purged : goal.returns-in-Ok-clause-purged
+returns-in-Ok-clause-purged c = λ was. subst IsPurged (sym c.purge.ensures.core) (c.what_is_purged_stays_purged.ensures.all c.do_advance.new.self.core)
 
-pub returns-clause-stood : goal.returns-clause-stood
-returns-clause-stood c = λ scopes.
-    stood_next scopes _ _ (advance c.args.workflow.now (stream_name c.args.stream) c.args.at c.args.max) (advanced_from c.advance.result) (returns-clause-steps c scopes)
+pub returns-in-Err-clause-does : goal.returns-in-Err-clause-does
+returns-in-Err-clause-does c = (
+  c.do_advance.new.self.core,
+  subst (λ r. AdvancesWorkflow c.args.self.now.core c.args.workflow.now (stream_name c.args.stream) c.args.at c.args.max (advanced_from r) c.do_advance.new.self.core) c.in-Err.is c.do_advance.ensures.does,
+  refl,
+)
+
+pub returns-in-Err-clause-steps : goal.returns-in-Err-clause-steps
+returns-in-Err-clause-steps c = λ scopes.
+    subst (λ r. SiteSteps scopes c.args.self.now (advance c.args.workflow.now (stream_name c.args.stream) c.args.at c.args.max) (advanced_from r) c.do_advance.new.self) c.in-Err.is (c.do_advance.ensures.steps scopes)
+
+pub returns-in-Err-clause-headline : goal.returns-in-Err-clause-headline
+returns-in-Err-clause-headline c = λ scopes. one_kept scopes _ _ _ _ (returns-in-Err-clause-steps c scopes) c.every_run_keeps_the_headline.ensures.with_earlier_lines
+
+pub returns-in-Err-clause-stood : goal.returns-in-Err-clause-stood
+returns-in-Err-clause-stood c = λ scopes.
+    stood_next scopes _ _ (advance c.args.workflow.now (stream_name c.args.stream) c.args.at c.args.max) (advanced_from (Err c.in-Err.reason)) (returns-in-Err-clause-steps c scopes)

@@ -1,38 +1,66 @@
--- What a command does is a step of the definitions, and of a run that goes on with it the headline holds.
-use Rattle.std.proofs.Common.{List, ℕ, subst}
-use Rattle.mt_event.specs.Reasons.{done_by}
-use Rattle.mt_primary.specs.Primary.{IsPrimary}
-use Rattle.mt_site_state.specs.Core.{primary_of}
+-- A command leads from each state that the controller stands for to the next one, also with its logs purged, and of a run that goes on
+-- with it the headline holds.
+use Rattle.std.proofs.Common.{Err, refl, sym, ap, subst, ◌∙◌}
+use Rattle.mt_event.specs.Reasons.{done_by, reason_from}
+use Rattle.mt_plain.specs.Events.{done, refused}
+use Rattle.mt_site_state.specs.Purges.{IsPurged}
+use Rattle.mt_site_state.specs.Ways.{SiteSteps}
 use Rattle.mt_site.specs.Applies.{Applies}
 use Rattle.mt_site.specs.Commands.{event_of_command}
+use Rattle.mt_site.proofs.PurgeLemmas.{command_purges, site_of}
 use Rattle.mt_site.proofs.RunLemmas.{one_kept}
 use Rattle.mt_site.proofs.StoodLemmas.{stood_next}
-use Rattle.mt_site.proofs.controller.Core.command.Goals.{in-AddKeyspace, in-AddTable, in-EditRule, in-BeginSwitch, in-BeginReverse, in-Step, in-Undo, in-Cancel, in-Complete}
 use Rattle.mt_site.proofs.controller.Core.command.Goals as goal
 
-pub returns-clause-steps : goal.returns-clause-steps
-returns-clause-steps g c =
-    let old = c.args.self.now in
-    let new = c.match-command.self in
+pub returns-in-Ok-clause-applies : goal.returns-in-Ok-clause-applies
+returns-in-Ok-clause-applies g c = (
+  c.do_command.new.self,
+  subst (λ r. Applies (g.W.Asks.scopes c.args.watchers.now) (g.W.Asks.may_answer c.args.watchers.now) c.args.self.now (event_of_command c.args.command) (done_by r) c.do_command.new.self) c.in-Ok.is c.do_command.ensures.applies,
+  command_purges c.args.command done c.do_command.new.self c.purge.new.self c.purge.ensures.core c.purge.ensures.ways,
+)
+
+pub returns-in-Ok-clause-steps : goal.returns-in-Ok-clause-steps
+returns-in-Ok-clause-steps g c =
+    let scopes = g.W.Asks.scopes c.args.watchers.now in
     let event = event_of_command c.args.command in
-    let told = done_by c.match-command.told in
-    let applies : Applies (g.W.Asks.scopes c.args.watchers.now) (g.W.Asks.may_answer c.args.watchers.now) old event told new
-    = elim c.match-command.branch [
-      | in-AddKeyspace w ↦ rw (w.in-AddKeyspace.is, w.told-is, w.self-is) (w.add_keyspace-told.ensures.does, w.add_keyspace-told.ensures.ways)
-      | in-AddTable w ↦ rw (w.in-AddTable.is, w.told-is, w.self-is) (w.add_table-told.ensures.does, w.add_table-told.ensures.ways)
-      | in-EditRule w ↦ rw (w.in-EditRule.is, w.told-is, w.self-is) (w.edit_rule-told.ensures.does, w.edit_rule-told.ensures.ways)
-      | in-BeginSwitch w ↦ rw (w.in-BeginSwitch.is, w.told-is, w.self-is) w.begin_switch-told.ensures.does
-      | in-BeginReverse w ↦ rw (w.in-BeginReverse.is, w.told-is, w.self-is) w.begin_reverse-told.ensures.does
-      | in-Step w ↦ rw (w.in-Step.is, w.told-is, w.self-is) w.step-told.ensures.does
-      | in-Undo w ↦ rw (w.in-Undo.is, w.told-is, w.self-is) w.undo-told.ensures.does
-      | in-Cancel w ↦ rw (w.in-Cancel.is, w.told-is, w.self-is) (w.cancel-told.ensures.does, w.cancel-told.ensures.ways)
-      | in-Complete w ↦ rw (w.in-Complete.is, w.told-is, w.self-is) w.complete-told.ensures.does
-    ] in
-    c.an_applied_event_steps.ensures old new event told applies (subst (λ s. (keyspace : List ℕ) → IsPrimary (primary_of s.core.primaries keyspace)) c.self.view_is c.each_is_a_primary.ensures)
+    let made = c.do_command.new.self in
+    let new = c.purge.new.self in
+    subst (SiteSteps scopes c.args.self.now event done) (site_of made new c.purge.ensures.ways)
+    (c.a_purged_site_stands.ensures.steps scopes c.args.self.now made event done new.core
+    (subst (λ r. SiteSteps scopes c.args.self.now event (done_by r) made) c.in-Ok.is c.do_command.ensures.steps)
+    (c.a_purged_core_stands.ensures.all made.core new.core done c.purge.ensures.core))
 
-pub returns-clause-headline : goal.returns-clause-headline
-returns-clause-headline g c = one_kept (g.W.Asks.scopes c.args.watchers.now) _ _ _ _ (returns-clause-steps g c) c.every_run_keeps_the_headline.ensures.with_earlier_lines
+pub returns-in-Ok-clause-given_up : goal.returns-in-Ok-clause-given_up
+returns-in-Ok-clause-given_up g c = λ can. refl
 
-pub returns-clause-stood : goal.returns-clause-stood
-returns-clause-stood g c =
-    stood_next (g.W.Asks.scopes c.args.watchers.now) _ _ (event_of_command c.args.command) (done_by c.match-command.told) (returns-clause-steps g c)
+pub returns-in-Ok-clause-headline : goal.returns-in-Ok-clause-headline
+returns-in-Ok-clause-headline g c = one_kept (g.W.Asks.scopes c.args.watchers.now) _ _ _ _ (returns-in-Ok-clause-steps g c) c.every_run_keeps_the_headline.ensures.with_earlier_lines
+
+pub returns-in-Ok-clause-stood : goal.returns-in-Ok-clause-stood
+returns-in-Ok-clause-stood g c =
+    stood_next (g.W.Asks.scopes c.args.watchers.now) _ _ (event_of_command c.args.command) done (returns-in-Ok-clause-steps g c)
+
+pub returns-in-Ok-clause-purged : goal.returns-in-Ok-clause-purged
+returns-in-Ok-clause-purged g c = λ was. subst IsPurged (sym c.purge.ensures.core) (c.what_is_purged_stays_purged.ensures.all c.do_command.new.self.core)
+
+pub returns-in-Err-clause-applies : goal.returns-in-Err-clause-applies
+returns-in-Err-clause-applies g c = (
+  c.do_command.new.self,
+  subst (λ r. Applies (g.W.Asks.scopes c.args.watchers.now) (g.W.Asks.may_answer c.args.watchers.now) c.args.self.now (event_of_command c.args.command) (done_by r) c.do_command.new.self) c.in-Err.is c.do_command.ensures.applies,
+  command_purges c.args.command (refused (reason_from c.in-Err.reason)) c.do_command.new.self c.do_command.new.self refl refl,
+)
+
+pub returns-in-Err-clause-steps : goal.returns-in-Err-clause-steps
+returns-in-Err-clause-steps g c =
+    subst (λ r. SiteSteps (g.W.Asks.scopes c.args.watchers.now) c.args.self.now (event_of_command c.args.command) (done_by r) c.do_command.new.self) c.in-Err.is c.do_command.ensures.steps
+
+pub returns-in-Err-clause-given_up : goal.returns-in-Err-clause-given_up
+returns-in-Err-clause-given_up g c = λ can.
+    ap done_by (sym c.in-Err.is) ∙ c.a_move_can_be_given_up.ensures c.args.self.now c.do_command.new.self (event_of_command c.args.command) (done_by c.do_command.result) c.do_command.ensures.applies can
+
+pub returns-in-Err-clause-headline : goal.returns-in-Err-clause-headline
+returns-in-Err-clause-headline g c = one_kept (g.W.Asks.scopes c.args.watchers.now) _ _ _ _ (returns-in-Err-clause-steps g c) c.every_run_keeps_the_headline.ensures.with_earlier_lines
+
+pub returns-in-Err-clause-stood : goal.returns-in-Err-clause-stood
+returns-in-Err-clause-stood g c =
+    stood_next (g.W.Asks.scopes c.args.watchers.now) _ _ (event_of_command c.args.command) (done_by (Err c.in-Err.reason)) (returns-in-Err-clause-steps g c)

@@ -1,41 +1,58 @@
--- A Create leads from each state that the controller stands for to the next one, and of a run that goes on with it the headline holds.
-use Rattle.std.proofs.Common.{◌≡◌, rules, subst}
+-- A Create leads from each state that the controller stands for to the next one, also with its logs purged, and of a run that goes on with
+-- it the headline holds.
+use Rattle.std.proofs.Common.{Err, refl, sym, subst}
 use Rattle.mt_event.specs.Events.{done_from}
-use Rattle.mt_plain.specs.Events.{create}
-use Rattle.mt_site_state.specs.Core.{CoreState}
-use Rattle.mt_site_state.specs.Ways.{SiteState, SiteSteps}
+use Rattle.mt_plain.specs.Events.{create, done}
+use Rattle.mt_site_state.specs.Purges.{IsPurged}
+use Rattle.mt_site_state.specs.Ways.{SiteSteps}
+use Rattle.mt_site.specs.Applies.{Applies}
+use Rattle.mt_site.proofs.PurgeLemmas.{site_of}
 use Rattle.mt_site.proofs.RunLemmas.{one_kept}
-use Rattle.mt_site.proofs.SiteLemmas.{site}
 use Rattle.mt_site.proofs.StoodLemmas.{stood_next}
 use Rattle.mt_site.proofs.controller.Core.create.Goals as goal
 
-pub create-requires-clause-can : goal.create-requires-clause-can
-create-requires-clause-can g c =
-    let old : SiteState = site c.self.inside.topology c.self.inside.primaries.entries c.self.inside.workflows.entries c.self.inside.opened.entries c.self.inside.journal c.self.inside.begun in
-    let core = c.a_site_stays_one.ensures.core old c.self.invariant in
-    let back = c.a_create_can_be_taken_back.ensures old.core c.args.workflow.now c.args.source.now c.args.target.now c.as_slice-tables.result.now core in
-    record { absent = λ none. (back none).1; back = λ none. (back none).0 }
+pub returns-in-Ok-clause-applies : goal.returns-in-Ok-clause-applies
+returns-in-Ok-clause-applies g c = (
+  c.do_create.new.self,
+  subst (λ r. Applies (g.W.Asks.scopes c.args.watchers.now) (g.W.Asks.may_answer c.args.watchers.now) c.args.self.now (create c.args.workflow.now c.args.source.now c.args.target.now c.args.tables.now.items) (done_from r) c.do_create.new.self) c.in-Ok.is c.do_create.ensures.applies,
+  (c.purge.ensures.core, c.purge.ensures.ways),
+)
 
-pub invariant_of-self : goal.invariant_of-self
-invariant_of-self g c =
-    let old : SiteState = site c.self.inside.topology c.self.inside.primaries.entries c.self.inside.workflows.entries c.self.inside.opened.entries c.self.inside.journal c.self.inside.begun in
-    let core : CoreState = record { topology = c.create.new.topology; primaries = c.create.new.primaries.entries; workflows = c.create.new.workflows.entries } in
-    c.a_create_leaves_a_site.ensures old core c.args.workflow.now c.args.source.now c.args.target.now c.as_slice-tables.result.now (done_from c.create.result)
-    (c.names_are_names.ensures.source, c.names_are_names.ensures.target, c.names_are_names.ensures.tables) c.create.ensures c.self.invariant
-
-pub returns-clause-steps : goal.returns-clause-steps
-returns-clause-steps g c =
-    let old : SiteState = site c.self.inside.topology c.self.inside.primaries.entries c.self.inside.workflows.entries c.self.inside.opened.entries c.self.inside.journal c.self.inside.begun in
-    let core : CoreState = record { topology = c.create.new.topology; primaries = c.create.new.primaries.entries; workflows = c.create.new.workflows.entries } in
+pub returns-in-Ok-clause-steps : goal.returns-in-Ok-clause-steps
+returns-in-Ok-clause-steps g c =
     let scopes = g.W.Asks.scopes c.args.watchers.now in
-    let same : c.as_slice-tables.result.now ≡ c.args.tables.now.items = search rules in
-    subst (λ s. SiteSteps scopes s (create c.args.workflow.now c.args.source.now c.args.target.now c.args.tables.now.items) (done_from c.create.result) (record old { core = core })) c.self.view_is
-    (subst (λ ts. SiteSteps scopes old (create c.args.workflow.now c.args.source.now c.args.target.now ts) (done_from c.create.result) (record old { core = core })) same
-    (c.a_create_steps_and_leaves_the_ways.ensures old core c.args.workflow.now c.args.source.now c.args.target.now c.as_slice-tables.result.now (done_from c.create.result) c.create.ensures))
+    let event = create c.args.workflow.now c.args.source.now c.args.target.now c.args.tables.now.items in
+    let made = c.do_create.new.self in
+    let new = c.purge.new.self in
+    subst (SiteSteps scopes c.args.self.now event done) (site_of made new c.purge.ensures.ways)
+    (c.a_purged_site_stands.ensures.steps scopes c.args.self.now made event done new.core
+    (subst (λ r. SiteSteps scopes c.args.self.now event (done_from r) made) c.in-Ok.is c.do_create.ensures.steps)
+    (c.a_purged_core_stands.ensures.all made.core new.core done c.purge.ensures.core))
 
-pub returns-clause-headline : goal.returns-clause-headline
-returns-clause-headline g c = one_kept (g.W.Asks.scopes c.args.watchers.now) _ _ _ _ (returns-clause-steps g c) c.every_run_keeps_the_headline.ensures.with_earlier_lines
+pub returns-in-Ok-clause-headline : goal.returns-in-Ok-clause-headline
+returns-in-Ok-clause-headline g c = one_kept (g.W.Asks.scopes c.args.watchers.now) _ _ _ _ (returns-in-Ok-clause-steps g c) c.every_run_keeps_the_headline.ensures.with_earlier_lines
 
-pub returns-clause-stood : goal.returns-clause-stood
-returns-clause-stood g c =
-    stood_next (g.W.Asks.scopes c.args.watchers.now) _ _ (create c.args.workflow.now c.args.source.now c.args.target.now c.args.tables.now.items) (done_from c.create.result) (returns-clause-steps g c)
+pub returns-in-Ok-clause-stood : goal.returns-in-Ok-clause-stood
+returns-in-Ok-clause-stood g c =
+    stood_next (g.W.Asks.scopes c.args.watchers.now) _ _ (create c.args.workflow.now c.args.source.now c.args.target.now c.args.tables.now.items) done (returns-in-Ok-clause-steps g c)
+
+pub returns-in-Ok-clause-purged : goal.returns-in-Ok-clause-purged
+returns-in-Ok-clause-purged g c = λ was. subst IsPurged (sym c.purge.ensures.core) (c.what_is_purged_stays_purged.ensures.all c.do_create.new.self.core)
+
+pub returns-in-Err-clause-applies : goal.returns-in-Err-clause-applies
+returns-in-Err-clause-applies g c = (
+  c.do_create.new.self,
+  subst (λ r. Applies (g.W.Asks.scopes c.args.watchers.now) (g.W.Asks.may_answer c.args.watchers.now) c.args.self.now (create c.args.workflow.now c.args.source.now c.args.target.now c.args.tables.now.items) (done_from r) c.do_create.new.self) c.in-Err.is c.do_create.ensures.applies,
+  (refl, refl),
+)
+
+pub returns-in-Err-clause-steps : goal.returns-in-Err-clause-steps
+returns-in-Err-clause-steps g c =
+    subst (λ r. SiteSteps (g.W.Asks.scopes c.args.watchers.now) c.args.self.now (create c.args.workflow.now c.args.source.now c.args.target.now c.args.tables.now.items) (done_from r) c.do_create.new.self) c.in-Err.is c.do_create.ensures.steps
+
+pub returns-in-Err-clause-headline : goal.returns-in-Err-clause-headline
+returns-in-Err-clause-headline g c = one_kept (g.W.Asks.scopes c.args.watchers.now) _ _ _ _ (returns-in-Err-clause-steps g c) c.every_run_keeps_the_headline.ensures.with_earlier_lines
+
+pub returns-in-Err-clause-stood : goal.returns-in-Err-clause-stood
+returns-in-Err-clause-stood g c =
+    stood_next (g.W.Asks.scopes c.args.watchers.now) _ _ (create c.args.workflow.now c.args.source.now c.args.target.now c.args.tables.now.items) (done_from (Err c.in-Err.refusal)) (returns-in-Err-clause-steps g c)

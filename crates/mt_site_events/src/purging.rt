@@ -1,0 +1,30 @@
+//! Laws on logs that are purged.
+ghost use Rattle.std.specs.Prelude.{ℕ, List};
+ghost use Rattle.mt_model.specs.declared.entries.Scope.{Scope};
+ghost use Rattle.mt_model.specs.declared.rows.Op.{Op};
+ghost use Rattle.mt_plain.specs.Events.{Answer};
+ghost use Rattle.mt_plain.specs.Plain.{Plain};
+ghost use Rattle.mt_site_state.specs.ByHand.{WritesRow};
+ghost use Rattle.mt_site_state.specs.Core.{CoreState};
+ghost use Rattle.mt_site_state.specs.Purges.{IsPurged, PurgesAll, PurgesCore, PurgesOne, with_purges};
+ghost use Rattle.mt_site_state.specs.Stands.{StandsWith};
+
+use mt_site_rows::a_purge_keeps_rows_and_logs;
+
+/// A core whose logs are purged, each below a position of which nothing before is needed, stands for the states that it stood for; so
+/// logs are purged behind each event, all of them or one.
+pub fn a_purged_core_stands()
+    ensures stands { (p : Plain) (scopes : List Scope) (old new : CoreState) → StandsWith p scopes old → PurgesCore old new → StandsWith p scopes new }
+    ensures all { (old new : CoreState) (answer : Answer) → PurgesAll answer old new → PurgesCore old new }
+    ensures one { (old new : CoreState) (keyspace : List ℕ) (answer : Answer) → PurgesOne keyspace answer old new → PurgesCore old new }
+{
+    a_purge_keeps_rows_and_logs();
+}
+
+/// If all logs are purged, each keeps less than a segment of what isn't needed; and so it is behind a write, if it was so before and the log
+/// that is written is purged as a segment gets whole.
+pub fn what_is_purged_stays_purged()
+    ensures all { (core : CoreState) → IsPurged (with_purges core) }
+    ensures written { (old made new : CoreState) (keyspace table : List ℕ) (op : Op) (answer : Answer) → IsPurged old
+        → WritesRow old keyspace table op answer made → PurgesOne keyspace answer made new → IsPurged new }
+{}
