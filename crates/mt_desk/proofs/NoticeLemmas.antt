@@ -1,53 +1,35 @@
--- The notice of a topology's routes for the scope of routes, and a walk over them.
-use Rattle.std.proofs.Common.{◌≡◌, ◌∙◌, ℕ, ◌+◌, Bool, true, false, cond, List, [], ◌∷◌, ◌++◌, Option, None, Some, is_some, slice_get, take, refl, sym, ap}
-use Rattle.std.proofs.lemmas.List.{take_more}
-use Rattle.std.proofs.lemmas.List.Elements.{filter-append}
-use Rattle.std.proofs.lemmas.Option.{get_or_from_slice_get, slice_get_within}
-use Rattle.std.specs.List.{flat_map}
+-- The notice of a change for the scope of routes.
+use Rattle.std.proofs.Common.{◌≡◌, ◌∙◌, ◌↔◌, true, All, Contains, List, [], ◌∷◌, refl, sym, ap, subst}
+use Rattle.std.proofs.lemmas.List.Elements.{All-contains_itself, All-head, All-tail, All-weaker}
 use Rattle.mt_model.specs.declared.entries.Entry.{Entry}
 use Rattle.mt_model.specs.declared.entries.Entry.TheVariants as entry
+use Rattle.mt_model.specs.declared.entries.Scope.{Scope}
 use Rattle.mt_model.specs.declared.entries.Scope.TheVariants.{Routes}
 use Rattle.mt_model.specs.Notices.{concerns, notice_of}
-use Rattle.mt_model.specs.Part.{rule_routes, table_routes}
-use Rattle.mt_model.specs.Topology.{Keyspaces, Marks, Rules, TopologyState, routes_of}
+use Rattle.mt_model.specs.Topology.{TopologyState, routes_of}
+use Rattle.mt_routes.specs.Differences.{IsDifference}
+use Rattle.mt_routes.specs.Places.{PlacesState}
+use Rattle.mt_watch.specs.Asking.{Answering, IsTold}
+use Rattle.mt_desk.specs.Fronts.{Changes}
 
-rules_concern : (rules : Rules) → notice_of Routes (rule_routes rules) ≡ rule_routes rules
-rules_concern [] = refl
-rules_concern (r ∷ rules) = by r.1 (rules_concern rules)
-  where
-    by : (o : Option _) → notice_of Routes (rule_routes rules) ≡ rule_routes rules
-        → notice_of Routes (cond (is_some o) (entry.Rule r.0 o ∷ []) [] ++ rule_routes rules) ≡ cond (is_some o) (entry.Rule r.0 o ∷ []) [] ++ rule_routes rules
-    by None again = again
-    by (Some target) again = ap (λ l. entry.Rule r.0 (Some target) ∷ l) again
+-- what is said otherwise is no denial
+concerned : (places : PlacesState) (routes : List Entry) (e : Entry) → IsDifference places routes e → concerns Routes e ≡ true
+concerned places routes (entry.Rule key target) is = refl
+concerned places routes (entry.Denied keyspace table mark) is = absurd (is.1 is.0)
+concerned places routes (entry.Present keyspace table mark) is = refl
 
-abbrev marks_routes : List ℕ → Marks → List Entry
-marks_routes keyspace marks = flat_map (λ mark. cond mark.1 (entry.Present keyspace mark.0 true ∷ []) []) marks
+all-noticed : (entries : List Entry) → All (λ e. concerns Routes e ≡ true) entries → notice_of Routes entries ≡ entries
+all-noticed [] each = refl
+all-noticed (e ∷ entries) each = rw (All-head (λ x. concerns Routes x ≡ true) e entries each) (ap (λ l. e ∷ l) (all-noticed entries (All-tail (λ x. concerns Routes x ≡ true) e entries each)))
 
-marks_concern : (keyspace : List ℕ) (marks : Marks) → notice_of Routes (marks_routes keyspace marks) ≡ marks_routes keyspace marks
-marks_concern keyspace [] = refl
-marks_concern keyspace (m ∷ marks) = by m.1 (marks_concern keyspace marks)
-  where
-    by : (b : Bool) → notice_of Routes (marks_routes keyspace marks) ≡ marks_routes keyspace marks
-        → notice_of Routes (cond b (entry.Present keyspace m.0 true ∷ []) [] ++ marks_routes keyspace marks) ≡ cond b (entry.Present keyspace m.0 true ∷ []) [] ++ marks_routes keyspace marks
-    by false again = again
-    by true again = ap (λ l. entry.Present keyspace m.0 true ∷ l) again
+-- each difference concerns routers, so that the notice has them all
+pub differences_concern : (places : PlacesState) (routes entries : List Entry) → ((e : Entry) → Contains entries e ↔ IsDifference places routes e) → notice_of Routes entries ≡ entries
+differences_concern places routes entries are =
+    all-noticed entries (All-weaker (Contains entries) (λ e. concerns Routes e ≡ true) (λ e has. concerned places routes e ((are e).0 has)) entries (All-contains_itself entries))
 
-tables_concern : (keyspaces : Keyspaces) → notice_of Routes (flat_map table_routes keyspaces) ≡ flat_map table_routes keyspaces
-tables_concern [] = refl
-tables_concern (k ∷ keyspaces) =
-    filter-append (concerns Routes) (table_routes k) (flat_map table_routes keyspaces)
-    ∙ ap (λ l. l ++ notice_of Routes (flat_map table_routes keyspaces)) (marks_concern k.0 k.1.tables)
-    ∙ ap (λ l. table_routes k ++ l) (tables_concern keyspaces)
-
--- each route concerns routers
-pub routes_concern : (t : TopologyState) → notice_of Routes (routes_of t) ≡ routes_of t
-routes_concern t =
-    filter-append (concerns Routes) (rule_routes t.rules) (flat_map table_routes t.keyspaces)
-    ∙ ap (λ l. l ++ notice_of Routes (flat_map table_routes t.keyspaces)) (rules_concern t.rules)
-    ∙ ap (λ l. rule_routes t.rules ++ l) (tables_concern t.keyspaces)
-
--- ---- a walk over a list
-
--- one more
-pub next_taken : {X : Type 0} (xs : List X) (i : ℕ) (x : X) → Some x ≡ slice_get xs i → take i xs ++ x ∷ [] ≡ take (i + 1) xs
-next_taken xs i x is = sym (take_more xs i x (slice_get_within xs i x (sym is)) ∙ ap (λ y. take i xs ++ y ∷ []) (get_or_from_slice_get xs i x x (sym is)))
+-- what is told of such a change is the change itself
+pub told_change : (scopes : List Scope) (may_answer : Answering) (pending : PlacesState) (t : TopologyState) (entries change answer : List Entry) → Changes pending t entries → change ≡ entries
+    → IsTold scopes may_answer Routes change answer → Changes pending t answer × IsTold scopes may_answer Routes answer answer
+told_change scopes may_answer pending t entries change answer changes is told =
+    let same : change ≡ answer = sym (told.notice ∙ differences_concern pending (routes_of t) change (subst (λ l. (e : Entry) → Contains l e ↔ IsDifference pending (routes_of t) e) (sym is) changes.0)) in
+    (subst (Changes pending t) (sym is ∙ same) changes, subst (λ l. IsTold scopes may_answer Routes l answer) same told)

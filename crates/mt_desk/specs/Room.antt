@@ -1,5 +1,5 @@
 -- The places that the history keeps free, so that each move can always be given up (this profile's own).
-use Rattle.std.specs.Prelude.{ℕ, ◌+◌, ◌≤◌, Bool, false, not, ◌==◌, ◌&&◌, ◌||◌, List, is_some}
+use Rattle.std.specs.Prelude.{ℕ, ◌+◌, ◌≤◌, Bool, false, not, ◌==◌, ◌&&◌, ◌||◌, is_some}
 use Rattle.std.specs.Option.{option_map_or}
 use Rattle.mt_plain.specs.Events.{Event, cancel, undo, Way}
 use Rattle.mt_plain.specs.Plain.{stands_done, write_journal}

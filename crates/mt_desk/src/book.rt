@@ -1,5 +1,5 @@
 //! The controller with the history of all that was asked of it.
-ghost use Rattle.std.specs.Prelude.{◌≡◌, ◌+◌, ◌≤◌, ◌++◌, List, [], ◌∷◌, IfErr, IfNone, IfOk, IfSome, OnErr, OnOk, Ok, length, map, option_map};
+ghost use Rattle.std.specs.Prelude.{◌≡◌, ◌+◌, ◌≤◌, ◌++◌, List, [], ◌∷◌, IfErr, IfOk, IfSome, MatchBool, OnErr, OnOk, Ok, length, map};
 ghost use Rattle.std.specs.Vec.{vec_capacity, vec_len};
 ghost use Rattle.mt_event.specs.declared.reply.Reply.TheVariants.{Done};
 ghost use Rattle.mt_event.specs.Events.{answer_from, event_of};
@@ -13,10 +13,12 @@ ghost use Rattle.mt_site.specs.Stood.{IsSiteWith};
 ghost use Rattle.mt_site_state.specs.Ways.{SiteStands, SiteSteps};
 ghost use Rattle.mt_model.specs.declared.entries.Scope.TheVariants.{Routes};
 ghost use Rattle.mt_model.specs.Topology.{routes_of};
-ghost use Rattle.mt_routes.specs.declared.publication.Publication.{Publication};
+ghost use Rattle.mt_model.specs.declared.entries.Entry.{Entry};
+ghost use Rattle.mt_routes.specs.Pending.{pending_of, published_of};
+ghost use Rattle.mt_routes.specs.Places.{Agrees, AreRoutes};
 ghost use Rattle.mt_routes.specs.Publications.{publication};
 ghost use Rattle.mt_watch.specs.Asking.{IsTold};
-ghost use Rattle.mt_desk.specs.Fronts.{AreFronts, AsksNone, Published, Tells};
+ghost use Rattle.mt_desk.specs.Fronts.{AreFronts, AsksNone, Changes, LeavesPending, Published, Tells};
 ghost use Rattle.mt_desk.specs.Histories.{Leads, answered, asked, line};
 ghost use Rattle.mt_desk.specs.Passes.{Admits, Compares, HaveOneHistory, IsCaused};
 ghost use Rattle.mt_desk.specs.Room.{HasRoom};
@@ -25,12 +27,15 @@ use crate::account::{are_there, first_cause};
 use crate::history::{Answer, Line, copied_answer};
 use crate::listed::listed;
 use crate::room::{make_room, new_history};
-use crate::tell::{noticed, routes};
+use crate::tell::noticed;
 use crate::{DeskFault, DeskName, Pass};
 use mt_event::Event;
 use mt_laws::{each_event_owes_one_at_most, every_run_keeps_the_headline};
 use mt_model::Entry;
-use mt_routes::{Ends, Front, Head, Opened, Showing, Told};
+use mt_routes::{
+    Ends, Front, Head, Next, Opened, Told, routes_of_a_topology_say_each_of_themselves,
+    what_is_written_agrees,
+};
 use mt_rows::routes_of_what_is_served_are_a_view;
 use mt_site::{Core, a_core_owes_what_its_state_owes};
 use mt_watch::Asks;
@@ -55,14 +60,14 @@ pub struct Book<D: DeskName> {
 }
 
 impl<D: DeskName> Book<D> {
-    /// A book without lines, under the name of its blank, with the first publication of its list, the routes of the topology, to be
-    /// shown to readers: `K0 Memory`, where there was none for it, or no place for the events that are owed; then the core is gone.
+    /// A book without lines, under the name of its blank, whose list has one publication, and the routes of it, which are those of the
+    /// topology: `K0 Memory`, where there was none for it, or no place for the events that are owed; then the core is gone.
     pub fn open(
         alloc: Global,
         blank: Blank,
         opened: Opened,
         core: Core,
-    ) -> Result<(Self, Showing), DeskFault>
+    ) -> Result<(Self, Vec<Entry>), DeskFault>
         requires name { (blank.name ≡ D.name) × (blank.parts ≡ D.parts) }
         requires list { opened.seen.book ≡ D.book }
         requires opening { core ≡ D.opening }
@@ -71,18 +76,19 @@ impl<D: DeskName> Book<D> {
         ensures history { IfOk result (λ r. r.0.history.items ≡ []) }
         ensures clients { IfOk result (λ r. r.0.clients.items ≡ []) }
         ensures told { IfOk result (λ r. r.0.told ≡ publication 0 (routes_of core.core.topology) ∷ []) }
-        ensures shows { IfOk result (λ r. (r.1.known.seen.log ≡ r.0.told) × (r.1.known.seen.book ≡ D.book)) }
+        ensures routes { IfOk result (λ r. r.1.items ≡ routes_of core.core.topology) }
+        ensures are { IfOk result (λ r. AreRoutes r.1.items) }
         ensures memory { IfErr result (λ fault. fault ≡ DeskFault.Memory) }
     {
         let (head, mut told) = opened.named::<D>();
-        let Some((history, first)) = Book::first_lists(alloc, &core, &head, &mut told) else {
+        let Some((history, entries)) = Book::first_lists(alloc, &core, &head, &mut told) else {
             return Err(DeskFault::Memory);
         };
         let (ledger, _) = blank.open::<D>();
         let clients = Vec::new(alloc);
         Ok((
             Book::begun(core, history, clients, ledger, head, told),
-            first,
+            entries,
         ))
     }
 
@@ -93,17 +99,25 @@ impl<D: DeskName> Book<D> {
         core: &Core,
         head: &Head<D>,
         told: &mut Told<D>,
-    ) -> Option<(Vec<Line>, Showing)>
+    ) -> Option<(Vec<Line>, Vec<Entry>)>
         requires { told.old ≡ [] }
         ensures none { IfSome result (λ r. r.0.items ≡ []) }
         ensures room { IfSome result (λ r. vec_len r.0 + owed_to core.now.core.workflows ≤ vec_capacity r.0) }
         ensures first { IfSome result (λ r. told.new ≡ publication 0 (routes_of core.now.core.topology) ∷ []) }
-        ensures shows { IfSome result (λ r. (r.1.known.seen.log ≡ told.new) × (r.1.known.seen.book ≡ D.book)) }
+        ensures routes { IfSome result (λ r. r.1.items ≡ routes_of core.now.core.topology) }
+        ensures are { IfSome result (λ r. AreRoutes r.1.items) }
     {
+        core.topology().facts();
+        routes_of_a_topology_say_each_of_themselves();
         let history = new_history(alloc, core).ok()?;
-        let entries = routes(alloc, core.topology()).ok()?;
-        let first = listed(head, told, Front(0), entries)?;
-        Some((history, first))
+        let first = Next {
+            front: Front(0),
+            entries: core.topology().routes(alloc).ok()?,
+        };
+        if !listed(head, told, &first) {
+            return None;
+        }
+        Some((history, first.entries))
     }
 
     /// A book with a history without lines, which has a place for each event that is owed, and a list of one publication.
@@ -145,14 +159,13 @@ impl<D: DeskName> Book<D> {
         self.told.again()
     }
 
-    /// Adds the routes of the topology to the list of publications, with the number of lines of the history as their front, and hands
-    /// them out to be shown; or adds none, as `listed` tells. It takes no memory, and no event is taken.
-    fn list(&mut self, entries: Vec<Entry>) -> Option<Showing>
+    /// Adds the routes of the topology to the list of publications, with the number of lines of the history as their front, and says
+    /// whether it did: `listed` tells why not. It takes no memory, and no event is taken.
+    fn list(&mut self, entries: Vec<Entry>) -> bool
         requires { entries.items ≡ routes_of self.old.core.core.topology }
-        ensures told { IfSome result (λ showing. self.new.told
-            ≡ self.old.told ++ publication (length self.old.history.items) (routes_of self.old.core.core.topology) ∷ []) }
-        ensures shows { IfSome result (λ showing. (showing.known.seen.log ≡ self.new.told) × (showing.known.seen.book ≡ D.book)) }
-        ensures none { IfNone result (self.new.told ≡ self.old.told) }
+        ensures told { MatchBool result
+            (self.new.told ≡ self.old.told ++ publication (length self.old.history.items) (routes_of self.old.core.core.topology) ∷ [])
+            (self.new.told ≡ self.old.told) }
         ensures core { self.new.core ≡ self.old.core }
         ensures history { self.new.history ≡ self.old.history }
         ensures clients { self.new.clients ≡ self.old.clients }
@@ -164,15 +177,18 @@ impl<D: DeskName> Book<D> {
             told,
             ..
         } = self;
-        listed(head, told, Front(history.len() as u64), entries)
+        let front = Front(history.len() as u64);
+        listed(head, told, &Next { front, entries })
     }
 
-    /// Asks each watcher of routes with a change of all rules that stand and all tables that are there, adds the last one's notice to the
-    /// list of publications, with the number of lines of the history as its front, and has it shown to routers. Answers what is then known
-    /// of the list. `K4 NoWatcher` exactly where no watcher has the scope of routes, `K0 Memory`, `K5 WatcherRefused` with the number of the
-    /// first that refuses, and then `K0 Memory` of the writer; they leave the list, and what is shown, as it was. No event is taken.
-    /// It waits for routers that still read the publication before the last. (Vitess: the serving VSchema is rebuilt, and routers,
-    /// which watch it, take it over)
+    /// Asks each watcher of routes with a change of what is to be written so that the view that is pending says what the topology says;
+    /// writes each entry of the last one's notice behind what is pending; adds the routes of the topology to the list of publications,
+    /// with the number of lines of the history as their front; and has what is pending shown to routers. Answers what is then known of
+    /// the list. `K4 NoWatcher` exactly where no watcher has the scope of routes, `K0 Memory`, `K5 WatcherRefused` with the number of the
+    /// first that refuses; they leave the list, and what is shown, as it was. Where memory is short between two entries, those that
+    /// were written stay pending, and the next call counts with them; nothing else of a refusal leaves a trace. No event is taken. It
+    /// waits for routers that still read the publication before the last. (Vitess: the serving VSchema is rebuilt, and routers, which
+    /// watch it, take it over)
     pub fn tell<W: Asks, R: Wait + Drop>(
         &mut self,
         alloc: Global,
@@ -182,31 +198,34 @@ impl<D: DeskName> Book<D> {
         ensures told { IfOk result (λ told. self.new.told
             ≡ self.old.told ++ publication (length self.old.history.items) (routes_of self.old.core.core.topology) ∷ []) }
         ensures is { IfOk result (λ told. told ≡ self.new.told) }
-        ensures asks { OnOk result (IsTold (W.scopes watchers.now) (W.may_answer watchers.now) Routes (routes_of self.old.core.core.topology) (routes_of self.old.core.core.topology)) }
+        ensures asks { OnOk result ((change : List Entry) × Changes (pending_of routes.old.shown) self.old.core.core.topology change
+            × IsTold (W.scopes watchers.now) (W.may_answer watchers.now) Routes change change) }
         ensures tells { IfOk result (λ told. Tells D.scopes D.opening told) }
-        ensures shows { IfOk result (λ told. option_map {U = List Publication} (λ w. w.desk.shown.value.known.seen.log) routes.new.writer ≡ option_map (λ w. told) routes.old.writer) }
+        ensures shows { IfOk result (λ told. published_of routes.new.shown ≡ told) }
+        ensures agrees { OnOk result (Agrees (pending_of routes.new.shown) (routes_of self.old.core.core.topology)) }
         ensures none { OnErr result (self.new.told ≡ self.old.told) }
-        ensures caused { IfErr result (λ fault. AsksNone (W.scopes watchers.now) (W.may_answer watchers.now) (routes_of self.old.core.core.topology) fault) }
-        ensures shown { OnErr result (option_map {U = List Publication} (λ w. w.desk.shown.value.known.seen.log) routes.new.writer
-            ≡ option_map (λ w. w.desk.shown.value.known.seen.log) routes.old.writer) }
+        ensures caused { IfErr result (λ fault. AsksNone (W.scopes watchers.now) (W.may_answer watchers.now) (Changes (pending_of routes.old.shown) self.old.core.core.topology) fault) }
+        ensures shown { OnErr result (published_of routes.new.shown ≡ published_of routes.old.shown) }
+        ensures pending { IfErr result (λ fault. LeavesPending (pending_of routes.old.shown) self.old.core.core.topology fault (pending_of routes.new.shown)) }
         ensures core { self.new.core ≡ self.old.core }
         ensures history { self.new.history ≡ self.old.history }
         ensures clients { self.new.clients ≡ self.old.clients }
     {
-        let entries = match noticed(alloc, self.core.topology(), watchers) {
-            Ok(entries) => entries,
+        self.core.topology().facts();
+        routes_of_a_topology_say_each_of_themselves();
+        what_is_written_agrees();
+        let (list, notice) = match noticed(alloc, self.core.topology(), watchers, routes) {
+            Ok(noticed) => noticed,
             Err(fault) => return Err(fault),
         };
-        if routes.reserve().is_err() {
+        if !routes.write(notice.as_slice()) || !routes.make_room() {
             return Err(DeskFault::Memory);
         }
-        match self.list(entries) {
-            Some(showing) => {
-                routes.publish(showing);
-                Ok(self.told())
-            }
-            None => Err(DeskFault::Memory),
+        if !self.list(list) {
+            return Err(DeskFault::Memory);
         }
+        routes.publish(&self.told);
+        Ok(self.told())
     }
 
     /// Applies an event, as `Core::apply` tells, and adds its line to the history. `K0 Memory` where the history found no place

@@ -29,9 +29,9 @@ pub struct Desk<D: DeskName, W: Asks + Drop, R: Wait + Drop> {
 }
 
 impl<D: DeskName, W: Asks + Drop, R: Wait + Drop> Desk<D, W, R> {
-    /// A desk for a controller, under the name of its blank, whose routers are shown the routes of the controller's topology. Two
-    /// copies of them are made, each with room for 4,096 rules and 8,192 tables, so that showing others needs no larger ones. `K0 Memory`;
-    /// then the controller is gone.
+    /// A desk for a controller, under the name of its blank, whose routers are shown the routes of the controller's topology. Three
+    /// copies of them are made, two that are shown in turn and one of what is written, each with room for 4,096 rules and 8,192 tables, so
+    /// that showing others needs no larger ones. `K0 Memory`; then the controller is gone.
     pub fn open(
         alloc: Global,
         rt: R,
@@ -47,11 +47,11 @@ impl<D: DeskName, W: Asks + Drop, R: Wait + Drop> Desk<D, W, R> {
         ensures memory { IfErr result (λ fault. fault ≡ DeskFault.Memory) }
     {
         let (core, watchers) = site.into_parts();
-        let (book, first) = match Book::open(alloc, blank, opened, core) {
+        let (book, entries) = match Book::open(alloc, blank, opened, core) {
             Ok(made) => made,
             Err(fault) => return Err(fault),
         };
-        match Ends::open(alloc, rt, &first) {
+        match Ends::open(alloc, rt, &book.told(), &entries) {
             Ok(routes) => Ok(Desk {
                 alloc,
                 locked: Mutex::new(Locked {
@@ -97,11 +97,12 @@ impl<D: DeskName, W: Asks + Drop, R: Wait + Drop> Desk<D, W, R> {
         Ok(answer)
     }
 
-    /// Asks each watcher of routes with a change of all rules that stand and all tables that are there, and shows routers the last one's
-    /// notice, with the number of lines of the history as its front. A router that learns the answer looks names up in that publication,
-    /// or in a later one. `K4 NoWatcher` exactly where no watcher has the scope of routes, `K0 Memory`, `K5 WatcherRefused` with the number
-    /// of the first that refuses, `K0 Memory` of the writer; then routers are shown nothing new. It is one period under the lock, and
-    /// waits for routers that still read the publication before the last. (Vitess: routers watch the serving VSchema)
+    /// Asks each watcher of routes with a change of the rules and tables that the topology has otherwise than what was written last, writes
+    /// the last one's notice, and shows routers the topology's routes, with the number of lines of the history as their front. A router
+    /// that learns the answer looks names up in that publication, or in a later one. `K4 NoWatcher` exactly where no watcher has the scope
+    /// of routes, `K0 Memory`, `K5 WatcherRefused` with the number of the first that refuses, `K0 Memory` of the writer; then routers are
+    /// shown nothing new, and the next call tells what stands then. It is one period under the lock, and waits for routers that still read
+    /// the publication before the last. (Vitess: routers watch the serving VSchema)
     pub fn tell(&self, rt: &impl Wait) -> Result<Told<D>, DeskFault>
         ensures tells { IfOk result (λ told. Tells D.scopes D.opening told) }
         ensures asks { OnOk result (has_scope D.scopes Routes ≡ true) }

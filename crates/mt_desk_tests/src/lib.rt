@@ -14,6 +14,8 @@ mod acts;
 #[cfg(test)]
 mod calls;
 #[cfg(test)]
+mod cut_short;
+#[cfg(test)]
 mod desk_memory;
 #[cfg(test)]
 mod life;

@@ -4,6 +4,7 @@ ghost use Rattle.mt_site.specs.Stood.{IsSiteWith};
 ghost use Rattle.mt_watch.specs.Notices.{notice_of};
 
 use crate::acts::{Act, Played, play};
+use crate::cut_short::is_cut_short_well;
 use crate::desk_memory::is_moved;
 use crate::life::Move;
 use crate::no_memory::is_given_up;
@@ -49,6 +50,8 @@ pub enum Trial<'a> {
     AllFail,
     /// Routes that are told, where one allocation may fail.
     OneFailsTelling,
+    /// Two rules that are told behind so many others, where one allocation may fail.
+    OneFailsBetween(usize),
 }
 
 /// A watcher of a scope, which may refuse whatever it is asked.
@@ -169,6 +172,7 @@ fn goes<D: DeskName + Send + Sync, W: Asks + Drop + Send, R: Threads + Wait + Sy
         Trial::OneFails(of) => is_moved(rt, alloc, desk, of),
         Trial::AllFail => is_given_up(rt, desk),
         Trial::OneFailsTelling => is_told_all(rt, desk),
+        Trial::OneFailsBetween(others) => is_cut_short_well(rt, desk, others),
     }
 }
 

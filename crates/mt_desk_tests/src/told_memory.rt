@@ -27,7 +27,7 @@ static RULES: [(&str, &str); 4] = [
 ];
 
 /// Whether a line is done, at once or at a second try.
-fn is_done<D: DeskName, W: Asks + Drop, R: Wait + Drop>(
+pub fn is_done<D: DeskName, W: Asks + Drop, R: Wait + Drop>(
     rt: &impl Wait,
     desk: &Desk<D, W, R>,
     pass: &mut Pass<D>,

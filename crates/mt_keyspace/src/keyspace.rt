@@ -187,6 +187,17 @@ impl Keyspace {
         routes::table_entry(name, self.tables.places(), index)
     }
 
+    /// Adds the entries of the tables that are there to a list, in the order of their places.
+    pub(crate) fn push_routes(
+        &self,
+        name: &KeyspaceName,
+        list: &mut Vec<Entry>,
+    ) -> Result<(), AllocError>
+        ensures { OnOk result (list.new.items ≡ list.old.items ++ table_routes (name.now, self.now)) }
+    {
+        routes::push_routes(name, self.tables.places(), list)
+    }
+
     /// Appends the list of the tables that are there, in the order of their names.
     pub(crate) fn push_tables(&self, alloc: Global, text: &mut String) -> Result<(), AllocError>
         ensures text { OnOk result (string_bytes text.new ≡ string_bytes text.old ++ array (map quoted (tables_in_order self.now))) }

@@ -291,6 +291,17 @@ impl Keyspaces {
         None
     }
 
+    /// Adds the entries of all tables that are there to a list, keyspace by keyspace; it looks at each place once. Refused only when out of
+    /// memory, and then some of them are added.
+    pub fn push_routes(&self, list: &mut Vec<Entry>) -> Result<(), AllocError>
+        ensures { OnOk result (list.new.items ≡ list.old.items ++ flat_map table_routes self.now) }
+    {
+        for (name, keyspace) in self.places.iter() {
+            keyspace.push_routes(name, list)?;
+        }
+        Ok(())
+    }
+
     /// Appends the list of the keyspaces with their tables, in the order of their names.
     pub fn push_list(&self, alloc: Global, text: &mut String) -> Result<(), AllocError>
         ensures text { OnOk result (string_bytes text.new ≡ string_bytes text.old

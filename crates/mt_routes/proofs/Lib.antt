@@ -1,6 +1,11 @@
 pub mod Lists
-pub mod PlaceLemmas
+pub mod MapLemmas
+pub mod PutLemmas
+pub mod NumberLemmas
+pub mod SaidLemmas
 pub mod LookUpLemmas
 pub mod ViewLemmas
 pub mod TopologyLemmas
+pub mod RouteLemmas
+pub mod DifferenceLemmas
 pub mod Adding

@@ -1,6 +1,5 @@
 -- The routes of a topology lead each name as the topology does.
 use Rattle.std.proofs.Common.{◌≡◌, ◌⊎◌, inl, inr, ℕ, Bool, true, false, cond, List, [], ◌∷◌, ◌++◌, All, Option, None, Some, is_some, unwrap_or, Result, Ok, Err, refl, ap, sym, ◌∙◌, subst, flat_map, append_assoc}
-use Rattle.std.proofs.lemmas.Bool.{true≢false}
 use Rattle.std.proofs.lemmas.List.Elements.{All-head, All-tail}
 use Rattle.std.specs.List.{AllByRecursion, IsDistinct}
 use Rattle.std.specs.Map.{keys_of, lookup}

@@ -1,8 +1,8 @@
 -- What follows for a view that shows the last publication of its list.
-use Rattle.std.proofs.Common.{◌≡◌, ℕ, List, ◌∷◌, [], ◌++◌, Option, None, Some, option_map, Result, ap, sym, ◌∙◌}
+use Rattle.std.proofs.Common.{◌≡◌, ℕ, IsOk, MatchResult, List, ◌∷◌, [], ◌++◌, Option, None, Some, option_map, Result, Ok, Err, refl, ap, sym, ◌∙◌, fold}
+use Rattle.std.proofs.lemmas.Bool.{true≢false}
 use Rattle.std.proofs.lemmas.List.Sums.{fold-append}
-use Rattle.std.specs.List.{fold, last_or}
-use Rattle.logbook.specs.Pages.{Book}
+use Rattle.std.specs.List.{last_or}
 use Rattle.mt_names.specs.declared.keys.RuleKey.{RuleKey}
 use Rattle.mt_names.specs.declared.keys.RuleTarget.{RuleTarget}
 use Rattle.mt_names.specs.declared.types.TabletType.{TabletType}
@@ -11,40 +11,37 @@ use Rattle.mt_model.specs.declared.faults.TopologyFault.{TopologyFault}
 use Rattle.mt_routes.specs.declared.publication.Publication.{Publication}
 use Rattle.mt_routes.specs.Publications.{front_of, last_front}
 use Rattle.mt_routes.specs.LookUp.{led_by, LastLeads}
-use Rattle.mt_routes.specs.Places.{PlacesState, places_of, found_in, Shows}
-use Rattle.mt_routes.specs.declared.view.View.{View}
-use Rattle.mt_routes.specs.declared.showing.Showing.{Showing}
-use Rattle.mt_routes.specs.declared.showing.Update.{Update}
-use Rattle.mt_routes.specs.declared.showing.Update.TheVariants as update
-use Rattle.mt_routes.specs.Views.{Fits, after_update}
+use Rattle.mt_routes.specs.Places.{ArePlaces, PlacesState, found_in, Shows}
+use Rattle.mt_routes.specs.declared.known.Known.{Known}
+use Rattle.mt_routes.specs.declared.update.Update.{Update}
+use Rattle.mt_routes.specs.declared.update.Update.TheVariants as update
+use Rattle.mt_routes.specs.Views.{after_update, known_after, places_after}
 use Rattle.mt_routes.proofs.LookUpLemmas.{found-led}
 
-leads-last : (o : Option Publication) (places : PlacesState) (key : RuleKey) (type : TabletType) → option_map {U = PlacesState} (λ p. places_of p.entries) o ≡ Some places
-    → option_map {U = ℕ × Result RuleTarget TopologyFault} (λ p. (p.front, led_by p.entries key type)) o ≡ Some (front_of o, found_in places key type)
-leads-last None places key type shows = absurd cc
-leads-last (Some p) places key type shows =
-    let same : places_of p.entries ≡ places = cc (shows) in
-    let found : led_by p.entries key type ≡ found_in places key type = sym (found-led p.entries key type) ∙ ap (λ s. found_in s key type) same in
-    let pair : Result RuleTarget TopologyFault → Option (ℕ × Result RuleTarget TopologyFault) = λ a. Some (p.front, a) in
-    ap pair found
+leads-last : (o : Option Publication) (routes : List Entry) (key : RuleKey) (type : TabletType) → option_map {U = List Entry} (λ p. p.entries) o ≡ Some routes
+    → option_map {U = ℕ × Result RuleTarget TopologyFault} (λ p. (p.front, led_by p.entries key type)) o ≡ Some (front_of o, led_by routes key type)
+leads-last None routes key type is = absurd (cc (is))
+leads-last (Some p) routes key type is = let same : p.entries ≡ routes = cc (is) in ap (λ l. Some (p.front, led_by l key type)) same
 
 -- what is found in the places is where the last publication leads
-pub leads : (list : List Publication) (places : PlacesState) (front : ℕ) (key : RuleKey) (type : TabletType) (answer : Result RuleTarget TopologyFault) → Shows list places → front ≡ last_front list → answer ≡ found_in places key type → LastLeads list key type front answer
-leads list places front key type answer shows at is = rw (at, is) (leads-last (last_or None list) places key type shows)
+pub leads : (list : List Publication) (places : PlacesState) (front : ℕ) (key : RuleKey) (type : TabletType) (answer : Result RuleTarget TopologyFault) → ArePlaces places → Shows list places → front ≡ last_front list → answer ≡ found_in places key type → LastLeads list key type front answer
+leads list places front key type answer are shows at is =
+    let routes = shows.0 in
+    rw (at, is) (leads-last (last_or None list) routes key type shows.1 ∙ ap (λ a. Some (last_front list, a)) (sym (found-led places routes key type are shows.2.once shows.3)))
 
-shows-last : (o : Option Publication) (items : List Entry) (places : PlacesState) → option_map {U = List Entry} (λ p. p.entries) o ≡ Some items → places ≡ places_of items → option_map {U = PlacesState} (λ p. places_of p.entries) o ≡ Some places
-shows-last None items places last is = absurd cc
-shows-last (Some p) items places last is = let same : p.entries ≡ items = cc (last) in ap Some (ap places_of same ∙ sym is)
+-- updates change what is known of the list, and the routes, apart from one another
+pub folded : {A : Type 0} (what : Known → A) (a : A) (places : PlacesState) (ops : List Update)
+    → fold (after_update what) (a, places) ops ≡ (fold (known_after what) a ops, fold places_after places ops)
+folded what a places [] = refl
+folded what a places (op ∷ ops) = folded what (known_after what a op) (places_after places op) ops
 
--- a view of the last publication shows it
-pub shows : (list : List Publication) (items : List Entry) (places : PlacesState) → option_map {U = List Entry} (λ p. p.entries) (last_or None list) ≡ Some items → places ≡ places_of items → Shows list places
-shows list items places last is = shows-last (last_or None list) items places last is
+-- behind a front the list is known as it says, and the routes are those that were written
+pub shown : {A : Type 0} (what : Known → A) (stood : A × PlacesState) (now : A × PlacesState) (pending before : List Update) (known : Known)
+    → now ≡ fold (after_update what) stood pending → pending ≡ before ++ update.Front known ∷ [] → now ≡ (what known, fold places_after stood.1 before)
+shown what stood now pending before known is pend =
+    is ∙ (ap (fold (after_update what) stood) pend ∙ (fold-append (after_update what) stood before (update.Front known ∷ []) ∙ ap (λ s. (what known, s.1)) (folded what stood.0 stood.1 before)))
 
--- after a list of updates stands what the last one shows
-pub last-shown : {S : Type 0} (shown : Showing → S) (stood now : S) (pending before : List Update) (x : Showing) → now ≡ fold (after_update shown) stood pending → pending ≡ before ++ update.Show x ∷ [] → now ≡ shown x
-last-shown shown stood now pending before x is pend = is ∙ (ap (fold (after_update shown) stood) pend ∙ fold-append (after_update shown) stood before (update.Show x ∷ []))
-
--- a view of what is to be shown keeps the rule
-pub fits : (book : Book) (next : View) (x : Showing) → next.known.seen ≡ x.known.seen → next.places ≡ places_of x.entries.items → x.known.seen.book ≡ book → Fits book next
-fits book next x seen places of_book =
-    (ap (λ s. s.book) seen ∙ of_book, shows next.known.seen.log x.entries.items next.places (ap (λ s. option_map {U = List Entry} (λ p. p.entries) (last_or None s.log)) seen ∙ x.last) places)
+-- what is answered where a call succeeds
+pub where_ok : {T E : Type 0} (r : Result T E) (P Q : Type 0) → IsOk r → MatchResult r (λ t. P) (λ e. Q) → P
+where_ok (Ok t) P Q ok matches = matches
+where_ok (Err e) P Q ok matches = absurd (true≢false (sym ok))

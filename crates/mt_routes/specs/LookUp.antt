@@ -1,6 +1,6 @@
 -- Where a name leads by the routes that were published: the rules that stand, and the tables that are there.
-use Rattle.std.specs.Prelude.{◌≡◌, ℕ, true, false, cond, List, [], ◌∷◌, Option, None, Some, option_map, Result, Ok, Err}
-use Rattle.std.specs.List.{flat_map, last_or}
+use Rattle.std.specs.Prelude.{◌≡◌, ℕ, Bool, true, false, cond, List, [], ◌∷◌, Option, None, Some, option_map, Result, Ok, Err}
+use Rattle.std.specs.List.{IsDistinct, flat_map, last_or, list_any}
 use Rattle.std.specs.Map.{lookup}
 use Rattle.std.specs.Option.{option_map_or, option_or}
 use Rattle.mt_names.specs.declared.keys.RuleKey.{RuleKey}
@@ -10,6 +10,8 @@ use Rattle.mt_names.specs.Names.{same_text}
 use Rattle.mt_names.specs.Same.{same_key}
 use Rattle.mt_model.specs.declared.entries.Entry.{Entry}
 use Rattle.mt_model.specs.declared.entries.Entry.TheVariants as entry
+use Rattle.mt_model.specs.declared.entries.EntryKey.{EntryKey}
+use Rattle.mt_model.specs.declared.entries.EntryKey.TheVariants as about
 use Rattle.mt_model.specs.declared.faults.TopologyFault.{TopologyFault}
 use Rattle.mt_model.specs.Topology.{for_all_types, for_type, sole_holder}
 use Rattle.mt_routes.specs.declared.publication.Publication.{Publication}
@@ -42,6 +44,20 @@ target_for entries key tablet_type = option_or (target_in entries (for_type key 
 -- the keyspaces that have a table
 abbrev pub holders_in : List Entry → List ℕ → List (List ℕ)
 holders_in entries table = flat_map (λ t. cond (same_text table t.0) (t.1 ∷ []) []) (flat_map table_in entries)
+
+-- whether a keyspace is said to have a table
+abbrev pub is_listed : List Entry → (keyspace table : List ℕ) → Bool
+is_listed entries keyspace table = list_any (same_text keyspace) (holders_in entries table)
+
+-- no table is said twice to be in one keyspace
+abbrev pub AreListedOnce : List Entry → Type 0
+AreListedOnce entries = (table : List ℕ) → IsDistinct same_text (holders_in entries table)
+
+-- what routes say at a key: where there is no route there is no rule, or no table. Of denials they say none
+abbrev pub said_by : List Entry → EntryKey → Entry
+said_by entries (about.Rule key) = entry.Rule key (target_in entries key)
+said_by entries (about.Denied keyspace table) = entry.Denied keyspace table false
+said_by entries (about.Present keyspace table) = entry.Present keyspace table (is_listed entries keyspace table)
 
 -- a name without a rule: a qualified one is itself, another the table of the one keyspace that has it
 abbrev pub unruled_in : List Entry → Option (List ℕ) → List ℕ → Result RuleTarget TopologyFault

@@ -1,9 +1,11 @@
 //! The writer of routes.
-ghost use Rattle.std.specs.Prelude.{◌≡◌, List, [], ◌∷◌, ◌++◌, drop, Some, option_map, IfOk};
-ghost use Rattle.mt_routes.specs.declared.publication.Publication.{Publication};
+ghost use Rattle.std.specs.Prelude.{◌≡◌, ℕ, IsTrue, IsSome, IfNone, IfOk, IfSome, None, Some, fold, option_map, take};
+ghost use Rattle.std.specs.List.{last_or};
+ghost use Rattle.mt_routes.specs.Pending.{WritesAll, pending_of, published_of};
+ghost use Rattle.mt_routes.specs.Places.{Agrees, AreRoutes, Shows, with_entry};
 
-use crate::{Naming, Router, Showing, Ties, Told, Update, View};
-use left_right::writer::Writer;
+use crate::{Naming, Places, Router, Shown, Told};
+use mt_model::Entry;
 use std::alloc::{AllocError, Global};
 use std::sync::Wait;
 use thiserror::Error;
@@ -16,111 +18,100 @@ pub const MAX_ROUTERS: usize = 8;
 #[error("RoutersFull")]
 pub struct RoutersFull;
 
-type RouteWriter<J> = Writer<View, Update, (), Ties<J>>;
-
 /// The writer of routes, with what it waits by. Dropped, it waits until no router reads, and ends.
 pub struct Ends<J: Naming, R: Wait + Drop> {
     rt: R,
-    writer: Option<RouteWriter<J>>,
+    shown: Option<Shown<J>>,
 }
 
 impl<J: Naming, R: Wait + Drop> Drop for Ends<J, R> {
     fn drop(self) {
-        let Ends { rt, writer } = self;
-        if let Some(writer) = writer {
-            let _shown = writer.take(&rt);
+        let Ends { rt, shown } = self;
+        if let Some(shown) = shown {
+            shown.end(&rt);
         }
     }
 }
 
 impl<J: Naming, R: Wait + Drop> Ends<J, R> {
-    /// A writer that shows a publication, with room for eight routers and for the next publication. It is refused only if it
-    /// runs out of memory.
-    pub fn open(alloc: Global, rt: R, first: &Showing) -> Result<Ends<J, R>, AllocError>
-        requires { first.now.known.seen.book ≡ J.book }
-        ensures { IfOk result (λ e. option_map {U = List Publication} (λ w. w.desk.shown.value.known.seen.log) e.writer ≡ Some first.now.known.seen.log) }
+    /// A writer that shows the last publication of a list, with room for eight routers. It is refused where there is no memory, or
+    /// no room in a view for the publication's routes.
+    pub fn open(
+        alloc: Global,
+        rt: R,
+        told: &Told<J>,
+        routes: &[Entry],
+    ) -> Result<Ends<J, R>, AllocError>
+        requires last { option_map (λ p. p.entries) (last_or None told.now) ≡ Some routes.now }
+        requires routes { AreRoutes routes.now }
+        ensures shown { IfOk result (λ e. published_of e.shown ≡ told.now) }
+        ensures pending { IfOk result (λ e. Agrees (pending_of e.shown) routes.now) }
     {
-        let shown = View::new(alloc, first)?;
-        let spare = View::new(alloc, first)?;
-        let writer = Writer::new(alloc, shown, spare, MAX_ROUTERS)?;
-        let mut ends = Ends {
+        let shown = Shown::open(alloc, told, routes)?;
+        Ok(Ends {
             rt,
-            writer: Some(writer),
-        };
-        ends.reserve()?;
-        Ok(ends)
+            shown: Some(shown),
+        })
     }
 
     /// A router, which knows of the list what it is told. `RoutersFull` where there are eight.
     pub fn router(&self, told: Told<J>) -> Result<Router<J>, RoutersFull>
         ensures { IfOk result (λ r. r ≡ told) }
     {
-        let Some(writer) = &self.writer else {
-            return Err(RoutersFull);
-        };
-        match writer.factory().reader() {
-            Ok(reader) => Ok(Router::new(told, reader)),
-            Err(_) => Err(RoutersFull),
+        match &self.shown {
+            Some(shown) => shown.router(told),
+            None => Err(RoutersFull),
         }
     }
 
-    /// Makes room for the next publication, and changes nothing that is shown. It is refused only if it runs out of memory,
-    /// and where there has been a `reserve` since the last publication there is room already.
-    pub fn reserve(&mut self) -> Result<(), AllocError>
-        ensures { option_map {U = List Publication} (λ w. w.desk.shown.value.known.seen.log) self.new.writer ≡ option_map (λ w. w.desk.shown.value.known.seen.log) self.old.writer }
+    /// What is shown, followed by what was written since: nothing where the writer is gone. It takes no memory.
+    pub fn pending(&self) -> Option<&Places>
+        ensures pending { IfSome result (λ places. IsSome self.now.shown × (places.now ≡ pending_of self.now.shown)) }
+        ensures gone { IfNone result (self.now.shown ≡ None) }
     {
-        let Some(writer) = &mut self.writer else {
-            return Err(AllocError);
-        };
-        if writer.has_pending_operations() {
-            return Ok(());
-        }
-        match writer.append(Update::Keep) {
-            Ok(()) => Ok(()),
-            Err(_) => Err(AllocError),
+        match &self.shown {
+            Some(shown) => Some(shown.pending()),
+            None => None,
         }
     }
 
-    /// Shows readers a publication. It waits for those that still read the one before the last. Where there has been no
-    /// `reserve` since the last one it may need memory, and then waits until there is some.
-    pub fn publish(&mut self, showing: Showing)
-        requires { showing.known.seen.book ≡ J.book }
-        ensures { option_map {U = List Publication} (λ w. w.desk.shown.value.known.seen.log) self.new.writer ≡ option_map (λ w. showing.known.seen.log) self.old.writer }
+    /// Writes entries behind what is pending, one after the other, up to the first that isn't said then: for it there is no memory, or
+    /// no room in a view. Those before it stay pending. Says whether all are said. Readers are shown nothing new.
+    pub fn write(&mut self, entries: &[Entry]) -> bool
+        ensures published { published_of self.new.shown ≡ published_of self.old.shown }
+        ensures there { IsTrue result → IsSome self.new.shown }
+        ensures all { IsTrue result → WritesAll (pending_of self.old.shown) entries.now (pending_of self.new.shown) }
+        ensures some { (n : ℕ) × (pending_of self.new.shown ≡ fold with_entry (pending_of self.old.shown) (take n entries.now)) }
     {
-        let Some(writer) = self.writer.take() else {
+        match &mut self.shown {
+            Some(shown) => shown.write_all(entries),
+            None => false,
+        }
+    }
+
+    /// Makes room for a publication, and changes nothing that is shown or pending. Says whether there is room.
+    pub fn make_room(&mut self) -> bool
+        ensures { self.new.shown ≡ self.old.shown }
+    {
+        match &mut self.shown {
+            Some(shown) => shown.make_room(),
+            None => false,
+        }
+    }
+
+    /// Shows readers what is pending, as the last publication of a list. It waits for those that still read the one before the
+    /// last. Where no room was made it may need memory, and then waits until there is some.
+    pub fn publish(&mut self, told: &Told<J>)
+        requires { Shows told.now (pending_of self.old.shown) }
+        ensures published { IsSome self.old.shown → published_of self.new.shown ≡ told.now }
+        ensures pending { pending_of self.new.shown ≡ pending_of self.old.shown }
+    {
+        let Some(shown) = self.shown.take() else {
             return;
         };
-        let writer = show(&self.rt, writer, showing);
-        if let Some(old) = self.writer.replace(writer) {
-            let _shown = old.take(&self.rt);
+        let shown = shown.publish(&self.rt, told);
+        if let Some(old) = self.shown.replace(shown) {
+            old.end(&self.rt);
         }
     }
-}
-
-/// Shows readers a publication.
-fn show<J: Naming, R: Wait>(rt: &R, writer: RouteWriter<J>, showing: Showing) -> RouteWriter<J>
-    requires { showing.known.seen.book ≡ J.book }
-    ensures { result.desk.shown.value.known.seen.log ≡ showing.known.seen.log }
-{
-    let writer = append(rt, writer, showing);
-    writer.publish_as::<Ties<J>, R>(rt).0
-}
-
-/// Puts a publication behind what is pending. Where there is no memory it tries again until there is.
-fn append<J: Naming, R: Wait>(
-    rt: &R,
-    mut writer: RouteWriter<J>,
-    showing: Showing,
-) -> RouteWriter<J>
-    ensures desk { result.desk ≡ writer.desk }
-    ensures pending { drop result.behind result.log.items ≡ drop writer.behind writer.log.items ++ Update.Show showing ∷ [] }
-{
-    let mut update = Update::Show(showing);
-    for _ in rt.forever() {
-        match writer.append(update) {
-            Ok(()) => return writer,
-            Err(back) => update = back,
-        }
-    }
-    unreachable!()
 }

@@ -1,14 +1,17 @@
 //! What follows from how publications are listed and names looked up.
-ghost use Rattle.std.specs.Prelude.{◌≡◌, ◌≤◌, ◌⊎◌, List, Err};
+ghost use Rattle.std.specs.Prelude.{◌≡◌, ◌≤◌, ◌⊎◌, ◌↔◌, ℕ, List, Contains, Err};
 ghost use mathlib.Core.List.{IsPrefix};
 ghost use Rattle.mt_names.specs.declared.keys.RuleKey.{RuleKey};
 ghost use Rattle.mt_names.specs.declared.types.TabletType.{TabletType};
 ghost use Rattle.mt_model.specs.declared.entries.Entry.{Entry};
 ghost use Rattle.mt_model.specs.declared.faults.TopologyFault.{TopologyFault};
 ghost use Rattle.mt_model.specs.declared.faults.TopologyFault.TheVariants.{NoTable, Ambiguous};
-ghost use Rattle.mt_model.specs.Topology.{HasDistinctPlaces, TopologyState, resolution, routes_of};
+ghost use Rattle.mt_model.specs.Topology.{HasDistinctPlaces, TopologyState, is_present, resolution, routes_of, rule_at};
 ghost use Rattle.mt_routes.specs.declared.publication.Publication.{Publication};
-ghost use Rattle.mt_routes.specs.LookUp.{led_by};
+ghost use Rattle.mt_routes.specs.LookUp.{is_listed, led_by, target_in};
+ghost use Rattle.mt_routes.specs.Differences.{IsDifference};
+ghost use Rattle.mt_routes.specs.Pending.{WritesAll};
+ghost use Rattle.mt_routes.specs.Places.{Agrees, AreRoutes, ArePlaces, PlacesState};
 ghost use Rattle.mt_routes.specs.Publications.{Rises, last_front};
 
 /// Where the fronts of a list never fall, a longer list's last front is no less than that of its beginning.
@@ -26,4 +29,21 @@ pub fn look_ups_are_refused_in_two_ways()
 pub fn routes_lead_as_their_topology()
     ensures { (t : TopologyState) (key : RuleKey) (type : TabletType) → HasDistinctPlaces t
         → led_by (routes_of t) key type ≡ resolution t key type }
+{}
+
+/// The routes of a topology say each of themselves, and no table twice in one keyspace.
+pub fn routes_of_a_topology_say_each_of_themselves()
+    ensures { (t : TopologyState) → HasDistinctPlaces t → AreRoutes (routes_of t) }
+{}
+
+/// The routes of a topology say of each key and of each table what the topology says.
+pub fn routes_say_what_their_topology_says()
+    ensures rules { (t : TopologyState) (key : RuleKey) → HasDistinctPlaces t → target_in (routes_of t) key ≡ rule_at t.rules key }
+    ensures tables { (t : TopologyState) (keyspace table : List ℕ) → HasDistinctPlaces t → is_listed (routes_of t) keyspace table ≡ is_present t.keyspaces keyspace table }
+{}
+
+/// Where all that is said otherwise is written, and is then said, what is said is what the routes say.
+pub fn what_is_written_agrees()
+    ensures { (before after : PlacesState) (written routes : List Entry) → ArePlaces before → WritesAll before written after
+        → ((e : Entry) → Contains written e ↔ IsDifference before routes e) → Agrees after routes }
 {}

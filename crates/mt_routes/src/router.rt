@@ -69,8 +69,15 @@ impl<J: Naming> Router<J> {
         ensures answer { Routes self.new key.now tablet_type result }
     {
         let reader = self.reader.take().unwrap();
-        let (reader, told, answer) = look_up(reader, &self.told, key, tablet_type);
-        *self = Router::new(told, reader);
+        let reading = match reader.enter_as::<Ties<J>>() {
+            Ok(reading) => reading,
+            Err(reader) => {
+                self.reader = Some(reader);
+                return Err(RouteFault::Closed);
+            }
+        };
+        let answer = shown_by(reading.get(), &mut self.told, key, tablet_type);
+        self.reader = Some(reading.leave());
         answer
     }
 
@@ -85,46 +92,22 @@ impl<J: Naming> Router<J> {
     }
 }
 
-/// One look-up by a reader. The reader comes back, with what is known of the list afterwards.
-fn look_up<J: Naming>(
-    reader: RouteReader<J>,
-    told: &Told<J>,
-    key: &RuleKey,
-    tablet_type: TabletType,
-) -> (
-    RouteReader<J>,
-    Told<J>,
-    Result<(RuleTarget, Front), RouteFault>,
-)
-    ensures grows { IsPrefix told.now result.1 }
-    ensures fronts { last_front told.now ≤ last_front result.1 }
-    ensures answer { Routes result.1 key.now tablet_type result.2 }
-{
-    match reader.enter_as::<Ties<J>>() {
-        Err(reader) => (reader, told.again(), Err(RouteFault::Closed)),
-        Ok(reading) => {
-            let (told, answer) = shown_by(reading.get(), told, key, tablet_type);
-            (reading.leave(), told, answer)
-        }
-    }
-}
-
-/// Where a name leads by a view, and the longer of the view's list and what was told.
+/// Where a name leads by a view, and what is known of the list is then what the view shows; unless that is less than what was told.
 fn shown_by<J: Naming>(
     view: &View,
-    told: &Told<J>,
+    told: &mut Told<J>,
     key: &RuleKey,
     tablet_type: TabletType,
-) -> (Told<J>, Result<(RuleTarget, Front), RouteFault>)
+) -> Result<(RuleTarget, Front), RouteFault>
     requires { Fits J.book view.now }
-    ensures grows { IsPrefix told.now result.0 }
-    ensures fronts { last_front told.now ≤ last_front result.0 }
-    ensures answer { Routes result.0 key.now tablet_type result.1 }
+    ensures grows { IsPrefix told.old told.new }
+    ensures fronts { last_front told.old ≤ last_front told.new }
+    ensures answer { Routes told.new key.now tablet_type result }
 {
     let shown = Told::of(&view.known);
-    let longer = told.longer(&shown);
     if shown.len() < told.len() {
-        return (longer, Err(RouteFault::Closed));
+        return Err(RouteFault::Closed);
     }
-    (longer, view.find(key, tablet_type))
+    *told = told.longer(&shown);
+    view.find(key, tablet_type)
 }

@@ -1,10 +1,9 @@
 //! What is known of a list of publications.
-ghost use Rattle.std.specs.Prelude.{◌≡◌, ◌+◌, ◌<◌, ◌≤◌, ◌^◌, ◌++◌, ◌∷◌, ◌⊎◌, [], length, MatchBool, IfNone, IfSome};
+ghost use Rattle.std.specs.Prelude.{◌≡◌, ◌+◌, ◌<◌, ◌≤◌, ◌^◌, ◌++◌, ◌∷◌, ◌⊎◌, [], length, MatchBool};
 ghost use mathlib.Core.List.{IsPrefix};
-ghost use Rattle.mt_routes.specs.Places.{AreFew};
 ghost use Rattle.mt_routes.specs.Publications.{Rises, last_front, publication};
 
-use crate::{Front, Head, Known, Law, Naming, Next, Publication, Showing};
+use crate::{Front, Head, Known, Law, Naming, Next, Publication};
 use logbook::Seen;
 use std::marker::{Model, PhantomData};
 
@@ -134,23 +133,5 @@ impl<J: Naming> Told<J> {
             seen: known.seen.again(),
             of: PhantomData,
         }
-    }
-
-    /// Adds a publication as `add` does, and hands it out to be shown to the readers, or nothing where it wasn't added.
-    pub fn show(&mut self, head: &Head<J>, next: Next) -> Option<Showing>
-        requires room { length self.old < 2 ^ 62 }
-        requires rises { last_front self.old ≤ next.front.0 }
-        requires few { AreFew next.entries.items }
-        ensures list { IfSome result (λ s. self.new ≡ self.old ++ publication next.front.0 next.entries.items ∷ []) }
-        ensures shown { IfSome result (λ s. (s.known.seen.log ≡ self.new) × (s.known.seen.book ≡ J.book)) }
-        ensures none { IfNone result (self.new ≡ self.old) }
-    {
-        if !self.add(head, &next) {
-            return None;
-        }
-        Some(Showing {
-            known: self.known(),
-            entries: next.entries,
-        })
     }
 }

@@ -1,7 +1,8 @@
 //! Tables of acts: publications with their routes, and what routers answer.
 ghost use Rattle.std.specs.Prelude.{◌≡◌};
 
-use crate::scene::{Said, Scene, next_of};
+use crate::said::{Said, topology_of};
+use crate::scene::Scene;
 use mt_model::TopologyFault;
 use mt_names::{RuleKey, RuleTarget, TabletType};
 use mt_routes::{Front, MAX_ROUTERS, Naming, Opened, RouteFault, Router};
@@ -18,7 +19,9 @@ enum Act<'a> {
     /// One is added and shown, and a router that learns of it before it is shown is closed until then.
     PublishesLate(u64, &'a [Said<'a>]),
     /// None is added with this front.
-    Refuses(u64),
+    Refuses(u64, &'a [Said<'a>]),
+    /// So many publications are known.
+    Counts(u64),
     /// The router learns what is known.
     Learns,
     /// A name leads to a target, by the publication with this front.
@@ -52,7 +55,7 @@ pub fn leads<J: Naming>(
 }
 
 /// Whether a name leads nowhere, for this fault.
-fn fails<J: Naming>(
+pub fn fails<J: Naming>(
     router: &mut Router<J>,
     name: &str,
     tablet_type: TabletType,
@@ -67,20 +70,6 @@ fn fails<J: Naming>(
     }
 }
 
-/// Whether a publication of these routes is added and shown, or isn't, as it should be.
-fn is_added<J: Naming, R: Wait + Drop + Copy>(
-    alloc: Global,
-    scene: &mut Scene<J, R>,
-    front: u64,
-    said: &[Said<'_>],
-    want: bool,
-) -> bool {
-    match next_of(alloc, front, said) {
-        Some(next) => scene.publishes(next) == want,
-        None => false,
-    }
-}
-
 /// Whether one is added and shown, and a router that learns of it before it is shown is closed until then.
 fn is_added_late<J: Naming, R: Wait + Drop + Copy>(
     alloc: Global,
@@ -89,12 +78,9 @@ fn is_added_late<J: Naming, R: Wait + Drop + Copy>(
     front: u64,
     said: &[Said<'_>],
 ) -> bool {
-    let Ok(key) = RuleKey::parse("x") else {
-        return false;
-    };
-    match next_of(alloc, front, said) {
-        Some(next) => scene.publishes_late(next, router, &key),
-        None => false,
+    match (RuleKey::parse("x"), topology_of(alloc, said)) {
+        (Ok(key), Some(topology)) => scene.publishes_late(alloc, front, &topology, router, &key),
+        _ => false,
     }
 }
 
@@ -106,9 +92,10 @@ fn is_so<J: Naming, R: Wait + Drop + Copy>(
     act: Act<'_>,
 ) -> bool {
     match act {
-        Act::Publishes(front, said) => is_added(alloc, scene, front, said, true),
+        Act::Publishes(front, said) => scene.says(alloc, front, said),
         Act::PublishesLate(front, said) => is_added_late(alloc, scene, router, front, said),
-        Act::Refuses(front) => is_added(alloc, scene, front, &[], false),
+        Act::Refuses(front, said) => !scene.says(alloc, front, said),
+        Act::Counts(many) => scene.told().len() == many,
         Act::Learns => {
             router.learn(scene.told());
             true
@@ -166,27 +153,34 @@ fn plays<J: Naming, R: Wait + Drop + Copy>(
     }
 }
 
-/// The routes of one publication, with what each name leads to.
-static LOOK_UPS: [Act<'static>; 20] = [
+/// The routes of one publication, with what each name leads to. Of two of its names a rule or a table went.
+static LOOK_UPS: [Act<'static>; 24] = [
     Act::Leads("x", PRIMARY, "a.t", 0),
     Act::Leads("u", PRIMARY, "a.u", 0),
     Act::Fails("y", PRIMARY, NO_TABLE, 0),
     Act::Leads("c.z", REPLICA, "c.z", 0),
     Act::Publishes(
+        3,
+        &[
+            Said::Rule("w", "b.w"),
+            Said::Table("d", "w"),
+            Said::Table("a", "v"),
+        ],
+    ),
+    Act::Leads("w", PRIMARY, "b.w", 3),
+    Act::Leads("v", PRIMARY, "a.v", 3),
+    Act::Fails("x", PRIMARY, NO_TABLE, 3),
+    Act::Publishes(
         7,
         &[
             Said::Rule("x", "b.t"),
             Said::Rule("x@rdonly", "c.t"),
-            Said::Rule("x", "d.t"),
             Said::Rule("y@replica", "a.y"),
             Said::Rule("a.q", "b.q"),
-            Said::NoRule("w"),
             Said::Table("a", "u"),
             Said::Table("b", "s"),
             Said::Table("a", "s"),
             Said::Table("d", "w"),
-            Said::NoTable("a", "v"),
-            Said::Denied("b", "v"),
         ],
     ),
     Act::Leads("x", PRIMARY, "b.t", 7),
@@ -206,15 +200,17 @@ static LOOK_UPS: [Act<'static>; 20] = [
     Act::Fails("u", PRIMARY, NO_TABLE, 7),
 ];
 
-/// What was published is shown to a router that wasn't told of it; one that was told sooner waits for it.
-static TOLD: [Act<'static>; 14] = [
+/// What was published is shown to a router that wasn't told of it; one that was told sooner waits for it. What is refused isn't shown.
+static TOLD: [Act<'static>; 17] = [
     Act::Learns,
     Act::Leads("x", PRIMARY, "a.t", 0),
     Act::Publishes(1, &[Said::Rule("x", "b.t")]),
     Act::Leads("x", PRIMARY, "b.t", 1),
     Act::Learns,
     Act::Leads("x", PRIMARY, "b.t", 1),
-    Act::Refuses(0),
+    Act::Refuses(0, &[]),
+    Act::Refuses(0, &[Said::Rule("x", "e.t")]),
+    Act::Leads("x", PRIMARY, "b.t", 1),
     Act::PublishesLate(2, &[Said::Rule("x", "c.t")]),
     Act::Leads("x", PRIMARY, "c.t", 2),
     Act::PublishesLate(9, &[]),
@@ -222,11 +218,67 @@ static TOLD: [Act<'static>; 14] = [
     Act::Publishes(9, &[Said::Rule("x", "d.t")]),
     Act::Learns,
     Act::Leads("x", PRIMARY, "d.t", 9),
+    Act::Counts(5),
+];
+
+/// A table of two keyspaces leads nowhere. Where it goes from one of them, whichever, it leads to the other, and nowhere again where it
+/// comes back. A rule leads all the same.
+static HOLDERS: [Act<'static>; 19] = [
+    Act::Publishes(1, &[Said::Table("a", "s"), Said::Table("b", "s")]),
+    Act::Fails("s", PRIMARY, AMBIGUOUS, 1),
+    Act::Leads("a.s", PRIMARY, "a.s", 1),
+    Act::Publishes(2, &[Said::Table("b", "s")]),
+    Act::Leads("s", PRIMARY, "b.s", 2),
+    Act::Leads("s", REPLICA, "b.s", 2),
+    Act::Publishes(3, &[Said::Table("b", "s"), Said::Table("a", "s")]),
+    Act::Fails("s", RDONLY, AMBIGUOUS, 3),
+    Act::Publishes(4, &[Said::Table("a", "s"), Said::Table("b", "r")]),
+    Act::Leads("s", PRIMARY, "a.s", 4),
+    Act::Leads("r", PRIMARY, "b.r", 4),
+    Act::Publishes(
+        5,
+        &[
+            Said::Rule("s@replica", "b.s"),
+            Said::Table("c", "s"),
+            Said::Table("b", "s"),
+            Said::Table("a", "s"),
+        ],
+    ),
+    Act::Fails("s", PRIMARY, AMBIGUOUS, 5),
+    Act::Leads("s", REPLICA, "b.s", 5),
+    Act::Publishes(6, &[Said::Table("c", "s")]),
+    Act::Leads("s", REPLICA, "c.s", 6),
+    Act::Fails("r", PRIMARY, NO_TABLE, 6),
+    Act::Publishes(7, &[]),
+    Act::Fails("s", PRIMARY, NO_TABLE, 7),
+];
+
+/// A publication that says what the last one said leads as before, with its own front, and is one more. In what order routes are
+/// said is nothing to it.
+static UNCHANGED: [Act<'static>; 13] = [
+    Act::Counts(1),
+    Act::Publishes(4, &[Said::Rule("x", "a.t"), Said::Table("a", "u")]),
+    Act::Leads("x", PRIMARY, "a.t", 4),
+    Act::Leads("u", PRIMARY, "a.u", 4),
+    Act::Fails("y", PRIMARY, NO_TABLE, 4),
+    Act::Counts(2),
+    Act::PublishesLate(5, &[Said::Table("a", "u"), Said::Rule("x", "a.t")]),
+    Act::Leads("x", PRIMARY, "a.t", 5),
+    Act::Leads("u", PRIMARY, "a.u", 5),
+    Act::Publishes(5, &[Said::Table("a", "u"), Said::Rule("x", "a.t")]),
+    Act::Leads("x", REPLICA, "a.t", 5),
+    Act::Leads("u", REPLICA, "a.u", 5),
+    Act::Counts(4),
 ];
 
 #[test]
 fn routers_answer_by_what_is_published(rt: HostRuntime) -> Result<(), Fail> {
-    let tables = [LOOK_UPS.as_slice(), TOLD.as_slice()];
+    let tables = [
+        LOOK_UPS.as_slice(),
+        TOLD.as_slice(),
+        HOLDERS.as_slice(),
+        UNCHANGED.as_slice(),
+    ];
     for acts in tables.iter() {
         let played = plays::<Brand, _>(rt.alloc(), &rt, Opened::new(), *acts);
         assert_eq!(rt; played, Some(acts.len()));

@@ -1,145 +1,206 @@
-//! As many routes as a topology may have.
+//! As many routes as a topology may have, and as many others in their stead, until places are short.
 ghost use Rattle.std.specs.Prelude.{◌≡◌};
 
-use crate::scene::{Said, Scene, room_for};
-use mt_model::{Entry, MAX_RULES};
+use crate::acts::fails;
+use crate::said::{Said, add_table};
+use crate::scene::Scene;
+use mt_model::{MAX_KEYSPACES, MAX_RULES, TopologyFault};
 use mt_names::{KeyspaceName, RuleKey, RuleTarget, TableName, TabletType};
-use mt_routes::{Front, MAX_TABLES, Naming, Next, Opened, Router};
+use mt_routes::{Front, MAX_TABLES, Naming, Opened, Router};
+use mt_topology::Topology;
 use std::alloc::Global;
 use std::marker::Brand;
 use std::sync::Wait;
 use std::test::Fail;
 
-/// The table of a number.
-fn table(alloc: Global, number: usize) -> Option<TableName> {
-    let text = format!(in alloc; "t{number}").ok()?;
+/// Names that are a word with a number each, from 0 on: first those that have rules, then the tables.
+#[derive(Clone, Copy)]
+pub struct Many<'a> {
+    /// The word.
+    pub word: &'a str,
+    /// How many have rules.
+    pub rules: usize,
+    /// How many there are.
+    pub names: usize,
+}
+
+/// The keyspace that rules lead to, or that of a table: tables in a row are spread over as many keyspaces as there may be.
+fn keyspace(alloc: Global, number: usize, is_rule: bool) -> Option<KeyspaceName> {
+    if is_rule {
+        return KeyspaceName::parse("ruled").ok();
+    }
+    let text = format!(in alloc; "k{}", number % MAX_KEYSPACES).ok()?;
+    KeyspaceName::parse(text.as_str()).ok()
+}
+
+/// The table of a word and a number.
+fn table(alloc: Global, word: &str, number: usize) -> Option<TableName> {
+    let text = format!(in alloc; "{word}{number}").ok()?;
     TableName::parse(text.as_str()).ok()
 }
 
-/// The keyspace that rules of odd numbers lead to, or that of the others.
-fn keyspace(number: usize) -> Option<KeyspaceName> {
-    KeyspaceName::parse(if number % 2 == 1 { "odd" } else { "even" }).ok()
-}
-
 /// The name of a number without a keyspace.
-fn key(alloc: Global, number: usize) -> Option<RuleKey> {
+fn key(alloc: Global, many: Many<'_>, number: usize) -> Option<RuleKey> {
     Some(RuleKey {
         keyspace: None,
-        table: table(alloc, number)?,
+        table: table(alloc, many.word, number)?,
         tablet_type: None,
     })
 }
 
 /// Where it leads.
-fn target(alloc: Global, number: usize) -> Option<RuleTarget> {
+fn target(alloc: Global, many: Many<'_>, number: usize) -> Option<RuleTarget> {
     Some(RuleTarget {
-        keyspace: keyspace(number)?,
-        table: table(alloc, number)?,
+        keyspace: keyspace(alloc, number, number < many.rules)?,
+        table: table(alloc, many.word, number)?,
     })
 }
 
-/// The rule of a number, or its table.
-fn entry_at(alloc: Global, number: usize, is_rule: bool) -> Option<Entry> {
-    if is_rule {
-        let key = key(alloc, number)?;
-        return Some(Entry::Rule(key, Some(target(alloc, number)?)));
+/// Adds the rule of a number, or its table.
+fn add(alloc: Global, topology: &mut Topology, many: Many<'_>, number: usize) -> Option<()> {
+    let key = key(alloc, many, number)?;
+    let target = target(alloc, many, number)?;
+    if number < many.rules {
+        topology.edit_rule(&key, Some(target)).ok()
+    } else {
+        add_table(topology, &target.keyspace, &target.table)
     }
-    let keyspace = keyspace(number)?;
-    Some(Entry::Present(keyspace, table(alloc, number)?, true))
 }
 
-/// So many rules, and behind them tables up to a number.
-pub fn many_routes(alloc: Global, rules: usize, tables: usize) -> Option<Next> {
-    let mut entries = room_for(alloc, tables).ok()?;
-    for number in 0..tables {
-        entries.push(entry_at(alloc, number, number < rules)?).ok()?;
+/// A topology with these names and no others.
+pub fn many_routes(alloc: Global, many: Many<'_>) -> Option<Topology> {
+    let mut topology = Topology::new(alloc);
+    for number in 0..many.names {
+        add(alloc, &mut topology, many, number)?;
     }
-    Some(Next {
-        front: Front(1),
-        entries,
-    })
+    Some(topology)
 }
 
-/// The names that have rules, if there are as many as there may be.
-pub fn many_keys(alloc: Global) -> Option<Vec<RuleKey>> {
+/// The names that have rules.
+pub fn many_keys(alloc: Global, many: Many<'_>) -> Option<Vec<RuleKey>> {
     let mut keys = Vec::new(alloc);
-    for number in 0..MAX_RULES {
-        keys.push(key(alloc, number)?).ok()?;
+    for number in 0..many.rules {
+        keys.push(key(alloc, many, number)?).ok()?;
     }
     Some(keys)
 }
 
 /// Whether the name of a number leads where it should.
-fn is_led<J: Naming>(alloc: Global, router: &mut Router<J>, number: usize) -> bool {
-    match (key(alloc, number), target(alloc, number)) {
+fn is_led<J: Naming>(
+    alloc: Global,
+    router: &mut Router<J>,
+    many: Many<'_>,
+    number: usize,
+    front: u64,
+) -> bool {
+    match (key(alloc, many, number), target(alloc, many, number)) {
         (Some(key), Some(target)) => {
-            router.route(&key, TabletType::Primary) == Ok((target, Front(1)))
+            router.route(&key, TabletType::Primary) == Ok((target, Front(front)))
         }
         _ => false,
     }
 }
 
-/// How many of so many names lead where they should.
-fn led<J: Naming>(alloc: Global, router: &mut Router<J>, many: usize) -> usize {
-    let mut right = 0usize;
-    for number in 0..many {
-        if is_led(alloc, router, number) {
-            right = right.saturating_add(1);
+/// Whether each name leads where it should.
+fn are_led<J: Naming>(alloc: Global, router: &mut Router<J>, many: Many<'_>, front: u64) -> bool {
+    for number in 0..many.names {
+        if !is_led(alloc, router, many, number, front) {
+            return false;
         }
     }
-    right
+    true
 }
 
-/// How many of so many names lead where they should behind a publication; none of them where it is refused.
-fn led_behind<J: Naming, R: Wait + Drop + Copy>(
+/// Whether each of these names is that of no table any more.
+fn are_gone<J: Naming>(router: &mut Router<J>, names: &[&str], front: u64) -> bool {
+    for name in names {
+        if !fails(
+            router,
+            *name,
+            TabletType::Primary,
+            TopologyFault::NoTable,
+            front,
+        ) {
+            return false;
+        }
+    }
+    true
+}
+
+/// As many names as there may be.
+const ALL: usize = MAX_RULES + MAX_TABLES;
+
+/// The word of the names of a publication, how many have rules, how many there are, and some that are gone. Views have places for twice as
+/// many rules and tables as there may be, so the third one finds none free.
+static SIZES: [(&str, usize, usize, &[&str]); 3] = [
+    ("a", MAX_RULES, ALL, &["x"]),
+    ("b", MAX_RULES, ALL, &["a0", "a4095", "a4096", "a12287"]),
+    ("c", 1000, 3000, &["a0", "b0", "b4095", "b4096", "b12287"]),
+];
+
+/// Whether these names are published, and lead where they should, and those that are gone lead nowhere.
+fn are_published<J: Naming, R: Wait + Drop + Copy>(
     alloc: Global,
     scene: &mut Scene<J, R>,
-    next: Next,
-    names: usize,
+    router: &mut Router<J>,
+    many: Many<'_>,
+    gone: &[&str],
+    front: u64,
+) -> bool {
+    match many_routes(alloc, many) {
+        Some(topology) => {
+            scene.publishes(alloc, front, &topology)
+                && are_led(alloc, router, many, front)
+                && are_gone(router, gone, front)
+        }
+        None => false,
+    }
+}
+
+/// How many publications go so one after the other, up to the first that doesn't.
+fn played<J: Naming, R: Wait + Drop + Copy>(
+    alloc: Global,
+    scene: &mut Scene<J, R>,
+    router: &mut Router<J>,
+) -> usize {
+    for (index, (word, rules, names, gone)) in SIZES.iter().enumerate() {
+        let many = Many {
+            word: *word,
+            rules: *rules,
+            names: *names,
+        };
+        if !are_published(alloc, scene, router, many, *gone, index as u64) {
+            return index;
+        }
+    }
+    SIZES.len()
+}
+
+/// How many go so to a new router.
+fn plays_at<J: Naming, R: Wait + Drop + Copy>(
+    alloc: Global,
+    scene: &mut Scene<J, R>,
 ) -> Option<usize> {
     match scene.router() {
-        Ok(mut router) => Some(if scene.publishes(next) {
-            led(alloc, &mut router, names)
-        } else {
-            0
-        }),
+        Ok(mut router) => Some(played(alloc, scene, &mut router)),
         Err(_) => None,
     }
 }
 
-/// How many of so many names lead where they should, if so many have rules and the others are tables.
-fn led_by_many<J: Naming, R: Wait + Drop + Copy>(
-    alloc: Global,
-    rt: R,
-    opened: Opened,
-    rules: usize,
-    names: usize,
-) -> Option<usize>
+/// How many go so at a new list.
+fn plays<J: Naming, R: Wait + Drop + Copy>(alloc: Global, rt: R, opened: Opened) -> Option<usize>
     requires { opened.seen.book ≡ J.book }
 {
-    let Some(next) = many_routes(alloc, rules, names) else {
-        return None;
-    };
     let made: Option<Scene<J, R>> = Scene::of(alloc, rt, opened, 0, &[Said::Rule("x", "a.t")]);
     match made {
-        Some(mut scene) => led_behind(alloc, &mut scene, next, names),
+        Some(mut scene) => plays_at(alloc, &mut scene),
         None => None,
     }
 }
 
-/// Rules, names, and how many of these lead where they should.
-static SIZES: [(usize, usize, usize); 4] = [
-    (MAX_RULES, MAX_RULES + MAX_TABLES, MAX_RULES + MAX_TABLES),
-    (MAX_RULES, MAX_RULES + MAX_TABLES + 1, 0),
-    (MAX_RULES + 1, MAX_RULES + MAX_TABLES, 0),
-    (0, MAX_TABLES, MAX_TABLES),
-];
-
 #[test]
 fn many_names_are_led(rt: HostRuntime) -> Result<(), Fail> {
-    for (rules, names, right) in SIZES.iter() {
-        let led = led_by_many::<Brand, _>(rt.alloc(), &rt, Opened::new(), *rules, *names);
-        assert_eq!(rt; led, Some(*right), "{rules} rules among {names} names");
-    }
+    let played = plays::<Brand, _>(rt.alloc(), &rt, Opened::new());
+    assert_eq!(rt; played, Some(SIZES.len()));
     Ok(())
 }

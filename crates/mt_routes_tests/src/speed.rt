@@ -2,7 +2,7 @@
 ghost use Rattle.std.specs.Prelude.{◌≡◌};
 
 use crate::scene::Scene;
-use crate::sizes::{many_keys, many_routes};
+use crate::sizes::{Many, many_keys, many_routes};
 use mt_model::MAX_RULES;
 use mt_names::{RuleKey, TabletType};
 use mt_routes::{Naming, Opened, Places, Router};
@@ -13,6 +13,13 @@ use std::sync::{Mutex, Wait};
 use std::test::Fail;
 use std::thread::Threads;
 use std::{env, thread};
+
+/// As many rules as there may be.
+const RULES: Many<'static> = Many {
+    word: "t",
+    rules: MAX_RULES,
+    names: MAX_RULES,
+};
 
 /// How many of so many look-ups by a router led somewhere.
 fn routed_by<J: Naming>(mut router: Router<J>, keys: &[RuleKey], many: u64) -> u64 {
@@ -71,7 +78,7 @@ fn are_routed_at<J: Naming + Send + Sync, R: Threads + Wait + Sync>(
     readers: u64,
     many: u64,
 ) -> bool {
-    let Some(keys) = many_keys(alloc) else {
+    let Some(keys) = many_keys(alloc, RULES) else {
         return false;
     };
     match routers_of(alloc, scene, readers) {
@@ -90,10 +97,10 @@ fn are_routed<J: Naming + Send + Sync, R: Threads + Wait + Sync>(
 ) -> bool
     requires { opened.seen.book ≡ J.book }
 {
-    let Some(first) = many_routes(alloc, MAX_RULES, MAX_RULES) else {
+    let Some(first) = many_routes(alloc, RULES) else {
         return false;
     };
-    let made: Option<Scene<J, &R>> = Scene::open(alloc, rt, opened, first);
+    let made: Option<Scene<J, &R>> = Scene::open(alloc, rt, opened, 0, &first);
     match made {
         Some(scene) => are_routed_at(rt, alloc, &scene, readers, many),
         None => false,
@@ -102,12 +109,11 @@ fn are_routed<J: Naming + Send + Sync, R: Threads + Wait + Sync>(
 
 /// The places of as many rules as there may be.
 fn many_places(alloc: Global) -> Option<Places> {
-    let first = many_routes(alloc, MAX_RULES, MAX_RULES)?;
+    let routes = many_routes(alloc, RULES)?.routes(alloc).ok()?;
     let mut places = Places::new(alloc).ok()?;
-    if !first.is_few() {
-        return None;
+    for route in routes.iter() {
+        places.write(route);
     }
-    places.fill(&first.entries);
     Some(places)
 }
 
@@ -129,7 +135,7 @@ fn are_found_in<R: Threads + Wait + Sync>(
 
 /// Whether all look-ups behind a lock lead somewhere, of as many rules as there may be.
 fn are_found<R: Threads + Wait + Sync>(rt: &R, alloc: Global, readers: u64, many: u64) -> bool {
-    let Some(keys) = many_keys(alloc) else {
+    let Some(keys) = many_keys(alloc, RULES) else {
         return false;
     };
     match many_places(alloc) {

@@ -2,8 +2,9 @@
 ghost use Rattle.std.specs.Prelude.{◌≡◌};
 
 use crate::acts::leads;
-use crate::scene::{Said, Scene, next_of};
-use mt_names::{RuleKey, TabletType};
+use crate::said::Said;
+use crate::scene::Scene;
+use mt_names::{RuleKey, RuleTarget, TabletType};
 use mt_routes::{Front, Naming, Opened, Router, Told};
 use std::alloc::Global;
 use std::marker::Brand;
@@ -17,30 +18,66 @@ const MANY: u64 = 1000;
 /// How many look-ups a router makes at most.
 const MOST: u64 = 2_000_000_000;
 
-/// Where the name leads by the publication with this front.
+/// Where the name with a rule leads by the publication with this front.
 static TARGETS: [&str; 8] = [
     "a.t0", "b.t1", "c.t2", "d.t3", "e.t4", "f.t5", "g.t6", "h.t7",
 ];
+
+/// The keyspaces that have the table in turn.
+static KEYSPACES: [&str; 2] = ["a", "b"];
+
+/// Where its name then leads.
+static HOLDERS: [&str; 2] = ["a.u", "b.u"];
 
 /// The target by this front.
 fn target_at(front: u64) -> &'static str {
     TARGETS[(front % 8) as usize]
 }
 
+/// Where the table is by this front.
+fn holder_at(front: u64) -> &'static str {
+    HOLDERS[(front % 2) as usize]
+}
+
+/// What is published with this front: a rule with another target, and a table that goes from one keyspace to the other.
+fn said_at(front: u64) -> [Said<'static>; 2] {
+    [
+        Said::Rule("x", target_at(front)),
+        Said::Table(KEYSPACES[(front % 2) as usize], "u"),
+    ]
+}
+
+/// Where a name leads, by which front, unless it leads nowhere or by an earlier publication than the latest one that was seen.
+fn led<J: Naming>(
+    router: &mut Router<J>,
+    key: &RuleKey,
+    latest: Front,
+) -> Option<(RuleTarget, Front)> {
+    match router.route(key, TabletType::Primary) {
+        Ok((target, front)) if front >= latest => Some((target, front)),
+        _ => None,
+    }
+}
+
 /// Whether each answer is by one publication, and none by an earlier one than that before it, up to the last publication.
 fn reads_on<J: Naming>(mut router: Router<J>) -> bool {
-    let Ok(key) = RuleKey::parse("x") else {
+    let (Ok(rule), Ok(table)) = (RuleKey::parse("x"), RuleKey::parse("u")) else {
         return false;
     };
     let mut latest = Front(0);
     for _ in 0..MOST {
-        let Ok((target, front)) = router.route(&key, TabletType::Primary) else {
+        let Some((target, front)) = led(&mut router, &rule, latest) else {
             return false;
         };
-        if front < latest || target.text().as_str() != target_at(front.0) {
+        let Some((holder, after)) = led(&mut router, &table, front) else {
+            return false;
+        };
+        if target.text().as_str() != target_at(front.0)
+            || holder.text().as_str() != holder_at(after.0)
+        {
             return false;
         }
-        latest = front;
+        latest = after;
         if latest == Front(MANY) {
             return true;
         }
@@ -51,11 +88,7 @@ fn reads_on<J: Naming>(mut router: Router<J>) -> bool {
 /// Whether each publication is added and shown.
 fn publishes_on<J: Naming, R: Wait + Drop + Copy>(alloc: Global, scene: &mut Scene<J, R>) -> bool {
     for front in 1..=MANY {
-        let said = [Said::Rule("x", target_at(front)), Said::Table("a", "u")];
-        let Some(next) = next_of(alloc, front, &said) else {
-            return false;
-        };
-        if !scene.publishes(next) {
+        if !scene.says(alloc, front, &said_at(front)) {
             return false;
         }
     }
@@ -110,6 +143,7 @@ fn go_on<J: Naming + Send + Sync, R: Threads + Wait + Sync>(
 fn learns_the_last<J: Naming>(mut router: Router<J>, told: Told<J>) -> bool {
     router.learn(told);
     leads(&mut router, "x", TabletType::Replica, target_at(MANY), MANY)
+        && leads(&mut router, "u", TabletType::Replica, holder_at(MANY), MANY)
 }
 
 /// Whether four threads read on while this one publishes.
@@ -147,8 +181,7 @@ fn all_go_on<J: Naming + Send + Sync, R: Threads + Wait + Sync>(
 ) -> bool
     requires { opened.seen.book ≡ J.book }
 {
-    let said = [Said::Rule("x", target_at(0))];
-    let made: Option<Scene<J, &R>> = Scene::of(alloc, rt, opened, 0, &said);
+    let made: Option<Scene<J, &R>> = Scene::of(alloc, rt, opened, 0, &said_at(0));
     match made {
         Some(mut scene) => all_go_on_at(rt, alloc, &mut scene),
         None => false,

@@ -202,6 +202,14 @@ impl RoutingRules {
         rule_entry(self.places.links(), index)
     }
 
+    /// Adds the entries of all rules to a list, in the order of their places; it looks at each place once. Refused only when out of memory,
+    /// and then some of them are added.
+    pub fn push_routes(&self, list: &mut Vec<Entry>) -> Result<(), AllocError>
+        ensures { OnOk result (list.new.items ≡ list.old.items ++ rule_routes self.now) }
+    {
+        push_routes(self.places.links(), list)
+    }
+
     /// Whether a key is reserved. Of most keys that aren't, that is told without a look at any place.
     pub fn has_place(&self, key: &RuleKey) -> bool
         ensures { result ≡ has_rule_place self.now key.now }
@@ -445,6 +453,18 @@ fn rule_entry(links: &Links, index: usize) -> Option<Entry>
         }
     }
     None
+}
+
+/// Adds the entries of all rules to a list.
+fn push_routes(links: &Links, list: &mut Vec<Entry>) -> Result<(), AllocError>
+    ensures { OnOk result (list.new.items ≡ list.old.items ++ rule_routes (in_order (keys_of links.now.names.entries) links.now.slots.items)) }
+{
+    for slot in links.slots() {
+        if let Some((key, target)) = links.rule_of_slot(slot) {
+            list.push(Entry::Rule(key, Some(target.copied())))?;
+        }
+    }
+    Ok(())
 }
 
 /// The key of a place by its index, and the rule that it has, if it has one; none past the last.

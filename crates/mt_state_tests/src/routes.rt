@@ -49,9 +49,14 @@ fn is_route(topology: &Topology, index: usize, want: &Entry) -> bool {
     false
 }
 
-/// Whether these are the routes, in this order.
-fn are_routes(topology: &Topology, want: &[Entry]) -> bool {
-    if topology.route_len() != want.len() {
+/// Whether these are the routes that are listed, in this order.
+fn are_listed(alloc: Global, topology: &Topology, want: &[Entry]) -> bool {
+    topology.routes(alloc).is_ok_and(|list| *list == *want)
+}
+
+/// Whether these are the routes, in this order, listed and by their index.
+fn are_routes(alloc: Global, topology: &Topology, want: &[Entry]) -> bool {
+    if topology.route_len() != want.len() || !are_listed(alloc, topology, want) {
         return false;
     }
     for (index, entry) in want.iter().enumerate() {
@@ -157,13 +162,13 @@ fn fewer_routes() -> Result<[Entry; 3], NameFault> {
 }
 
 /// Whether the routes are those of the dump.
-fn has_routes(topology: &Topology) -> Result<bool, NameFault> {
-    Ok(are_routes(topology, &routes()?))
+fn has_routes(alloc: Global, topology: &Topology) -> Result<bool, NameFault> {
+    Ok(are_routes(alloc, topology, &routes()?))
 }
 
 /// Whether they are those that are left.
-fn has_fewer_routes(topology: &Topology) -> Result<bool, NameFault> {
-    Ok(are_routes(topology, &fewer_routes()?))
+fn has_fewer_routes(alloc: Global, topology: &Topology) -> Result<bool, NameFault> {
+    Ok(are_routes(alloc, topology, &fewer_routes()?))
 }
 
 /// Takes away the rule of `x` and the table of `b`, where each has a place.
@@ -173,14 +178,14 @@ fn take_away(topology: &mut Topology) -> Result<bool, NameFault> {
 }
 
 /// Whether the routes are what stands, before and behind that.
-fn are_what_stands(topology: &mut Topology) -> Result<bool, NameFault> {
-    Ok(has_routes(topology)? && take_away(topology)? && has_fewer_routes(topology)?)
+fn are_what_stands(alloc: Global, topology: &mut Topology) -> Result<bool, NameFault> {
+    Ok(has_routes(alloc, topology)? && take_away(topology)? && has_fewer_routes(alloc, topology)?)
 }
 
 /// Whether they are at the topology that the dump is read as.
 fn loaded_are_what_stands(alloc: Global) -> bool {
     match Topology::load(alloc, DUMP.as_bytes()) {
-        Ok(mut topology) => are_what_stands(&mut topology).unwrap_or(false),
+        Ok(mut topology) => are_what_stands(alloc, &mut topology).unwrap_or(false),
         Err(_) => false,
     }
 }

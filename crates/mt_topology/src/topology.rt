@@ -25,7 +25,7 @@ use mt_keyspace::Keyspaces;
 use mt_model::{Entry, EntryKey, TopologyFault};
 use mt_names::{KeyspaceName, RuleKey, RuleTarget, TableName, TabletType};
 use mt_rules::RoutingRules;
-use std::alloc::Global;
+use std::alloc::{AllocError, Global};
 use std::marker::Model;
 
 /// The topology: routing rules, and keyspaces with their tables and denials. What is written has a place before, so a write takes
@@ -107,6 +107,18 @@ impl Topology {
     {
         self.rules.facts();
         self.keyspaces.facts();
+    }
+
+    /// All routes, each once: first the rules that stand, in the order of their places, then the tables that are there, keyspace by
+    /// keyspace. It looks at each place once to count them, and once to list them. Refused only when out of memory. (Vitess: the
+    /// serving VSchema)
+    pub fn routes(&self, alloc: Global) -> Result<Vec<Entry>, AllocError>
+        ensures { IfOk result (λ list. list.items ≡ routes_of self.now) }
+    {
+        let mut list = Vec::with_capacity(alloc, self.route_len())?;
+        self.rules.push_routes(&mut list)?;
+        self.keyspaces.push_routes(&mut list)?;
+        Ok(list)
     }
 
     /// How many routes there are: the rules that stand, and the tables that are there. A denial is none, nor is a place

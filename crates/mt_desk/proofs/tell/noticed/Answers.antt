@@ -1,20 +1,16 @@
--- Each route concerns routers, so that the notice has them all.
-use Rattle.std.proofs.Common.{◌≡◌, ◌∙◌, ap, arith, length}
-use Rattle.mt_model.specs.declared.entries.Scope.TheVariants.{Routes}
-use Rattle.mt_model.specs.Topology.{routes_of}
-use Rattle.mt_watch.specs.Notices.{notice_of}
-use Rattle.mt_desk.proofs.NoticeLemmas.{routes_concern}
+-- Each difference concerns routers, so that the notice has them all.
+use Rattle.std.proofs.Common.{◌≡◌, rules, subst}
+use Rattle.mt_desk.specs.Fronts.{Changes}
+use Rattle.mt_desk.proofs.NoticeLemmas.{told_change}
 use Rattle.mt_desk.proofs.tell.noticed.Goals as goal
 
-pub copied-requires-clause-room : goal.copied-requires-clause-room
-copied-requires-clause-room g c =
-    let all = routes_of c.args.topology.now in
-    let told : c.as_slice.result.now ≡ all = c.as_slice.ensures ∙ c.in-Ok-ask.ensures.notice ∙ ap (notice_of Routes) c.in-Ok-change_of.ensures ∙ routes_concern c.args.topology.now in
-    let n = ap length told in
-    let room = c.in-Ok.ensures.capacity in
-    let count = c.route_len.ensures in
-    omega (arith, n, room, count)
+pub returns-in-Ok-ask-clause-changes : goal.returns-in-Ok-ask-clause-changes
+returns-in-Ok-ask-clause-changes g c =
+    let is : c.in-Ok-change_of.change ≡ c.in-Ok-differences.entries.items = search rules in
+    let told = told_change _ _ c.in-Some.pending.now c.args.topology.now _ _ _ c.in-Ok-differences.ensures is c.in-Ok-ask.ensures in
+    subst (λ p. Changes p c.args.topology.now c.in-Ok-ask.notice) c.in-Some.ensures.pending.1 told.0
 
-pub returns-in-Ok-ask-clause-routes : goal.returns-in-Ok-ask-clause-routes
-returns-in-Ok-ask-clause-routes g c =
-    c.copied.ensures ∙ c.as_slice.ensures ∙ c.in-Ok-ask.ensures.notice ∙ ap (notice_of Routes) c.in-Ok-change_of.ensures ∙ routes_concern c.args.topology.now
+pub returns-in-Ok-ask-clause-told : goal.returns-in-Ok-ask-clause-told
+returns-in-Ok-ask-clause-told g c =
+    let is : c.in-Ok-change_of.change ≡ c.in-Ok-differences.entries.items = search rules in
+    (told_change _ _ c.in-Some.pending.now c.args.topology.now _ _ _ c.in-Ok-differences.ensures is c.in-Ok-ask.ensures).1

@@ -1,0 +1,163 @@
+//! What is to be written so that places say what routes say.
+ghost use Rattle.std.specs.Prelude.{◌≡◌, ◌++◌, ◌∷◌, ◌↔◌, [], ℕ, List, Contains, IfOk, OnOk, filter, flat_map, is_some, not};
+ghost use Rattle.mt_routes.specs.LookUp.{is_listed, target_in};
+ghost use Rattle.mt_routes.specs.Places.{AreRoutes};
+ghost use Rattle.mt_routes.specs.Differences.{IsDifference, differences, is_said, rule_gone, table_gone, tables_gone};
+ghost use Rattle.mt_routes.specs.Turns.{AreInTurn};
+ghost use Rattle.mt_model.specs.declared.entries.Entry.{Entry};
+ghost use Rattle.mt_names.specs.declared.keys.RuleKey.{RuleKey};
+
+use crate::Places;
+use crate::numbers::{Numbers, keyspace_of};
+use crate::turn::turn_of;
+use indexmap::IndexMap;
+use mt_model::Entry;
+use mt_names::{KeyspaceName, RuleKey, RuleTarget, TableName};
+use std::alloc::{AllocError, Global};
+
+/// What can be asked which keys have a rule, and which keyspaces have a table.
+pub trait Standing {
+    ghost use Rattle.std.specs.Prelude.{Bool, List, ℕ};
+    ghost use Rattle.mt_names.specs.declared.keys.RuleKey.{RuleKey};
+
+    ghost rules: { Self → RuleKey → Bool };
+
+    ghost tables: { Self → List ℕ → List ℕ → Bool };
+
+    /// Whether a key has a rule.
+    fn has_rule(&self, key: &RuleKey) -> bool
+        ensures { result ≡ rules self.now key.now };
+
+    /// Whether a keyspace has a table.
+    fn has_table(&self, keyspace: &KeyspaceName, table: &TableName) -> bool
+        ensures { result ≡ tables self.now keyspace.now table.now };
+}
+
+impl Places {
+    /// What is to be written so that these places say what some routes say: each entry that they say otherwise, as the routes say it;
+    /// first those that take a rule or a table away, and each part in the order of what its entries are about. Who has the routes is
+    /// asked for what the places have. It is refused only when out of memory.
+    pub fn differences<S: Standing>(
+        &self,
+        alloc: Global,
+        standing: &S,
+        routes: &[Entry],
+    ) -> Result<Vec<Entry>, AllocError>
+        requires routes { AreRoutes routes.now }
+        requires rules { (key : RuleKey) → S.rules standing.now key ≡ is_some (target_in routes.now key) }
+        requires tables { (keyspace table : List ℕ) → S.tables standing.now keyspace table ≡ is_listed routes.now keyspace table }
+        ensures entries { IfOk result (λ list. (e : Entry) → Contains list.items e ↔ IsDifference self.now routes.now e) }
+        ensures order { IfOk result (λ list. AreInTurn list.items) }
+    {
+        self.facts();
+        let mut list = Vec::new(alloc);
+        self.push_differences(standing, routes, &mut list)?;
+        list.sort_unstable_by_key(|entry| turn_of(entry));
+        Ok(list)
+    }
+
+    /// Adds these entries to a list, in no order. Where no memory is left, it has some of them.
+    fn push_differences<S: Standing>(
+        &self,
+        standing: &S,
+        routes: &[Entry],
+        list: &mut Vec<Entry>,
+    ) -> Result<(), AllocError>
+        ensures { OnOk result (list.new.items ≡ list.old.items ++ differences (S.rules standing.now) (S.tables standing.now) self.now routes.now) }
+    {
+        push_rules_gone(self.rules(), standing, list)?;
+        push_tables_gone(self.keyspaces(), self.tables(), standing, list)?;
+        self.push_unsaid(routes, list)
+    }
+
+    /// Adds the routes that aren't said.
+    fn push_unsaid(&self, routes: &[Entry], list: &mut Vec<Entry>) -> Result<(), AllocError>
+        ensures { OnOk result (list.new.items ≡ list.old.items ++ filter (λ e. not (is_said self.now e)) routes.now) }
+    {
+        for route in routes {
+            if !self.says(route) {
+                push(list, route.copied())?;
+            }
+        }
+        Ok(())
+    }
+}
+
+/// Adds an entry.
+fn push(list: &mut Vec<Entry>, entry: Entry) -> Result<(), AllocError>
+    ensures { OnOk result (list.new.items ≡ list.old.items ++ entry ∷ []) }
+{
+    match list.push(entry) {
+        Ok(()) => Ok(()),
+        Err(_) => Err(AllocError),
+    }
+}
+
+/// Adds the rules that are to be taken away.
+fn push_rules_gone<S: Standing>(
+    rules: &IndexMap<RuleKey, Option<RuleTarget>>,
+    standing: &S,
+    list: &mut Vec<Entry>,
+) -> Result<(), AllocError>
+    ensures { OnOk result (list.new.items ≡ list.old.items ++ flat_map (rule_gone (S.rules standing.now)) rules.now.entries) }
+{
+    for (key, rule) in rules.iter() {
+        if rule.is_some() && !standing.has_rule(key) {
+            push(list, Entry::Rule(key.copied(), None))?;
+        }
+    }
+    Ok(())
+}
+
+/// Adds the tables that are to be taken away.
+fn push_tables_gone<S: Standing>(
+    keyspaces: &[KeyspaceName],
+    tables: &IndexMap<TableName, Numbers>,
+    standing: &S,
+    list: &mut Vec<Entry>,
+) -> Result<(), AllocError>
+    ensures { OnOk result (list.new.items ≡ list.old.items ++ flat_map (tables_gone (S.tables standing.now) keyspaces.now) tables.now.entries) }
+{
+    for (table, numbers) in tables.iter() {
+        push_table_gone(keyspaces, table, numbers.as_slice(), standing, list)?;
+    }
+    Ok(())
+}
+
+/// Adds that a table is to be taken away from each keyspace that hasn't it any more.
+fn push_table_gone<S: Standing>(
+    keyspaces: &[KeyspaceName],
+    table: &TableName,
+    numbers: &[u8],
+    standing: &S,
+    list: &mut Vec<Entry>,
+) -> Result<(), AllocError>
+    ensures { OnOk result (list.new.items ≡ list.old.items ++ flat_map (table_gone (S.tables standing.now) keyspaces.now table.now) numbers.now) }
+{
+    for number in numbers {
+        push_gone(keyspaces, table, *number, standing, list)?;
+    }
+    Ok(())
+}
+
+/// Adds that a table is to be taken away from the keyspace of a number, if that hasn't it any more.
+fn push_gone<S: Standing>(
+    keyspaces: &[KeyspaceName],
+    table: &TableName,
+    number: u8,
+    standing: &S,
+    list: &mut Vec<Entry>,
+) -> Result<(), AllocError>
+    ensures { OnOk result (list.new.items ≡ list.old.items ++ table_gone (S.tables standing.now) keyspaces.now table.now number) }
+{
+    let Some(keyspace) = keyspace_of(keyspaces, number) else {
+        return Ok(());
+    };
+    if standing.has_table(keyspace, table) {
+        return Ok(());
+    }
+    push(
+        list,
+        Entry::Present(keyspace.copied(), table.copied(), false),
+    )
+}
