@@ -1,12 +1,14 @@
 #!/usr/bin/env python3
 """Builds the program of these sources without running the proofs: in minutes, where the proofs take an hour.
 
-    tools/unproved.py [--no-fills] [--no-hints] PROGRAM
+    tools/unproved.py [--tests CRATE] [--no-fills] [--no-hints] PROGRAM
 
 It is the same code as that of a proved build, but nobody has proved it: whoever runs it or measures it says so. `rt try` compiles the program with
 checks of its own, for LLVM; of that module the checks are taken out, and clang and the kit's linker make a program of it, with the flags of the
 kit. The sources' hints on inlining are set as they are in a proved build (`--no-hints` leaves them out). The instructions of the two builds
 differ by less than one in a hundred. `./mt` has `tools/build` call this; `bench/` measures such programs.
+
+`--tests` builds the tests of a crate in place of the program: with the name of a test behind it that runs, by itself.
 
 `--no-fills` also takes out the zeros with which each local that a function begins with is filled, to measure what they cost. A program may
 rest on them, so its outputs have to be compared: `bench/whole.py --beside` does.
@@ -99,10 +101,11 @@ def with_recorder(own, room):
     return made
 
 
-def compiled(top, own, room):
-    """The lines of the module of the program that `rt try` compiles."""
+def compiled(top, own, room, tests=None):
+    """The lines of the module that `rt try` compiles: of the program, or of the tests of a crate."""
     rt = with_recorder(own, room) / "bin/rt"
-    said, _ = called([sys.executable, rt, "try"], room, cwd=top / "crates/mt_program")
+    words = [sys.executable, rt, "try", *["--test"] * bool(tests)]
+    said, _ = called(words, room, cwd=top / "crates" / (tests or "mt_program"))
     if not (room / "module.bc").exists():
         raise CannotBuild(f"`rt try` compiled no program: {said.strip()[-800:]}")
     words = [f"--target={TARGET}", "-S", "-emit-llvm", "-x", "ir", "-Xclang", "-disable-llvm-passes", "-w", room / "module.bc", "-o", room / "module.ll"]
@@ -179,11 +182,11 @@ def linked(own, room, program):
     done("the program isn't linked", [own / "bin/rattle-link", *words, own / "c/libos_c.a", own / "c/liblibc_c.a"], room)
 
 
-def build_in(room, top, program, stage, with_hints=True, with_fills=True):
-    """Builds the program of the sources in a folder, in a room that is empty; each stage is told as it begins."""
+def build_in(room, top, program, stage, tests=None, with_hints=True, with_fills=True):
+    """Builds the program of the sources in a folder, or a crate's tests, in a room that is empty; each stage is told as it begins."""
     own = kit()
     stage("1 of 3: compiling the sources")
-    lines = compiled(top, own, room)
+    lines = compiled(top, own, room, tests)
     stage("2 of 3: taking out the checks of a try")
     lines = stripped(lines, hints(top) if with_hints else {})
     lines = lines if with_fills else without_fills(lines)
@@ -200,11 +203,12 @@ def build(top, program, **which):
 
 def main():
     asked = argparse.ArgumentParser(description=__doc__.split("\n")[0])
+    asked.add_argument("--tests", metavar="CRATE")
     asked.add_argument("--no-fills", action="store_true")
     asked.add_argument("--no-hints", action="store_true")
     asked.add_argument("program")
     given = asked.parse_args()
-    build(TOP, given.program, with_hints=not given.no_hints, with_fills=not given.no_fills)
+    build(TOP, given.program, tests=given.tests, with_hints=not given.no_hints, with_fills=not given.no_fills)
 
 
 if __name__ == "__main__":

@@ -1,6 +1,11 @@
+mod AdmitLemmas
+mod AnswerLemmas
 mod CallLemmas
+mod ChainLemmas
+mod FewLemmas
 mod FrontLemmas
 mod LeadsLemmas
 mod NoticeLemmas
 mod PassLemmas
 mod RoomLemmas
+mod WalkLemmas

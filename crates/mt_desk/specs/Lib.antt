@@ -1,3 +1,4 @@
+pub mod Chains
 pub mod Faults
 pub mod Fronts
 pub mod Histories

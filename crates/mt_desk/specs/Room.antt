@@ -1,5 +1,5 @@
 -- The places that the history keeps free, so that each move can always be given up (this profile's own).
-use Rattle.std.specs.Prelude.{ℕ, ◌+◌, ◌≤◌, Bool, false, not, ◌==◌, ◌&&◌, ◌||◌, is_some}
+use Rattle.std.specs.Prelude.{ℕ, ◌+◌, ◌≤◌, Bool, true, false, not, ◌==◌, ◌&&◌, ◌||◌, is_some}
 use Rattle.std.specs.Option.{option_map_or}
 use Rattle.mt_plain.specs.Events.{Event, cancel, undo, Way}
 use Rattle.mt_plain.specs.Plain.{stands_done, write_journal}
@@ -25,3 +25,9 @@ gives_up s other = false
 -- beside the lines there is a place for each event that is owed
 abbrev pub HasRoom : (lines : ℕ) → (now : SiteState) → (places : ℕ) → Type 0
 HasRoom lines now places = lines + owed_to now.core.workflows ≤ places
+
+-- an undo or a Cancel, whose answer always stands in place
+abbrev pub is_undo_or_cancel : Event → Bool
+is_undo_or_cancel (undo workflow at) = true
+is_undo_or_cancel (cancel workflow) = true
+is_undo_or_cancel other = false

@@ -1,10 +1,14 @@
 //! What the clients of a desk asked for in all.
-ghost use Rattle.std.specs.Prelude.{◌≡◌, false, true, All, IfOk, IfSome, IsPermutation, None, length, map};
+ghost use Rattle.std.specs.Prelude.{◌≡◌, false, true, All, Contains, IfOk, IfSome, IsPermutation, None, Ok, length, map, nat_eq};
 ghost use Rattle.std.specs.List.Sorted.{IsNonDecreasingBy};
-ghost use Rattle.mt_desk.specs.Passes.{Differs, HasPass, IsOf, IsOfPass, IsStranger, ListsCalls, ListsOthers, has_pass};
+ghost use Rattle.indexmap.specs.IndexSet.{contains};
+ghost use Rattle.mt_desk.specs.Chains.{AreChains};
+ghost use Rattle.mt_desk.specs.declared.history.Line.{Line};
+ghost use Rattle.mt_desk.specs.Passes.{AreClients, Differs, IsOf, ListsCalls, ListsOthers};
 
-use crate::history::has_calls;
+use crate::chains::{Chains, chained, has_calls};
 use crate::{DeskName, Line, Pass};
+use indexmap::IndexSet;
 use std::alloc::{AllocError, Global};
 
 /// What the clients of a desk asked for in all.
@@ -14,25 +18,30 @@ pub struct Account {
     pub calls: Vec<(u16, u64)>,
 }
 
-/// Whether one of the passes is that of a client.
-fn is_there<D: DeskName>(passes: &[Pass<D>], client: u16) -> bool
-    ensures { result ≡ has_pass (map (λ pass. (pass.client, pass.calls.items)) passes.now) client }
+/// The clients of some passes.
+pub(crate) fn clients_of<D: DeskName>(
+    alloc: Global,
+    passes: &[Pass<D>],
+) -> Result<IndexSet<u16>, AllocError>
+    ensures { IfOk result (AreClients (map (λ pass. (pass.client, pass.calls.items)) passes.now)) }
 {
+    let mut clients = IndexSet::new(alloc);
     for pass in passes {
-        if pass.client() == client {
-            return true;
+        match clients.insert(pass.client()) {
+            Ok(_) => {}
+            Err(_) => return Err(AllocError),
         }
     }
-    false
+    Ok(clients)
 }
 
-/// Whether each of the clients has one of the passes.
-pub(crate) fn are_there<D: DeskName>(passes: &[Pass<D>], clients: &[u16]) -> bool
-    ensures all { result ≡ true → All (HasPass (map (λ pass. (pass.client, pass.calls.items)) passes.now)) clients.now }
-    ensures missing { result ≡ false → ¬ All (HasPass (map (λ pass. (pass.client, pass.calls.items)) passes.now)) clients.now }
+/// Whether each of some clients is in a set.
+pub(crate) fn are_there(set: &IndexSet<u16>, clients: &[u16]) -> bool
+    ensures all { result ≡ true → All (λ client. contains nat_eq set.now client ≡ true) clients.now }
+    ensures missing { result ≡ false → ¬ All (λ client. contains nat_eq set.now client ≡ true) clients.now }
 {
     for client in clients {
-        if !is_there(passes, *client) {
+        if !set.contains(client) {
             return false;
         }
     }
@@ -40,40 +49,53 @@ pub(crate) fn are_there<D: DeskName>(passes: &[Pass<D>], clients: &[u16]) -> boo
 }
 
 /// The client of the first pass whose calls aren't those of the history, if there is one.
-fn first_that_differs<D: DeskName>(passes: &[Pass<D>], history: &[Line]) -> Option<u16>
+fn first_that_differs<D: DeskName>(
+    passes: &[Pass<D>],
+    history: &[Line],
+    chains: &Chains,
+) -> Option<u16>
+    requires { AreChains history.now chains.now }
     ensures all { result ≡ None → All (ListsCalls history.now) (map (λ pass. (pass.client, pass.calls.items)) passes.now) }
     ensures differs { IfSome result (λ client. ListsOthers (map (λ pass. (pass.client, pass.calls.items)) passes.now) history.now client) }
 {
     for pass in passes {
         let client = pass.client();
-        if !has_calls(history, client, pass.calls()) {
+        if !has_calls(history, chains, client, pass.calls()) {
             return Some(client);
         }
     }
     None
 }
 
-/// The client of the first line of the history that is of none of the passes, if there is one.
-fn first_stranger<D: DeskName>(passes: &[Pass<D>], history: &[Line]) -> Option<u16>
-    ensures all { result ≡ None → All (IsOfPass (map (λ pass. (pass.client, pass.calls.items)) passes.now)) history.now }
-    ensures stranger { IfSome result (λ client. IsStranger (map (λ pass. (pass.client, pass.calls.items)) passes.now) history.now client) }
+/// The client of the first line of the history whose client isn't in a set, if there is one.
+fn first_stranger(set: &IndexSet<u16>, history: &[Line]) -> Option<u16>
+    ensures all { result ≡ None → All (λ l. contains nat_eq set.now l.client ≡ true) history.now }
+    ensures stranger { IfSome result (λ client. (l : Line) × Contains history.now l × (l.client ≡ client) × (contains nat_eq set.now client ≡ false)) }
 {
     for line in history {
-        if !is_there(passes, line.client) {
+        if !set.contains(&line.client) {
             return Some(line.client);
         }
     }
     None
 }
 
-/// A client whose calls in the history aren't those that its pass lists, if there is one.
-pub(crate) fn first_cause<D: DeskName>(passes: &[Pass<D>], history: &[Line]) -> Option<u16>
-    ensures none { result ≡ None → IsOf (map (λ pass. (pass.client, pass.calls.items)) passes.now) history.now }
-    ensures differs { IfSome result (λ client. Differs (map (λ pass. (pass.client, pass.calls.items)) passes.now) history.now client) }
+/// A client whose calls in the history aren't those that its pass lists, if there is one. All calls are read once. It is refused only when
+/// out of memory.
+pub(crate) fn first_cause<D: DeskName>(
+    alloc: Global,
+    passes: &[Pass<D>],
+    clients: &IndexSet<u16>,
+    history: &[Line],
+) -> Result<Option<u16>, AllocError>
+    requires { AreClients (map (λ pass. (pass.client, pass.calls.items)) passes.now) clients.now }
+    ensures none { result ≡ Ok None → IsOf (map (λ pass. (pass.client, pass.calls.items)) passes.now) history.now }
+    ensures differs { IfOk result (λ found. IfSome found (λ client. Differs (map (λ pass. (pass.client, pass.calls.items)) passes.now) history.now client)) }
 {
-    match first_that_differs(passes, history) {
-        None => first_stranger(passes, history),
-        found => found,
+    let chains = chained(alloc, history)?;
+    match first_that_differs(passes, history, &chains) {
+        None => Ok(first_stranger(clients, history)),
+        found => Ok(found),
     }
 }
 

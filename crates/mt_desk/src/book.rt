@@ -1,8 +1,9 @@
 //! The controller with the history of all that was asked of it.
-ghost use Rattle.std.specs.Prelude.{◌≡◌, ◌+◌, ◌≤◌, ◌++◌, List, [], ◌∷◌, IfErr, IfOk, IfSome, MatchBool, OnErr, OnOk, Ok, length, map};
+ghost use Rattle.std.specs.Prelude.{◌≡◌, ◌+◌, ◌≤◌, ◌++◌, List, [], ◌∷◌, IfErr, IfNone, IfOk, IfSome, MatchBool, OnErr, OnOk, Ok, length, map, option_map, true, false};
 ghost use Rattle.std.specs.Vec.{vec_capacity, vec_len};
 ghost use Rattle.mt_event.specs.declared.reply.Reply.TheVariants.{Done};
 ghost use Rattle.mt_event.specs.Events.{answer_from, event_of};
+ghost use Rattle.mt_kept.specs.Answers.{needs_room};
 ghost use Rattle.mt_plain.specs.Events as plain;
 ghost use Rattle.mt_plain.specs.Plain.{Plain};
 ghost use Rattle.mt_laws.specs.Headline.{Headline};
@@ -21,15 +22,17 @@ ghost use Rattle.mt_watch.specs.Asking.{IsTold};
 ghost use Rattle.mt_desk.specs.Fronts.{AreFronts, AsksNone, Changes, LeavesPending, Published, Tells};
 ghost use Rattle.mt_desk.specs.Histories.{Leads, answered, asked, line};
 ghost use Rattle.mt_desk.specs.Passes.{Admits, Compares, HaveOneHistory, IsCaused};
-ghost use Rattle.mt_desk.specs.Room.{HasRoom};
+ghost use Rattle.mt_desk.specs.Room.{HasRoom, is_undo_or_cancel};
 
-use crate::account::{are_there, first_cause};
-use crate::history::{Answer, Line, copied_answer};
+use crate::account::{are_there, clients_of, first_cause};
+use crate::history::Line;
 use crate::listed::listed;
 use crate::room::{make_room, new_history};
 use crate::tell::noticed;
-use crate::{DeskFault, DeskName, Pass};
+use crate::{Answer, DeskFault, DeskName, Pass};
+use indexmap::IndexSet;
 use mt_event::Event;
+use mt_kept::{KeptEvent, Room};
 use mt_laws::{each_event_owes_one_at_most, every_run_keeps_the_headline};
 use mt_model::Entry;
 use mt_routes::{
@@ -50,7 +53,8 @@ use std::sync::{Wait, ledger};
 pub struct Book<D: DeskName> {
     core: Core,
     history: Vec<Line>,
-    clients: Vec<u16>,
+    answers: Room,
+    clients: IndexSet<u16>,
     ledger: ledger::Book<D>,
     head: Head<D>,
     told: Told<D>,
@@ -74,7 +78,7 @@ impl<D: DeskName> Book<D> {
         requires stood { IsSiteWith D.scopes core }
         ensures core { IfOk result (λ r. r.0.core ≡ core) }
         ensures history { IfOk result (λ r. r.0.history.items ≡ []) }
-        ensures clients { IfOk result (λ r. r.0.clients.items ≡ []) }
+        ensures clients { IfOk result (λ r. r.0.clients.keys ≡ []) }
         ensures told { IfOk result (λ r. r.0.told ≡ publication 0 (routes_of core.core.topology) ∷ []) }
         ensures routes { IfOk result (λ r. r.1.items ≡ routes_of core.core.topology) }
         ensures are { IfOk result (λ r. AreRoutes r.1.items) }
@@ -85,7 +89,7 @@ impl<D: DeskName> Book<D> {
             return Err(DeskFault::Memory);
         };
         let (ledger, _) = blank.open::<D>();
-        let clients = Vec::new(alloc);
+        let clients = IndexSet::new(alloc);
         Ok((
             Book::begun(core, history, clients, ledger, head, told),
             entries,
@@ -124,7 +128,7 @@ impl<D: DeskName> Book<D> {
     fn begun(
         core: Core,
         history: Vec<Line>,
-        clients: Vec<u16>,
+        clients: IndexSet<u16>,
         ledger: ledger::Book<D>,
         head: Head<D>,
         told: Told<D>,
@@ -140,9 +144,11 @@ impl<D: DeskName> Book<D> {
         ensures told { result.told ≡ told }
     {
         routes_of_what_is_served_are_a_view();
+        let answers = Room::new(*history.allocator());
         Book {
             core,
             history,
+            answers,
             clients,
             ledger,
             head,
@@ -228,9 +234,9 @@ impl<D: DeskName> Book<D> {
         Ok(self.told())
     }
 
-    /// Applies an event, as `Core::apply` tells, and adds its line to the history. `K0 Memory` where the history found no place
-    /// for the line and for the events that are owed: then no event was taken. Nothing is published. An undo with the right number before the journal, and a
-    /// Cancel where nothing is switched and no way is open, take no memory and are done.
+    /// Applies an event, as `Core::apply` tells, and adds its line to the history. `K0 Memory` where there was none for what is kept of the event and of
+    /// its answer, or no place for the line and for the events that are owed: then no event was taken. Nothing is published. An undo with the right
+    /// number before the journal, and a Cancel where nothing is switched and no way is open, take no memory and are done.
     pub fn take<W: Asks>(
         &mut self,
         watchers: &W,
@@ -242,60 +248,97 @@ impl<D: DeskName> Book<D> {
         ensures applies { IfOk result (λ r. AppliesAndPurges (W.scopes watchers.now) (W.may_answer watchers.now) self.old.core (event_of event) (answer_from r) self.new.core) }
         ensures steps { IfOk result (λ r. SiteSteps (W.scopes watchers.now) self.old.core (event_of event) (answer_from r) self.new.core) }
         ensures none { OnErr result ((self.new.history.items ≡ self.old.history.items) × (self.new.core ≡ self.old.core)) }
-        ensures clients { self.new.clients.items ≡ self.old.clients.items }
+        ensures clients { self.new.clients.keys ≡ self.old.clients.keys }
         ensures told { self.new.told ≡ self.old.told }
         ensures memory { IfErr result (λ fault. fault ≡ DeskFault.Memory) }
         ensures given_up { CanBeGivenUp self.old.core (event_of event) → result ≡ Ok (Ok Done) }
         ensures places { CanBeGivenUp self.old.core (event_of event) → vec_capacity self.new.history ≡ vec_capacity self.old.history }
     {
+        let alloc = *self.history.allocator();
+        match KeptEvent::new(alloc, &event) {
+            Ok(kept) => self.take_kept(watchers, client, &event, kept),
+            Err(_) => Err(DeskFault::Memory),
+        }
+    }
+
+    /// The same, with what is to be kept of the event, for which no memory is taken.
+    pub(crate) fn take_kept<W: Asks>(
+        &mut self,
+        watchers: &W,
+        client: u16,
+        event: &Event,
+        kept: KeptEvent,
+    ) -> Result<Answer, DeskFault>
+        requires scopes { W.scopes watchers.now ≡ D.scopes }
+        requires kept { kept ≡ event.now }
+        ensures line { IfOk result (λ r. self.new.history.items ≡ self.old.history.items ++ line client event.now r ∷ []) }
+        ensures applies { IfOk result (λ r. AppliesAndPurges (W.scopes watchers.now) (W.may_answer watchers.now) self.old.core (event_of event.now) (answer_from r) self.new.core) }
+        ensures steps { IfOk result (λ r. SiteSteps (W.scopes watchers.now) self.old.core (event_of event.now) (answer_from r) self.new.core) }
+        ensures none { OnErr result ((self.new.history.items ≡ self.old.history.items) × (self.new.core ≡ self.old.core)) }
+        ensures clients { self.new.clients.keys ≡ self.old.clients.keys }
+        ensures told { self.new.told ≡ self.old.told }
+        ensures memory { IfErr result (λ fault. fault ≡ DeskFault.Memory) }
+        ensures given_up { CanBeGivenUp self.old.core (event_of event.now) → result ≡ Ok (Ok Done) }
+        ensures places { CanBeGivenUp self.old.core (event_of event.now) → vec_capacity self.new.history ≡ vec_capacity self.old.history }
+        ensures in_place { is_undo_or_cancel (event_of event.now) ≡ true → IfOk result (λ answer. needs_room answer ≡ false) }
+    {
         each_event_owes_one_at_most();
         a_core_owes_what_its_state_owes();
-        let Book { core, history, .. } = self;
-        if !make_room(history, core, &event) {
+        let Book {
+            core,
+            history,
+            answers,
+            ..
+        } = self;
+        if !make_room(history, answers, core, event) {
             return Err(DeskFault::Memory);
         }
-        let answer = core.apply(watchers, &event);
-        let told = copied_answer(&answer);
+        let answer = core.apply(watchers, event);
+        let told = answers.keep(&answer);
         history.push_reserved(Line {
             client,
-            event,
-            answer,
+            event: kept,
+            answer: told,
         });
-        Ok(told)
+        Ok(answer)
     }
 
     /// Lists a client among those to whom a pass was given: `K6 ClientTaken` exactly where it is there, and `K0 Memory`, which leave
     /// all as it was. No event is taken, and nothing is published.
     pub(crate) fn admit(&mut self, client: u16) -> Result<(), DeskFault>
-        ensures admits { Admits self.old.clients.items client result self.new.clients.items }
+        ensures admits { Admits self.old.clients.keys client result self.new.clients.keys }
         ensures history { self.new.history.items ≡ self.old.history.items }
         ensures core { self.new.core ≡ self.old.core }
         ensures told { self.new.told ≡ self.old.told }
     {
         let Book { clients, .. } = self;
-        if clients.contains(&client) {
-            return Err(DeskFault::ClientTaken);
+        match clients.insert(client) {
+            Ok(true) => Ok(()),
+            Ok(false) => Err(DeskFault::ClientTaken),
+            Err(_) => Err(DeskFault::Memory),
         }
-        if clients.reserve(1).is_err() {
-            return Err(DeskFault::Memory);
-        }
-        clients.push_reserved(client);
-        Ok(())
     }
 
     /// Compares what some passes list with the history: `K7 PassMissing` exactly where a client to whom a pass was given has none of
-    /// them, and else `K1 HistoryDiffers` with a client whose calls differ. It takes no memory.
-    pub(crate) fn compare(&self, passes: &[Pass<D>]) -> Result<(), DeskFault>
-        ensures compares { Compares self.now.clients.items (map (λ pass. (pass.client, pass.calls.items)) passes.now) self.now.history.items result }
+    /// them, and else `K1 HistoryDiffers` with a client whose calls differ; `K0 Memory`. The history and what the passes list are read once.
+    pub(crate) fn compare(&self, alloc: Global, passes: &[Pass<D>]) -> Result<(), DeskFault>
+        ensures compares { Compares self.now.clients.keys (map (λ pass. (pass.client, pass.calls.items)) passes.now) self.now.history.items result }
         ensures one { OnOk result (HaveOneHistory D.scopes D.opening (map (λ pass. (pass.client, pass.calls.items)) passes.now)) }
         ensures caused { IfErr result (λ fault. IsCaused D.scopes D.opening (map (λ pass. (pass.client, pass.calls.items)) passes.now) fault) }
     {
-        if !are_there(passes, self.clients.as_slice()) {
+        if passes.len() < self.clients.len() {
             return Err(DeskFault::PassMissing);
         }
-        match first_cause(passes, self.history.as_slice()) {
-            Some(client) => Err(DeskFault::HistoryDiffers(client)),
-            None => Ok(()),
+        let Ok(listed) = clients_of(alloc, passes) else {
+            return Err(DeskFault::Memory);
+        };
+        if !are_there(&listed, self.clients.as_slice()) {
+            return Err(DeskFault::PassMissing);
+        }
+        match first_cause(alloc, passes, &listed, self.history.as_slice()) {
+            Ok(Some(client)) => Err(DeskFault::HistoryDiffers(client)),
+            Ok(None) => Ok(()),
+            Err(_) => Err(DeskFault::Memory),
         }
     }
 

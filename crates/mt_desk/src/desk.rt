@@ -9,10 +9,10 @@ ghost use Rattle.mt_desk.specs.Passes.{HaveOneHistory, IsCaused};
 ghost use Rattle.mt_site.specs.Stood.{IsSiteWith};
 
 use crate::account::counted_by_client;
-use crate::history::copied_answer;
 use crate::locked::Locked;
-use crate::{Account, Answer, Book, Call, DeskFault, DeskName, Pass};
+use crate::{Account, Answer, Book, DeskFault, DeskName, Pass};
 use mt_event::Event;
+use mt_kept::KeptEvent;
 use mt_routes::{Ends, Opened, Router, Told};
 use mt_site::Site;
 use mt_watch::Asks;
@@ -77,23 +77,25 @@ impl<D: DeskName, W: Asks + Drop, R: Wait + Drop> Desk<D, W, R> {
     }
 
     /// Asks for an event, and adds it with its answer to what the pass lists: `K0 Memory`, where the pass or the history found no
-    /// place for it; then no event was taken. It is one period under the lock, and one event.
+    /// place for it; then no event was taken. It is one period under the lock, and one event. What is kept of the event is copied before.
     pub fn ask(&self, rt: &impl Wait, pass: &mut Pass<D>, event: Event) -> Result<Answer, DeskFault>
         ensures client { pass.new.client ≡ pass.old.client }
         ensures adds { IfOk result (λ r. pass.new.calls.items ≡ pass.old.calls.items ++ call event r ∷ []) }
         ensures none { OnErr result (pass.new.calls.items ≡ pass.old.calls.items) }
         ensures memory { IfErr result (λ fault. fault ≡ DeskFault.Memory) }
     {
-        pass.reserve(1)?;
-        let mine = event.copied();
-        let answer = match self.locked.lock(rt).take(pass.client(), event) {
+        pass.make_place(&event)?;
+        let Ok(call) = KeptEvent::new(self.alloc, &event) else {
+            return Err(DeskFault::Memory);
+        };
+        let Ok(line) = KeptEvent::new(self.alloc, &event) else {
+            return Err(DeskFault::Memory);
+        };
+        let answer = match self.locked.lock(rt).take(pass.client(), &event, line) {
             Ok(answer) => answer,
             Err(fault) => return Err(fault),
         };
-        pass.add(Call {
-            event: mine,
-            answer: copied_answer(&answer),
-        });
+        pass.add(call, &answer);
         Ok(answer)
     }
 
@@ -135,7 +137,7 @@ impl<D: DeskName, W: Asks + Drop, R: Wait + Drop> Desk<D, W, R> {
         ensures caused { IfErr result (λ refused. IsCaused D.scopes D.opening (map (λ pass. (pass.client, pass.calls.items)) passes.items) refused.0) }
         ensures back { IfErr result (λ refused. refused.1 ≡ passes) }
     {
-        if let Err(fault) = self.locked.lock(rt).compare(passes.as_slice()) {
+        if let Err(fault) = self.locked.lock(rt).compare(self.alloc, passes.as_slice()) {
             return Err((fault, passes));
         }
         match counted_by_client(self.alloc, passes.as_slice()) {

@@ -3,6 +3,7 @@
 
 mod account;
 mod book;
+mod chains;
 mod desk;
 mod fault;
 mod history;
@@ -17,7 +18,8 @@ pub use account::Account;
 pub use book::Book;
 pub use desk::Desk;
 pub use fault::DeskFault;
-pub use history::{Answer, Call, Line};
+pub use history::{Call, Line};
+pub use mt_kept::Answer;
 pub use mt_routes::{Front, Router, Told};
 pub use name::DeskName;
 pub use pass::Pass;

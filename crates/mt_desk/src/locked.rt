@@ -1,12 +1,16 @@
 //! What lies under the lock.
-ghost use Rattle.std.specs.Prelude.{◌≡◌, ◌⊎◌, true, IfErr, IfOk, OnOk, map};
+ghost use Rattle.std.specs.Prelude.{◌≡◌, ◌⊎◌, false, true, IfErr, IfOk, OnOk, map};
+ghost use Rattle.mt_event.specs.Events.{event_of};
+ghost use Rattle.mt_kept.specs.Answers.{needs_room};
 ghost use Rattle.mt_model.specs.declared.entries.Scope.TheVariants.{Routes};
 ghost use Rattle.mt_watch.specs.Scopes.{has_scope};
 ghost use Rattle.mt_desk.specs.Fronts.{Published, Tells, TellsNone};
 ghost use Rattle.mt_desk.specs.Passes.{HaveOneHistory, IsCaused};
+ghost use Rattle.mt_desk.specs.Room.{is_undo_or_cancel};
 
 use crate::{Answer, Book, DeskFault, DeskName, Pass};
 use mt_event::Event;
+use mt_kept::KeptEvent;
 use mt_routes::{Ends, Router, Told};
 use mt_watch::Asks;
 use std::alloc::Global;
@@ -22,12 +26,19 @@ pub(crate) struct Locked<D: DeskName, W: Asks + Drop, R: Wait + Drop> {
 }
 
 impl<D: DeskName, W: Asks + Drop, R: Wait + Drop> Locked<D, W, R> {
-    /// See `Book::take`.
-    pub(crate) fn take(&mut self, client: u16, event: Event) -> Result<Answer, DeskFault>
+    /// See `Book::take_kept`.
+    pub(crate) fn take(
+        &mut self,
+        client: u16,
+        event: &Event,
+        kept: KeptEvent,
+    ) -> Result<Answer, DeskFault>
+        requires { kept ≡ event.now }
         ensures memory { IfErr result (λ fault. fault ≡ DeskFault.Memory) }
+        ensures in_place { is_undo_or_cancel (event_of event.now) ≡ true → IfOk result (λ answer. needs_room answer ≡ false) }
     {
         let Locked { book, watchers, .. } = self;
-        book.take(watchers, client, event)
+        book.take_kept(watchers, client, event, kept)
     }
 
     /// See `Book::admit`.
@@ -39,11 +50,11 @@ impl<D: DeskName, W: Asks + Drop, R: Wait + Drop> Locked<D, W, R> {
     }
 
     /// See `Book::compare`.
-    pub(crate) fn compare(&self, passes: &[Pass<D>]) -> Result<(), DeskFault>
+    pub(crate) fn compare(&self, alloc: Global, passes: &[Pass<D>]) -> Result<(), DeskFault>
         ensures one { OnOk result (HaveOneHistory D.scopes D.opening (map (λ pass. (pass.client, pass.calls.items)) passes.now)) }
         ensures caused { IfErr result (λ fault. IsCaused D.scopes D.opening (map (λ pass. (pass.client, pass.calls.items)) passes.now) fault) }
     {
-        self.book.compare(passes)
+        self.book.compare(alloc, passes)
     }
 
     /// See `Book::tell`.

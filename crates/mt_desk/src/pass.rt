@@ -1,8 +1,16 @@
 //! What a client asks with.
-ghost use Rattle.std.specs.Prelude.{◌≡◌, ◌+◌, ◌<◌, ◌≤◌, ◌++◌, [], ◌∷◌, IfErr, OnOk, length};
+ghost use Rattle.std.specs.Prelude.{◌≡◌, ◌+◌, ◌<◌, ◌≤◌, ◌++◌, [], ◌∷◌, false, true, IfErr, OnOk, length};
 ghost use Rattle.std.specs.Vec.{vec_capacity};
+ghost use Rattle.mt_event.specs.Events.{event_of};
+ghost use Rattle.mt_kept.specs.Answers.{needs_room};
+ghost use Rattle.mt_kept.specs.Rooms.{IsReady};
+ghost use Rattle.mt_desk.specs.Histories.{call};
+ghost use Rattle.mt_desk.specs.Room.{is_undo_or_cancel};
 
-use crate::{Call, DeskFault, DeskName};
+use crate::room::is_undo_or_cancel;
+use crate::{Answer, Call, DeskFault, DeskName};
+use mt_event::Event;
+use mt_kept::{KeptEvent, Room};
 use std::alloc::Global;
 use std::marker::PhantomData;
 
@@ -11,6 +19,7 @@ use std::marker::PhantomData;
 pub struct Pass<D: DeskName> {
     client: u16,
     calls: Vec<Call>,
+    room: Room,
     of: PhantomData<D>,
 }
 
@@ -23,6 +32,7 @@ impl<D: DeskName> Pass<D> {
         Pass {
             client,
             calls: Vec::new(alloc),
+            room: Room::new(alloc),
             of: PhantomData,
         }
     }
@@ -41,27 +51,52 @@ impl<D: DeskName> Pass<D> {
         self.calls.as_slice()
     }
 
-    /// Makes room for so many calls more, so that the next ones that many take no memory from the pass: `K0 Memory`, which leaves
-    /// what it lists.
+    /// Makes places for so many calls more, and room for a long answer: `K0 Memory`, which leaves what it lists. Of the next calls, that many, an
+    /// undo or a Cancel then takes no memory from the pass, and none that names nothing long does up to one whose answer is long.
     pub fn reserve(&mut self, more: usize) -> Result<(), DeskFault>
         ensures client { self.new.client ≡ self.old.client }
         ensures calls { self.new.calls.items ≡ self.old.calls.items }
         ensures room { OnOk result (length self.old.calls.items + more ≤ vec_capacity self.new.calls) }
         ensures memory { IfErr result (λ fault. fault ≡ DeskFault.Memory) }
     {
-        match self.calls.reserve(more) {
+        if self.calls.reserve(more).is_err() {
+            return Err(DeskFault::Memory);
+        }
+        match self.room.make() {
             Ok(()) => Ok(()),
             Err(_) => Err(DeskFault::Memory),
         }
     }
 
-    /// Lists one call more, for which there is room. It takes no memory.
-    pub(crate) fn add(&mut self, call: Call)
-        requires { length self.old.calls.items < vec_capacity self.old.calls }
+    /// Makes a place for a call of an event, and room for its answer if that may need some: `K0 Memory`, which leaves what it lists.
+    pub(crate) fn make_place(&mut self, event: &Event) -> Result<(), DeskFault>
         ensures client { self.new.client ≡ self.old.client }
-        ensures calls { self.new.calls.items ≡ self.old.calls.items ++ call ∷ [] }
-        ensures room { vec_capacity self.new.calls ≡ vec_capacity self.old.calls }
+        ensures calls { self.new.calls.items ≡ self.old.calls.items }
+        ensures place { OnOk result (length self.old.calls.items < vec_capacity self.new.calls) }
+        ensures room { OnOk result (is_undo_or_cancel (event_of event.now) ≡ false → IsReady self.new.room) }
+        ensures memory { IfErr result (λ fault. fault ≡ DeskFault.Memory) }
     {
-        self.calls.push_reserved(call);
+        if self.calls.reserve(1).is_err() {
+            return Err(DeskFault::Memory);
+        }
+        if is_undo_or_cancel(event) {
+            return Ok(());
+        }
+        match self.room.make() {
+            Ok(()) => Ok(()),
+            Err(_) => Err(DeskFault::Memory),
+        }
+    }
+
+    /// Lists one call more, for which there is a place, and room for its answer. It takes no memory.
+    pub(crate) fn add(&mut self, event: KeptEvent, answer: &Answer)
+        requires place { length self.old.calls.items < vec_capacity self.old.calls }
+        requires room { needs_room answer.now ≡ true → IsReady self.old.room }
+        ensures client { self.new.client ≡ self.old.client }
+        ensures calls { self.new.calls.items ≡ self.old.calls.items ++ call event answer.now ∷ [] }
+        ensures places { vec_capacity self.new.calls ≡ vec_capacity self.old.calls }
+    {
+        let answer = self.room.keep(answer);
+        self.calls.push_reserved(Call { event, answer });
     }
 }

@@ -118,7 +118,10 @@ fn is_kept_apart<D: DeskName, W: Asks + Drop, R: Wait + Drop>(
     router: &mut Router<D>,
     others: usize,
 ) -> bool {
-    are_done(rt, desk, pass, &OTHERS[..others])
+    let Some(first) = OTHERS.get(0..others) else {
+        return false;
+    };
+    are_done(rt, desk, pass, first)
         && are_done(rt, desk, pass, &TWO)
         && is_told_or_refused(rt, desk, router)
         && is_one_told(rt, desk, pass, router)

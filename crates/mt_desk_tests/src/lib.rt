@@ -34,6 +34,8 @@ mod routes;
 #[cfg(test)]
 mod runs;
 #[cfg(test)]
+mod speed;
+#[cfg(test)]
 mod texts;
 #[cfg(test)]
 mod threads;

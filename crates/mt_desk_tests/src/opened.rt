@@ -9,6 +9,7 @@ use crate::desk_memory::is_moved;
 use crate::life::Move;
 use crate::no_memory::is_given_up;
 use crate::reading::all_go_on;
+use crate::speed::{Load, is_borne};
 use crate::texts::event_of;
 use crate::threads::two_ask;
 use crate::told_memory::is_told_all;
@@ -52,6 +53,8 @@ pub enum Trial<'a> {
     OneFailsTelling,
     /// Two rules that are told behind so many others, where one allocation may fail.
     OneFailsBetween(usize),
+    /// Many calls and tellings.
+    Load(Load),
 }
 
 /// A watcher of a scope, which may refuse whatever it is asked.
@@ -173,6 +176,8 @@ fn goes<D: DeskName + Send + Sync, W: Asks + Drop + Send, R: Threads + Wait + Sy
         Trial::AllFail => is_given_up(rt, desk),
         Trial::OneFailsTelling => is_told_all(rt, desk),
         Trial::OneFailsBetween(others) => is_cut_short_well(rt, desk, others),
+        Trial::Load(load) if is_borne(rt, alloc, desk, load) => Played::AllSo,
+        Trial::Load(_) => Played::Wrong(0),
     }
 }
 

@@ -5,7 +5,7 @@ use crate::opened::{Trial, Watch, tried};
 use mt_desk::{Desk, DeskName, Pass};
 use mt_event::Event;
 use mt_model::Op;
-use mt_names::{KeyspaceName, TableName, Value};
+use mt_names::{RuleTarget, TabletType, Value};
 use mt_watch::Asks;
 use std::alloc::Global;
 use std::sync::Wait;
@@ -15,27 +15,41 @@ use std::thread::{Threads, join};
 /// One keyspace with one table.
 static TABLE: [&str; 2] = ["keyspace commerce", "table commerce corder"];
 
-/// The insert of a row of a key.
-fn insert_of(key: u64) -> Option<Event> {
+/// The call of a number that a client makes at a table: it inserts a row, or else reads the one before.
+fn call_of(at: &RuleTarget, client: u16, number: u64) -> Option<Event> {
+    let RuleTarget { keyspace, table } = at.copied();
+    let key = (u64::from(client) << 32).saturating_add(number / 2);
+    if number % 2 == 1 {
+        let type_of = TabletType::Primary;
+        return Some(Event::Read {
+            keyspace,
+            table,
+            key,
+            type_of,
+        });
+    }
     let mut value = Value::new();
-    value.try_extend_from_slice(b"a").ok()?;
+    value.try_extend_from_slice(b"abcdefghijklmnop").ok()?;
+    let op = Op::Insert(key, value);
     Some(Event::Write {
-        keyspace: KeyspaceName::parse("commerce").ok()?,
-        table: TableName::parse("corder").ok()?,
-        op: Op::Insert(key, value),
+        keyspace,
+        table,
+        op,
     })
 }
 
-/// Whether a client inserts so many rows of its own.
-fn are_inserted<D: DeskName, W: Asks + Drop, R: Wait + Drop>(
+/// Whether a client's calls are taken, so many.
+fn are_taken<D: DeskName, W: Asks + Drop, R: Wait + Drop>(
     rt: &impl Wait,
     desk: &Desk<D, W, R>,
     pass: &mut Pass<D>,
     count: u64,
 ) -> bool {
-    let first = u64::from(pass.client()) << 32;
+    let Ok(at) = RuleTarget::parse("commerce.corder") else {
+        return false;
+    };
     for number in 0..count {
-        let Some(event) = insert_of(first.wrapping_add(number)) else {
+        let Some(event) = call_of(&at, pass.client(), number) else {
             return false;
         };
         if !matches!(desk.ask(rt, pass, event), Ok(Ok(_))) {
@@ -45,8 +59,8 @@ fn are_inserted<D: DeskName, W: Asks + Drop, R: Wait + Drop>(
     true
 }
 
-/// A new client inserts rows of its own, so many. Answers its pass, and whether all were done, if it got one.
-fn inserts<D: DeskName, W: Asks + Drop, R: Wait + Drop>(
+/// A new client inserts rows of its own and reads each, by so many calls. Answers its pass, and whether all were taken, if it got one.
+pub fn calls<D: DeskName, W: Asks + Drop, R: Wait + Drop>(
     rt: &impl Wait,
     desk: &Desk<D, W, R>,
     client: u16,
@@ -55,11 +69,11 @@ fn inserts<D: DeskName, W: Asks + Drop, R: Wait + Drop>(
     let Ok(mut pass) = desk.pass(rt, client) else {
         return None;
     };
-    let is_so = are_inserted(rt, desk, &mut pass, count);
+    let is_so = are_taken(rt, desk, &mut pass, count);
     Some((pass, is_so))
 }
 
-/// A third client reads the last row of each of two, which inserted so many. Answers its pass, and whether both are there, if it got one.
+/// A third client reads the last row of each of two. Answers its pass, and whether both are there, if it got one.
 fn reads<D: DeskName, W: Asks + Drop, R: Wait + Drop>(
     rt: &impl Wait,
     desk: &Desk<D, W, R>,
@@ -71,14 +85,14 @@ fn reads<D: DeskName, W: Asks + Drop, R: Wait + Drop>(
         rt,
         desk,
         &mut pass,
-        "at commerce.corder get 4294968295",
-        "row a",
+        "at commerce.corder get 4294967795",
+        "row abcdefghijklmnop",
     ) && asks(
         rt,
         desk,
         &mut pass,
-        "at commerce.corder get 8589935591",
-        "row a",
+        "at commerce.corder get 8589935091",
+        "row abcdefghijklmnop",
     );
     Some((pass, is_so))
 }
@@ -97,7 +111,7 @@ fn are_gathered<D: DeskName, W: Asks + Drop, R: Wait + Drop>(
     }
 }
 
-/// Two clients insert on two threads, each so many rows; then a third reads the last row of each, and all passes are gathered.
+/// Two clients ask on two threads, each so often; then a third reads the last row of each, and all passes are gathered.
 pub fn two_ask<D: DeskName + Send + Sync, W: Asks + Drop + Send, R: Threads + Wait + Sync>(
     rt: &R,
     alloc: Global,
@@ -106,8 +120,8 @@ pub fn two_ask<D: DeskName + Send + Sync, W: Asks + Drop + Send, R: Threads + Wa
 ) -> Played {
     let (one, two) = join(
         rt,
-        || inserts(rt, desk, 1, count),
-        || inserts(rt, desk, 2, count),
+        || calls(rt, desk, 1, count),
+        || calls(rt, desk, 2, count),
     );
     match (one, two, reads(rt, desk)) {
         (Some((one, true)), Some((two, true)), Some((three, true))) => {

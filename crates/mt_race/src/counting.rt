@@ -25,7 +25,7 @@ fn writes_acknowledged(calls: &[Call]) -> u64
 {
     let mut count = 0;
     for call in calls {
-        if is_done(&call.answer) {
+        if is_done(&call.answer.copied()) {
             count += 1;
         }
     }
@@ -38,7 +38,7 @@ pub(crate) fn rows_found(calls: &[Call]) -> u64
 {
     let mut count = 0;
     for call in calls {
-        if is_row(&call.answer) {
+        if is_row(&call.answer.copied()) {
             count += 1;
         }
     }

@@ -1,72 +1,9 @@
--- The event is one more of a history that leads to what the core stands for, and there is a place for each event that is owed.
-use Rattle.std.proofs.Common.{◌≡◌, ◌∙◌, ◌+◌, ◌≤◌, true, false, ap, subst, sym}
+-- What gives a move up is kept in place.
+use Rattle.std.proofs.Common.{sym}
 use Rattle.std.proofs.lemmas.Bool.{true≢false}
-use Rattle.std.specs.Vec.{vec_capacity, vec_len}
-use Rattle.mt_event.specs.Events.{answer_from, event_of}
-use Rattle.mt_site.specs.Owed.{owed_to}
-use Rattle.mt_site.specs.Stood.{IsSiteWith}
-use Rattle.mt_site_state.specs.Ways.{SiteSteps}
-use Rattle.mt_desk.specs.Fronts.{AreFronts}
-use Rattle.mt_desk.specs.Histories.{Leads, line}
-use Rattle.mt_desk.specs.Room.{HasRoom, gives_up}
-use Rattle.mt_desk.proofs.FrontLemmas.{fronts_kept}
-use Rattle.mt_desk.proofs.LeadsLemmas.{kept_more, stands_now}
-use Rattle.mt_desk.proofs.RoomLemmas.{Owing, finds_place, found_to, room_taken, with_more_places}
+use Rattle.mt_desk.proofs.AnswerLemmas.{kept_in_place}
 use Rattle.mt_desk.proofs.book.Book.take.Goals as goal
 
-pub invariant_of-self : goal.invariant_of-self
-invariant_of-self g c =
-    let scopes = g.D.DeskName.scopes in
-    let opening = g.D.DeskName.opening in
-    let now = c.args.self.now.core in
-    let more = vec_capacity c.make_room.new.history in
-    record {
-      legal = subst (λ lines. ∥ Leads scopes opening lines now ∥₁) (sym c.make_room.ensures.items) c.args.self.now.legal;
-      room = subst (λ n. HasRoom n now more) (sym c.make_room.ensures.len)
-          (with_more_places now (vec_len c.args.self.now.history) (vec_capacity c.args.self.now.history) more c.make_room.ensures.kept c.args.self.now.room);
-      fronts = subst (λ lines. ∥ AreFronts scopes opening lines c.args.self.now.told ∥₁) (sym c.make_room.ensures.items) c.args.self.now.fronts;
-    }
-
-pub returns-then-not-make_room-clause-given_up : goal.returns-then-not-make_room-clause-given_up
-returns-then-not-make_room-clause-given_up g c = λ can.
-    let now = c.args.self.now.core in
-    let event = event_of c.args.event in
-    let place = finds_place now (vec_len c.args.self.now.history) (vec_capacity c.args.self.now.history) c.args.self.now.room event can in
-    let is : c.make_room.result ≡ true = c.make_room.ensures.found (found_to now event can) place in
-    let isnt : c.make_room.result ≡ false = search (c.if-not-make_room.true) in
-    absurd (true≢false (sym is ∙ isnt))
-
-pub invariant_of-self-2 : goal.invariant_of-self-2
-invariant_of-self-2 g c =
-    let scopes = g.D.DeskName.scopes in
-    let opening = g.D.DeskName.opening in
-    let now = c.args.self.now.core in
-    let later = c.apply-answer.new.self in
-    let event = event_of c.args.event in
-    let answer = answer_from c.apply-answer.result in
-    let n = vec_len c.args.self.now.history in
-    let more = vec_capacity c.make_room.new.history in
-    let is : c.make_room.result ≡ true = search (c.if-not-make_room.false) in
-    let before : ∥ Leads scopes opening c.make_room.new.history.items now ∥₁
-    = subst (λ lines. ∥ Leads scopes opening lines now ∥₁) (sym c.make_room.ensures.items) c.args.self.now.legal in
-    let step : SiteSteps scopes now event answer later = subst (λ s. SiteSteps s now event answer later) c.requires.scopes c.apply-answer.ensures.steps in
-    let laws : Owing = record {
-      undone = c.each_event_owes_one_at_most.ensures.undo;
-      cancelled = c.each_event_owes_one_at_most.ensures.cancel;
-      any = c.each_event_owes_one_at_most.ensures.others;
-      same = c.a_core_owes_what_its_state_owes.ensures.same;
-    } in
-    let others : gives_up now event ≡ false → n + owed_to now.core.workflows + 2 ≤ more = λ isnt. c.make_room.ensures.others isnt is in
-    let stood : IsSiteWith scopes now = stands_now scopes opening now c.make_room.new.history.items before in
-    let room : HasRoom (n + 1) later more
-    = room_taken laws scopes now later stood event answer step c.apply-answer.ensures.given_up n (vec_capacity c.args.self.now.history) more c.args.self.now.room
-    c.make_room.ensures.kept others in
-    record {
-      legal = subst (λ lines. ∥ Leads scopes opening lines later ∥₁) (sym c.push_reserved.ensures.items)
-          (kept_more scopes opening now later c.make_room.new.history.items c.args.client c.args.event c.apply-answer.result before step);
-      room = subst (λ m. HasRoom m later (vec_capacity c.push_reserved.new.self)) (sym (c.push_reserved.ensures.len ∙ ap (λ m. m + 1) c.make_room.ensures.len))
-          (subst (λ m. HasRoom (n + 1) later m) (sym c.push_reserved.ensures.capacity) room);
-      fronts = subst (λ lines. ∥ AreFronts scopes opening lines c.args.self.now.told ∥₁) (sym c.push_reserved.ensures.items)
-          (fronts_kept scopes opening c.make_room.new.history.items (line c.args.client c.args.event c.apply-answer.result) c.args.self.now.told
-          (subst (λ lines. ∥ AreFronts scopes opening lines c.args.self.now.told ∥₁) (sym c.make_room.ensures.items) c.args.self.now.fronts));
-    }
+pub returns-in-Err-clause-given_up : goal.returns-in-Err-clause-given_up
+returns-in-Err-clause-given_up g c = λ can.
+    absurd (true≢false (sym (c.in-Err.ensures.in_place (kept_in_place c.args.self.now.core c.args.event can))))

@@ -1,0 +1,4 @@
+pub mod Answers
+pub mod Events
+pub mod Ops
+pub mod Rooms
