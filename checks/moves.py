@@ -1,0 +1,95 @@
+"""A move that controllers take up from each other, as scripts of which each line has its answer by the definitions (checks/definitions.py)."""
+import copy
+import itertools
+import subprocess
+
+import definitions
+
+KEYSPACES = ["commerce", "customer"]
+SETS = [frozenset(them) for n in range(4) for them in itertools.combinations(definitions.TYPES, n)]
+
+SETTING = """keyspace commerce
+keyspace customer
+table commerce corder
+table commerce cart
+table commerce spare
+rule commerce.corder commerce.corder
+rule free commerce.spare
+insert corder 1 a
+insert corder 2 b
+insert cart 1 c""".splitlines()
+COPIED = [*SETTING, "create mv commerce customer corder,cart", "advance mv forward 3 100"]
+ROWS = [("corder", 1), ("corder", 2), ("corder", 3), ("cart", 1)]
+LOOK = [
+    *("show mv", "dump", "rules", "get free 1"),
+    *(f"get {side}{table}@{of} {key}" for table, key in ROWS for side in ("", "commerce.", "customer.") for of in definitions.TYPES),
+    *(f"get {side}{table} {key}" for table, key in ROWS for side in ("", "commerce.", "customer.")),
+    *(f"at {side}.{table}@{of} get {key}" for table, key in ROWS for side in KEYSPACES for of in definitions.TYPES),
+]
+
+
+# The same of fewer names.
+GLANCE = ["show mv", "dump", *(f"{line} {key}" for table, key in ROWS for line in (f"get {table}", f"get customer.{table}@rdonly", *(f"at {side}.{table}@replica get" for side in KEYSPACES)))]
+
+
+class Script:
+    """Lines with their answers by the definitions, and the state that they lead to."""
+
+    def __init__(self, lines=()):
+        self.state, self.lines, self.told = definitions.Plain(KEYSPACES), [], []
+        self.ask(*lines)
+
+    def branch(self):
+        """The same lines, which others may follow than here."""
+        return copy.deepcopy(self)
+
+    def ask(self, *lines):
+        """Asks for lines; what the last one is answered."""
+        for line in lines:
+            self.lines.append(line)
+            self.told.append(self.state.answer(line))
+        return self.told[-1] if self.told else None
+
+    @property
+    def workflow(self):
+        return next((w for w in self.state.lives if w.name == "mv"), None)
+
+    @property
+    def way(self):
+        return self.workflow.way if self.workflow else None
+
+    def advance(self, stream):
+        """A turn of a stream, where it runs."""
+        slot = self.workflow.slot(stream)
+        if slot and slot[0] == "running":
+            self.ask(f"advance mv {stream} {slot[1]} 100")
+
+    def step(self):
+        """The next step; before one that may find writes missing, a turn of the stream that brings them."""
+        if self.way.next_step() in (definitions.READS, definitions.CATCH_UP):
+            self.advance("back" if self.way.back else "forward")
+        self.ask(f"step mv {self.way.done}")
+
+    def finish(self):
+        while self.way:
+            self.step()
+
+    def give_up(self):
+        while self.way:
+            self.ask(f"undo mv {self.way.done}")
+
+
+def run(program, lines):
+    """What the program answers to each line."""
+    text = "".join(f"{line}\n" for line in lines)
+    ended = subprocess.run([program, "run", *KEYSPACES], input=text, capture_output=True, text=True, timeout=60)
+    return ended.stdout.splitlines() if ended.returncode == 0 and not ended.stderr else [f"status {ended.returncode}"]
+
+
+def difference(lines, told, got):
+    """Where the program's answers first differ from those of the definitions, or nothing."""
+    if got == told:
+        return None
+    at = next((at for at, pair in enumerate(zip(told, got)) if pair[0] != pair[1]), min(len(told), len(got)))
+    answer, wanted = "".join(got[at : at + 1])[:300], "".join(told[at : at + 1])[:300]
+    return f"{''.join(lines[at : at + 1])}: {answer}; wanted {wanted}\n    " + " / ".join(lines[: at + 1])
