@@ -2,6 +2,7 @@
 
 Nothing of it asks the program. Memory is enough, and no watcher refuses. Lines are well formed: their names, numbers and types aren't tested.
 """
+import functools
 import json
 from dataclasses import dataclass, field
 
@@ -121,10 +122,12 @@ class Live:
         return slot
 
 
+@functools.cache
 def twelve_keys(source, target, table):
     return [name + at for name in (table, f"{source}.{table}", f"{target}.{table}") for at in ("", "@primary", "@replica", "@rdonly")]
 
 
+@functools.cache
 def cut(key):
     """A key as its keyspace, its table and its type."""
     name, _, type_of = key.partition("@")

@@ -1,6 +1,7 @@
 """A move that controllers take up from each other, as scripts of which each line has its answer by the definitions (checks/definitions.py)."""
-import copy
 import itertools
+import os
+import pickle
 import subprocess
 
 import definitions
@@ -41,7 +42,7 @@ class Script:
 
     def branch(self):
         """The same lines, which others may follow than here."""
-        return copy.deepcopy(self)
+        return pickle.loads(pickle.dumps(self))
 
     def ask(self, *lines):
         """Asks for lines; what the last one is answered."""
@@ -80,10 +81,12 @@ class Script:
 
 
 def run(program, lines):
-    """What the program answers to each line."""
-    text = "".join(f"{line}\n" for line in lines)
-    ended = subprocess.run([program, "run", *KEYSPACES], input=text, capture_output=True, text=True, timeout=60)
-    return ended.stdout.splitlines() if ended.returncode == 0 and not ended.stderr else [f"status {ended.returncode}"]
+    """What the program answers to each line, and tells on standard error."""
+    with os.fdopen(os.memfd_create("script"), "w+") as script:
+        script.write("".join(f"{line}\n" for line in lines))
+        script.seek(0)
+        ended = subprocess.run([program, "run", *KEYSPACES], stdin=script, stdout=subprocess.PIPE, stderr=subprocess.STDOUT, text=True, close_fds=False, timeout=60)
+    return [*ended.stdout.splitlines(), *[f"status {ended.returncode}"] * bool(ended.returncode)]
 
 
 def difference(lines, told, got):
