@@ -29,8 +29,9 @@ LOOK = [
 ]
 
 
-# The same of fewer names.
-GLANCE = ["show mv", "dump", *(f"{line} {key}" for table, key in ROWS for line in (f"get {table}", f"get customer.{table}@rdonly", *(f"at {side}.{table}@replica get" for side in KEYSPACES)))]
+GLANCE = ["show mv", "dump"]  # the same of fewer names
+for table, key in ROWS:
+    GLANCE += [f"get {table} {key}", f"get customer.{table}@rdonly {key}", *(f"at {side}.{table}@replica get {key}" for side in KEYSPACES)]
 
 
 class Script:
