@@ -171,6 +171,13 @@ fn is_unread(alloc: Global, kind: Kind, interrupts: bool, before_fault: usize) -
 
 #[test]
 fn documents_whose_reader_fails(rt: HostRuntime) {
-    assert!(rt; is_unread(rt.alloc(), Kind::Rules, false, 1));
-    assert!(rt; is_unread(rt.alloc(), Kind::Dump, true, 2));
+    for place in 0..3usize {
+        assert!(rt;
+            is_unread(rt.alloc(), Kind::Rules, false, place)
+                && is_unread(rt.alloc(), Kind::Rules, true, place)
+                && is_unread(rt.alloc(), Kind::Dump, false, place)
+                && is_unread(rt.alloc(), Kind::Dump, true, place),
+            "at {place}"
+        );
+    }
 }

@@ -1,8 +1,11 @@
 //! Readers and writers that give or take little, are interrupted, or fail.
 
 use crate::scripts::{Case, ends};
+use crate::whole_switches::REVERSED;
+use mt_choice::keyspaces;
 use mt_io::ScriptFault;
-use mt_run::run_script;
+use mt_names::KeyspaceName;
+use mt_run::{run_script, run_watched};
 use mt_watch::Watchers;
 use std::alloc::Global;
 use std::io;
@@ -26,6 +29,7 @@ impl<'a> Read for Giver<'a> {
         }
         self.interrupted = false;
         if self.before_fault == Some(0) {
+            self.before_fault = None;
             return Err(io::Error::from(ErrorKind::BrokenPipe));
         }
         self.before_fault = self.before_fault.map(|count| count.saturating_sub(1));
@@ -55,7 +59,8 @@ pub enum NoRoom {
     TakesNoByte,
 }
 
-/// Takes a few bytes a call, after an interruption where it is told to, until it has no room.
+/// Takes a few bytes a call, after an interruption where it is told to. In the call in which it has no room it does as it is told to, and from
+/// then on it has room for all.
 #[derive(Drop)]
 pub struct Taker {
     held: Vec<u8>,
@@ -73,10 +78,14 @@ impl Write for Taker {
             return Err(io::Error::from(ErrorKind::Interrupted));
         }
         self.interrupted = false;
-        let count = buf.len().min(self.step).min(self.room);
-        if count == 0 && self.no_room == NoRoom::Fails {
-            return Err(io::Error::from(ErrorKind::StorageFull));
+        if self.room == 0 {
+            self.room = usize::MAX;
+            return match self.no_room {
+                NoRoom::Fails => Err(io::Error::from(ErrorKind::StorageFull)),
+                NoRoom::TakesNoByte => Ok(0),
+            };
         }
+        let count = buf.len().min(self.step).min(self.room);
         self.held.extend_from_slice(&buf[..count])?;
         self.room = self.room.saturating_sub(count);
         Ok(count)
@@ -94,7 +103,7 @@ impl Taker {
     }
 }
 
-/// A writer that takes so many bytes a call, and as many as it has room for.
+/// A writer that takes so many bytes a call, and as many as it has room for up to the call in which it has none.
 pub fn writer_with(alloc: Global, step: usize, room: usize, no_room: NoRoom) -> Taker {
     Taker {
         held: Vec::new(alloc),
@@ -284,5 +293,67 @@ fn output_in_pieces(rt: HostRuntime) -> Result<(), Fail> {
     assert!(rt; is_cut_anywhere(rt.alloc(), &case));
     let slow = slow_writer(rt.alloc(), case.want());
     assert!(rt; writes(rt.alloc(), case.script(), slow, Ok(()), case.want()));
+    Ok(())
+}
+
+/// Whether a case's script that is read so ends so, where these keyspaces are watched, and what was written is this.
+fn reads_watched(
+    alloc: Global,
+    names: &[KeyspaceName],
+    mut reader: Giver<'_>,
+    end: Result<(), ScriptFault>,
+    want: &[u8],
+) -> bool {
+    let mut written = Vec::new(alloc);
+    let result = run_watched(alloc, &mut reader, &mut written, names);
+    result == end && written.as_slice() == want
+}
+
+/// The first read in whose place one fails that doesn't end the run of a case, with nothing written.
+fn first_unheard(alloc: Global, names: &[KeyspaceName], case: &Case) -> Option<usize> {
+    for place in 0..=case.len() {
+        let reader = reader_of(case.script(), false, Some(place));
+        if !reads_watched(alloc, names, reader, Err(ScriptFault::Read), b"") {
+            return Some(place);
+        }
+    }
+    None
+}
+
+/// Whether a writer of one byte a call that has no room at a place ends the run of a case, and holds its output up to there.
+fn is_cut_watched(
+    alloc: Global,
+    names: &[KeyspaceName],
+    case: &Case,
+    place: usize,
+    no_room: NoRoom,
+) -> bool {
+    let mut script = case.script();
+    let mut writer = writer_with(alloc, 1, place, no_room);
+    let result = run_watched(alloc, &mut script, &mut writer, names);
+    result == Err(ScriptFault::Write) && writer.held() == beginning(case.want(), place)
+}
+
+/// The first place at which one that has no room doesn't.
+fn first_uncut(alloc: Global, names: &[KeyspaceName], case: &Case) -> Option<usize> {
+    for place in 0..case.want().len() {
+        if !is_cut_watched(alloc, names, case, place, NoRoom::Fails)
+            || !is_cut_watched(alloc, names, case, place, NoRoom::TakesNoByte)
+        {
+            return Some(place);
+        }
+    }
+    None
+}
+
+#[test]
+fn a_move_of_which_one_read_or_write_fails(rt: HostRuntime) -> Result<(), Fail> {
+    let names = keyspaces(&["commerce", "customer"])?;
+    let mut case = Case::new(rt.alloc());
+    case.lines(&REVERSED)?;
+    let whole = reader_of(case.script(), true, None);
+    assert!(rt; reads_watched(rt.alloc(), &names, whole, Ok(()), case.want()));
+    assert_eq!(rt; first_unheard(rt.alloc(), &names, &case), None);
+    assert_eq!(rt; first_uncut(rt.alloc(), &names, &case), None);
     Ok(())
 }

@@ -8,6 +8,7 @@ use mt_names::KeyspaceName;
 use mt_run::run_script;
 use mt_watch::{Callback, Change, Notice, Scope, WatchFault, Watcher, Watchers, tell};
 use std::alloc::Global;
+use std::cell::Cell;
 use std::test::Fail;
 
 /// The keyspaces whose primaries are watched, where a script names none of its own.
@@ -29,7 +30,7 @@ const SWITCHED: [(&str, &str); 8] = [
 ];
 
 /// Traffic is switched and sent back, and no write is lost.
-const REVERSED: [(&str, &str); 16] = [
+pub const REVERSED: [(&str, &str); 16] = [
     ("keyspace commerce", "ok"),
     ("keyspace customer", "ok"),
     ("table commerce corder", "ok"),
@@ -110,7 +111,7 @@ const WORKED: [(&[&str], &[(&str, &str)]); 5] = [
     (&["customer"], &ABANDONED),
 ];
 
-/// Where a watcher refuses to allow the target, a switch stops behind its journal, and stays open.
+/// Where a watcher refuses to allow the target again and again, a switch stops behind its journal, and stays open.
 const STOPPED: [(&str, &str); 9] = [
     ("keyspace commerce", "ok"),
     ("keyspace customer", "ok"),
@@ -123,6 +124,33 @@ const STOPPED: [(&str, &str); 9] = [
     ("step mv 9", "refused F25 Stale"),
 ];
 
+/// Where it refuses that once, the other steps are taken.
+const FINISHED: [(&str, &str); 12] = [
+    ("keyspace commerce", "ok"),
+    ("keyspace customer", "ok"),
+    ("table commerce corder", "ok"),
+    ("create mv commerce customer corder", "ok"),
+    ("advance mv forward 0 100", "events 0 rows 0"),
+    ("switch mv all", "stopped F23 WatcherRefused 8"),
+    ("undo mv 8", "refused F19 PastJournal"),
+    ("step mv 8", "ok"),
+    ("step mv 9", "ok"),
+    ("step mv 10", "ok"),
+    ("step mv 11", "ok"),
+    (
+        "show mv",
+        "mv commerce customer corder switched primary,replica,rdonly way none forward frozen 0 copied back running 0",
+    ),
+];
+
+/// When a watcher refuses to allow a table.
+#[derive(Clone, Copy, Eq, PartialEq)]
+enum Refuses {
+    Never,
+    Once,
+    Always,
+}
+
 /// Whether a change allows a table somewhere.
 fn allows(change: &Change) -> bool {
     for entry in change.as_slice() {
@@ -134,15 +162,17 @@ fn allows(change: &Change) -> bool {
 }
 
 /// A watcher of the primary of a keyspace, which may refuse to allow a table.
-fn watcher_of(alloc: Global, keyspace: &str, refuses: bool) -> Option<Watcher> {
+fn watcher_of(alloc: Global, keyspace: &str, refuses: Refuses) -> Option<Watcher> {
     let scope = Scope::Primary(KeyspaceName::parse(keyspace).ok()?);
     let own = scope.copied();
+    let is_over = Cell::new(refuses == Refuses::Never);
     let call: Callback = match Box::new(
         alloc,
         move |change: &Change| -> Result<Notice, WatchFault>
             ensures { IfOk result (λ notice. notice ≡ notice_of own change.now) }
         {
-            if refuses && allows(change) {
+            if allows(change) && !is_over.get() {
+                is_over.set(refuses == Refuses::Once);
                 return Err(WatchFault(1));
             }
             tell(alloc, &own, change)
@@ -154,10 +184,10 @@ fn watcher_of(alloc: Global, keyspace: &str, refuses: bool) -> Option<Watcher> {
     Some(Watcher::new(scope, call))
 }
 
-/// Whether a case's script prints what it must, where the target's watcher refuses to allow a table.
-fn holds_refused(alloc: Global, case: &Case) -> bool {
+/// Whether a case's script prints what it must, where the target's watcher refuses so to allow a table.
+fn holds_refused(alloc: Global, case: &Case, of_target: Refuses) -> bool {
     let mut watchers = Watchers::new(alloc);
-    for (keyspace, refuses) in [("commerce", false), ("customer", true)] {
+    for (keyspace, refuses) in [("commerce", Refuses::Never), ("customer", of_target)] {
         let Some(watcher) = watcher_of(alloc, keyspace, refuses) else {
             return false;
         };
@@ -183,6 +213,16 @@ fn traffic_is_switched_in_one_line(rt: HostRuntime) -> Result<(), Fail> {
 fn a_switch_that_a_watcher_refuses_behind_its_journal_stops(rt: HostRuntime) -> Result<(), Fail> {
     let mut case = Case::new(rt.alloc());
     case.lines(&STOPPED)?;
-    assert!(rt; holds_refused(rt.alloc(), &case));
+    assert!(rt; holds_refused(rt.alloc(), &case, Refuses::Always));
+    Ok(())
+}
+
+#[test]
+fn a_switch_that_a_watcher_refuses_once_behind_its_journal_is_finished(
+    rt: HostRuntime,
+) -> Result<(), Fail> {
+    let mut case = Case::new(rt.alloc());
+    case.lines(&FINISHED)?;
+    assert!(rt; holds_refused(rt.alloc(), &case, Refuses::Once));
     Ok(())
 }
