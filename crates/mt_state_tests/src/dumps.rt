@@ -45,12 +45,17 @@ fn is_dumped(alloc: Global, calls: &[(Call<'_>, &str)], want: &str) -> bool {
     all_answered(&mut topology, calls) && dumps(alloc, &topology, want)
 }
 
-/// Whether a dump is read as a topology that has the same dump.
-fn is_read_back(alloc: Global, text: &str) -> bool {
+/// Whether a text is read as a topology with this dump.
+fn is_read_as(alloc: Global, text: &str, want: &str) -> bool {
     match Topology::load(alloc, text.as_bytes()) {
-        Ok(topology) => dumps(alloc, &topology, text),
+        Ok(topology) => dumps(alloc, &topology, want),
         Err(_) => false,
     }
+}
+
+/// Whether a dump is read as a topology that has the same dump.
+fn is_read_back(alloc: Global, text: &str) -> bool {
+    is_read_as(alloc, text, text)
 }
 
 /// Pushes an item of a list, a text with its number between two others.
@@ -99,8 +104,35 @@ fn what_is_taken(rt: HostRuntime) {
     }
 }
 
+/// Texts in which members stand twice, on each level, with the dump of what they are read as: the last of them counts.
+static REPEATED: [(&str, &str); 4] = [
+    (
+        "{\"version\":1,\"keyspaces\":[{\"name\":\"c\"}],\"keyspaces\":[{\"name\":\"b\",\"tables\":[\"u\"],\"tables\":[\"t\"]},{\"name\":1,\"name\":\"a\"}]}",
+        TWO,
+    ),
+    (
+        "{\"version\":1,\"denied\":1,\"rules\":{},\"keyspaces\":[{\"name\":\"a\"},{\"name\":\"b\",\"tables\":[\"t\"]}],\"denied\":[\"b.t\"],\"rules\":[{\"from_table\":\"y\",\"from_table\":\"x\",\"to_tables\":[],\"to_tables\":[\"b.t\"]}]}",
+        DENIED,
+    ),
+    (
+        "{\"version\":1,\"\\u006beyspaces\":1,\"keyspaces\":[{\"n\\u0061me\":1,\"name\":\"a\",\"x\":{\"y\":1,\"y\":2}},{\"name\":\"b\",\"tables\":1,\"tabl\\u0065s\":[\"t\"]}],\"x\":{\"y\":1,\"y\":2},\"x\":1}",
+        TWO,
+    ),
+    (
+        "{\"version\":2,\"version\":\"1\",\"version\":1,\"keyspaces\":[{\"name\":\"b\",\"tables\":[\"t\"]},{\"name\":\"a\"}],\"rules\":[{\"from_table\":\"x\",\"to_tables\":[\"b.t\"]}],\"rules\":null,\"denied\":[\"b.t\"],\"denied\":[]}",
+        TWO,
+    ),
+];
+
+#[test]
+fn the_last_of_members_counts(rt: HostRuntime) {
+    for (text, want) in &REPEATED {
+        assert!(rt; is_read_as(rt.alloc(), text, want), "at {text}");
+    }
+}
+
 /// Texts that are no dumps.
-static REFUSED: [&str; 23] = [
+static REFUSED: [&str; 29] = [
     "{",
     "[]",
     "{}",
@@ -121,6 +153,12 @@ static REFUSED: [&str; 23] = [
     "{\"version\":1,\"keyspaces\":[{\"name\":\"a\",\"tables\":[\"t\"]}],\"denied\":[\"b.t\"]}",
     "{\"version\":1,\"keyspaces\":[{\"name\":\"a\",\"tables\":[\"t\"]}],\"denied\":[\"a.t\",\"a.t\"]}",
     "{\"version\":1,\"keyspaces\":[{\"name\":\"a\",\"tables\":[\"t\"]}],\"denied\":[\"t\"]}",
+    "{\"version\":1,\"version\":2}",
+    "{\"version\":1,\"keyspaces\":[],\"keyspaces\":1}",
+    "{\"version\":1,\"denied\":[],\"denied\":null}",
+    "{\"version\":1,\"rules\":null,\"rules\":1}",
+    "{\"version\":1,\"keyspaces\":[{\"name\":\"a\",\"name\":1}]}",
+    "{\"version\":1,\"keyspaces\":[{\"name\":\"a\",\"tables\":[],\"tables\":1}]}",
     "{\"version\":1,\"rules\":{}}",
     "{\"version\":1,\"rules\":[{\"from_table\":\"x\",\"to_tables\":[]}]}",
     "{\"version\":1,\"rules\":[{\"from_table\":\"x\",\"to_tables\":[\"a.x\"]},{\"from_table\":\"x\",\"to_tables\":[\"a.x\"]}]}",
@@ -252,6 +290,39 @@ fn first_taken(alloc: Global, text: &[u8]) -> Option<usize> {
 #[test]
 fn every_prefix_and_every_byte_that_is_none(rt: HostRuntime) {
     assert_eq!(rt; first_taken(rt.alloc(), TWO.as_bytes()), None);
+    assert_eq!(rt; first_taken(rt.alloc(), DENIED.as_bytes()), None);
+}
+
+/// Writes a bracket so often.
+fn push_times(text: &mut String, bracket: char, times: u32) -> Result<(), AllocError> {
+    for _ in 0..times {
+        text.push(bracket)?;
+    }
+    Ok(())
+}
+
+/// A text of which a member that counts for nothing has so many lists, each in the one before it.
+fn nested(alloc: Global, depth: u32) -> Result<String, AllocError> {
+    let mut text = String::new(alloc);
+    text.push_str("{\"version\":1,\"x\":")?;
+    push_times(&mut text, '[', depth)?;
+    push_times(&mut text, ']', depth)?;
+    text.push('}')?;
+    Ok(text)
+}
+
+/// How the reading of such a text is answered.
+fn loaded_nested(alloc: Global, depth: u32) -> &'static str {
+    match nested(alloc, depth) {
+        Ok(text) => loaded(alloc, text.as_str()),
+        Err(_) => "no text",
+    }
+}
+
+#[test]
+fn nested_deep(rt: HostRuntime) {
+    assert_eq!(rt; loaded_nested(rt.alloc(), 20), "ok");
+    assert_eq!(rt; loaded_nested(rt.alloc(), 200), "T6 BadDump");
 }
 
 /// The keys of a rule, of the table and of its denial.

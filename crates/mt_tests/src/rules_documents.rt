@@ -29,7 +29,7 @@ fn reads(alloc: Global, text: &[u8], want: Result<&str, RulesFault>) -> bool {
 }
 
 /// Documents that are taken and refused.
-static DOCUMENTS: [(&str, Read); 25] = [
+static DOCUMENTS: [(&str, Read); 33] = [
     (FRESH, Ok(FRESH)),
     (
         "{\"rules\":[{\"fromTable\":\"b\",\"toTables\":[\"k.b\"],\"x\":1},{\"from_table\":\"a@replica\",\"to_tables\":[\"k.a\"]}]}",
@@ -42,6 +42,32 @@ static DOCUMENTS: [(&str, Read); 25] = [
     ("{\"rules\":1,\"rules\":[]}", Ok("{\"rules\":[]}")),
     (
         "{\"x\":[{}],\"rules\":[{\"to_tables\":[\"k.a\"],\"from_table\":\"b\",\"from_table\":\"a\",\"fromTable\":1}]}",
+        Ok("{\"rules\":[{\"from_table\":\"a\",\"to_tables\":[\"k.a\"]}]}"),
+    ),
+    ("{\"rules\":[],\"rules\":1}", Err(RulesFault::Shape)),
+    ("{\"rules\":1,\"\\u0072ules\":[]}", Ok("{\"rules\":[]}")),
+    (
+        "{\"rules\":[{\"from_table\":\"a\",\"to_tables\":[],\"to_tables\":[\"k.a\",\"k.b\"],\"to_tables\":[\"k.c\"]}]}",
+        Ok("{\"rules\":[{\"from_table\":\"a\",\"to_tables\":[\"k.c\"]}]}"),
+    ),
+    (
+        "{\"rules\":[{\"from_table\":\"a\",\"to_tables\":[\"k.c\"],\"to_tables\":[\"k.a\",\"k.b\"]}]}",
+        Err(RulesFault::NotOneTarget),
+    ),
+    (
+        "{\"rules\":[{\"fromTable\":1,\"toTables\":null,\"fromTable\":\"a\",\"toTables\":[\"k.a\"]}]}",
+        Ok("{\"rules\":[{\"from_table\":\"a\",\"to_tables\":[\"k.a\"]}]}"),
+    ),
+    (
+        "{\"rules\":[{\"from_table\":\"b\",\"from_table\":null,\"fromTable\":\"a\",\"to_tables\":[\"k.a\"]}]}",
+        Err(RulesFault::Shape),
+    ),
+    (
+        "{\"rules\":[{\"from_table\":\"a\",\"to_tables\":[\"k.a\"],\"to_tables\":null,\"toTables\":[\"k.b\"]}]}",
+        Err(RulesFault::NotOneTarget),
+    ),
+    (
+        "{\"x\":{\"y\":1,\"y\":{\"z\":2,\"z\":3}},\"rules\":[{\"x\":[{\"y\":1,\"y\":2}],\"from_table\":\"a\",\"to_tables\":[\"k.a\"],\"x\":1}],\"x\":1}",
         Ok("{\"rules\":[{\"from_table\":\"a\",\"to_tables\":[\"k.a\"]}]}"),
     ),
     ("{\"rules\":[", Err(RulesFault::NotJson)),
@@ -204,25 +230,33 @@ fn push_times(text: &mut String, bracket: char, times: u32) -> Result<(), AllocE
     Ok(())
 }
 
-/// A document with so many lists, each in the one before it.
-fn nested(alloc: Global, depth: u32) -> Result<String, AllocError> {
+/// A document of which a member has so many lists, each in the one before it.
+fn nested(alloc: Global, member: &str, depth: u32) -> Result<String, AllocError> {
     let mut text = String::new(alloc);
-    text.push_str("{\"rules\":")?;
+    text.push_str("{\"")?;
+    text.push_str(member)?;
+    text.push_str("\":")?;
     push_times(&mut text, '[', depth)?;
     push_times(&mut text, ']', depth)?;
     text.push('}')?;
     Ok(text)
 }
 
+/// Whether such a document is read so.
+fn reads_nested(alloc: Global, member: &str, depth: u32, want: Result<&str, RulesFault>) -> bool {
+    match nested(alloc, member, depth) {
+        Ok(text) => reads(alloc, text.as_bytes(), want),
+        Err(_) => false,
+    }
+}
+
 #[test]
 fn nested_deep(rt: HostRuntime) {
-    assert!(rt;
-        nested(rt.alloc(), 200).is_ok_and(|text| reads(
-            rt.alloc(),
-            text.as_bytes(),
-            Err(RulesFault::NotJson)
-        ))
-    );
+    let refused = Err(RulesFault::NotJson);
+    assert!(rt; reads_nested(rt.alloc(), "rules", 200, refused));
+    assert!(rt; reads_nested(rt.alloc(), "x", 200, refused));
+    assert!(rt; reads_nested(rt.alloc(), "rules", 20, Err(RulesFault::Shape)));
+    assert!(rt; reads_nested(rt.alloc(), "x", 20, Ok("{\"rules\":[]}")));
 }
 
 /// The document of so many rules.
