@@ -24,8 +24,8 @@ use std::thread::Threads;
 pub enum Trial {
     /// Workers one after the other.
     InTurn(Turns),
-    /// Two controllers and two clients at once.
-    TwoControllers,
+    /// Two controllers and two clients at once; whether the second controller undoes what the first does.
+    TwoControllers(bool),
 }
 
 /// The events before a desk is opened.
@@ -144,7 +144,7 @@ fn goes<D: DeskName + Send + Sync, W: Asks + Drop + Send, R: Threads + Wait + Sy
 ) -> bool {
     match trial {
         Trial::InTurn(turns) => in_turn(rt, desk, turns),
-        Trial::TwoControllers => two_controllers(rt, alloc, desk),
+        Trial::TwoControllers(is_undoing) => two_controllers(rt, alloc, desk, is_undoing),
     }
 }
 

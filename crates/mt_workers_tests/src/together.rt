@@ -1,20 +1,24 @@
-//! Two controllers and two clients at once.
+//! Two controllers and two clients at once: both controllers switch, or one switches and the other undoes.
 
 use crate::opened::{Trial, tried};
 use crate::turns::{is_at_rest, workflow};
 use crossbeam_channel::{Sender, unbounded};
 use mt_desk::{Desk, DeskName, Pass};
-use mt_event::{Driven, Reason, Refusal};
+use mt_event::{Driven, Event, Reason, Refusal, Reply};
 use mt_model::Op;
 use mt_names::{RuleKey, TypeSet, Value};
 use mt_watch::Asks;
 use mt_workers::{ControlFault, Line, Message, NoGate, controller, query_worker};
+use mt_workflow::Way;
 use std::alloc::Global;
 use std::sync::Wait;
 use std::thread::{Threads, join};
 
 /// How many rows a client inserts.
 const ROWS: u64 = 20;
+
+/// How often a controller that undoes asks Show.
+const LOOKS: u32 = 100;
 
 /// Inserts of rows behind a key by the table's name.
 fn inserts(alloc: Global, first: u64) -> Option<Vec<Line>> {
@@ -69,6 +73,82 @@ fn switches<R: Wait, D: DeskName, W: Asks + Drop, H: Wait + Drop>(
     }
 }
 
+/// The way that is open, if one is, as Show tells it.
+fn way_shown<R: Wait, D: DeskName, W: Asks + Drop, H: Wait + Drop>(
+    rt: &R,
+    desk: &Desk<D, W, H>,
+    pass: &mut Pass<D>,
+) -> Option<Option<Way>> {
+    let workflow = workflow()?;
+    match desk.ask(rt, pass, Event::Show { workflow }) {
+        Ok(Ok(Reply::Shown(shown))) => Some(shown.way),
+        _ => None,
+    }
+}
+
+/// Whether an undo is done, or refused since the other controller was first: it took a step, closed the way, or wrote the journal.
+fn is_undone<R: Wait, D: DeskName, W: Asks + Drop, H: Wait + Drop>(
+    rt: &R,
+    desk: &Desk<D, W, H>,
+    pass: &mut Pass<D>,
+    at: u64,
+) -> bool {
+    let Some(workflow) = workflow() else {
+        return false;
+    };
+    match desk.ask(rt, pass, Event::Undo { workflow, at }) {
+        Ok(Ok(Reply::Done)) => true,
+        Ok(Err(Refusal::Other(reason))) => matches!(
+            reason,
+            Reason::Stale(_) | Reason::NothingUnderWay | Reason::PastJournal
+        ),
+        _ => false,
+    }
+}
+
+/// Whether the last step of the way is undone, if one is open, or that is refused as it may be.
+fn undoes_one<R: Wait, D: DeskName, W: Asks + Drop, H: Wait + Drop>(
+    rt: &R,
+    desk: &Desk<D, W, H>,
+    pass: &mut Pass<D>,
+) -> bool {
+    match way_shown(rt, desk, pass) {
+        Some(Some(way)) => is_undone(rt, desk, pass, u64::from(way.done)),
+        Some(None) => true,
+        None => false,
+    }
+}
+
+/// Whether a controller undoes what another one does, step by step, and each undo is answered as it may be.
+fn undoes<R: Wait, D: DeskName, W: Asks + Drop, H: Wait + Drop>(
+    rt: &R,
+    desk: &Desk<D, W, H>,
+    pass: &mut Pass<D>,
+) -> bool {
+    for _ in 0..LOOKS {
+        if !undoes_one(rt, desk, pass) {
+            return false;
+        }
+    }
+    true
+}
+
+/// Undoes with a new pass of a client. Answers the pass, and that it switched nothing.
+fn undoes_as<R: Wait, D: DeskName, W: Asks + Drop, H: Wait + Drop>(
+    rt: &R,
+    desk: &Desk<D, W, H>,
+    client: u16,
+) -> Option<(Pass<D>, bool)> {
+    let Ok(mut pass) = desk.pass(rt, client) else {
+        return None;
+    };
+    if undoes(rt, desk, &mut pass) {
+        return Some((pass, false));
+    }
+    drop(pass);
+    None
+}
+
 /// Switches with a new pass of a client.
 fn switches_as<R: Wait, D: DeskName, W: Asks + Drop, H: Wait + Drop>(
     rt: &R,
@@ -78,6 +158,19 @@ fn switches_as<R: Wait, D: DeskName, W: Asks + Drop, H: Wait + Drop>(
     match desk.pass(rt, client) {
         Ok(pass) => switches(rt, desk, pass),
         Err(_) => None,
+    }
+}
+
+/// The second controller, which may undo what the first does.
+fn switches_or_undoes<R: Wait, D: DeskName, W: Asks + Drop, H: Wait + Drop>(
+    rt: &R,
+    desk: &Desk<D, W, H>,
+    is_undoing: bool,
+) -> Option<(Pass<D>, bool)> {
+    if is_undoing {
+        undoes_as(rt, desk, 2)
+    } else {
+        switches_as(rt, desk, 2)
     }
 }
 
@@ -119,7 +212,7 @@ fn are_gathered<R: Wait, D: DeskName, W: Asks + Drop, H: Wait + Drop>(
     }
 }
 
-/// Two controllers, and two clients that insert, at once.
+/// Two controllers, of which the second may undo what the first does, and two clients that insert, at once.
 fn all_at_once<
     R: Threads + Wait + Sync,
     D: DeskName + Send + Sync,
@@ -130,6 +223,7 @@ fn all_at_once<
     alloc: Global,
     desk: &Desk<D, W, H>,
     told: &Sender<Message>,
+    is_undoing: bool,
 ) -> (
     (Option<(Pass<D>, bool)>, Option<(Pass<D>, bool)>),
     (Option<Pass<D>>, Option<Pass<D>>),
@@ -139,7 +233,7 @@ fn all_at_once<
         move || join(
             rt,
             move || switches_as(rt, desk, 1),
-            move || switches_as(rt, desk, 2),
+            move || switches_or_undoes(rt, desk, is_undoing),
         ),
         move || {
             join(
@@ -151,17 +245,18 @@ fn all_at_once<
     )
 }
 
-/// Whether two controllers end while two clients write, all is switched at last, by one of them, and all passes are gathered.
+/// Whether two controllers end while two clients write, of which the second may undo what the first does; whether all is switched at last, by
+/// one of them, and all passes are gathered.
 pub fn two_controllers<
     R: Threads + Wait + Sync,
     D: DeskName + Send + Sync,
     W: Asks + Drop + Send,
     H: Wait + Drop + Send,
->(rt: &R, alloc: Global, desk: &Desk<D, W, H>) -> bool {
+>(rt: &R, alloc: Global, desk: &Desk<D, W, H>, is_undoing: bool) -> bool {
     let Ok((sender, _receiver)) = unbounded(alloc) else {
         return false;
     };
-    let ((one, two), (three, four)) = all_at_once(rt, alloc, desk, &sender);
+    let ((one, two), (three, four)) = all_at_once(rt, alloc, desk, &sender, is_undoing);
     match (one, two, three, four) {
         (Some((one, first)), Some((two, second)), Some(three), Some(four)) => {
             match is_switched_at_last(rt, desk, one, first || second) {
@@ -177,5 +272,15 @@ pub fn two_controllers<
 
 #[test]
 fn two_controllers_switch_once(rt: HostRuntime) {
-    assert!(rt; tried(&rt, rt.alloc(), Trial::TwoControllers));
+    assert!(rt; tried(&rt, rt.alloc(), Trial::TwoControllers(false)));
+}
+
+/// How often a switch is undone while it is done.
+const TIMES: u32 = 20;
+
+#[test]
+fn one_controller_switches_and_one_undoes(rt: HostRuntime) {
+    for _ in 0..TIMES {
+        assert!(rt; tried(&rt, rt.alloc(), Trial::TwoControllers(true)));
+    }
 }
