@@ -4,22 +4,22 @@ use Rattle.std.proofs.Math.Logic.{∥∥₁_elim}
 use Rattle.std.proofs.Props.{props}
 use Rattle.std.proofs.lemmas.Bool.{true≢false}
 use Rattle.std.specs.Option.{option_map_or}
-use Rattle.std.specs.Prelude.{◌==◌, ◌||◌}
-use Rattle.mt_event.specs.declared.event.Event as code
-use Rattle.mt_event.specs.declared.event.Event.TheVariants as event
+use Rattle.std.specs.Prelude.{⊤, ◌==◌, ◌||◌}
+use Rattle.mt_event.specs.declared.reason.Reason.{Reason}
 use Rattle.mt_event.specs.declared.refusal.Refusal as code_refusal
 use Rattle.mt_event.specs.declared.refusal.Refusal.TheVariants as refusal
 use Rattle.mt_event.specs.declared.reply.Reply.{Reply}
 use Rattle.mt_event.specs.declared.reply.Reply.TheVariants as reply
-use Rattle.mt_event.specs.Events.{answer_from, event_of}
-use Rattle.mt_kept.specs.Answers.{needs_room}
-use Rattle.mt_kept.specs.Events.{is_in_place}
+use Rattle.mt_event.specs.Events.{answer_from}
+use Rattle.mt_event.specs.Reasons.{done_by}
+use Rattle.mt_kept.specs.Answers.{needs_room, read_answer, write_answer}
 use Rattle.mt_model.specs.declared.entries.Scope.{Scope}
+use Rattle.mt_model.specs.Rows.{RowValue}
 use Rattle.mt_plain.specs.Answers.{Answers}
 use Rattle.mt_plain.specs.Events.{Event, Refusal, Way, cancel, undo, nothing_under_way, past_journal, rule_conflict, stale, target_has_table, traffic_switched, under_way}
 use Rattle.mt_plain.specs.Plain.{Live, Plain, live_at, stands_done, write_journal}
 use Rattle.mt_plain.specs.Refuse.{cancel_refusal, in_workflow, or_else, refusal_of, refuse_if, undo_refusal}
-use Rattle.mt_site.specs.GivenUp.{CanBeGivenUp}
+use Rattle.mt_site.specs.ByHand.{read_from}
 use Rattle.mt_site.specs.Stood.{IsSiteWith}
 use Rattle.mt_site_state.specs.Ways.{SiteState, SiteSteps}
 use Rattle.mt_desk.specs.Room.{gives_up, is_undo_or_cancel}
@@ -88,22 +88,17 @@ up_is_short s (undo workflow at) is = refl
 up_is_short s (cancel workflow) is = refl
 up_is_short s other is = absurd (true≢false (sym is))
 
--- it is kept without memory
-pub kept_in_place : (s : SiteState) (e : code.Event) → CanBeGivenUp s (event_of e) → is_in_place e ≡ true
-kept_in_place s (event.Write keyspace table op) can = absurd can
-kept_in_place s (event.Read keyspace table key type_of) can = absurd can
-kept_in_place s (event.AddKeyspace keyspace) can = absurd can
-kept_in_place s (event.AddTable keyspace table) can = absurd can
-kept_in_place s (event.EditRule key target) can = absurd can
-kept_in_place s (event.Create workflow source target tables) can = absurd can
-kept_in_place s (event.Advance workflow stream at max) can = refl
-kept_in_place s (event.BeginSwitch workflow types) can = refl
-kept_in_place s (event.BeginReverse workflow types) can = refl
-kept_in_place s (event.Step workflow at) can = refl
-kept_in_place s (event.Undo workflow at) can = refl
-kept_in_place s (event.Cancel workflow) can = refl
-kept_in_place s (event.Complete workflow) can = refl
-kept_in_place s (event.Show workflow) can = refl
+-- ---- what the core tells of a row
+
+pub write_told : (told : Result ⊤ Reason) → answer_from (write_answer told) ≡ done_by told
+write_told (Ok done) = refl
+write_told (Err reason) = refl
+
+pub read_told : (told : Result (Option RowValue) Reason) → answer_from (read_answer told) ≡ read_from told
+read_told (Ok row) = refl
+read_told (Err reason) = refl
+
+-- ---- room
 
 -- room is there where it may be needed
 pub ready_from : (short needs : Bool) (Ready : Type 0) → (short ≡ false → Ready) → (short ≡ true → needs ≡ false) → needs ≡ true → Ready

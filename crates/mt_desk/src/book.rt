@@ -3,7 +3,7 @@ ghost use Rattle.std.specs.Prelude.{◌≡◌, ◌+◌, ◌≤◌, ◌++◌, Lis
 ghost use Rattle.std.specs.Vec.{vec_capacity, vec_len};
 ghost use Rattle.mt_event.specs.declared.reply.Reply.TheVariants.{Done};
 ghost use Rattle.mt_event.specs.Events.{answer_from, event_of};
-ghost use Rattle.mt_kept.specs.Answers.{needs_room};
+ghost use Rattle.mt_kept.specs.Rooms.{IsReady};
 ghost use Rattle.mt_plain.specs.Events as plain;
 ghost use Rattle.mt_plain.specs.Plain.{Plain};
 ghost use Rattle.mt_laws.specs.Headline.{Headline};
@@ -25,14 +25,15 @@ ghost use Rattle.mt_desk.specs.Passes.{Admits, Compares, HaveOneHistory, IsCause
 ghost use Rattle.mt_desk.specs.Room.{HasRoom, is_undo_or_cancel};
 
 use crate::account::{are_there, clients_of, first_cause};
+use crate::answered::answered;
 use crate::history::Line;
 use crate::listed::listed;
-use crate::room::{make_room, new_history};
+use crate::room::{make_ready, make_room, new_history};
 use crate::tell::noticed;
 use crate::{Answer, DeskFault, DeskName, Pass};
 use indexmap::IndexSet;
 use mt_event::Event;
-use mt_kept::{KeptEvent, Room};
+use mt_kept::{KeptAnswer, KeptEvent, Room};
 use mt_laws::{each_event_owes_one_at_most, every_run_keeps_the_headline};
 use mt_model::Entry;
 use mt_routes::{
@@ -255,22 +256,29 @@ impl<D: DeskName> Book<D> {
         ensures places { CanBeGivenUp self.old.core (event_of event) → vec_capacity self.new.history ≡ vec_capacity self.old.history }
     {
         let alloc = *self.history.allocator();
-        match KeptEvent::new(alloc, &event) {
-            Ok(kept) => self.take_kept(watchers, client, &event, kept),
-            Err(_) => Err(DeskFault::Memory),
+        let Ok(kept) = KeptEvent::new(alloc, &event) else {
+            return Err(DeskFault::Memory);
+        };
+        let mut room = Room::new(alloc);
+        make_ready(&mut room, &event)?;
+        match self.take_kept(watchers, client, &event, kept, &mut room) {
+            Ok(answer) => Ok(answer.copied()),
+            Err(fault) => Err(fault),
         }
     }
 
-    /// The same, with what is to be kept of the event, for which no memory is taken.
+    /// The same, with what is to be kept of the event, for which no memory is taken, and with room for one answer more, which is kept for whoever asked.
     pub(crate) fn take_kept<W: Asks>(
         &mut self,
         watchers: &W,
         client: u16,
         event: &Event,
         kept: KeptEvent,
-    ) -> Result<Answer, DeskFault>
+        room: &mut Room,
+    ) -> Result<KeptAnswer, DeskFault>
         requires scopes { W.scopes watchers.now ≡ D.scopes }
         requires kept { kept ≡ event.now }
+        requires ready { is_undo_or_cancel (event_of event.now) ≡ false → IsReady room.old }
         ensures line { IfOk result (λ r. self.new.history.items ≡ self.old.history.items ++ line client event.now r ∷ []) }
         ensures applies { IfOk result (λ r. AppliesAndPurges (W.scopes watchers.now) (W.may_answer watchers.now) self.old.core (event_of event.now) (answer_from r) self.new.core) }
         ensures steps { IfOk result (λ r. SiteSteps (W.scopes watchers.now) self.old.core (event_of event.now) (answer_from r) self.new.core) }
@@ -280,7 +288,6 @@ impl<D: DeskName> Book<D> {
         ensures memory { IfErr result (λ fault. fault ≡ DeskFault.Memory) }
         ensures given_up { CanBeGivenUp self.old.core (event_of event.now) → result ≡ Ok (Ok Done) }
         ensures places { CanBeGivenUp self.old.core (event_of event.now) → vec_capacity self.new.history ≡ vec_capacity self.old.history }
-        ensures in_place { is_undo_or_cancel (event_of event.now) ≡ true → IfOk result (λ answer. needs_room answer ≡ false) }
     {
         each_event_owes_one_at_most();
         a_core_owes_what_its_state_owes();
@@ -293,14 +300,13 @@ impl<D: DeskName> Book<D> {
         if !make_room(history, answers, core, event) {
             return Err(DeskFault::Memory);
         }
-        let answer = core.apply(watchers, event);
-        let told = answers.keep(&answer);
+        let (answer, told) = answered(core, watchers, event, answers, room);
         history.push_reserved(Line {
             client,
             event: kept,
-            answer: told,
+            answer,
         });
-        Ok(answer)
+        Ok(told)
     }
 
     /// Lists a client among those to whom a pass was given: `K6 ClientTaken` exactly where it is there, and `K0 Memory`, which leave

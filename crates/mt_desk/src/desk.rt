@@ -91,11 +91,17 @@ impl<D: DeskName, W: Asks + Drop, R: Wait + Drop> Desk<D, W, R> {
         let Ok(line) = KeptEvent::new(self.alloc, &event) else {
             return Err(DeskFault::Memory);
         };
-        let answer = match self.locked.lock(rt).take(pass.client(), &event, line) {
-            Ok(answer) => answer,
+        let client = pass.client();
+        let taken = self
+            .locked
+            .lock(rt)
+            .take(client, &event, line, &mut pass.room);
+        let told = match taken {
+            Ok(told) => told,
             Err(fault) => return Err(fault),
         };
-        pass.add(call, &answer);
+        let answer = told.copied();
+        pass.add(call, told);
         Ok(answer)
     }
 

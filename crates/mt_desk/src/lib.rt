@@ -2,6 +2,7 @@
 #![tactic(auto)]
 
 mod account;
+mod answered;
 mod book;
 mod chains;
 mod desk;

@@ -1,16 +1,16 @@
 //! What lies under the lock.
 ghost use Rattle.std.specs.Prelude.{◌≡◌, ◌⊎◌, false, true, IfErr, IfOk, OnOk, map};
 ghost use Rattle.mt_event.specs.Events.{event_of};
-ghost use Rattle.mt_kept.specs.Answers.{needs_room};
+ghost use Rattle.mt_kept.specs.Rooms.{IsReady};
 ghost use Rattle.mt_model.specs.declared.entries.Scope.TheVariants.{Routes};
 ghost use Rattle.mt_watch.specs.Scopes.{has_scope};
 ghost use Rattle.mt_desk.specs.Fronts.{Published, Tells, TellsNone};
 ghost use Rattle.mt_desk.specs.Passes.{HaveOneHistory, IsCaused};
 ghost use Rattle.mt_desk.specs.Room.{is_undo_or_cancel};
 
-use crate::{Answer, Book, DeskFault, DeskName, Pass};
+use crate::{Book, DeskFault, DeskName, Pass};
 use mt_event::Event;
-use mt_kept::KeptEvent;
+use mt_kept::{KeptAnswer, KeptEvent, Room};
 use mt_routes::{Ends, Router, Told};
 use mt_watch::Asks;
 use std::alloc::Global;
@@ -32,13 +32,14 @@ impl<D: DeskName, W: Asks + Drop, R: Wait + Drop> Locked<D, W, R> {
         client: u16,
         event: &Event,
         kept: KeptEvent,
-    ) -> Result<Answer, DeskFault>
-        requires { kept ≡ event.now }
+        room: &mut Room,
+    ) -> Result<KeptAnswer, DeskFault>
+        requires kept { kept ≡ event.now }
+        requires ready { is_undo_or_cancel (event_of event.now) ≡ false → IsReady room.old }
         ensures memory { IfErr result (λ fault. fault ≡ DeskFault.Memory) }
-        ensures in_place { is_undo_or_cancel (event_of event.now) ≡ true → IfOk result (λ answer. needs_room answer ≡ false) }
     {
         let Locked { book, watchers, .. } = self;
-        book.take_kept(watchers, client, event, kept)
+        book.take_kept(watchers, client, event, kept, room)
     }
 
     /// See `Book::admit`.

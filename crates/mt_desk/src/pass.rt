@@ -2,15 +2,14 @@
 ghost use Rattle.std.specs.Prelude.{◌≡◌, ◌+◌, ◌<◌, ◌≤◌, ◌++◌, [], ◌∷◌, false, true, IfErr, OnOk, length};
 ghost use Rattle.std.specs.Vec.{vec_capacity};
 ghost use Rattle.mt_event.specs.Events.{event_of};
-ghost use Rattle.mt_kept.specs.Answers.{needs_room};
 ghost use Rattle.mt_kept.specs.Rooms.{IsReady};
 ghost use Rattle.mt_desk.specs.Histories.{call};
 ghost use Rattle.mt_desk.specs.Room.{is_undo_or_cancel};
 
-use crate::room::is_undo_or_cancel;
-use crate::{Answer, Call, DeskFault, DeskName};
+use crate::room::make_ready;
+use crate::{Call, DeskFault, DeskName};
 use mt_event::Event;
-use mt_kept::{KeptEvent, Room};
+use mt_kept::{KeptAnswer, KeptEvent, Room};
 use std::alloc::Global;
 use std::marker::PhantomData;
 
@@ -19,7 +18,7 @@ use std::marker::PhantomData;
 pub struct Pass<D: DeskName> {
     client: u16,
     calls: Vec<Call>,
-    room: Room,
+    pub(crate) room: Room,
     of: PhantomData<D>,
 }
 
@@ -79,24 +78,16 @@ impl<D: DeskName> Pass<D> {
         if self.calls.reserve(1).is_err() {
             return Err(DeskFault::Memory);
         }
-        if is_undo_or_cancel(event) {
-            return Ok(());
-        }
-        match self.room.make() {
-            Ok(()) => Ok(()),
-            Err(_) => Err(DeskFault::Memory),
-        }
+        make_ready(&mut self.room, event)
     }
 
-    /// Lists one call more, for which there is a place, and room for its answer. It takes no memory.
-    pub(crate) fn add(&mut self, event: KeptEvent, answer: &Answer)
-        requires place { length self.old.calls.items < vec_capacity self.old.calls }
-        requires room { needs_room answer.now ≡ true → IsReady self.old.room }
+    /// Lists one call more, for which there is a place. It takes no memory.
+    pub(crate) fn add(&mut self, event: KeptEvent, answer: KeptAnswer)
+        requires { length self.old.calls.items < vec_capacity self.old.calls }
         ensures client { self.new.client ≡ self.old.client }
-        ensures calls { self.new.calls.items ≡ self.old.calls.items ++ call event answer.now ∷ [] }
+        ensures calls { self.new.calls.items ≡ self.old.calls.items ++ call event answer ∷ [] }
         ensures places { vec_capacity self.new.calls ≡ vec_capacity self.old.calls }
     {
-        let answer = self.room.keep(answer);
         self.calls.push_reserved(Call { event, answer });
     }
 }

@@ -1,5 +1,5 @@
 //! The places that the history keeps free, so that each move can always be given up.
-ghost use Rattle.std.specs.Prelude.{◌≡◌, ◌+◌, ◌<◌, ◌≤◌, [], false, true, IfOk, IsOk};
+ghost use Rattle.std.specs.Prelude.{◌≡◌, ◌+◌, ◌<◌, ◌≤◌, [], false, true, IfErr, IfOk, IsOk, OnOk};
 ghost use Rattle.std.specs.Vec.{vec_capacity, vec_len};
 ghost use Rattle.mt_event.specs.Events.{event_of};
 ghost use Rattle.mt_workflow.specs.Workflows.{way_from};
@@ -7,7 +7,7 @@ ghost use Rattle.mt_site.specs.Owed.{owed_to};
 ghost use Rattle.mt_kept.specs.Rooms.{IsReady};
 ghost use Rattle.mt_desk.specs.Room.{can_cancel, can_undo, gives_up, is_undo_or_cancel};
 
-use crate::Line;
+use crate::{DeskFault, Line};
 use mt_event::Event;
 use mt_kept::Room;
 use mt_site::Core;
@@ -51,10 +51,25 @@ pub(crate) fn gives_up(core: &Core, event: &Event) -> bool
 }
 
 /// Whether an event is an undo or a Cancel. It takes no memory.
-pub(crate) fn is_undo_or_cancel(event: &Event) -> bool
+fn is_undo_or_cancel(event: &Event) -> bool
     ensures { result ≡ is_undo_or_cancel (event_of event.now) }
 {
     matches!(event, Event::Undo { .. } | Event::Cancel { .. })
+}
+
+/// Makes room for the answer to an event, if that may need some: `K0 Memory`. It takes none for an undo or a Cancel.
+pub(crate) fn make_ready(room: &mut Room, event: &Event) -> Result<(), DeskFault>
+    ensures ready { OnOk result (is_undo_or_cancel (event_of event.now) ≡ false → IsReady room.new) }
+    ensures short { is_undo_or_cancel (event_of event.now) ≡ true → IsOk result }
+    ensures memory { IfErr result (λ fault. fault ≡ DeskFault.Memory) }
+{
+    if is_undo_or_cancel(event) {
+        return Ok(());
+    }
+    match room.make() {
+        Ok(()) => Ok(()),
+        Err(_) => Err(DeskFault::Memory),
+    }
 }
 
 /// Makes the places that a history needs before an event, and room for its answer, and says whether they are there. An event that gives a move up

@@ -1,9 +1,11 @@
 -- Answers, as they are kept (this profile's own).
-use Rattle.std.specs.Prelude.{Bool, true, false, None, Some, Result, Ok, Err, slice_get, unwrap_or}
+use Rattle.std.specs.Prelude.{⊤, Bool, true, false, Option, None, Some, Result, Ok, Err, slice_get, unwrap_or}
+use Rattle.mt_event.specs.declared.reason.Reason.{Reason}
 use Rattle.mt_event.specs.declared.refusal.Refusal.{Refusal}
 use Rattle.mt_event.specs.declared.refusal.Refusal.TheVariants as refusal
 use Rattle.mt_event.specs.declared.reply.Reply.{Reply}
 use Rattle.mt_event.specs.declared.reply.Reply.TheVariants as reply
+use Rattle.mt_model.specs.Rows.{RowValue}
 use Rattle.mt_kept.specs.declared.answers.Told.{Told}
 use Rattle.mt_kept.specs.declared.answers.Told.TheVariants as told
 
@@ -16,6 +18,16 @@ answer_from (told.LongRow rows) = Ok (reply.Row (slice_get rows.items 0))
 answer_from (told.Advanced advanced) = Ok (reply.Advanced advanced)
 answer_from (told.Refused reason) = Err (refusal.Other reason)
 answer_from (told.Other answers) = unwrap_or (slice_get answers.items 0) (Ok reply.Done)
+
+-- the answer to a write, from what the core tells
+abbrev pub write_answer : Result ⊤ Reason → Result Reply Refusal
+write_answer (Ok done) = Ok reply.Done
+write_answer (Err reason) = Err (refusal.Other reason)
+
+-- the answer to a read, from what the core tells
+abbrev pub read_answer : Result (Option RowValue) Reason → Result Reply Refusal
+read_answer (Ok row) = Ok (reply.Row row)
+read_answer (Err reason) = Err (refusal.Other reason)
 
 -- an answer that may not stand in place: a row, what Show tells, a refusal that tells a name
 abbrev pub needs_room : Result Reply Refusal → Bool

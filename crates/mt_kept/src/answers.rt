@@ -1,5 +1,7 @@
 //! Answers, as they are kept.
-ghost use Rattle.std.specs.Prelude.{◌≡◌, ◌↔◌, true};
+ghost use Rattle.std.specs.Prelude.{◌≡◌, ◌↔◌, true, Ok, slice_get, unwrap_or};
+ghost use Rattle.mt_event.specs.declared.reply.Reply.TheVariants.{Done};
+ghost use Rattle.mt_kept.specs.Answers.{write_answer};
 
 use crate::names::are_same;
 use mt_event::{Reason, Refusal, Reply, events_and_answers_are_told_apart};
@@ -64,6 +66,17 @@ impl Model for KeptAnswer {
 }
 
 impl KeptAnswer {
+    /// The answer to a write, to be kept, from what the core tells. It takes no memory.
+    pub fn of_write(told: Result<(), Reason>) -> Self
+        ensures { result ≡ write_answer told }
+    {
+        let told = match told {
+            Ok(()) => Told::Done,
+            Err(reason) => Told::Refused(reason),
+        };
+        KeptAnswer { told }
+    }
+
     /// Whether another one is the same answer. It takes no memory; of two that stand in place for rows neither is copied whole.
     pub fn is_same(&self, other: &Self) -> bool
         ensures { (result ≡ true) ↔ (self.now ≡ other.now) }
@@ -86,11 +99,19 @@ impl KeptAnswer {
             Told::LongRow(rows) => Ok(Reply::Row(rows.first().map(|value| copied_value(value)))),
             Told::Advanced(advanced) => Ok(Reply::Advanced(*advanced)),
             Told::Refused(reason) => Err(Refusal::Other(*reason)),
-            Told::Other(answers) => match answers.first() {
-                Some(answer) => copied_answer(answer),
-                None => Ok(Reply::Done),
-            },
+            Told::Other(answers) => first_copied(answers.as_slice()),
         }
+    }
+}
+
+/// A copy of the first of some answers. It stands apart from what copies rows, since room for the copy is cleared.
+#[inline(never)]
+fn first_copied(answers: &[Answer]) -> Answer
+    ensures { result ≡ unwrap_or (slice_get answers.now 0) (Ok Done) }
+{
+    match answers.first() {
+        Some(answer) => copied_answer(answer),
+        None => Ok(Reply::Done),
     }
 }
 

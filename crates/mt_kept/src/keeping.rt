@@ -1,12 +1,12 @@
 //! Answers that are put where there is room for them.
 ghost use Rattle.std.specs.Prelude.{◌≡◌, true, Ok, Some, OnOk};
 ghost use Rattle.mt_event.specs.declared.reply.Reply.TheVariants.{Row};
-ghost use Rattle.mt_kept.specs.Answers.{answer_from, needs_room};
+ghost use Rattle.mt_kept.specs.Answers.{answer_from, needs_room, read_answer};
 ghost use Rattle.mt_kept.specs.Rooms.{IsReady};
 
 use crate::Room;
 use crate::answers::{Answer, KeptAnswer, Told, copied_answer};
-use mt_event::{Refusal, Reply};
+use mt_event::{Reason, Refusal, Reply};
 use mt_names::{Value, copied_value};
 use mt_shared::SharedValue;
 use std::alloc::AllocError;
@@ -37,6 +37,19 @@ impl Room {
             Ok(Reply::Advanced(advanced)) => Told::Advanced(*advanced),
             Err(Refusal::Other(reason)) => Told::Refused(*reason),
             _ => self.other(answer),
+        };
+        KeptAnswer { told }
+    }
+
+    /// The answer to a read, to be kept, from what the core tells. It takes no memory. Room has to be there.
+    pub fn keep_read(&mut self, told: &Result<Option<Value>, Reason>) -> KeptAnswer
+        requires { IsReady self.old }
+        ensures { result ≡ read_answer told.now }
+    {
+        let told = match told {
+            Ok(Some(value)) => self.row(value),
+            Ok(None) => Told::NoRow,
+            Err(reason) => Told::Refused(*reason),
         };
         KeptAnswer { told }
     }

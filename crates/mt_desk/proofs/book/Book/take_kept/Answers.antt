@@ -3,15 +3,12 @@ use Rattle.std.proofs.Common.{◌≡◌, ◌∙◌, ◌+◌, ◌≤◌, ◌++◌
 use Rattle.std.proofs.lemmas.Bool.{true≢false}
 use Rattle.std.specs.Vec.{vec_capacity, vec_len}
 use Rattle.mt_event.specs.Events.{answer_from, event_of}
-use Rattle.mt_kept.specs.Answers.{needs_room}
-use Rattle.mt_kept.specs.Rooms.{IsReady}
 use Rattle.mt_site.specs.Owed.{owed_to}
 use Rattle.mt_site.specs.Stood.{IsSiteWith}
 use Rattle.mt_site_state.specs.Ways.{SiteSteps}
 use Rattle.mt_desk.specs.Fronts.{AreFronts}
 use Rattle.mt_desk.specs.Histories.{Leads, line}
 use Rattle.mt_desk.specs.Room.{HasRoom, gives_up}
-use Rattle.mt_desk.proofs.AnswerLemmas.{answer_in_place, ready_from, up_is_short}
 use Rattle.mt_desk.proofs.FrontLemmas.{fronts_kept}
 use Rattle.mt_desk.proofs.LeadsLemmas.{kept_more, stands_now}
 use Rattle.mt_desk.proofs.RoomLemmas.{Owing, finds_place, found_to, room_taken, with_more_places}
@@ -44,15 +41,15 @@ invariant_of-self-2 g c =
     let scopes = g.D.DeskName.scopes in
     let opening = g.D.DeskName.opening in
     let now = c.args.self.now.core in
-    let later = c.apply-answer.new.self in
+    let later = c.answered-answer.new.core in
     let event = event_of c.args.event.now in
-    let answer = answer_from c.apply-answer.result in
+    let answer = answer_from c.answered-answer.result.0 in
     let n = vec_len c.args.self.now.history in
     let more = vec_capacity c.make_room.new.history in
     let is : c.make_room.result ≡ true = search (c.if-not-make_room.false) in
     let before : ∥ Leads scopes opening c.make_room.new.history.items now ∥₁
     = subst (λ lines. ∥ Leads scopes opening lines now ∥₁) (sym c.make_room.ensures.items) c.args.self.now.legal in
-    let step : SiteSteps scopes now event answer later = subst (λ s. SiteSteps s now event answer later) c.requires.scopes c.apply-answer.ensures.steps in
+    let step : SiteSteps scopes now event answer later = subst (λ s. SiteSteps s now event answer later) c.requires.scopes c.answered-answer.ensures.steps in
     let laws : Owing = record {
       undone = c.each_event_owes_one_at_most.ensures.undo;
       cancelled = c.each_event_owes_one_at_most.ensures.cancel;
@@ -62,41 +59,29 @@ invariant_of-self-2 g c =
     let others : gives_up now event ≡ false → n + owed_to now.core.workflows + 2 ≤ more = λ isnt. c.make_room.ensures.others isnt is in
     let stood : IsSiteWith scopes now = stands_now scopes opening now c.make_room.new.history.items before in
     let room : HasRoom (n + 1) later more
-    = room_taken laws scopes now later stood event answer step c.apply-answer.ensures.given_up n (vec_capacity c.args.self.now.history) more c.args.self.now.room
+    = room_taken laws scopes now later stood event answer step c.answered-answer.ensures.given_up n (vec_capacity c.args.self.now.history) more c.args.self.now.room
     c.make_room.ensures.kept others in
     let client = c.args.client in
     let before_it = c.make_room.new.history.items in
-    let items : c.push_reserved.new.self.items ≡ before_it ++ line client c.args.event.now c.apply-answer.result ∷ []
+    let items : c.push_reserved.new.self.items ≡ before_it ++ line client c.args.event.now c.answered-answer.result.0 ∷ []
     = c.push_reserved.ensures.items
-    ∙ ap (λ e. before_it ++ line client e c.keep-told.result ∷ []) c.requires.kept
-    ∙ ap (λ a. before_it ++ line client c.args.event.now a ∷ []) c.keep-told.ensures in
+    ∙ ap (λ e. before_it ++ line client e c.answered-answer.result.0 ∷ []) c.requires.kept in
     record {
       legal = subst (λ lines. ∥ Leads scopes opening lines later ∥₁) (sym items)
-          (kept_more scopes opening now later c.make_room.new.history.items c.args.client c.args.event.now c.apply-answer.result before step);
+          (kept_more scopes opening now later c.make_room.new.history.items c.args.client c.args.event.now c.answered-answer.result.0 before step);
       room = subst (λ m. HasRoom m later (vec_capacity c.push_reserved.new.self)) (sym (c.push_reserved.ensures.len ∙ ap (λ m. m + 1) c.make_room.ensures.len))
           (subst (λ m. HasRoom (n + 1) later m) (sym c.push_reserved.ensures.capacity) room);
       fronts = subst (λ lines. ∥ AreFronts scopes opening lines c.args.self.now.told ∥₁) (sym items)
-          (fronts_kept scopes opening c.make_room.new.history.items (line c.args.client c.args.event.now c.apply-answer.result) c.args.self.now.told
+          (fronts_kept scopes opening c.make_room.new.history.items (line c.args.client c.args.event.now c.answered-answer.result.0) c.args.self.now.told
           (subst (λ lines. ∥ AreFronts scopes opening lines c.args.self.now.told ∥₁) (sym c.make_room.ensures.items) c.args.self.now.fronts));
     }
 
-pub keep-told-requires : goal.keep-told-requires
-keep-told-requires g c =
-    let scopes = g.D.DeskName.scopes in
+pub answered-answer-requires-clause-stood : goal.answered-answer-requires-clause-stood
+answered-answer-requires-clause-stood g c =
     let now = c.args.self.now.core in
-    let event = event_of c.args.event.now in
-    let answer = c.apply-answer.result in
-    let is : c.make_room.result ≡ true = search (c.if-not-make_room.false) in
-    let step = subst (λ s. SiteSteps s now event (answer_from answer) c.apply-answer.new.self) c.requires.scopes c.apply-answer.ensures.steps in
-    let stood = stands_now scopes g.D.DeskName.opening now c.args.self.now.history.items c.args.self.now.legal in
-    ready_from (gives_up now event) (needs_room answer) (IsReady c.make_room.new.room) (λ isnt. c.make_room.ensures.ready isnt is)
-    (λ up. answer_in_place scopes now c.apply-answer.new.self stood event answer step (up_is_short now event up))
+    subst (λ scopes. IsSiteWith scopes now) (sym c.requires.scopes) (stands_now g.D.DeskName.scopes g.D.DeskName.opening now c.args.self.now.history.items c.args.self.now.legal)
 
-pub returns-clause-in_place : goal.returns-clause-in_place
-returns-clause-in_place g c = λ short.
-    let scopes = g.D.DeskName.scopes in
-    let now = c.args.self.now.core in
-    let event = event_of c.args.event.now in
-    let answer = c.apply-answer.result in
-    let step = subst (λ s. SiteSteps s now event (answer_from answer) c.apply-answer.new.self) c.requires.scopes c.apply-answer.ensures.steps in
-    answer_in_place scopes now c.apply-answer.new.self (stands_now scopes g.D.DeskName.opening now c.args.self.now.history.items c.args.self.now.legal) event answer step short
+pub answered-answer-requires-clause-ours : goal.answered-answer-requires-clause-ours
+answered-answer-requires-clause-ours g c = λ isnt.
+    let is : c.make_room.result ≡ true = search (c.if-not-make_room.false) in
+    c.make_room.ensures.ready isnt is
