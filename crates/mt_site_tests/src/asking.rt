@@ -1,9 +1,8 @@
 //! Tests of one list of acts each: a workflow is created and cancelled, between others and with watchers that refuse.
 
-use crate::acts::Act;
-use crate::answers::Answer;
-use crate::events::Ask;
-use crate::play::{BOTH, Refuses, Watch, all_go};
+use crate::play::all_go;
+use crate::watched::{BOTH, Refuses, Watch};
+use mt_acts::{Act, Answer, Ask};
 use mt_names::TabletType;
 use mt_workflow::Slot;
 

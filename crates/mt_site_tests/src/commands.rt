@@ -1,7 +1,7 @@
 //! Commands and advances by direct calls: events whose names are lent.
 
-use crate::events::value_of;
-use crate::play::{BOTH, watchers_of};
+use crate::watched::{BOTH, watchers_of};
+use mt_acts::value_of;
 use mt_event::Reason;
 use mt_model::Op;
 use mt_names::{

@@ -1,7 +1,6 @@
 //! Copies of events and answers, and which of them are equal.
 
-use crate::answers::{Answer, reply_of};
-use crate::events::{Ask, event_of};
+use mt_acts::{Answer, Ask, event_of, reply_of};
 use mt_event::{Event, Reason, Refusal, Reply};
 use mt_names::{NameFault, RuleKey, TableName, TabletType, TypeSet};
 use mt_stream::StreamState;

@@ -1,7 +1,7 @@
 //! A move at a site by calls to which the names are lent, with a whole switch and a whole reversal.
 
-use crate::events::value_of;
-use crate::play::{BOTH, watchers_of};
+use crate::watched::{BOTH, watchers_of};
+use mt_acts::value_of;
 use mt_event::Reason;
 use mt_model::Op;
 use mt_names::{

@@ -1,9 +1,7 @@
 //! As many workflows as may be live.
 
-use crate::acts::{Act, is_so};
-use crate::answers::Answer;
-use crate::events::Ask;
-use crate::play::{BOTH, Played, play_on, watchers_of};
+use crate::watched::{BOTH, watchers_of};
+use mt_acts::{Act, Answer, Ask, Played, is_so, play_on};
 use mt_site::Site;
 use mt_watch::Watchers;
 use std::alloc::Global;

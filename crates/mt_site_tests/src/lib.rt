@@ -3,10 +3,6 @@
 #![tactic(auto)]
 
 #[cfg(test)]
-mod acts;
-#[cfg(test)]
-mod answers;
-#[cfg(test)]
 mod asking;
 #[cfg(test)]
 mod commands;
@@ -14,8 +10,6 @@ mod commands;
 mod copies;
 #[cfg(test)]
 mod driven;
-#[cfg(test)]
-mod events;
 #[cfg(test)]
 mod full;
 #[cfg(test)]
@@ -30,6 +24,10 @@ mod purging;
 mod purging_held;
 #[cfg(test)]
 mod refusals;
+#[cfg(test)]
+mod stopped;
+#[cfg(test)]
+mod watched;
 #[cfg(test)]
 mod ways;
 #[cfg(test)]

@@ -1,10 +1,8 @@
 //! Where an allocation fails, an event answers `Memory` or what it answers without, a refused one changes nothing, and the next try
 //! does it. What takes no memory answers when none is left.
 
-use crate::acts::Act;
-use crate::answers::{Answer, is_answer};
-use crate::events::{Ask, event_of};
-use crate::play::{BOTH, Played, play_on, watchers_of};
+use crate::watched::{BOTH, site_of, watchers_of};
+use mt_acts::{Act, Answer, Ask, Played, Written, documents, event_of, is_answer, play_on};
 use mt_event::{Event, Reason, Refusal, Reply};
 use mt_names::TabletType;
 use mt_site::Site;
@@ -82,20 +80,6 @@ static CREATED: [Act; 5] = [
     ),
     Act::Leads("customer.a", TabletType::Primary, "commerce.a"),
 ];
-
-/// The documents of a site: its rules, and its whole topology.
-#[derive(Drop, PartialEq)]
-pub struct Written {
-    rules: String,
-    dump: String,
-}
-
-/// The documents, each at once or at a second try.
-pub fn documents(site: &Site<Watchers>) -> Option<Written> {
-    let rules = site.rules_json().or_else(|_| site.rules_json()).ok()?;
-    let dump = site.dump().or_else(|_| site.dump()).ok()?;
-    Some(Written { rules, dump })
-}
 
 /// Whether an answer may stand where no memory is left: `Memory` itself, or the refusal of a watcher, which found none.
 pub fn is_want(answer: &Result<Reply, Refusal>) -> bool {
@@ -197,17 +181,6 @@ fn is_same_again(site: &mut Site<Watchers>) -> bool {
     match there_and_back(site) {
         Some(once) => is_again(site, &once),
         None => false,
-    }
-}
-
-/// A site that begins with nothing, at once or at a second try.
-pub fn site_of(alloc: Global) -> Option<Site<Watchers>> {
-    match watchers_of(alloc, &BOTH) {
-        Some(watchers) => Some(Site::open(alloc, watchers)),
-        None => match watchers_of(alloc, &BOTH) {
-            Some(watchers) => Some(Site::open(alloc, watchers)),
-            None => None,
-        },
     }
 }
 

@@ -1,9 +1,8 @@
 //! The beginning of a move: a workflow is created, its rows are copied, and the writes to its table are followed.
 
-use crate::acts::Act;
-use crate::answers::Answer;
-use crate::events::Ask;
-use crate::play::{BOTH, all_go};
+use crate::play::all_go;
+use crate::watched::BOTH;
+use mt_acts::{Act, Answer, Ask};
 use mt_names::TabletType;
 use mt_workflow::Slot;
 

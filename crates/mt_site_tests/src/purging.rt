@@ -3,10 +3,9 @@
 //! multiple of 256 on that isn't above that: of 256, 512, 768, 1024, 1280, 1536, 1792, 2048, 2304, 2560, 2816 and 3072. A log ends
 //! behind as many entries as there were writes of clients and of streams, of which a copied row is one.
 
-use crate::acts::Act;
-use crate::answers::Answer;
-use crate::events::{Ask, Place};
-use crate::play::{BOTH, all_go};
+use crate::play::all_go;
+use crate::watched::BOTH;
+use mt_acts::{Act, Answer, Ask, Place};
 use mt_names::{TabletType, TypeSet};
 use mt_stream::StreamState;
 use mt_workflow::Slot;

@@ -1,11 +1,10 @@
 //! Which streams hold a log back: those that run or are stopped, of all workflows, until an undo or a Cancel. Of the first entry that a log
 //! keeps see `purging`.
 
-use crate::acts::Act;
-use crate::answers::Answer;
-use crate::events::Ask;
-use crate::play::{BOTH, all_go};
+use crate::play::all_go;
 use crate::purging::{AT_SOURCE, AT_TARGET, AUDIT, BEGUN, CREATED, VISIT};
+use crate::watched::BOTH;
+use mt_acts::{Act, Answer, Ask};
 use mt_names::TypeSet;
 use mt_stream::StreamState;
 use mt_workflow::{Slot, Way};

@@ -1,9 +1,8 @@
 //! Refusals: each event that can be refused, for each reason in its order.
 
-use crate::acts::Act;
-use crate::answers::Answer;
-use crate::events::{Ask, Place};
-use crate::play::{BOTH, all_go};
+use crate::play::all_go;
+use crate::watched::BOTH;
+use mt_acts::{Act, Answer, Ask, Place};
 use mt_names::TabletType;
 use mt_workflow::Slot;
 

@@ -1,9 +1,8 @@
 //! Ways, by single events: what a begin, a step, an undo and a Complete are answered, how the site stands then, and what is owed.
 
-use crate::acts::Act;
-use crate::answers::Answer;
-use crate::events::Ask;
-use crate::play::{BOTH, Refuses, Watch, all_go};
+use crate::play::all_go;
+use crate::watched::{BOTH, Refuses, Watch};
+use mt_acts::{Act, Answer, Ask};
 use mt_names::{TabletType, TypeSet};
 use mt_stream::StreamState;
 use mt_workflow::{Slot, Way};

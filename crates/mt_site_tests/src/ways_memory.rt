@@ -1,11 +1,9 @@
 //! Where an allocation fails, a begin or a step of a way answers `Memory` or what it answers without, a refused one changes nothing,
 //! and the next try does it. An undo and a Complete ask for no memory.
 
-use crate::acts::Act;
-use crate::answers::Answer;
-use crate::events::{Ask, event_of};
-use crate::memory::{are_answered, documents, is_want, site_of};
-use crate::play::{Played, play_on};
+use crate::memory::{are_answered, is_want};
+use crate::watched::site_of;
+use mt_acts::{Act, Answer, Ask, Played, documents, event_of, play_on};
 use mt_event::Reply;
 use mt_names::{TabletType, TypeSet};
 use mt_site::Site;
