@@ -200,6 +200,8 @@ fault-no_feed name.ReservedSuffix = record { all = refl }
 fault-no_feed name.BadType = record { all = refl }
 fault-no_feed name.TooMany = record { all = refl }
 fault-no_feed name.NoKeyspace = record { all = refl }
+fault-no_feed name.BadRange = record { all = refl }
+fault-no_feed name.NotCovering = record { all = refl }
 
 topology_fault-no_feed : (fault : TopologyFault) → NoFeed (refused_text (topology_fault_text fault))
 topology_fault-no_feed topology.Memory = record { all = refl }

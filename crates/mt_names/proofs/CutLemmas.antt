@@ -1,6 +1,7 @@
 -- What stands before the first mark, and after it.
-use Rattle.std.proofs.Common.{◌≡◌, ◌≢◌, ℕ, suc, ◌<◌, Bool, true, false, eqb, List, [], ◌∷◌, ◌++◌, length, get_or, Option, None, Some, refl, sym, ap, ◌∙◌, arith}
-use Rattle.std.proofs.lemmas.Bool.{eqb-true, eq-eqb, ne_eqb}
+use Rattle.std.proofs.Common.{◌≡◌, ◌≢◌, ℕ, zero, suc, ◌-◌, ◌<◌, Bool, true, false, eqb, List, [], ◌∷◌, ◌++◌, length, get_or, Option, None, Some, refl, sym, ap, ◌∙◌, ⊎_elim, length-append, arith}
+use Rattle.std.proofs.lemmas.Bool.{cases_lt, eqb-true, eq-eqb, ne_eqb}
+use Rattle.std.proofs.lemmas.List.{get_or_append_left, get_or-append_right}
 use Rattle.mt_names.specs.Keys.{before, after}
 
 -- no byte is the mark
@@ -12,6 +13,17 @@ Lacks-tail mark byte bytes lacks i h = lacks (suc i) (omega arith)
 
 Lacks-head : (mark byte : ℕ) (bytes : List ℕ) → Lacks mark (byte ∷ bytes) → eqb byte mark ≡ false
 Lacks-head mark byte bytes lacks = ne_eqb byte mark (lacks 0 (omega arith))
+
+-- joined texts lack what each of them does
+pub Lacks-append : (mark : ℕ) (xs ys : List ℕ) → Lacks mark xs → Lacks mark ys → Lacks mark (xs ++ ys)
+Lacks-append mark xs ys left right i h same =
+    ⊎_elim (λ below. left i below (sym (get_or_append_left xs ys 0 i below) ∙ same))
+    (λ beyond. right (i - length xs) (omega (arith, length-append xs ys)) (sym (get_or-append_right xs ys (length xs) i 0 refl beyond) ∙ same))
+    (cases_lt i (length xs))
+
+pub Lacks-one : (mark byte : ℕ) → byte ≢ mark → Lacks mark (byte ∷ [])
+Lacks-one mark byte other zero h = other
+Lacks-one mark byte other (suc i) h = absurd (omega arith)
 
 module _ (mark : ℕ) where
   -- a text without a mark is all before it

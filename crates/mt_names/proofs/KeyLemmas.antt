@@ -1,7 +1,6 @@
 -- Keys and targets are read back from their texts, and each has one.
-use Rattle.std.proofs.Common.{◌≡◌, ◌≢◌, ℕ, ◌+◌, Bool, true, false, eqb, List, [], ◌∷◌, ◌++◌, length, Option, None, Some, Result, Ok, IsOk, IfSome, ◌↔◌, option_map, refl, sym, ap, subst, ◌∙◌, append_assoc, append-nil, is_ok, ◌-◌, zero, suc, ⊎_elim, length-append, arith}
-use Rattle.std.proofs.lemmas.Bool.{true≢false, cases_lt, ne_eqb}
-use Rattle.std.proofs.lemmas.List.{get_or_append_left, get_or-append_right}
+use Rattle.std.proofs.Common.{◌≡◌, ◌≢◌, ℕ, ◌+◌, Bool, true, false, eqb, List, [], ◌∷◌, ◌++◌, length, Option, None, Some, Result, Ok, IsOk, IfSome, ◌↔◌, option_map, refl, sym, ap, subst, ◌∙◌, append_assoc, append-nil, is_ok, length-append, arith}
+use Rattle.std.proofs.lemmas.Bool.{true≢false, ne_eqb}
 use Rattle.mt_names.specs.declared.fault.NameFault.{NameFault}
 use Rattle.mt_names.specs.declared.keys.RuleKey.{RuleKey}
 use Rattle.mt_names.specs.declared.keys.RuleTarget.{RuleTarget}
@@ -11,7 +10,7 @@ use Rattle.mt_names.specs.declared.types.TabletType.{TabletType}
 use Rattle.mt_names.specs.Keys.{IsRuleKey, IsRuleTarget, IsKeyText, IsTargetText, at_sign, dot, before, after, fault_behind, key_text, qualifier_text, suffix_text, target_text, read_key, read_key_type, read_plain_key, read_target, read_target_parts}
 use Rattle.mt_names.specs.Names.{IsName, IsKeyspaceName, IsTableName, allows, read_keyspace, read_table}
 use Rattle.mt_names.specs.Types.{type_text, read_type}
-use Rattle.mt_names.proofs.CutLemmas.{Lacks, before-lacks, after-lacks, before-append, after-append, joined, joined-before}
+use Rattle.mt_names.proofs.CutLemmas.{Lacks, Lacks-append, Lacks-one, before-lacks, after-lacks, before-append, after-append, joined, joined-before}
 use Rattle.mt_names.proofs.NameLemmas.{read_name-name, name_from_read}
 use Rattle.mt_names.proofs.TypeLemmas.{read_type-type_text, text_from_read_type}
 use Rattle.mt_names.proofs.ResultLemmas.{accepts, after_step, Ok-fault_behind}
@@ -27,16 +26,6 @@ dot_not_in_keyspace bytes name = name_lacks Plain dot bytes refl name
 
 dot_not_in_table : (bytes : List ℕ) → IsTableName bytes → Lacks dot bytes
 dot_not_in_table bytes name = name_lacks WithDollar dot bytes refl name
-
-Lacks-append : (mark : ℕ) (xs ys : List ℕ) → Lacks mark xs → Lacks mark ys → Lacks mark (xs ++ ys)
-Lacks-append mark xs ys left right i h same =
-    ⊎_elim (λ below. left i below (sym (get_or_append_left xs ys 0 i below) ∙ same))
-    (λ beyond. right (i - length xs) (omega (arith, length-append xs ys)) (sym (get_or-append_right xs ys (length xs) i 0 refl beyond) ∙ same))
-    (cases_lt i (length xs))
-
-Lacks-one : (mark byte : ℕ) → byte ≢ mark → Lacks mark (byte ∷ [])
-Lacks-one mark byte other zero h = other
-Lacks-one mark byte other (suc i) h = absurd (omega arith)
 
 dot≢at : dot ≢ at_sign
 dot≢at same = omega arith

@@ -1,9 +1,13 @@
+pub mod BoundLemmas
 pub mod CutLemmas
 pub mod EntryLemmas
 pub mod KeyLemmas
 pub mod NameLemmas
+pub mod RangeLemmas
+pub mod RangeTextLemmas
 pub mod ResultLemmas
 pub mod SameLemmas
+pub mod ShardLemmas
 pub mod TableLemmas
 pub mod TableListLemmas
 pub mod TypeLemmas

@@ -1,8 +1,10 @@
+pub mod Examples
 pub mod Faults
 pub mod Hashes
 pub mod Keys
 pub mod Names
 pub mod Results
 pub mod Same
+pub mod Shards
 pub mod Tables
 pub mod Types

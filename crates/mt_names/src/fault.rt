@@ -23,6 +23,10 @@ pub enum NameFault {
     TooMany,
     /// A target without a keyspace.
     NoKeyspace,
+    /// A text that is no key range, or a range whose start isn't below its end.
+    BadRange,
+    /// Key ranges that don't follow one another from the open start to the open end.
+    NotCovering,
 }
 
 impl NameFault {
@@ -41,6 +45,8 @@ impl NameFault {
             NameFault::BadType => "N6 BadType",
             NameFault::TooMany => "N7 TooMany",
             NameFault::NoKeyspace => "N8 NoKeyspace",
+            NameFault::BadRange => "N9 BadRange",
+            NameFault::NotCovering => "N10 NotCovering",
         }
     }
 }

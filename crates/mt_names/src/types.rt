@@ -199,8 +199,8 @@ fn parse_words(text: &str) -> Result<TypeSet, NameFault>
 }
 
 /// Adds a word, behind a comma unless it is the first.
-fn push_word(text: &mut ArrayString<MAX_SET_LENGTH>, word: &str)
-    requires { length text.old.bytes + 1 + length word.now ≤ MAX_SET_LENGTH }
+pub fn push_word<const N: usize>(text: &mut ArrayString<N>, word: &str)
+    requires { length text.old.bytes + 1 + length word.now ≤ N }
     ensures { text.new.bytes ≡ followed_by text.old.bytes word.now }
 {
     if !text.as_str().is_empty() {

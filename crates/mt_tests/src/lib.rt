@@ -12,6 +12,8 @@ mod keyspaces;
 #[cfg(test)]
 mod names;
 #[cfg(test)]
+mod ranges;
+#[cfg(test)]
 mod rules;
 #[cfg(test)]
 mod rules_documents;

@@ -245,7 +245,7 @@ fn names_are_printed(rt: HostRuntime) {
     assert_eq!(rt; are_printed(rt.alloc()), Some(true));
 }
 
-static FAULTS: [(NameFault, &str); 8] = [
+static FAULTS: [(NameFault, &str); 10] = [
     (NameFault::Empty, "N1 Empty"),
     (NameFault::TooLong, "N2 TooLong"),
     (NameFault::BadByte(3), "N3 BadByte"),
@@ -254,6 +254,8 @@ static FAULTS: [(NameFault, &str); 8] = [
     (NameFault::BadType, "N6 BadType"),
     (NameFault::TooMany, "N7 TooMany"),
     (NameFault::NoKeyspace, "N8 NoKeyspace"),
+    (NameFault::BadRange, "N9 BadRange"),
+    (NameFault::NotCovering, "N10 NotCovering"),
 ];
 
 /// Whether a refusal is printed so.
