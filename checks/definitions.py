@@ -470,8 +470,8 @@ class Plain:
         if verb == "dump":
             sides = {(keyspace, table) for w in self.lives for keyspace in w.sides() for table in w.tables if w.is_denied(keyspace, DENY, ALLOW)}
             document["denied"] = sorted(map(".".join, sides))
-            document["keyspaces"] = [{"name": keyspace, "tables": self.tables_at(keyspace)} for keyspace in sorted(self.keyspaces)]
-            document["version"] = 1
+            document["keyspaces"] = [{"name": keyspace, "shards": ["-"], "tables": self.tables_at(keyspace)} for keyspace in sorted(self.keyspaces)]
+            document["version"] = 2
         return json.dumps(document, separators=(",", ":"), sort_keys=True)
 
     def command(self, verb, words):

@@ -6,10 +6,11 @@ use Rattle.std.proofs.lemmas.Map.Steps.{set_value_same}
 use Rattle.std.specs.Map.{set_value}
 use Rattle.std.specs.Option.{option_map_or}
 use Rattle.mt_names.specs.Names.{same_text}
+use Rattle.mt_names.specs.Shards.{Cuts}
 use Rattle.mt_model.specs.declared.faults.TopologyFault.{TopologyFault}
 use Rattle.mt_model.specs.declared.faults.TopologyFault.TheVariants.{Memory, NoKeyspace, NoTable, Ambiguous, Exists, Full, BadDump}
 use Rattle.mt_model.specs.Limits.{most_keyspaces}
-use Rattle.mt_model.specs.Topology.{HasDistinctPlaces, Keyspaces, KeyspaceState, keyspace_at, with_keyspace, with_keyspace_state}
+use Rattle.mt_model.specs.Topology.{HasDistinctPlaces, Keyspaces, KeyspaceState, keyspace_at, new_keyspace, with_keyspace, with_keyspace_state}
 use Rattle.mt_model.proofs.DistinctLemmas.{distinct-with_keyspace}
 use Rattle.mt_model.proofs.TopologyLemmas.{with_keyspace_state-found}
 use Rattle.mt_keyspace.specs.Edits.{Edits, add_keyspace_refusal}
@@ -63,9 +64,9 @@ room_for keyspaces name free = by (keyspace_at keyspaces name) refl (length keys
     by (Some state) some t is = absurd (let h = rw some at free in cc)
 
 -- a keyspace more
-pub one_more : (keyspaces : Keyspaces) (name : List ℕ) → add_keyspace_refusal keyspaces name ≡ None → AreKeyspaces keyspaces → AreKeyspaces (with_keyspace (record { rules = []; keyspaces = keyspaces }) name).keyspaces
-one_more keyspaces name free are =
+pub one_more : (keyspaces : Keyspaces) (name : List ℕ) (cuts : Cuts) → add_keyspace_refusal keyspaces name ≡ None → AreKeyspaces keyspaces → AreKeyspaces (with_keyspace (record { rules = []; keyspaces = keyspaces }) name cuts).keyspaces
+one_more keyspaces name cuts free are =
     let room = room_for keyspaces name free in record {
-      distinct = distinct-with_keyspace (record { rules = []; keyspaces = keyspaces }) name room.0 are.distinct;
-      few = omega (arith, are.few, eqb-false (length keyspaces) most_keyspaces room.1, length-append keyspaces ((name, record { tables = []; denied = [] }) ∷ []));
+      distinct = distinct-with_keyspace (record { rules = []; keyspaces = keyspaces }) name cuts room.0 are.distinct;
+      few = omega (arith, are.few, eqb-false (length keyspaces) most_keyspaces room.1, length-append keyspaces ((name, new_keyspace cuts) ∷ []));
     }

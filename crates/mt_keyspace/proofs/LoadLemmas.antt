@@ -9,13 +9,15 @@ use Rattle.indexmap.proofs.CallerLemmas.{insert_entry-new}
 use Rattle.indexmap.specs.IndexMap.{IndexMap, insert_entry}
 use Rattle.serde_json.specs.Data.{Data, Items, item}
 use Rattle.mt_names.specs.Names.{same_text}
+use Rattle.mt_names.specs.Shards.{KeyRange}
 use Rattle.mt_names.proofs.EntryLemmas.{none_from, same_itself}
 use Rattle.mt_names.proofs.SameLemmas.{same_text_decides}
 use Rattle.mt_model.specs.declared.faults.TopologyFault.{TopologyFault}
 use Rattle.mt_model.specs.declared.faults.TopologyFault.TheVariants.{Memory, BadDump}
 use Rattle.mt_model.specs.Limits.{most_tables_in_keyspace}
 use Rattle.mt_model.specs.Topology.{HasDistinctPlaces, KeyspaceState, Keyspaces, Marks, is_marked, keyspace_at, with_mark_place}
-use Rattle.mt_keyspace.specs.Load.{IsUnlessMemory, answer_with, denials_of, has_too_many_tables, or_bad_dump, with_denial_of, with_new_denial, with_new_keyspace, with_new_mark}
+use Rattle.mt_keyspace.specs.declared.load.DumpVersion.{DumpVersion}
+use Rattle.mt_keyspace.specs.Load.{IsUnlessMemory, answer_with, denials_of, has_too_many_tables, keyspaces_of, or_bad_dump, ranges_read, with_denial_of, with_keyspace_of, with_new_denial, with_new_keyspace, with_new_mark, with_range_of}
 
 -- ---- one more, where there was none
 
@@ -67,6 +69,29 @@ denials_of-refused ks new d ds fault is = by (with_denial_of ks d) is
     by o (inl e) = inl (let same : fault ≡ Memory = cc in ap Err same)
     by None (inr e) = inr (let same : fault ≡ BadDump = cc in ap Err same)
     by (Some more) (inr e) = absurd cc
+
+pub keyspaces_of-refused : (version : DumpVersion) (ks new : Keyspaces) (d : Data) (ds : Items) (fault : TopologyFault) → IsUnlessMemory (answer_with new (Err fault)) (or_bad_dump (with_keyspace_of version ks d))
+    → IsUnlessMemory (Err fault) (or_bad_dump (keyspaces_of version ks (item d ds)))
+keyspaces_of-refused version ks new d ds fault is = by (with_keyspace_of version ks d) is
+  where
+    by : (o : Option Keyspaces) → IsUnlessMemory (Err fault) (or_bad_dump o) → IsUnlessMemory (Err fault) (or_bad_dump (option_and_then (λ more. keyspaces_of version more ds) o))
+    by o (inl e) = inl (let same : fault ≡ Memory = cc in ap Err same)
+    by None (inr e) = inr (let same : fault ≡ BadDump = cc in ap Err same)
+    by (Some more) (inr e) = absurd cc
+
+pub ranges_read-taken : (old new : List KeyRange) (d : Data) (ds : Items) → Ok new ≡ or_bad_dump (with_range_of old d) → ranges_read old (item d ds) ≡ ranges_read new ds
+ranges_read-taken old new d ds is = by (with_range_of old d) is
+  where
+    by : (o : Option (List KeyRange)) → Ok new ≡ or_bad_dump o → option_and_then (λ more. ranges_read more ds) o ≡ ranges_read new ds
+    by None e = absurd cc
+    by (Some more) e = let same : new ≡ more = cc in ap (λ ranges. ranges_read ranges ds) (sym same)
+
+pub ranges_read-refused : (old : List KeyRange) (d : Data) (ds : Items) (fault : TopologyFault) → Err fault ≡ or_bad_dump (with_range_of old d) → Err fault ≡ or_bad_dump (ranges_read old (item d ds))
+ranges_read-refused old d ds fault is = by (with_range_of old d) is
+  where
+    by : (o : Option (List KeyRange)) → Err fault ≡ or_bad_dump o → Err fault ≡ or_bad_dump (option_and_then (λ more. ranges_read more ds) o)
+    by None e = let same : fault ≡ BadDump = cc in ap Err same
+    by (Some more) e = absurd cc
 
 -- ---- places that are moved
 

@@ -15,12 +15,12 @@ marked_few (m ∷ marks) = by (marked_few marks) m.1
     by again true = omega (arith, again)
 
 -- as many entries as names
-pub routes_as_many : (name : List ℕ) (marks denied : Marks) → length (table_routes (name, record { tables = marks; denied = denied })) ≡ length (marked marks)
+pub routes_as_many : (name : List ℕ) (marks denied : Marks) → length (table_routes (name, record { cuts = []; tables = marks; denied = denied })) ≡ length (marked marks)
 routes_as_many name [] denied = refl
 routes_as_many name (m ∷ marks) denied = by (routes_as_many name marks denied) m.1
   where
-    by : length (table_routes (name, record { tables = marks; denied = denied })) ≡ length (marked marks) → (b : Bool)
-        → length (cond b (entry.Present name m.0 true ∷ []) [] ++ table_routes (name, record { tables = marks; denied = denied })) ≡ length (cond b (m.0 ∷ []) [] ++ marked marks)
+    by : length (table_routes (name, record { cuts = []; tables = marks; denied = denied })) ≡ length (marked marks) → (b : Bool)
+        → length (cond b (entry.Present name m.0 true ∷ []) [] ++ table_routes (name, record { cuts = []; tables = marks; denied = denied })) ≡ length (cond b (m.0 ∷ []) [] ++ marked marks)
     by again false = again
     by again true = ap suc again
 

@@ -128,14 +128,17 @@ WritesDenials-all now all w = sym (append-nil now) ∙ w.texts
 
 -- ---- what was appended in turn for a keyspace
 
-pub five_parts : (start first second third fourth all name tables : List ℕ) → start ≡ [] → first ≡ start ++ codes "{\"name\":\"" → second ≡ first ++ name → third ≡ second ++ codes "\",\"tables\":" → fourth ≡ third ++ tables
-    → all ≡ fourth ++ codes "}" → all ≡ 123 ∷ ((quoted (codes "name") ++ 58 ∷ quoted name) ++ 44 ∷ (quoted (codes "tables") ++ 58 ∷ tables)) ++ 125 ∷ []
-five_parts start first second third fourth all name tables none one two three four five =
-    five ∙ ap (λ t. t ++ codes "}") (four ∙ ap (λ t. t ++ tables) (three ∙ ap (λ t. t ++ codes "\",\"tables\":") (two ∙ ap (λ t. t ++ name) (one ∙ ap (λ t. t ++ codes "{\"name\":\"") none))))
-    ∙ in_turn (codes "{\"name\":\"") name (codes "\",\"tables\":") tables (codes "}") ∙ parts (quoted (codes "name")) name (quoted (codes "tables")) tables
+pub keyspace_parts : (start first second third fourth fifth sixth all name shards tables : List ℕ) → start ≡ [] → first ≡ start ++ codes "{\"name\":\"" → second ≡ first ++ name → third ≡ second ++ codes "\",\"shards\":"
+    → fourth ≡ third ++ shards → fifth ≡ fourth ++ codes ",\"tables\":" → sixth ≡ fifth ++ tables → all ≡ sixth ++ codes "}"
+    → all ≡ 123 ∷ ((quoted (codes "name") ++ 58 ∷ quoted name) ++ 44 ∷ ((quoted (codes "shards") ++ 58 ∷ shards) ++ 44 ∷ (quoted (codes "tables") ++ 58 ∷ tables))) ++ 125 ∷ []
+keyspace_parts start first second third fourth fifth sixth all name shards tables none one two three four five six seven =
+    seven ∙ ap (λ t. t ++ codes "}") (six ∙ ap (λ t. t ++ tables) (five ∙ ap (λ t. t ++ codes ",\"tables\":") (four ∙ ap (λ t. t ++ shards) (three ∙ ap (λ t. t ++ codes "\",\"shards\":")
+    (two ∙ ap (λ t. t ++ name) (one ∙ ap (λ t. t ++ codes "{\"name\":\"") none))))))
+    ∙ in_turn (codes "{\"name\":\"") name (codes "\",\"shards\":") shards (codes ",\"tables\":") tables (codes "}") ∙ parts (quoted (codes "name")) name (quoted (codes "shards")) shards (quoted (codes "tables")) tables
   where
-    in_turn : (a b c d e : List ℕ) → (((a ++ b) ++ c) ++ d) ++ e ≡ a ++ (b ++ (c ++ (d ++ e)))
-    in_turn a b c d e = simp append_assoc
+    in_turn : (a b c d e f g : List ℕ) → (((((a ++ b) ++ c) ++ d) ++ e) ++ f) ++ g ≡ a ++ (b ++ (c ++ (d ++ (e ++ (f ++ g)))))
+    in_turn a b c d e f g = simp append_assoc
 
-    parts : (p n s t : List ℕ) → 123 ∷ (p ++ 58 ∷ 34 ∷ (n ++ 34 ∷ 44 ∷ (s ++ 58 ∷ (t ++ 125 ∷ [])))) ≡ 123 ∷ ((p ++ 58 ∷ (34 ∷ (n ++ 34 ∷ []))) ++ 44 ∷ (s ++ 58 ∷ t)) ++ 125 ∷ []
-    parts p n s t = simp append_assoc
+    parts : (p n r h s t : List ℕ) → 123 ∷ (p ++ 58 ∷ 34 ∷ (n ++ 34 ∷ 44 ∷ (r ++ 58 ∷ (h ++ 44 ∷ (s ++ 58 ∷ (t ++ 125 ∷ []))))))
+        ≡ 123 ∷ ((p ++ 58 ∷ (34 ∷ (n ++ 34 ∷ []))) ++ 44 ∷ ((r ++ 58 ∷ h) ++ 44 ∷ (s ++ 58 ∷ t))) ++ 125 ∷ []
+    parts p n r h s t = simp append_assoc

@@ -4,20 +4,21 @@ ghost use Rattle.std.specs.List.{IsDistinct};
 ghost use Rattle.std.specs.Map.{keys_of, set_value};
 ghost use Rattle.mt_names.specs.Names.{same_text};
 ghost use Rattle.mt_model.specs.Limits.{most_tables_in_keyspace};
-ghost use Rattle.mt_model.specs.Topology.{is_marked, with_mark_place};
+ghost use Rattle.mt_model.specs.Topology.{is_marked, new_keyspace, with_mark_place};
 ghost use Rattle.mt_keyspace.specs.Load.{IsUnlessMemory, answer_with, or_bad_dump, with_new_denial, with_new_mark};
 
 use crate::keyspace::Keyspace;
 use indexmap::IndexMap;
 use mt_denied::{DeniedTables, TableMarks};
 use mt_model::{MAX_TABLES_IN_KEYSPACE, TopologyFault};
-use mt_names::TableName;
+use mt_names::{ShardList, TableName};
 use std::alloc::Global;
 use std::marker::Model;
 
-/// The tables of a keyspace and its denials, however many.
+/// The shards of a keyspace, its tables and its denials, however many of these.
 #[derive(Drop)]
 pub struct Draft {
+    shards: ShardList,
     tables: IndexMap<TableName, bool>,
     denied: IndexMap<TableName, bool>,
 }
@@ -30,17 +31,18 @@ impl Model for Draft {
 
     ghost Value = { KeyspaceState };
 
-    ghost view = { λ draft. record { tables = draft.tables.entries; denied = draft.denied.entries } };
+    ghost view = { λ draft. record { cuts = draft.shards; tables = draft.tables.entries; denied = draft.denied.entries } };
 
     ghost invariant = { λ draft. IsDistinct same_text (keys_of draft.tables.entries) × IsDistinct same_text (keys_of draft.denied.entries) };
 }
 
 impl Draft {
     /// No table, and no denial.
-    pub(crate) fn new(alloc: Global) -> Self
-        ensures { result ≡ record { tables = []; denied = [] } }
+    pub(crate) fn new(alloc: Global, shards: ShardList) -> Self
+        ensures { result ≡ new_keyspace shards }
     {
         Draft {
+            shards,
             tables: IndexMap::new(alloc),
             denied: IndexMap::new(alloc),
         }
@@ -50,6 +52,7 @@ impl Draft {
     pub(crate) fn add_table(&mut self, table: TableName) -> Result<(), TopologyFault>
         ensures answer { IsUnlessMemory (answer_with self.new.tables result) (or_bad_dump (with_new_mark self.old.tables table)) }
         ensures denied { self.new.denied ≡ self.old.denied }
+        ensures cuts { self.new.cuts ≡ self.old.cuts }
     {
         add_mark(&mut self.tables, table)
     }
@@ -92,9 +95,14 @@ impl Draft {
         ensures value { IfOk result (λ keyspace. keyspace ≡ self) }
         ensures memory { IfErr result (λ fault. fault ≡ TopologyFault.Memory) }
     {
-        let Draft { tables, denied } = self;
+        let Draft {
+            shards,
+            tables,
+            denied,
+        } = self;
         let denied = denials(alloc, &denied)?;
-        Ok(Keyspace::from_places(TableMarks::from_places(tables), denied))
+        let tables = TableMarks::from_places(tables);
+        Ok(Keyspace::from_places(shards, tables, denied))
     }
 }
 

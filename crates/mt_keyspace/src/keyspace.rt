@@ -4,28 +4,31 @@ ghost use Rattle.std.specs.List.{AllByRecursion, IsDistinct};
 ghost use Rattle.std.specs.Map.{keys_of, lookup};
 ghost use Rattle.mt_names.specs.Keys.{qualifier_text};
 ghost use Rattle.mt_names.specs.Names.{IsTableName, same_text};
+ghost use Rattle.mt_names.specs.Shards.{AreCuts, ranges_of};
 ghost use Rattle.mt_model.specs.Limits.{most_tables_in_keyspace};
 ghost use Rattle.mt_model.specs.Part.{table_routes};
-ghost use Rattle.mt_model.specs.Topology.{is_marked, with_table_mark, with_denied_mark, with_new_table, with_table_place, without_table_place, with_denied_place, without_denied_place};
+ghost use Rattle.mt_model.specs.Topology.{is_marked, new_keyspace, with_table_mark, with_denied_mark, with_new_table, with_table_place, without_table_place, with_denied_place, without_denied_place};
 ghost use Rattle.mt_denied.specs.Denied.{done};
 ghost use Rattle.mt_keyspace.specs.Drops.{without_denial, without_table};
 ghost use Rattle.mt_keyspace.specs.Edits.{Edits, answer_of, new_table_refusal, lacks_table_place};
 ghost use Rattle.mt_keyspace.specs.Room.{has_mark_room, lacking_marks, lacks_mark_place, mark_place_refusal};
-ghost use Rattle.mt_model.specs.Documents.{array, marked, quoted, tables_in_order};
+ghost use Rattle.mt_model.specs.Documents.{array, marked, quoted, shard_texts, tables_in_order};
 ghost use Rattle.mt_rules.specs.Written.{written_text};
+ghost use Rattle.mt_keyspace.specs.Values.{IsReadRange};
 ghost use Rattle.mt_keyspace.specs.Written.{items_behind};
 
 use crate::{routes, text};
 use mt_denied::{DeniedFault, DeniedTables, TableMarks};
 use mt_model::{Entry, MAX_TABLES_IN_KEYSPACE, TopologyFault};
-use mt_names::{KeyspaceName, TableName};
+use mt_names::{KeyspaceName, ShardList, TableName};
 use mt_rules::WrittenItem;
 use std::alloc::{AllocError, Global};
 use std::marker::Model;
 
-/// The tables of a keyspace, each there or not, and those that its primary is to refuse.
+/// The shards of a keyspace, its tables, each there or not, and those that its primary is to refuse.
 #[derive(Drop)]
 pub struct Keyspace {
+    shards: ShardList,
     tables: TableMarks,
     denied: DeniedTables,
 }
@@ -35,34 +38,48 @@ impl Model for Keyspace {
 
     ghost Value = { KeyspaceState };
 
-    ghost view = { λ keyspace. record { tables = keyspace.tables; denied = keyspace.denied } };
+    ghost view = { λ keyspace. record { cuts = keyspace.shards; tables = keyspace.tables; denied = keyspace.denied } };
 }
 
 impl Keyspace {
-    /// A keyspace without a table and without a denial.
-    pub(crate) fn new(alloc: Global) -> Self
-        ensures { result ≡ record { tables = []; denied = [] } }
+    /// A keyspace of these shards, without a table and without a denial.
+    pub(crate) fn new(alloc: Global, shards: ShardList) -> Self
+        ensures { result ≡ new_keyspace shards }
     {
         Keyspace {
+            shards,
             tables: TableMarks::new(alloc),
             denied: DeniedTables::new(alloc),
         }
     }
 
     /// A keyspace with these places.
-    pub(crate) fn from_places(tables: TableMarks, denied: DeniedTables) -> Self
-        ensures { result ≡ record { tables = tables; denied = denied } }
+    pub(crate) fn from_places(shards: ShardList, tables: TableMarks, denied: DeniedTables) -> Self
+        ensures { result ≡ record { cuts = shards; tables = tables; denied = denied } }
     {
-        Keyspace { tables, denied }
+        Keyspace {
+            shards,
+            tables,
+            denied,
+        }
     }
 
-    /// What is true of every keyspace, for a caller's proof: it has at most 256 places for tables, and no table has two. It
-    /// does nothing.
+    /// What is true of every keyspace, for a caller's proof: it has at most 256 places for tables, and no table has two; its shards cover
+    /// all keys. It does nothing.
     pub(crate) fn facts(&self)
         ensures tables { IsDistinct same_text (keys_of self.now.tables) }
         ensures few { length self.now.tables ≤ most_tables_in_keyspace }
+        ensures cuts { AreCuts self.now.cuts }
     {
         self.tables.facts();
+        self.shards.facts();
+    }
+
+    /// The shards. It takes no memory.
+    pub fn shards(&self) -> &ShardList
+        ensures { result.now ≡ self.now.cuts }
+    {
+        &self.shards
     }
 
     /// Whether the keyspace has a table.
@@ -196,6 +213,14 @@ impl Keyspace {
         ensures { OnOk result (list.new.items ≡ list.old.items ++ table_routes (name.now, self.now)) }
     {
         routes::push_routes(name, self.tables.places(), list)
+    }
+
+    /// Appends the list of the shards, in the order of their ranges.
+    pub(crate) fn push_shards(&self, text: &mut String) -> Result<(), AllocError>
+        ensures text { OnOk result (string_bytes text.new ≡ string_bytes text.old ++ array (map quoted (shard_texts self.now))) }
+        ensures read { OnOk result (AllByRecursion IsReadRange (ranges_of self.now.cuts)) }
+    {
+        text::push_ranges(text, self.shards.as_slice())
     }
 
     /// Appends the list of the tables that are there, in the order of their names.

@@ -7,7 +7,7 @@ ghost use Rattle.mt_names.specs.Names.{same_text};
 ghost use Rattle.mt_model.specs.Documents.{array, denied_sorted, denied_texts, keyspace_text, keyspaces_in_order, quoted};
 ghost use Rattle.mt_model.specs.Limits.{most_keyspaces, most_tables_in_keyspace};
 ghost use Rattle.mt_model.specs.Part.{table_routes};
-ghost use Rattle.mt_model.specs.Topology.{holders, is_denied, is_present, keyspace_at, sole_holder, with_denied_mark, with_denied_place, with_keyspace_state, with_new_table, with_table_mark, with_table_place, without_denied_place, without_table_place};
+ghost use Rattle.mt_model.specs.Topology.{holders, is_denied, is_present, keyspace_at, new_keyspace, sole_holder, with_denied_mark, with_denied_place, with_keyspace_state, with_new_table, with_table_mark, with_table_place, without_denied_place, without_table_place};
 ghost use Rattle.mt_denied.specs.Denied.{done};
 ghost use Rattle.mt_keyspace.specs.Drops.{without_denial, without_table};
 ghost use Rattle.mt_keyspace.specs.Edits.{Edits, add_keyspace_refusal, add_table_grows, add_table_refusal, answer_of, denied_place_grows, denied_place_refusal, table_place_grows, table_place_refusal};
@@ -19,7 +19,7 @@ use crate::text::{push_denials, push_keyspaces};
 use indexmap::IndexMap;
 use mt_denied::DeniedFault;
 use mt_model::{Entry, MAX_KEYSPACES, TopologyFault};
-use mt_names::{KeyspaceName, TableName};
+use mt_names::{KeyspaceName, ShardList, TableName};
 use std::alloc::{AllocError, Global};
 use std::marker::Model;
 
@@ -153,10 +153,15 @@ impl Keyspaces {
         holder.ok_or(TopologyFault::NoTable)
     }
 
-    /// Adds a keyspace without tables. `T4 Exists`, `T5 Full` at a 33rd, `T0 Memory`.
-    pub fn add_keyspace(&mut self, alloc: Global, name: &KeyspaceName) -> Result<(), TopologyFault>
+    /// Adds a keyspace of these shards, without tables. `T4 Exists`, `T5 Full` at a 33rd, `T0 Memory`.
+    pub fn add_keyspace(
+        &mut self,
+        alloc: Global,
+        name: &KeyspaceName,
+        shards: ShardList,
+    ) -> Result<(), TopologyFault>
         ensures { Edits self.old (add_keyspace_refusal self.old name.now) true
-            (self.old ++ (name.now, record { tables = []; denied = [] }) ∷ []) result self.new }
+            (self.old ++ (name.now, new_keyspace shards) ∷ []) result self.new }
     {
         if self.places.contains_key(name) {
             return Err(TopologyFault::Exists);
@@ -164,7 +169,7 @@ impl Keyspaces {
         if self.places.len() == MAX_KEYSPACES {
             return Err(TopologyFault::Full);
         }
-        let keyspace = Keyspace::new(alloc);
+        let keyspace = Keyspace::new(alloc, shards);
         if self.places.insert(name.copied(), keyspace).is_err() {
             return Err(TopologyFault::Memory);
         }
@@ -302,7 +307,7 @@ impl Keyspaces {
         Ok(())
     }
 
-    /// Appends the list of the keyspaces with their tables, in the order of their names.
+    /// Appends the list of the keyspaces with their shards and their tables, in the order of their names.
     pub fn push_list(&self, alloc: Global, text: &mut String) -> Result<(), AllocError>
         ensures text { OnOk result (string_bytes text.new ≡ string_bytes text.old
             ++ array (map keyspace_text (keyspaces_in_order (record { rules = []; keyspaces = self.now })))) }

@@ -1,4 +1,4 @@
-//! The keyspaces of a topology: their tables and denials, and how these are read from a dump and written to one.
+//! The keyspaces of a topology: their shards, tables and denials, and how these are read from a dump and written to one.
 #![tactic(auto)]
 
 mod draft;
@@ -10,4 +10,4 @@ mod text;
 
 pub use keyspace::Keyspace;
 pub use keyspaces::Keyspaces;
-pub use load::{Drafts, drafts_in, is_too_large, settled};
+pub use load::{Drafts, DumpVersion, drafts_in, is_too_large, settled};

@@ -16,7 +16,7 @@ pub(crate) fn push_routes(
     places: &IndexMap<TableName, bool>,
     list: &mut Vec<Entry>,
 ) -> Result<(), AllocError>
-    ensures { OnOk result (list.new.items ≡ list.old.items ++ table_routes (name.now, record { tables = places.now.entries; denied = [] })) }
+    ensures { OnOk result (list.new.items ≡ list.old.items ++ table_routes (name.now, record { cuts = []; tables = places.now.entries; denied = [] })) }
 {
     for (table, is_there) in places.iter() {
         if *is_there {
@@ -47,7 +47,7 @@ pub(crate) fn table_entry(
     places: &IndexMap<TableName, bool>,
     index: usize,
 ) -> Option<Entry>
-    ensures { result ≡ slice_get (table_routes (name.now, record { tables = places.now.entries; denied = [] })) index }
+    ensures { result ≡ slice_get (table_routes (name.now, record { cuts = []; tables = places.now.entries; denied = [] })) index }
 {
     let mut before = index;
     for (table, is_there) in places.iter() {

@@ -5,17 +5,18 @@ ghost use Rattle.std.specs.Map.{keys_of};
 ghost use Rattle.mt_names.specs.Keys.{qualifier_text};
 ghost use Rattle.mt_names.specs.Names.{IsKeyspaceName, IsTableName, same_text};
 ghost use Rattle.mt_model.specs.Documents.{array, denied_sorted, denied_texts, keyspace_text, keyspaces_in_order, marked, quoted, sorted_texts};
+ghost use Rattle.mt_names.specs.Shards.{range_text};
 ghost use Rattle.mt_rules.specs.Written.{quoted_item, written_text};
 ghost use Rattle.mt_keyspace.specs.Keyspaces.{AreKeyspaces};
-ghost use Rattle.mt_keyspace.specs.Values.{IsDenialText, IsNamedKeyspace};
+ghost use Rattle.mt_keyspace.specs.Values.{IsDenialText, IsNamedKeyspace, IsReadRange};
 ghost use Rattle.mt_keyspace.specs.Written.{items_behind, keyspace_item};
 
 use crate::keyspace::Keyspace;
 use arrayvec::ArrayString;
 use indexmap::IndexMap;
 use mt_model::key_of_name;
-use mt_names::{KeyspaceName, TableName};
-use mt_rules::{WrittenItem, push_sorted};
+use mt_names::{KeyRange, KeyspaceName, TableName};
+use mt_rules::{WrittenItem, push_quoted, push_sorted};
 use std::alloc::{AllocError, Global};
 
 /// How many bytes the text of a keyspace is taken to have before it is known.
@@ -61,6 +62,30 @@ pub fn push_tables(
     push_sorted(alloc, text, &items)
 }
 
+/// Appends the text of a key range in quotes.
+fn push_range(text: &mut String, range: &KeyRange) -> Result<(), AllocError>
+    ensures text { OnOk result (string_bytes text.new ≡ string_bytes text.old ++ quoted (range_text range.now)) }
+    ensures read { IsReadRange range.now }
+{
+    push_quoted(text, range.text().as_str())
+}
+
+/// Appends the list of the texts of key ranges, in their order.
+pub fn push_ranges(text: &mut String, ranges: &[KeyRange]) -> Result<(), AllocError>
+    ensures text { OnOk result (string_bytes text.new ≡ string_bytes text.old ++ array (map quoted (map range_text ranges.now))) }
+    ensures read { OnOk result (AllByRecursion IsReadRange ranges.now) }
+{
+    text.push_str("[")?;
+    let mut before = "";
+    'shards: for range in ranges {
+        text.push_str(before)?;
+        push_range(text, range)?;
+        before = ",";
+    }
+    text.push_str("]")?;
+    Ok(())
+}
+
 /// A keyspace as it is written, under its name.
 fn written_keyspace(
     alloc: Global,
@@ -74,7 +99,9 @@ fn written_keyspace(
     let mut text = String::with_capacity(alloc, LIKELY_KEYSPACE)?;
     text.push_str("{\"name\":\"")?;
     text.push_str(name.as_str())?;
-    text.push_str("\",\"tables\":")?;
+    text.push_str("\",\"shards\":")?;
+    keyspace.push_shards(&mut text)?;
+    text.push_str(",\"tables\":")?;
     keyspace.push_tables(alloc, &mut text)?;
     text.push_str("}")?;
     let mut key = ArrayString::new();

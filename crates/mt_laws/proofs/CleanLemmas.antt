@@ -20,7 +20,7 @@ use Rattle.mt_model.specs.declared.rows.Op.TheVariants.{Insert, Update, Append, 
 use Rattle.mt_model.specs.Limits.{longest_value}
 use Rattle.mt_model.specs.Part.{keys_of_name}
 use Rattle.mt_model.specs.Rows.{Row, RowValue, op_key, op_row}
-use Rattle.mt_model.specs.Topology.{KeyspaceState, Keyspaces, Marks, Rules, TopologyState, keyspace_at, rule_at, with_keyspace_state, with_mark_place, with_new_table, with_rule, with_rule_place}
+use Rattle.mt_model.specs.Topology.{KeyspaceState, Keyspaces, Marks, Rules, TopologyState, keyspace_at, new_keyspace, rule_at, with_keyspace_state, with_mark_place, with_new_table, with_rule, with_rule_place}
 use Rattle.mt_plain.specs.Events.{Event, write, read, add_keyspace, add_table, edit_rule, create, advance, begin_switch, begin_reverse, step, undo, cancel, complete, show, StreamName, Answer, done, row, advanced, shown, refused}
 use Rattle.mt_plain.specs.Next.{after_advance, completed, created, live_stepped, live_undone, next, next_taken, on_way_of, row_left, with_advance, with_completed, with_live, with_tables, with_way_to, without_live, without_tables, types_and, types_without}
 use Rattle.mt_plain.specs.Plain.{Live, Plain, Write, each_once, in_keyspace, is_side, live_at, mover, number_of, opening, owner, rule_keys, twelve_keys}
@@ -52,6 +52,7 @@ CleanMark mark = NoFeed mark.0
 pub record CleanState (state : KeyspaceState) : Type 0 where
   pub tables : AllByRecursion CleanMark state.tables
   pub denied : AllByRecursion CleanMark state.denied
+  pub cuts : AllByRecursion NoFeed state.cuts
 
 pub record CleanKeyspace (k : List ℕ × KeyspaceState) : Type 0 where
   pub name : NoFeed k.0
@@ -155,6 +156,7 @@ with_new_table-clean : (table : List ℕ) (s : KeyspaceState) → NoFeed table �
 with_new_table-clean table s none clean = record {
   tables = set_value-all CleanMark (same_text table) (with_mark_place s.tables table) true (λ e is. is) (with_mark_place-clean s.tables table none clean.tables);
   denied = clean.denied;
+  cuts = clean.cuts;
 }
 
 rule_at-clean : (rules : Rules) (key : RuleKey) → AllByRecursion CleanRule rules → OfSome CleanTarget (rule_at rules key)
@@ -190,7 +192,7 @@ completed-clean : (u : TopologyState) (w : Live) → CleanTopology u → CleanLi
 completed-clean u w clean live = record {
   rules = without_rules-clean u.rules (rule_keys w) clean.rules;
   keyspaces = with_keyspace_state-clean (with_tables w.tables) (with_keyspace_state (without_tables w.tables) u.keyspaces w.source) w.target (λ s is. with_tables-clean w.tables s live.tables is)
-      (with_keyspace_state-clean (without_tables w.tables) u.keyspaces w.source (λ s is. record { tables = without_marks-clean s.tables w.tables is.tables; denied = is.denied }) clean.keyspaces);
+      (with_keyspace_state-clean (without_tables w.tables) u.keyspaces w.source (λ s is. record { tables = without_marks-clean s.tables w.tables is.tables; denied = is.denied; cuts = is.cuts }) clean.keyspaces);
 }
 
 -- ---- what is served
@@ -239,6 +241,7 @@ with_part_at-clean : (u : TopologyState) (w : Live) (keyspace : List ℕ) (moved
 with_part_at-clean u w keyspace moved s live all is = record {
   tables = append-all CleanMark moved s.tables all is.tables;
   denied = append-all CleanMark (denials_over u w keyspace) s.denied (map-all NoFeed CleanMark (λ table. (table, mark_in (served_by u w (about.Denied keyspace table)))) w.tables (λ table none. none) live.tables) is.denied;
+  cuts = is.cuts;
 }
 
 with_workflow-clean : (u : TopologyState) (w : Live) → CleanTopology u → CleanLive w → CleanTopology (with_workflow u w)
@@ -311,7 +314,7 @@ next_taken-clean p (read keyspace table key tablet_type) clean is = clean
 next_taken-clean p (add_keyspace keyspace) clean is = record {
   topology = record {
     rules = clean.topology.rules;
-    keyspaces = append-all CleanKeyspace p.topology.keyspaces ((keyspace, record { tables = []; denied = [] }) ∷ []) clean.topology.keyspaces (record { name = is; state = record { tables = tt; denied = tt } }, tt);
+    keyspaces = append-all CleanKeyspace p.topology.keyspaces ((keyspace, new_keyspace []) ∷ []) clean.topology.keyspaces (record { name = is; state = record { tables = tt; denied = tt; cuts = tt } }, tt);
   };
   lives = clean.lives;
   writes = clean.writes;

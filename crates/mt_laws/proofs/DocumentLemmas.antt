@@ -8,9 +8,11 @@ use Rattle.mt_names.specs.declared.types.TabletType.{TabletType}
 use Rattle.mt_names.specs.declared.types.TabletType.TheVariants.{Primary, Replica, Rdonly}
 use Rattle.mt_names.specs.declared.types.TypeSet.{TypeSet}
 use Rattle.mt_names.specs.Keys.{at_sign, dot, key_text, qualifier_text, suffix_text, target_text}
+use Rattle.mt_names.specs.Names.{dash}
+use Rattle.mt_names.specs.Shards.{Cuts, range_text, ranges_from}
 use Rattle.mt_names.specs.Tables.{table_list_text}
 use Rattle.mt_names.specs.Types.{comma, members, type_set_text, type_text, written}
-use Rattle.mt_model.specs.Documents.{array, denied_text, denied_texts, dump_text, entries_of, keyspace_text, marked, member, quoted, rule_text, rules_array, rules_text, sorted_by_text, sorted_texts}
+use Rattle.mt_model.specs.Documents.{array, denied_text, denied_texts, dump_text, entries_of, keyspace_text, marked, member, quoted, rule_text, rules_array, rules_text, shard_texts, sorted_by_text, sorted_texts}
 use Rattle.mt_model.specs.Topology.{KeyspaceState, Marks, Rules, TopologyState}
 use Rattle.mt_plain.specs.Answers.{Answers, advanced_of, reply_of, show_of}
 use Rattle.mt_plain.specs.Events.{Event, read, advance, show, StreamName, Refusal, memory, no_keyspace, no_table, denied, row_exists, no_row, workflow_exists, no_workflow, table_in_workflow, rule_conflict, target_has_table, same_keyspace, no_tables, under_way, nothing_under_way, nothing_to_switch, nothing_to_reverse, copying, not_level, past_journal, traffic_switched, not_all_switched, rule_owned, watcher_refused, no_watcher, stale, stream_stopped, full, undoing, too_long, exists, refusal_text, Way, StreamState, running, stopped, frozen, Slot, Shown, Answer, done, row, advanced, shown, refused}
@@ -83,12 +85,21 @@ quoted_texts-no_feed : (texts : List (List ℕ)) → AllByRecursion NoFeed texts
 quoted_texts-no_feed texts all =
     no_feed-array (map quoted (sorted_texts texts)) (map-all NoFeed NoFeed quoted (sorted_texts texts) no_feed-quoted (sorted_by_text-all NoFeed (λ t. t) texts all))
 
+ranges-no_feed : (start : List ℕ) (cuts : Cuts) → NoFeed start → AllByRecursion NoFeed cuts → AllByRecursion NoFeed (map range_text (ranges_from start cuts))
+ranges-no_feed start [] first all = (no_feed-append start (dash ∷ []) first (record { all = refl }), tt)
+ranges-no_feed start (cut ∷ cuts) first all = (no_feed-append start (dash ∷ cut) first (no_feed-cons dash cut refl all.0), ranges-no_feed cut cuts all.0 all.1)
+
 keyspace_text-no_feed : (k : List ℕ × KeyspaceState) → CleanKeyspace k → NoFeed (keyspace_text k)
 keyspace_text-no_feed k is =
+    let shards = array (map quoted (shard_texts k.1)) in
     let tables = array (map quoted (sorted_texts (marked k.1.tables))) in
-    no_feed-object (member (codes "name") (quoted k.0) ∷ member (codes "tables") tables ∷ []) (
+    let shards_are : NoFeed shards = no_feed-array (map quoted (shard_texts k.1)) (map-all NoFeed NoFeed quoted (shard_texts k.1) no_feed-quoted (ranges-no_feed [] k.1.cuts no_feed-nil is.state.cuts)) in
+    no_feed-object (member (codes "name") (quoted k.0) ∷ member (codes "shards") shards ∷ member (codes "tables") tables ∷ []) (
       no_feed-member (codes "name") (quoted k.0) (record { all = refl }) (no_feed-quoted k.0 is.name),
-      (no_feed-member (codes "tables") tables (record { all = refl }) (quoted_texts-no_feed (marked k.1.tables) (marked-clean k.1.tables is.state.tables)), tt),
+      (
+        no_feed-member (codes "shards") shards (record { all = refl }) shards_are,
+        (no_feed-member (codes "tables") tables (record { all = refl }) (quoted_texts-no_feed (marked k.1.tables) (marked-clean k.1.tables is.state.tables)), tt),
+      ),
     )
 
 denied_texts-no_feed : (k : List ℕ × KeyspaceState) → CleanKeyspace k → AllByRecursion NoFeed (denied_texts k)
@@ -104,13 +115,13 @@ dump_text-no_feed t clean =
     let keyspaces_are : NoFeed keyspaces =
     no_feed-array (map keyspace_text (sorted_by_text (λ k. k.0) t.keyspaces))
     (map-all CleanKeyspace NoFeed keyspace_text (sorted_by_text (λ k. k.0) t.keyspaces) keyspace_text-no_feed (sorted_by_text-all CleanKeyspace (λ k. k.0) t.keyspaces clean.keyspaces)) in
-    no_feed-object (member (codes "denied") denials ∷ member (codes "keyspaces") keyspaces ∷ member (codes "rules") (rules_array t.rules) ∷ member (codes "version") (codes "1") ∷ []) (
+    no_feed-object (member (codes "denied") denials ∷ member (codes "keyspaces") keyspaces ∷ member (codes "rules") (rules_array t.rules) ∷ member (codes "version") (codes "2") ∷ []) (
       no_feed-member (codes "denied") denials (record { all = refl }) denials_are,
       (
         no_feed-member (codes "keyspaces") keyspaces (record { all = refl }) keyspaces_are,
         (
           no_feed-member (codes "rules") (rules_array t.rules) (record { all = refl }) (rules_array-no_feed t.rules clean.rules),
-          (no_feed-member (codes "version") (codes "1") (record { all = refl }) (record { all = refl }), tt),
+          (no_feed-member (codes "version") (codes "2") (record { all = refl }) (record { all = refl }), tt),
         ),
       ),
     )

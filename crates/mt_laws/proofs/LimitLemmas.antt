@@ -11,7 +11,7 @@ use Rattle.mt_names.proofs.EntryLemmas.{same_or_other}
 use Rattle.mt_names.proofs.SameLemmas.{same_text_decides}
 use Rattle.mt_model.specs.declared.entries.Scope.{Scope}
 use Rattle.mt_model.specs.Limits.{most_keyspaces, most_rules, most_tables_in_keyspace}
-use Rattle.mt_model.specs.Topology.{Keyspaces, TopologyState, keyspace_at, with_keyspace_state, with_new_table}
+use Rattle.mt_model.specs.Topology.{Keyspaces, TopologyState, keyspace_at, new_keyspace, with_keyspace_state, with_new_table}
 use Rattle.mt_plain.specs.Answers.{Answers}
 use Rattle.mt_plain.specs.Events.{Event, add_keyspace, add_table, create, advance, begin_switch, begin_reverse, step, undo, cancel, complete, StreamName, Answer, done, row, advanced, shown, refused, exists, full, no_keyspace, stale, undoing, Way}
 use Rattle.mt_plain.specs.Next.{completed, journal_after, next, next_taken, with_advance, with_completed, with_tables, without_live, without_tables}
@@ -63,7 +63,7 @@ keyspaces-taken p (add_keyspace name) has none fits =
     let limit = refuse_if (leb most_keyspaces (length p.topology.keyspaces)) full in
     let test = refuse_if-none (leb most_keyspaces (length p.topology.keyspaces)) full (or_else-none (refuse_if (has_keyspace p name) exists) limit none).1 in
     let below = leb-false most_keyspaces (length p.topology.keyspaces) test in
-    let longer = length-append p.topology.keyspaces ((name, record { tables = []; denied = [] }) ∷ []) in
+    let longer = length-append p.topology.keyspaces ((name, new_keyspace []) ∷ []) in
     omega arith
 keyspaces-taken p (add_table k t) has none fits = subst (λ n. n ≤ most_keyspaces) (sym (length-changed (with_new_table t) p.topology.keyspaces k)) fits
 keyspaces-taken p (complete workflow) has none fits = by (live_at p workflow)

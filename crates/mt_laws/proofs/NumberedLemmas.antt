@@ -65,12 +65,12 @@ record Tables (u : TopologyState) (numbers : Numbers) : Type 0 where
 tables_of : (p : Plain) → IsNumbered p → Tables p.topology p.numbers
 tables_of p is = record { places = is.places; numbered = is.numbered; present = is.present }
 
-keyspace-tables : (p : Plain) (name : List ℕ) → IsNumbered p → refusal_of p (add_keyspace name) ≡ None → Tables (with_keyspace p.topology name) p.numbers
+keyspace-tables : (p : Plain) (name : List ℕ) → IsNumbered p → refusal_of p (add_keyspace name) ≡ None → Tables (with_keyspace p.topology name []) p.numbers
 keyspace-tables p name is none = record {
-  places = distinct-with_keyspace p.topology name (none_from (keyspace_at p.topology.keyspaces name) (refuse_if-none (has_keyspace p name) exists (or_else-none (refuse_if (has_keyspace p name) exists) (refuse_if (nat_le most_keyspaces (length p.topology.keyspaces)) full) none).0)) is.places;
-  numbered = λ keyspace table has. is.numbered keyspace table (is_present-with_keyspace p.topology name keyspace table has);
+  places = distinct-with_keyspace p.topology name [] (none_from (keyspace_at p.topology.keyspaces name) (refuse_if-none (has_keyspace p name) exists (or_else-none (refuse_if (has_keyspace p name) exists) (refuse_if (nat_le most_keyspaces (length p.topology.keyspaces)) full) none).0)) is.places;
+  numbered = λ keyspace table has. is.numbered keyspace table (is_present-with_keyspace p.topology name [] keyspace table has);
   present = λ keyspace table n e.
-      present_from_value (with_keyspace p.topology name) p.topology keyspace table (value_of-with_keyspace p.topology name (about.Present keyspace table)) ∙ is.present keyspace table n e;
+      present_from_value (with_keyspace p.topology name []) p.topology keyspace table (value_of-with_keyspace p.topology name [] (about.Present keyspace table)) ∙ is.present keyspace table n e;
 }
 
 table_there : (p : Plain) (keyspace table : List ℕ) → refusal_of p (add_table keyspace table) ≡ None → has_keyspace p keyspace ≡ true

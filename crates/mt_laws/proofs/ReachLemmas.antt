@@ -181,7 +181,7 @@ settled-change event w v (completed first steps was rests is) settled way now be
 settled-change event w v (abandoned first undoes was rests is journal) settled way now before = no_way v.way way rests now
 
 undenied-taken : (p : Plain) (event : Event) (keyspace table : List ℕ) → refusal_of p event ≡ None → is_denied (next_taken p event).topology.keyspaces keyspace table ≡ is_denied p.topology.keyspaces keyspace table
-undenied-taken p (add_keyspace name) keyspace table none = denied_from_value (with_keyspace p.topology name) p.topology keyspace table (value_of-with_keyspace p.topology name (about.Denied keyspace table))
+undenied-taken p (add_keyspace name) keyspace table none = denied_from_value (with_keyspace p.topology name []) p.topology keyspace table (value_of-with_keyspace p.topology name [] (about.Denied keyspace table))
 undenied-taken p (add_table k t) keyspace table none =
     denied_from_value (with_table p.topology k t) p.topology keyspace table (value_of-with_table_elsewhere p.topology k t (about.Denied keyspace table) (λ e. absurd cc))
 undenied-taken p (edit_rule key target) keyspace table none = refl

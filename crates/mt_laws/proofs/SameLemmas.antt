@@ -12,6 +12,7 @@ use Rattle.mt_names.specs.declared.types.TabletType.{TabletType}
 use Rattle.mt_names.specs.Keys.{key_text, read_key}
 use Rattle.mt_names.specs.Names.{same_text}
 use Rattle.mt_names.specs.Same.{same_key}
+use Rattle.mt_names.specs.Shards.{Cuts, range_text, ranges_of}
 use Rattle.mt_names.proofs.EntryLemmas.{other_from}
 use Rattle.mt_names.proofs.KeyLemmas.{read_key-key_text}
 use Rattle.mt_names.proofs.SameLemmas.{same_key_decides, same_text_decides}
@@ -113,16 +114,21 @@ module _ (t u : TopologyState) (same : IsSameTopology t u) (distinct : HasDistin
   denied-at name one other is is' table =
       ap (λ o. option_map_or (λ state. is_marked state.denied table) o false) (sym is) ∙ denied-same t u same name table ∙ ap (λ o. option_map_or (λ state. is_marked state.denied table) o false) is'
 
-  -- their texts, each made of the name and the tables
-  abbrev written_keyspace : List ℕ → List (List ℕ) → List ℕ
-  written_keyspace name tables = object (member (codes "name") (quoted name) ∷ member (codes "tables") (array (map quoted tables)) ∷ [])
+  cuts-at : (name : List ℕ) (one other : KeyspaceState) → keyspace_at t.keyspaces name ≡ Some one → keyspace_at u.keyspaces name ≡ Some other → one.cuts ≡ other.cuts
+  cuts-at name one other is is' = ap (λ o. option_map_or (λ state. state.cuts) o []) (sym is) ∙ same.shards name ∙ ap (λ o. option_map_or (λ state. state.cuts) o []) is'
+
+  -- their texts, each made of the name, the shards and the tables
+  abbrev written_keyspace : List ℕ → Cuts → List (List ℕ) → List ℕ
+  written_keyspace name cuts tables =
+      object (member (codes "name") (quoted name) ∷ member (codes "shards") (array (map quoted (map range_text (ranges_of cuts)))) ∷ member (codes "tables") (array (map quoted tables)) ∷ [])
 
   abbrev put_keyspace : List (List ℕ × List ℕ) → List ℕ × KeyspaceState → List (List ℕ × List ℕ)
   put_keyspace s k = put_by_text s (k.0, keyspace_text k)
 
   put_keyspace-at : (name : List ℕ) (one other : KeyspaceState) (s : List (List ℕ × List ℕ)) → keyspace_at t.keyspaces name ≡ Some one → keyspace_at u.keyspaces name ≡ Some other → put_keyspace s (name, one) ≡ put_keyspace s (name, other)
   put_keyspace-at name one other s is is' =
-      ap (λ tables. put_by_text s (name, written_keyspace name tables))
+      ap (λ cuts. put_by_text s (name, written_keyspace name cuts (tables_in_order one))) (cuts-at name one other is is')
+      ∙ ap (λ tables. put_by_text s (name, written_keyspace name other.cuts tables))
       (tables-same one other (holds_at (λ state. IsDistinct same_text (keys_of state.tables)) t.keyspaces name one distinct.tables is)
       (holds_at (λ state. IsDistinct same_text (keys_of state.tables)) u.keyspaces name other others.tables is') (tables-at name one other is is'))
 
@@ -209,7 +215,7 @@ abbrev written_dump : (denied keyspaces : List (List ℕ)) → List (RuleKey × 
 written_dump denied keyspaces rules =
     object (member (codes "denied") (array (map quoted denied))
     ∷ member (codes "keyspaces") (array keyspaces)
-    ∷ member (codes "rules") (array (map rule_text rules)) ∷ member (codes "version") (codes "1") ∷ [])
+    ∷ member (codes "rules") (array (map rule_text rules)) ∷ member (codes "version") (codes "2") ∷ [])
 
 pub dump-same : (t u : TopologyState) → IsSameTopology t u → HasDistinctPlaces t → HasDistinctPlaces u → HasDistinctTexts t.rules → dump_text t ≡ dump_text u
 dump-same t u same distinct others texts =

@@ -18,7 +18,7 @@ use Rattle.mt_names.proofs.SameLemmas.{same_key_decides, same_text_decides}
 use Rattle.mt_model.specs.declared.entries.EntryKey.{EntryKey}
 use Rattle.mt_model.specs.declared.entries.EntryKey.TheVariants as about
 use Rattle.mt_model.specs.Part.{part_keys, table_part_keys}
-use Rattle.mt_model.specs.Topology.{HasDistinctPlaces, KeyspaceState, Keyspaces, Marks, TopologyState, has_place, keyspace_at, with_keyspace_state}
+use Rattle.mt_model.specs.Topology.{HasDistinctPlaces, KeyspaceState, Keyspaces, Marks, TopologyState, cuts_at, has_place, keyspace_at, with_keyspace_state}
 use Rattle.mt_model.proofs.PartLemmas.{part_distinct}
 use Rattle.mt_model.proofs.PlaceLemmas.{keyspace_at-stays}
 use Rattle.mt_model.proofs.TopologyLemmas.{denied_distinct, keyspace_at-changed_elsewhere, read_at-unchanged, tables_distinct}
@@ -255,9 +255,19 @@ served_places p reached =
       allowed = λ keyspace table moved. denied_places p reached keyspace table;
     })
 
+cuts-over : (u : TopologyState) (w : Live) (name : List ℕ) → cuts_at (with_workflow u w).keyspaces name ≡ cuts_at u.keyspaces name
+cuts-over u w name =
+    read_at-unchanged (λ state. state.cuts) [] (target_changed u w) (with_keyspace_state (source_changed u w) u.keyspaces w.source) w.target name (λ state found is. refl)
+    ∙ read_at-unchanged (λ state. state.cuts) [] (source_changed u w) u.keyspaces w.source name (λ state found is. refl)
+
+fold-cuts : (ws : List Live) (u : TopologyState) (name : List ℕ) → cuts_at (fold with_workflow u ws).keyspaces name ≡ cuts_at u.keyspaces name
+fold-cuts [] u name = refl
+fold-cuts (w ∷ ws) u name = fold-cuts ws (with_workflow u w) name ∙ cuts-over u w name
+
 pub is_served : (p : Plain) → IsReached p → IsServed p (served p)
 is_served p reached = record {
   keyspaces = fold-keyspaces p.lives p.topology;
+  shards = fold-cuts p.lives p.topology;
   entries = reached-serves p reached;
   places = served_places p reached;
 }

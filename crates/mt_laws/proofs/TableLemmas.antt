@@ -6,6 +6,7 @@ use Rattle.std.specs.List.{fold}
 use Rattle.std.specs.Prelude.{◌&&◌}
 use Rattle.mt_names.specs.declared.keys.RuleTarget.{RuleTarget}
 use Rattle.mt_names.specs.Names.{same_text}
+use Rattle.mt_names.specs.Shards.{Cuts}
 use Rattle.mt_names.specs.Same.{same_target}
 use Rattle.mt_names.proofs.EntryLemmas.{lookup-push_new, lookup-push_stood, same_or_other}
 use Rattle.mt_names.proofs.SameLemmas.{same_target_decides, same_text_decides}
@@ -37,8 +38,8 @@ opening_has_numbers scopes = record {
 -- ---- which tables are there
 
 -- a keyspace that is made has no table
-pub is_present-with_keyspace : (t : TopologyState) (name keyspace table : List ℕ) → is_present (with_keyspace t name).keyspaces keyspace table ≡ true → is_present t.keyspaces keyspace table ≡ true
-is_present-with_keyspace t name keyspace table has = sym (present_from_value (with_keyspace t name) t keyspace table (value_of-with_keyspace t name (about.Present keyspace table))) ∙ has
+pub is_present-with_keyspace : (t : TopologyState) (name : List ℕ) (cuts : Cuts) (keyspace table : List ℕ) → is_present (with_keyspace t name cuts).keyspaces keyspace table ≡ true → is_present t.keyspaces keyspace table ≡ true
+is_present-with_keyspace t name cuts keyspace table has = sym (present_from_value (with_keyspace t name cuts) t keyspace table (value_of-with_keyspace t name cuts (about.Present keyspace table))) ∙ has
 
 -- a table that is made leaves each other one
 pub present_elsewhere : (t : TopologyState) (k name keyspace table : List ℕ) → in_keyspace k name ≢ in_keyspace keyspace table → is_present (with_table t k name).keyspaces keyspace table ≡ is_present t.keyspaces keyspace table
@@ -122,7 +123,7 @@ write_has_numbers p keyspace table op reached none =
 
 keyspace_has_numbers : (p : Plain) (name : List ℕ) → HasNumbers p → HasNumbers (next_taken (calm p) (add_keyspace name))
 keyspace_has_numbers p name reached = record {
-  numbered = λ keyspace table has. reached.numbered keyspace table (is_present-with_keyspace p.topology name keyspace table has);
+  numbered = λ keyspace table has. reached.numbered keyspace table (is_present-with_keyspace p.topology name [] keyspace table has);
   distinct = reached.distinct;
   below = reached.below;
   written = reached.written;

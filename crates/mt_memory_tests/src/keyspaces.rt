@@ -3,13 +3,15 @@
 use mt_denied::DeniedFault;
 use mt_keyspace::Keyspaces;
 use mt_model::TopologyFault;
-use mt_names::{KeyspaceName, TableName};
+use mt_names::{KeyspaceName, ShardList, TableName};
 use std::alloc::Global;
 
 /// Whether a keyspace is added, at once or at a second try.
 fn is_added(keyspaces: &mut Keyspaces, alloc: Global, keyspace: &KeyspaceName) -> bool {
-    match keyspaces.add_keyspace(alloc, keyspace) {
-        Err(TopologyFault::Memory) => keyspaces.add_keyspace(alloc, keyspace).is_ok(),
+    match keyspaces.add_keyspace(alloc, keyspace, ShardList::unsharded()) {
+        Err(TopologyFault::Memory) => keyspaces
+            .add_keyspace(alloc, keyspace, ShardList::unsharded())
+            .is_ok(),
         answer => answer.is_ok(),
     }
 }

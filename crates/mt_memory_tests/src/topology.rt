@@ -1,13 +1,13 @@
 //! Where an allocation fails, the answer is `Memory` or the one that there is without, and a refusal changes nothing.
 
 use mt_model::{EntryKey, table_rule_keys};
-use mt_names::{KeyspaceName, NameFault, RuleKey, RuleTarget, TableName};
+use mt_names::{KeyspaceName, NameFault, RuleKey, RuleTarget, ShardList, TableName};
 use mt_topology::{Topology, TopologyFault};
 use std::alloc::Global;
 
 /// The dump of the keyspaces `a` and `b` with a table and a rule.
 const DUMP: &str =
-    "{\"denied\":[],\"keyspaces\":[{\"name\":\"a\",\"tables\":[]},{\"name\":\"b\",\"tables\":[\"t\"]}],\"rules\":[{\"from_table\":\"x\",\"to_tables\":[\"b.t\"]}],\"version\":1}";
+    "{\"denied\":[],\"keyspaces\":[{\"name\":\"a\",\"shards\":[\"-\"],\"tables\":[]},{\"name\":\"b\",\"shards\":[\"-\"],\"tables\":[\"t\"]}],\"rules\":[{\"from_table\":\"x\",\"to_tables\":[\"b.t\"]}],\"version\":2}";
 
 /// Whether the dump is this, at once or at a second try.
 fn dumps(alloc: Global, topology: &Topology, want: &str) -> bool {
@@ -21,8 +21,8 @@ fn dumps(alloc: Global, topology: &Topology, want: &str) -> bool {
 /// Whether a keyspace is added, at once or at a second try.
 fn add_keyspace(topology: &mut Topology, name: &str) -> Result<bool, NameFault> {
     let name = KeyspaceName::parse(name)?;
-    Ok(match topology.add_keyspace(&name) {
-        Err(TopologyFault::Memory) => topology.add_keyspace(&name).is_ok(),
+    Ok(match topology.add_keyspace(&name, ShardList::unsharded()) {
+        Err(TopologyFault::Memory) => topology.add_keyspace(&name, ShardList::unsharded()).is_ok(),
         answer => answer.is_ok(),
     })
 }

@@ -13,7 +13,8 @@ use Rattle.mt_names.proofs.EntryLemmas.{IsDistinct-set_value, IsDistinct-push, I
 use Rattle.mt_names.proofs.SameLemmas.{same_key_decides, same_text_decides}
 use Rattle.mt_model.specs.declared.entries.Entry.{Entry}
 use Rattle.mt_model.specs.declared.entries.Entry.TheVariants as entry
-use Rattle.mt_model.specs.Topology.{TopologyState, HasDistinctPlaces, Keyspaces, KeyspaceState, Marks, Rules, is_marked, rule_at, keyspace_at, with_entry, with_keyspace_state, with_table_mark, with_denied_mark, with_mark_place, without_mark_place, with_rule_place, without_rule_place, with_table_place, without_table_place, with_denied_place, without_denied_place, empty_topology, with_keyspace, with_new_table, with_table, with_rule}
+use Rattle.mt_names.specs.Shards.{Cuts}
+use Rattle.mt_model.specs.Topology.{TopologyState, HasDistinctPlaces, Keyspaces, KeyspaceState, Marks, Rules, is_marked, rule_at, keyspace_at, with_entry, with_keyspace_state, with_table_mark, with_denied_mark, with_mark_place, without_mark_place, with_rule_place, without_rule_place, with_table_place, without_table_place, with_denied_place, without_denied_place, empty_topology, new_keyspace, with_keyspace, with_new_table, with_table, with_rule}
 use Rattle.mt_model.proofs.TopologyLemmas.{holds_at}
 
 -- ---- places of names or keys
@@ -111,12 +112,12 @@ no_marks_distinct : IsDistinct same_text (keys_of {K = List ℕ} {X = Bool} [])
 unfolding IsDistinct
 no_marks_distinct = tt
 
-pub distinct-with_keyspace : (t : TopologyState) (name : List ℕ) → keyspace_at t.keyspaces name ≡ None → HasDistinctPlaces t → HasDistinctPlaces (with_keyspace t name)
-distinct-with_keyspace t name none distinct = record {
+pub distinct-with_keyspace : (t : TopologyState) (name : List ℕ) (cuts : Cuts) → keyspace_at t.keyspaces name ≡ None → HasDistinctPlaces t → HasDistinctPlaces (with_keyspace t name cuts)
+distinct-with_keyspace t name cuts none distinct = record {
   rules = distinct.rules;
-  keyspaces = IsDistinct-push same_text same_text_decides t.keyspaces name (record { tables = []; denied = [] }) none distinct.keyspaces;
-  tables = All-push (λ s. IsDistinct same_text (keys_of s.tables)) t.keyspaces name (record { tables = []; denied = [] }) no_marks_distinct distinct.tables;
-  denied = All-push (λ s. IsDistinct same_text (keys_of s.denied)) t.keyspaces name (record { tables = []; denied = [] }) no_marks_distinct distinct.denied;
+  keyspaces = IsDistinct-push same_text same_text_decides t.keyspaces name (new_keyspace cuts) none distinct.keyspaces;
+  tables = All-push (λ s. IsDistinct same_text (keys_of s.tables)) t.keyspaces name (new_keyspace cuts) no_marks_distinct distinct.tables;
+  denied = All-push (λ s. IsDistinct same_text (keys_of s.denied)) t.keyspaces name (new_keyspace cuts) no_marks_distinct distinct.denied;
 }
 
 pub distinct-with_table : (t : TopologyState) (keyspace table : List ℕ) → HasDistinctPlaces t → HasDistinctPlaces (with_table t keyspace table)

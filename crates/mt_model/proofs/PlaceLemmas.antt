@@ -17,7 +17,7 @@ use Rattle.mt_model.specs.declared.entries.Entry.TheVariants as entry
 use Rattle.mt_model.specs.declared.entries.EntryKey.{EntryKey}
 use Rattle.mt_model.specs.declared.entries.EntryKey.TheVariants as about
 use Rattle.mt_model.specs.Part.{IsSameTopology, befores, with_entries, with_place, with_places, without_place, without_places}
-use Rattle.mt_model.specs.Topology.{TopologyState, HasDistinctPlaces, Keyspaces, KeyspaceState, Marks, Rules, key_of, value_of, has_place, holders, is_marked, rule_at, rule_for, resolution, unruled, sole_holder, for_type, for_all_types, keyspace_at, with_entry, with_keyspace_state, with_table_mark, with_denied_mark, with_mark_place, without_mark_place, with_rule_place, without_rule_place, with_table_place, without_table_place, with_denied_place, without_denied_place}
+use Rattle.mt_model.specs.Topology.{TopologyState, HasDistinctPlaces, Keyspaces, KeyspaceState, Marks, Rules, key_of, value_of, has_place, holders, is_marked, rule_at, rule_for, resolution, unruled, sole_holder, for_type, for_all_types, keyspace_at, cuts_at, with_entry, with_keyspace_state, with_table_mark, with_denied_mark, with_mark_place, without_mark_place, with_rule_place, without_rule_place, with_table_place, without_table_place, with_denied_place, without_denied_place}
 use Rattle.mt_model.proofs.DistinctLemmas.{distinct-rules, distinct-with_rule_place, distinct-without_rule_place, distinct-table_made, distinct-table_dropped, distinct-denial_made, distinct-denial_dropped}
 use Rattle.mt_model.proofs.TopologyLemmas.{keyspace_at-changed_here, keyspace_at-changed_elsewhere, found_at, is_marked-with_mark_place, is_marked-without_mark_place, read_at-unchanged, rule_at-with_rule_place, rule_at-without_rule_place, tables_distinct, denied_distinct, value_of-keyspace_changed, value_of-rules_changed, with_entry-back, with_keyspace_state-back, with_mark_place-there, with_rule_place-there}
 
@@ -142,6 +142,16 @@ keyspace-without_place t (about.Rule key) name = refl
 keyspace-without_place t (about.Denied keyspace table) name = keyspace_at-stays (without_denied_place table) t.keyspaces keyspace name
 keyspace-without_place t (about.Present keyspace table) name = keyspace_at-stays (without_table_place table) t.keyspaces keyspace name
 
+cuts-with_place : (t : TopologyState) (key : EntryKey) (name : List ℕ) → cuts_at (with_place t key).keyspaces name ≡ cuts_at t.keyspaces name
+cuts-with_place t (about.Rule key) name = refl
+cuts-with_place t (about.Denied keyspace table) name = read_at-unchanged (λ state. state.cuts) [] (with_denied_place table) t.keyspaces keyspace name (λ state found is. refl)
+cuts-with_place t (about.Present keyspace table) name = read_at-unchanged (λ state. state.cuts) [] (with_table_place table) t.keyspaces keyspace name (λ state found is. refl)
+
+cuts-without_place : (t : TopologyState) (key : EntryKey) (name : List ℕ) → cuts_at (without_place t key).keyspaces name ≡ cuts_at t.keyspaces name
+cuts-without_place t (about.Rule key) name = refl
+cuts-without_place t (about.Denied keyspace table) name = read_at-unchanged (λ state. state.cuts) [] (without_denied_place table) t.keyspaces keyspace name (λ state found is. refl)
+cuts-without_place t (about.Present keyspace table) name = read_at-unchanged (λ state. state.cuts) [] (without_table_place table) t.keyspaces keyspace name (λ state found is. refl)
+
 has_keyspace-kept : (t : TopologyState) (key k : EntryKey) → has_keyspace t k ≡ true → has_keyspace (with_place t key) k ≡ true
 has_keyspace-kept t key (about.Rule k) there = refl
 has_keyspace-kept t key (about.Denied keyspace table) there = keyspace-with_place t key keyspace ∙ there
@@ -192,12 +202,14 @@ value_of-without_place t (about.Present keyspace table) k distinct =
 pub same-with_places : (t : TopologyState) (keys : List EntryKey) → IsSameTopology (with_places t keys) t
 same-with_places t keys = record {
   keyspaces = λ name. fold-unchanged with_place (λ u. is_some (keyspace_at u.keyspaces name)) (λ u key. keyspace-with_place u key name) t keys;
+  shards = λ name. fold-unchanged with_place (λ u. cuts_at u.keyspaces name) (λ u key. cuts-with_place u key name) t keys;
   values = λ k. fold-unchanged with_place (λ u. value_of u k) (λ u key. value_of-with_place u key k) t keys;
 }
 
 pub same-without_places : (t : TopologyState) (keys : List EntryKey) → HasDistinctPlaces t → IsSameTopology (without_places t keys) t
 same-without_places t keys distinct = record {
   keyspaces = λ name. fold-unchanged without_place (λ u. is_some (keyspace_at u.keyspaces name)) (λ u key. keyspace-without_place u key name) t keys;
+  shards = λ name. fold-unchanged without_place (λ u. cuts_at u.keyspaces name) (λ u key. cuts-without_place u key name) t keys;
   values = λ k. fold-unchanged_while without_place (λ u. value_of u k) HasDistinctPlaces (λ u key d. distinct-without_place u key d) (λ u key d. value_of-without_place u key k d) t keys distinct;
 }
 

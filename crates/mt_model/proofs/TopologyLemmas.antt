@@ -16,7 +16,8 @@ use Rattle.mt_model.specs.declared.entries.Entry.{Entry}
 use Rattle.mt_model.specs.declared.entries.Entry.TheVariants as entry
 use Rattle.mt_model.specs.declared.entries.EntryKey.{EntryKey}
 use Rattle.mt_model.specs.declared.entries.EntryKey.TheVariants as about
-use Rattle.mt_model.specs.Topology.{TopologyState, HasDistinctPlaces, Keyspaces, KeyspaceState, Marks, Rules, key_of, value_of, has_place, is_marked, rule_at, keyspace_at, with_entry, with_keyspace_state, with_table_mark, with_denied_mark, with_mark_place, without_mark_place, with_rule_place, without_rule_place, with_keyspace, with_new_table, with_table, with_rule}
+use Rattle.mt_names.specs.Shards.{Cuts}
+use Rattle.mt_model.specs.Topology.{TopologyState, HasDistinctPlaces, Keyspaces, KeyspaceState, Marks, Rules, key_of, value_of, has_place, is_marked, rule_at, keyspace_at, with_entry, with_keyspace_state, with_table_mark, with_denied_mark, with_mark_place, without_mark_place, with_rule_place, without_rule_place, new_keyspace, with_keyspace, with_new_table, with_table, with_rule}
 
 -- ---- places of names or keys, each with a value; one without a place has the blank
 
@@ -270,10 +271,10 @@ keyspace_at-push (k ∷ ks) name other read state blank = by (keyspace_at-push k
     by again true = refl
     by again false = again
 
-pub value_of-with_keyspace : (t : TopologyState) (name : List ℕ) (k : EntryKey) → value_of (with_keyspace t name) k ≡ value_of t k
-value_of-with_keyspace t name (about.Rule key) = refl
-value_of-with_keyspace t name (about.Present keyspace table) = ap (entry.Present keyspace table) (keyspace_at-push t.keyspaces name keyspace (λ state. is_marked state.tables table) (record { tables = []; denied = [] }) refl)
-value_of-with_keyspace t name (about.Denied keyspace table) = ap (entry.Denied keyspace table) (keyspace_at-push t.keyspaces name keyspace (λ state. is_marked state.denied table) (record { tables = []; denied = [] }) refl)
+pub value_of-with_keyspace : (t : TopologyState) (name : List ℕ) (cuts : Cuts) (k : EntryKey) → value_of (with_keyspace t name cuts) k ≡ value_of t k
+value_of-with_keyspace t name cuts (about.Rule key) = refl
+value_of-with_keyspace t name cuts (about.Present keyspace table) = ap (entry.Present keyspace table) (keyspace_at-push t.keyspaces name keyspace (λ state. is_marked state.tables table) (new_keyspace cuts) refl)
+value_of-with_keyspace t name cuts (about.Denied keyspace table) = ap (entry.Denied keyspace table) (keyspace_at-push t.keyspaces name keyspace (λ state. is_marked state.denied table) (new_keyspace cuts) refl)
 
 pub value_of-with_table_here : (t : TopologyState) (keyspace table : List ℕ) → is_some (keyspace_at t.keyspaces keyspace) ≡ true → value_of (with_table t keyspace table) (about.Present keyspace table) ≡ entry.Present keyspace table true
 value_of-with_table_here t keyspace table there =

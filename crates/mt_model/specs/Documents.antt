@@ -5,6 +5,7 @@ use Rattle.std.specs.List.{join_with_byte}
 use Rattle.mt_names.specs.declared.keys.RuleKey.{RuleKey}
 use Rattle.mt_names.specs.declared.keys.RuleTarget.{RuleTarget}
 use Rattle.mt_names.specs.Keys.{key_text, target_text}
+use Rattle.mt_names.specs.Shards.{range_text, ranges_of}
 use Rattle.mt_names.specs.Types.{comma}
 use Rattle.mt_model.specs.Topology.{KeyspaceState, Marks, Rules, TopologyState}
 
@@ -70,7 +71,7 @@ rules_array rules = array (map rule_text (sorted_rules rules))
 abbrev pub rules_text : Rules → List ℕ
 rules_text rules = object (member (codes "rules") (rules_array rules) ∷ [])
 
--- ---- the dump of a topology, version 1
+-- ---- the dump of a topology, version 2
 
 -- the names that are marked
 abbrev pub marked : Marks → List (List ℕ)
@@ -80,9 +81,15 @@ marked marks = flat_map (λ mark. cond mark.1 (mark.0 ∷ []) []) marks
 abbrev pub tables_in_order : KeyspaceState → List (List ℕ)
 tables_in_order state = sorted_texts (marked state.tables)
 
--- a keyspace with its tables
+-- the shards of a keyspace, as the texts of their ranges ("Sharding")
+abbrev pub shard_texts : KeyspaceState → List (List ℕ)
+shard_texts state = map range_text (ranges_of state.cuts)
+
+-- a keyspace with its shards and its tables
 abbrev pub keyspace_text : List ℕ × KeyspaceState → List ℕ
-keyspace_text k = object (member (codes "name") (quoted k.0) ∷ member (codes "tables") (array (map quoted (tables_in_order k.1))) ∷ [])
+keyspace_text k =
+    object (member (codes "name") (quoted k.0)
+    ∷ member (codes "shards") (array (map quoted (shard_texts k.1))) ∷ member (codes "tables") (array (map quoted (tables_in_order k.1))) ∷ [])
 
 -- the keyspaces, in the order of their names
 abbrev pub keyspaces_in_order : TopologyState → List (List ℕ × KeyspaceState)
@@ -100,13 +107,13 @@ denied_texts k = map (denied_text k.0) (marked k.1.denied)
 abbrev pub denied_sorted : TopologyState → List (List ℕ)
 denied_sorted t = sorted_texts (flat_map denied_texts t.keyspaces)
 
--- a document with these denied tables
-abbrev pub document_text : List (List ℕ) → TopologyState → List ℕ
-document_text denied t =
+-- the document of a whole topology, with this version, each keyspace as this text, and these denied tables
+abbrev pub text_with : (version : List ℕ) → (List ℕ × KeyspaceState → List ℕ) → List (List ℕ) → TopologyState → List ℕ
+text_with version keyspace denied t =
     object (member (codes "denied") (array (map quoted denied))
-    ∷ member (codes "keyspaces") (array (map keyspace_text (keyspaces_in_order t)))
-    ∷ member (codes "rules") (rules_array t.rules) ∷ member (codes "version") (codes "1") ∷ [])
+    ∷ member (codes "keyspaces") (array (map keyspace (keyspaces_in_order t)))
+    ∷ member (codes "rules") (rules_array t.rules) ∷ member (codes "version") version ∷ [])
 
--- the document of a whole topology
+-- as it is written
 abbrev pub dump_text : TopologyState → List ℕ
-dump_text t = document_text (denied_sorted t) t
+dump_text t = text_with (codes "2") keyspace_text (denied_sorted t) t

@@ -7,7 +7,7 @@ use Rattle.mt_model.specs.declared.entries.Entry.{Entry}
 use Rattle.mt_model.specs.declared.entries.Entry.TheVariants as entry
 use Rattle.mt_model.specs.declared.entries.EntryKey.{EntryKey}
 use Rattle.mt_model.specs.declared.entries.EntryKey.TheVariants as about
-use Rattle.mt_model.specs.Topology.{KeyspaceState, Rules, TopologyState, key_of, value_of, keyspace_at, with_entry, with_keyspace_state, with_rule_place, without_rule_place, with_table_place, without_table_place, with_denied_place, without_denied_place}
+use Rattle.mt_model.specs.Topology.{KeyspaceState, Rules, TopologyState, key_of, value_of, keyspace_at, cuts_at, with_entry, with_keyspace_state, with_rule_place, without_rule_place, with_table_place, without_table_place, with_denied_place, without_denied_place}
 
 -- ---- the part
 
@@ -69,9 +69,11 @@ befores t (entry ∷ entries) = value_of t (key_of entry) ∷ befores (with_entr
 
 -- ---- topologies that say the same
 
--- two topologies have the same keyspaces in whatever order, and the same value at each key; places don't count (this profile's own)
+-- two topologies have the same keyspaces in whatever order, with the same shards, and the same value at each key; places don't count (this
+-- profile's own)
 pub record IsSameTopology (one other : TopologyState) : Type 0 where
   pub keyspaces : (name : List ℕ) → is_some (keyspace_at one.keyspaces name) ≡ is_some (keyspace_at other.keyspaces name)
+  pub shards : (name : List ℕ) → cuts_at one.keyspaces name ≡ cuts_at other.keyspaces name
   pub values : (key : EntryKey) → value_of one key ≡ value_of other key
 
 -- ---- the two kinds of routes, of which `routes_of` of Topology is made

@@ -8,6 +8,7 @@ use Rattle.mt_names.specs.declared.keys.RuleTarget.{RuleTarget}
 use Rattle.mt_names.specs.declared.types.TabletType.{TabletType}
 use Rattle.mt_names.specs.Names.{same_text}
 use Rattle.mt_names.specs.Same.{same_key}
+use Rattle.mt_names.specs.Shards.{Cuts}
 use Rattle.mt_model.specs.declared.entries.Entry.{Entry}
 use Rattle.mt_model.specs.declared.entries.Entry.TheVariants as entry
 use Rattle.mt_model.specs.declared.entries.EntryKey.{EntryKey}
@@ -31,8 +32,10 @@ Marks = List (List ℕ × Bool)
 abbrev pub Rules : Type 0
 Rules = List (RuleKey × Option RuleTarget)
 
--- the tables that a keyspace has, and those that its primary is to refuse ("How traffic is switched": denied tables)
+-- the bounds between the shards of a keyspace, the tables that it has, and those that its primaries are to refuse ("Sharding"; "How
+-- traffic is switched": denied tables)
 pub record KeyspaceState : Type 0 where
+  pub cuts : Cuts
   pub tables : Marks
   pub denied : Marks
 
@@ -147,9 +150,17 @@ without_denied_place table state = record state { denied = without_mark_place st
 
 -- ---- keyspaces, tables and rules made by hand
 
--- a keyspace more, without tables and denials (this profile's own)
-abbrev pub with_keyspace : TopologyState → List ℕ → TopologyState
-with_keyspace t name = record t { keyspaces = t.keyspaces ++ (name, record { tables = []; denied = [] }) ∷ [] }
+-- the bounds between the shards of a keyspace; none where it isn't there ("Sharding")
+abbrev pub cuts_at : Keyspaces → List ℕ → Cuts
+cuts_at keyspaces keyspace = option_map_or (λ state. state.cuts) (keyspace_at keyspaces keyspace) []
+
+-- a keyspace of some shards, without tables and denials (this profile's own)
+abbrev pub new_keyspace : Cuts → KeyspaceState
+new_keyspace cuts = record { cuts = cuts; tables = []; denied = [] }
+
+-- a keyspace more (this profile's own)
+abbrev pub with_keyspace : TopologyState → List ℕ → Cuts → TopologyState
+with_keyspace t name cuts = record t { keyspaces = t.keyspaces ++ (name, new_keyspace cuts) ∷ [] }
 
 -- a table more in a keyspace (this profile's own)
 abbrev pub with_new_table : List ℕ → KeyspaceState → KeyspaceState

@@ -1,5 +1,6 @@
 //! What follows from how a topology is written and looked up.
 ghost use Rattle.std.specs.Prelude.{◌≡◌, ◌≢◌, ℕ, true, List, Option, None, Some, Ok, is_some};
+ghost use Rattle.mt_names.specs.Shards.{Cuts};
 ghost use Rattle.mt_model.specs.Topology.{TopologyState, HasDistinctPlaces, empty_topology, key_of, value_of, has_place, with_entry, keyspace_at, rule_at, rule_for, for_type, for_all_types, resolution, with_keyspace_state, with_rule_place, without_rule_place, with_table_place, without_table_place, with_denied_place, without_denied_place, with_keyspace, with_table, with_rule};
 
 use crate::{Entry, EntryKey};
@@ -39,8 +40,8 @@ pub fn places_change_no_value()
 /// What an operator makes by hand: a keyspace says nothing yet, a table is there in its keyspace, a rule is that of its
 /// key, and nothing else changes.
 pub fn what_is_made_by_hand()
-    ensures keyspace { (t : TopologyState) (name : List ℕ) (k : EntryKey)
-        → value_of (with_keyspace t name) k ≡ value_of t k }
+    ensures keyspace { (t : TopologyState) (name : List ℕ) (cuts : Cuts) (k : EntryKey)
+        → value_of (with_keyspace t name cuts) k ≡ value_of t k }
     ensures table { (t : TopologyState) (keyspace table : List ℕ) → is_some (keyspace_at t.keyspaces keyspace) ≡ true
         → value_of (with_table t keyspace table) (EntryKey.Present keyspace table) ≡ Entry.Present keyspace table true }
     ensures no_other_table { (t : TopologyState) (keyspace table : List ℕ) (k : EntryKey)
@@ -69,8 +70,8 @@ pub fn rules_are_applied_once()
 pub fn places_stay_distinct()
     ensures empty { HasDistinctPlaces empty_topology }
     ensures write { (t : TopologyState) (e : Entry) → HasDistinctPlaces t → HasDistinctPlaces (with_entry t e) }
-    ensures keyspace { (t : TopologyState) (name : List ℕ) → keyspace_at t.keyspaces name ≡ None → HasDistinctPlaces t
-        → HasDistinctPlaces (with_keyspace t name) }
+    ensures keyspace { (t : TopologyState) (name : List ℕ) (cuts : Cuts) → keyspace_at t.keyspaces name ≡ None
+        → HasDistinctPlaces t → HasDistinctPlaces (with_keyspace t name cuts) }
     ensures table { (t : TopologyState) (keyspace table : List ℕ) → HasDistinctPlaces t
         → HasDistinctPlaces (with_table t keyspace table) }
     ensures rule { (t : TopologyState) (key : RuleKey) (target : Option RuleTarget) → HasDistinctPlaces t

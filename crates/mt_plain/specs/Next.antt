@@ -184,7 +184,7 @@ after_advance p other events rows = p
 -- the state after an event that is done (MoveTables; the atomic steps are this profile's own)
 abbrev pub next_taken : Plain → Event → Plain
 next_taken p (write keyspace table op) = with_write p keyspace table op
-next_taken p (add_keyspace keyspace) = record p { topology = with_keyspace p.topology keyspace }
+next_taken p (add_keyspace keyspace) = record p { topology = with_keyspace p.topology keyspace [] }
 next_taken p (add_table keyspace table) =
     record p { topology = with_table p.topology keyspace table; numbers = p.numbers ++ (in_keyspace keyspace table, p.made) ∷ []; made = suc p.made }
 next_taken p (edit_rule key target) = record p { topology = record p.topology { rules = with_rule p.topology.rules key target } }

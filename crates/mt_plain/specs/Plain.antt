@@ -9,12 +9,13 @@ use Rattle.mt_names.specs.declared.keys.RuleTarget.{RuleTarget}
 use Rattle.mt_names.specs.declared.types.TypeSet.{TypeSet}
 use Rattle.mt_names.specs.Names.{same_text}
 use Rattle.mt_names.specs.Same.{same_target}
+use Rattle.mt_names.specs.Shards.{Cuts}
 use Rattle.mt_model.specs.declared.entries.EntryKey.{EntryKey}
 use Rattle.mt_model.specs.declared.entries.EntryKey.TheVariants as about
 use Rattle.mt_model.specs.declared.entries.Scope.{Scope}
 use Rattle.mt_model.specs.Part.{table_rule_keys}
 use Rattle.mt_model.specs.Rows.{Row}
-use Rattle.mt_model.specs.Topology.{TopologyState, empty_topology, keyspace_at}
+use Rattle.mt_model.specs.Topology.{TopologyState, cuts_at, empty_topology, keyspace_at}
 use Rattle.mt_plain.specs.Events.{Way}
 
 -- an acknowledged write: the number of its table, the key, and the row that it left (this profile's own)
@@ -76,6 +77,10 @@ in_keyspace keyspace table = record { keyspace = keyspace; table = table }
 -- whether there is a keyspace of that name (this profile's own)
 abbrev pub has_keyspace : Plain → List ℕ → Bool
 has_keyspace p keyspace = is_some (keyspace_at p.topology.keyspaces keyspace)
+
+-- the bounds between its shards; none where it isn't sharded, or isn't there ("Sharding")
+abbrev pub cuts_of : Plain → List ℕ → Cuts
+cuts_of p keyspace = cuts_at p.topology.keyspaces keyspace
 
 -- the number of a table; where there is none, one that no table has yet (this profile's own)
 abbrev pub number_of : Plain → (keyspace table : List ℕ) → ℕ

@@ -16,8 +16,8 @@ use Rattle.mt_model.specs.declared.entries.Entry.{Entry}
 use Rattle.mt_model.specs.declared.entries.Entry.TheVariants as entry
 use Rattle.mt_model.specs.declared.entries.EntryKey.{EntryKey}
 use Rattle.mt_model.specs.declared.entries.EntryKey.TheVariants as about
-use Rattle.mt_model.specs.Topology.{HasDistinctPlaces, KeyspaceState, Keyspaces, Marks, TopologyState, is_present, keyspace_at, rule_at, value_of, with_keyspace_state}
-use Rattle.mt_plain.specs.Plain.{Live, Plain, allow_target, before_way, deny_source, has_keyspace, in_keyspace, is_side, mover, moves, owner_by, part_owner, refresh_source, refresh_target, rule_keys, stands_done, switch_reads, switch_write_rules}
+use Rattle.mt_model.specs.Topology.{HasDistinctPlaces, KeyspaceState, Keyspaces, Marks, TopologyState, cuts_at, is_present, keyspace_at, rule_at, value_of, with_keyspace_state}
+use Rattle.mt_plain.specs.Plain.{Live, Plain, allow_target, before_way, cuts_of, deny_source, has_keyspace, in_keyspace, is_side, mover, moves, owner_by, part_owner, refresh_source, refresh_target, rule_keys, stands_done, switch_reads, switch_write_rules}
 
 -- ---- the table: what a part serves once some types are switched
 
@@ -82,10 +82,11 @@ served_entry p key = option_map_or (λ w. served_by p.topology w key) (part_owne
 abbrev pub Serves : Plain → TopologyState → Type 0
 Serves p t = (key : EntryKey) → value_of t key ≡ served_entry p key
 
--- a topology is one that a state serves: it has the keyspaces of the state, says at each entry what is served there, and gives
--- nothing two places; in which order its places stand, and which of them hold nothing, is left open (this profile's own)
+-- a topology is one that a state serves: it has the keyspaces of the state with their shards, says at each entry what is served there, and
+-- gives nothing two places; in which order its places stand, and which of them hold nothing, is left open (this profile's own)
 pub record IsServed (p : Plain) (t : TopologyState) : Type 0 where
   pub keyspaces : (name : List ℕ) → is_some (keyspace_at t.keyspaces name) ≡ has_keyspace p name
+  pub shards : (name : List ℕ) → cuts_at t.keyspaces name ≡ cuts_of p name
   pub entries : Serves p t
   pub places : HasDistinctPlaces t
 
@@ -140,7 +141,7 @@ denials_over u w keyspace = map (λ table. (table, mark_in (served_by u w (about
 
 -- a keyspace with what a workflow puts there
 abbrev pub with_part_at : TopologyState → Live → (keyspace : List ℕ) → Marks → KeyspaceState → KeyspaceState
-with_part_at u w keyspace moved state = record { tables = moved ++ state.tables; denied = denials_over u w keyspace ++ state.denied }
+with_part_at u w keyspace moved state = record state { tables = moved ++ state.tables; denied = denials_over u w keyspace ++ state.denied }
 
 -- the keyspaces with both sides of a workflow so
 abbrev pub keyspaces_over : TopologyState → Live → Keyspaces

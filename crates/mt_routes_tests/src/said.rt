@@ -1,7 +1,7 @@
 //! Topologies by the texts of their routes.
 
 use mt_model::TopologyFault;
-use mt_names::{KeyspaceName, RuleKey, RuleTarget, TableName};
+use mt_names::{KeyspaceName, RuleKey, RuleTarget, ShardList, TableName};
 use mt_topology::Topology;
 use std::alloc::Global;
 
@@ -27,7 +27,7 @@ pub fn add_table(
     keyspace: &KeyspaceName,
     table: &TableName,
 ) -> Option<()> {
-    match topology.add_keyspace(keyspace) {
+    match topology.add_keyspace(keyspace, ShardList::unsharded()) {
         Ok(()) | Err(TopologyFault::Exists) => topology.add_table(keyspace, table).ok(),
         Err(_) => None,
     }

@@ -130,4 +130,4 @@ abbrev pub a_way_of_one_type_is_told : Type 0
 a_way_of_one_type_is_told = way_text (Some (record { back = false; before = primary_type; after = record primary_type { replica = true }; done = 0; undoing = false })) ≡ codes "forward replica 0"
 
 abbrev pub a_dump_of_a_live_workflow : Type 0
-a_dump_of_a_live_workflow = output (watchers_of (commerce ∷ customer ∷ [])) (codes "keyspace commerce\nkeyspace customer\ntable commerce corder\ncreate mv commerce customer corder\ndump\n") ≡ codes "ok\nok\nok\nok\n{\"denied\":[\"customer.corder\"],\"keyspaces\":[{\"name\":\"commerce\",\"tables\":[\"corder\"]},{\"name\":\"customer\",\"tables\":[\"corder\"]}],\"rules\":[{\"from_table\":\"commerce.corder@rdonly\",\"to_tables\":[\"commerce.corder\"]},{\"from_table\":\"commerce.corder@replica\",\"to_tables\":[\"commerce.corder\"]},{\"from_table\":\"corder\",\"to_tables\":[\"commerce.corder\"]},{\"from_table\":\"corder@rdonly\",\"to_tables\":[\"commerce.corder\"]},{\"from_table\":\"corder@replica\",\"to_tables\":[\"commerce.corder\"]},{\"from_table\":\"customer.corder\",\"to_tables\":[\"commerce.corder\"]},{\"from_table\":\"customer.corder@rdonly\",\"to_tables\":[\"commerce.corder\"]},{\"from_table\":\"customer.corder@replica\",\"to_tables\":[\"commerce.corder\"]}],\"version\":1}\n"
+a_dump_of_a_live_workflow = output (watchers_of (commerce ∷ customer ∷ [])) (codes "keyspace commerce\nkeyspace customer\ntable commerce corder\ncreate mv commerce customer corder\ndump\n") ≡ codes "ok\nok\nok\nok\n{\"denied\":[\"customer.corder\"],\"keyspaces\":[{\"name\":\"commerce\",\"shards\":[\"-\"],\"tables\":[\"corder\"]},{\"name\":\"customer\",\"shards\":[\"-\"],\"tables\":[\"corder\"]}],\"rules\":[{\"from_table\":\"commerce.corder@rdonly\",\"to_tables\":[\"commerce.corder\"]},{\"from_table\":\"commerce.corder@replica\",\"to_tables\":[\"commerce.corder\"]},{\"from_table\":\"corder\",\"to_tables\":[\"commerce.corder\"]},{\"from_table\":\"corder@rdonly\",\"to_tables\":[\"commerce.corder\"]},{\"from_table\":\"corder@replica\",\"to_tables\":[\"commerce.corder\"]},{\"from_table\":\"customer.corder\",\"to_tables\":[\"commerce.corder\"]},{\"from_table\":\"customer.corder@rdonly\",\"to_tables\":[\"commerce.corder\"]},{\"from_table\":\"customer.corder@replica\",\"to_tables\":[\"commerce.corder\"]}],\"version\":2}\n"

@@ -244,7 +244,7 @@ documents =
     ++ codes "# These lines have no words behind them.\n"
     ++ codes "rules commerce\n")
     ≡ codes "{\"rules\":[]}\n"
-    ++ codes "{\"denied\":[],\"keyspaces\":[],\"rules\":[],\"version\":1}\n"
+    ++ codes "{\"denied\":[],\"keyspaces\":[],\"rules\":[],\"version\":2}\n"
     ++ codes "ok\n"
     ++ codes "ok\n"
     ++ codes "ok\n"
@@ -259,9 +259,9 @@ documents =
     ++ codes "ok\n"
     ++ codes "ok\n"
     ++ codes "{\"rules\":[{\"from_table\":\"cart\",\"to_tables\":[\"commerce.Audit\"]},{\"from_table\":\"corder\",\"to_tables\":[\"commerce.corder\"]},{\"from_table\":\"corder@replica\",\"to_tables\":[\"customer.corder\"]},{\"from_table\":\"customer.corder\",\"to_tables\":[\"commerce.corder\"]}]}\n"
-    ++ codes "{\"denied\":[],\"keyspaces\":[{\"name\":\"commerce\",\"tables\":[\"Audit\",\"cart\",\"corder\"]},{\"name\":\"customer\",\"tables\":[]}],\"rules\":[{\"from_table\":\"cart\",\"to_tables\":[\"commerce.Audit\"]},{\"from_table\":\"corder\",\"to_tables\":[\"commerce.corder\"]},{\"from_table\":\"corder@replica\",\"to_tables\":[\"customer.corder\"]},{\"from_table\":\"customer.corder\",\"to_tables\":[\"commerce.corder\"]}],\"version\":1}\n"
+    ++ codes "{\"denied\":[],\"keyspaces\":[{\"name\":\"commerce\",\"shards\":[\"-\"],\"tables\":[\"Audit\",\"cart\",\"corder\"]},{\"name\":\"customer\",\"shards\":[\"-\"],\"tables\":[]}],\"rules\":[{\"from_table\":\"cart\",\"to_tables\":[\"commerce.Audit\"]},{\"from_table\":\"corder\",\"to_tables\":[\"commerce.corder\"]},{\"from_table\":\"corder@replica\",\"to_tables\":[\"customer.corder\"]},{\"from_table\":\"customer.corder\",\"to_tables\":[\"commerce.corder\"]}],\"version\":2}\n"
     ++ codes "ok\n"
-    ++ codes "{\"denied\":[],\"keyspaces\":[{\"name\":\"commerce\",\"tables\":[\"Audit\",\"cart\",\"corder\"]},{\"name\":\"customer\",\"tables\":[]}],\"rules\":[{\"from_table\":\"cart\",\"to_tables\":[\"commerce.Audit\"]},{\"from_table\":\"corder\",\"to_tables\":[\"commerce.corder\"]},{\"from_table\":\"corder@replica\",\"to_tables\":[\"customer.corder\"]},{\"from_table\":\"customer.corder\",\"to_tables\":[\"commerce.corder\"]}],\"version\":1}\n"
+    ++ codes "{\"denied\":[],\"keyspaces\":[{\"name\":\"commerce\",\"shards\":[\"-\"],\"tables\":[\"Audit\",\"cart\",\"corder\"]},{\"name\":\"customer\",\"shards\":[\"-\"],\"tables\":[]}],\"rules\":[{\"from_table\":\"cart\",\"to_tables\":[\"commerce.Audit\"]},{\"from_table\":\"corder\",\"to_tables\":[\"commerce.corder\"]},{\"from_table\":\"corder@replica\",\"to_tables\":[\"customer.corder\"]},{\"from_table\":\"customer.corder\",\"to_tables\":[\"commerce.corder\"]}],\"version\":2}\n"
     ++ codes "refused X1 BadLine\n"
 
 abbrev pub first_table : Type 0
@@ -677,7 +677,7 @@ switch_by_steps =
     ++ codes "row c\n"
     ++ codes "ok\n"
     ++ codes "{\"rules\":[]}\n"
-    ++ codes "{\"denied\":[],\"keyspaces\":[{\"name\":\"commerce\",\"tables\":[]},{\"name\":\"customer\",\"tables\":[\"corder\"]}],\"rules\":[],\"version\":1}\n"
+    ++ codes "{\"denied\":[],\"keyspaces\":[{\"name\":\"commerce\",\"shards\":[\"-\"],\"tables\":[]},{\"name\":\"customer\",\"shards\":[\"-\"],\"tables\":[\"corder\"]}],\"rules\":[],\"version\":2}\n"
     ++ codes "row a\n"
     ++ codes "row c\n"
     ++ codes "refused F2 NoTable\n"
@@ -735,7 +735,7 @@ two_moves =
     ++ codes "ok\n"
     ++ codes "row c\n"
     ++ codes "row d\n"
-    ++ codes "{\"denied\":[],\"keyspaces\":[{\"name\":\"archive\",\"tables\":[]},{\"name\":\"commerce\",\"tables\":[\"invoice\"]},{\"name\":\"customer\",\"tables\":[\"corder\"]}],\"rules\":[],\"version\":1}\n"
+    ++ codes "{\"denied\":[],\"keyspaces\":[{\"name\":\"archive\",\"shards\":[\"-\"],\"tables\":[]},{\"name\":\"commerce\",\"shards\":[\"-\"],\"tables\":[\"invoice\"]},{\"name\":\"customer\",\"shards\":[\"-\"],\"tables\":[\"corder\"]}],\"rules\":[],\"version\":2}\n"
 
 abbrev pub whole_move : Type 0
 whole_move =
@@ -795,4 +795,4 @@ whole_move =
     ++ codes "row c\n"
     ++ codes "row d\n"
     ++ codes "refused F2 NoTable\n"
-    ++ codes "{\"denied\":[],\"keyspaces\":[{\"name\":\"commerce\",\"tables\":[]},{\"name\":\"customer\",\"tables\":[\"corder\"]}],\"rules\":[],\"version\":1}\n"
+    ++ codes "{\"denied\":[],\"keyspaces\":[{\"name\":\"commerce\",\"shards\":[\"-\"],\"tables\":[]},{\"name\":\"customer\",\"shards\":[\"-\"],\"tables\":[\"corder\"]}],\"rules\":[],\"version\":2}\n"

@@ -16,7 +16,7 @@ abbrev pub with_target_tables : ℕ → Plain
 with_target_tables n =
     record begun {
       topology = record begun.topology {
-        keyspaces = (commerce, record { tables = (corder, true) ∷ (codes "other", true) ∷ []; denied = [] }) ∷ (customer, record { tables = map (λ name. (name, true)) (names n); denied = [] }) ∷ [];
+        keyspaces = (commerce, record { cuts = []; tables = (corder, true) ∷ (codes "other", true) ∷ []; denied = [] }) ∷ (customer, record { cuts = []; tables = map (λ name. (name, true)) (names n); denied = [] }) ∷ [];
       };
     }
 

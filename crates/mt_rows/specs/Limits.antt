@@ -25,7 +25,7 @@ thirty_third_keyspace_is_refused = Run (opening []) (map add_keyspace (names 33)
 
 -- a state with one keyspace, which has so many tables
 abbrev pub with_tables : ℕ → Plain
-with_tables n = record (opening []) { topology = record empty_topology { keyspaces = (codes "k", record { tables = map (λ name. (name, true)) (names n); denied = [] }) ∷ [] } }
+with_tables n = record (opening []) { topology = record empty_topology { keyspaces = (codes "k", record { cuts = []; tables = map (λ name. (name, true)) (names n); denied = [] }) ∷ [] } }
 
 abbrev pub table_256_is_taken : Type 0
 table_256_is_taken = table_refusal (with_tables 255) (codes "k") (codes "t") ≡ None

@@ -1,6 +1,6 @@
 -- Which topologies a state serves: those that say what is served, with no place twice, in whatever order.
 use Rattle.std.specs.Prelude.{true, [], ◌∷◌, codes, None, Some}
-use Rattle.mt_model.specs.Topology.{TopologyState}
+use Rattle.mt_model.specs.Topology.{TopologyState, new_keyspace}
 use Rattle.mt_plain.specs.Answers.{after_lines}
 use Rattle.mt_plain.specs.Plain.{Plain, in_keyspace}
 use Rattle.mt_plain.specs.Serve.{IsServed}
@@ -16,7 +16,7 @@ ruled = after_lines start history 5
 abbrev pub two_keyspaces : Plain
 two_keyspaces = after_lines watched moving 3
 
--- the same topologies: with a place more that holds no rule, without the rule, with its place twice, and with a denial
+-- the same topologies: with a place more that holds no rule, without the rule, with its place twice, with a denial, and with two shards
 abbrev pub with_blank_place : TopologyState
 with_blank_place = record ruled.topology { rules = (plain corder, None) ∷ ruled.topology.rules }
 
@@ -27,17 +27,20 @@ abbrev pub with_place_twice : TopologyState
 with_place_twice = record ruled.topology { rules = (plain (codes "c"), Some (in_keyspace commerce corder)) ∷ ruled.topology.rules }
 
 abbrev pub with_denial : TopologyState
-with_denial = record ruled.topology { keyspaces = (commerce, record { tables = (corder, true) ∷ []; denied = (corder, true) ∷ [] }) ∷ [] }
+with_denial = record ruled.topology { keyspaces = (commerce, record { cuts = []; tables = (corder, true) ∷ []; denied = (corder, true) ∷ [] }) ∷ [] }
+
+abbrev pub with_shards : TopologyState
+with_shards = record ruled.topology { keyspaces = (commerce, record { cuts = codes "80" ∷ []; tables = (corder, true) ∷ []; denied = [] }) ∷ [] }
 
 -- and with its keyspaces in the other order, with one of them, and with one more
 abbrev pub turned : TopologyState
-turned = record two_keyspaces.topology { keyspaces = (customer, record { tables = []; denied = [] }) ∷ (commerce, record { tables = (corder, true) ∷ []; denied = [] }) ∷ [] }
+turned = record two_keyspaces.topology { keyspaces = (customer, new_keyspace []) ∷ (commerce, record { cuts = []; tables = (corder, true) ∷ []; denied = [] }) ∷ [] }
 
 abbrev pub with_one_keyspace : TopologyState
-with_one_keyspace = record two_keyspaces.topology { keyspaces = (commerce, record { tables = (corder, true) ∷ []; denied = [] }) ∷ [] }
+with_one_keyspace = record two_keyspaces.topology { keyspaces = (commerce, record { cuts = []; tables = (corder, true) ∷ []; denied = [] }) ∷ [] }
 
 abbrev pub with_three_keyspaces : TopologyState
-with_three_keyspaces = record two_keyspaces.topology { keyspaces = (codes "third", record { tables = []; denied = [] }) ∷ two_keyspaces.topology.keyspaces }
+with_three_keyspaces = record two_keyspaces.topology { keyspaces = (codes "third", new_keyspace []) ∷ two_keyspaces.topology.keyspaces }
 
 -- ---- rows
 
@@ -58,6 +61,9 @@ no_place_may_stand_twice = ¬ (IsServed ruled with_place_twice)
 
 abbrev pub no_denial_may_be_invented : Type 0
 no_denial_may_be_invented = ¬ (IsServed ruled with_denial)
+
+abbrev pub no_shard_may_be_invented : Type 0
+no_shard_may_be_invented = ¬ (IsServed ruled with_shards)
 
 abbrev pub no_keyspace_may_be_lost : Type 0
 no_keyspace_may_be_lost = ¬ (IsServed two_keyspaces with_one_keyspace)

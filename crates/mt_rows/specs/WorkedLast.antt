@@ -24,7 +24,7 @@ abbrev pub show_of_an_open_way_and_of_undoing : Type 0
 show_of_an_open_way_and_of_undoing = output (watchers_of (codes "commerce" ∷ codes "customer" ∷ [])) (codes "keyspace commerce\nkeyspace customer\ntable commerce corder\ninsert corder 1 a\ncreate mv commerce customer corder\nadvance mv forward 1 100\nbegin-switch mv all\nstep mv 0\ninsert corder 2 b\nstep mv 1\nstep mv 2\nstep mv 3\nadvance mv forward 1 100\nstep mv 3\ninsert corder 3 c\nshow mv\nstep mv 3\nundo mv 4\nshow mv\nstep mv 3\n") ≡ codes "ok\nok\nok\nok\nok\nevents 0 rows 1\nok\nok\nok\nok\nok\nrefused F18 NotLevel\nevents 1 rows 0\nok\nrefused F3 Denied\nmv commerce customer corder switched - way forward primary,replica,rdonly 4 forward running 2 copied back none\nrefused F25 Stale\nok\nmv commerce customer corder switched - way forward primary,replica,rdonly 3 undoing forward running 2 copied back none\nrefused F28 Undoing\n"
 
 abbrev pub dump_of_two_keyspaces : Type 0
-dump_of_two_keyspaces = output (watchers_of (codes "commerce" ∷ codes "customer" ∷ [])) (codes "keyspace b\nkeyspace a\ntable b t\ndump\n") ≡ codes "ok\nok\nok\n{\"denied\":[],\"keyspaces\":[{\"name\":\"a\",\"tables\":[]},{\"name\":\"b\",\"tables\":[\"t\"]}],\"rules\":[],\"version\":1}\n"
+dump_of_two_keyspaces = output (watchers_of (codes "commerce" ∷ codes "customer" ∷ [])) (codes "keyspace b\nkeyspace a\ntable b t\ndump\n") ≡ codes "ok\nok\nok\n{\"denied\":[],\"keyspaces\":[{\"name\":\"a\",\"shards\":[\"-\"],\"tables\":[]},{\"name\":\"b\",\"shards\":[\"-\"],\"tables\":[\"t\"]}],\"rules\":[],\"version\":2}\n"
 
 abbrev pub rules_with_all_switched : Type 0
 rules_with_all_switched = output (watchers_of (codes "commerce" ∷ codes "customer" ∷ [])) (codes "keyspace commerce\nkeyspace customer\ntable commerce corder\ncreate mv commerce customer corder\nadvance mv forward 0 100\nswitch mv all\nrules\n") ≡ codes "ok\nok\nok\nok\nevents 0 rows 0\nok\n{\"rules\":[{\"from_table\":\"commerce.corder\",\"to_tables\":[\"customer.corder\"]},{\"from_table\":\"commerce.corder@rdonly\",\"to_tables\":[\"customer.corder\"]},{\"from_table\":\"commerce.corder@replica\",\"to_tables\":[\"customer.corder\"]},{\"from_table\":\"corder\",\"to_tables\":[\"customer.corder\"]},{\"from_table\":\"corder@rdonly\",\"to_tables\":[\"customer.corder\"]},{\"from_table\":\"corder@replica\",\"to_tables\":[\"customer.corder\"]},{\"from_table\":\"customer.corder@rdonly\",\"to_tables\":[\"customer.corder\"]},{\"from_table\":\"customer.corder@replica\",\"to_tables\":[\"customer.corder\"]}]}\n"

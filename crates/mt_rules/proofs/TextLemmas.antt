@@ -60,7 +60,7 @@ allowed_is_high alphabet b allowed = by (nat_le 32 b) refl
     by true e = leb-true 32 b e
     by false e = absurd (true≢false (sym allowed ∙ low_is_not_allowed alphabet b (leb-false 32 b e)))
 
-escape-allowed : (alphabet : Alphabet) (bytes : List ℕ) → AllByRecursion (λ b. allows alphabet b ≡ true) bytes → escape bytes ≡ bytes
+pub escape-allowed : (alphabet : Alphabet) (bytes : List ℕ) → AllByRecursion (λ b. allows alphabet b ≡ true) bytes → escape bytes ≡ bytes
 escape-allowed alphabet [] each = refl
 escape-allowed alphabet (b ∷ bs) each =
     let one : escape_byte b ≡ b ∷ [] = escape-one b (λ e. true≢false (sym each.0 ∙ ap (allows alphabet) e ∙ quote_is_not_allowed alphabet))

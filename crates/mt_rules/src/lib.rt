@@ -11,4 +11,4 @@ mod write;
 pub use fault::RulesFault;
 pub use read::value_of_text;
 pub use rules::RoutingRules;
-pub use text::{WrittenItem, push_sorted};
+pub use text::{WrittenItem, push_quoted, push_sorted};

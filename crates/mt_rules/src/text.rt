@@ -88,8 +88,8 @@ fn push_target(text: &mut String, target: &RuleTarget) -> Result<(), AllocError>
     Ok(())
 }
 
-/// Appends a text in quotes.
-fn push_quoted(text: &mut String, own: &str) -> Result<(), AllocError>
+/// Appends a text in quotes. One that JSON escapes is not written as JSON wants it.
+pub fn push_quoted(text: &mut String, own: &str) -> Result<(), AllocError>
     ensures { OnOk result (string_bytes text.new ≡ string_bytes text.old ++ quoted own.now) }
 {
     text.push_str("\"")?;

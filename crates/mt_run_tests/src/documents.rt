@@ -10,7 +10,7 @@ use std::test::Fail;
 
 /// The dump of two keyspaces, of which `b` has the table `t`.
 const TWO: &str =
-    "{\"denied\":[],\"keyspaces\":[{\"name\":\"a\",\"tables\":[]},{\"name\":\"b\",\"tables\":[\"t\"]}],\"rules\":[],\"version\":1}";
+    "{\"denied\":[],\"keyspaces\":[{\"name\":\"a\",\"shards\":[\"-\"],\"tables\":[]},{\"name\":\"b\",\"shards\":[\"-\"],\"tables\":[\"t\"]}],\"rules\":[],\"version\":2}";
 
 /// Two keyspaces, and their dump.
 const DUMPED: [(&str, &str); 4] = [
@@ -31,7 +31,7 @@ const LISTED: [(&str, &str); 10] = [
     ("rules", "{\"rules\":[]}"),
     (
         "dump",
-        "{\"denied\":[],\"keyspaces\":[],\"rules\":[],\"version\":1}",
+        "{\"denied\":[],\"keyspaces\":[],\"rules\":[],\"version\":2}",
     ),
     ("rule b k.b", "ok"),
     ("rule a@replica k.a", "ok"),

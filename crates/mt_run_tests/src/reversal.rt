@@ -113,7 +113,7 @@ const SWITCHED_AGAIN: [(&str, &str); 10] = [
     ("rules", "{\"rules\":[]}"),
     (
         "dump",
-        "{\"denied\":[],\"keyspaces\":[{\"name\":\"commerce\",\"tables\":[]},{\"name\":\"customer\",\"tables\":[\"corder\"]}],\"rules\":[],\"version\":1}",
+        "{\"denied\":[],\"keyspaces\":[{\"name\":\"commerce\",\"shards\":[\"-\"],\"tables\":[]},{\"name\":\"customer\",\"shards\":[\"-\"],\"tables\":[\"corder\"]}],\"rules\":[],\"version\":2}",
     ),
 ];
 
@@ -480,7 +480,7 @@ const BOTH_ENDED: [(&str, &str); 8] = [
     ("rules", "{\"rules\":[]}"),
     (
         "dump",
-        "{\"denied\":[],\"keyspaces\":[{\"name\":\"commerce\",\"tables\":[\"a\"]},{\"name\":\"customer\",\"tables\":[\"b\"]}],\"rules\":[],\"version\":1}",
+        "{\"denied\":[],\"keyspaces\":[{\"name\":\"commerce\",\"shards\":[\"-\"],\"tables\":[\"a\"]},{\"name\":\"customer\",\"shards\":[\"-\"],\"tables\":[\"b\"]}],\"rules\":[],\"version\":2}",
     ),
     ("get a 2", "row z"),
     ("get b 2", "row w"),

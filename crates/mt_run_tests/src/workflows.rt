@@ -221,7 +221,7 @@ const SIDE_BY_SIDE: [(&str, &str); 39] = [
     ("rules", "{\"rules\":[]}"),
     (
         "dump",
-        "{\"denied\":[],\"keyspaces\":[{\"name\":\"commerce\",\"tables\":[\"a\",\"b\"]},{\"name\":\"customer\",\"tables\":[]}],\"rules\":[],\"version\":1}",
+        "{\"denied\":[],\"keyspaces\":[{\"name\":\"commerce\",\"shards\":[\"-\"],\"tables\":[\"a\",\"b\"]},{\"name\":\"customer\",\"shards\":[\"-\"],\"tables\":[]}],\"rules\":[],\"version\":2}",
     ),
 ];
 

@@ -15,7 +15,7 @@ ghost use Rattle.mt_site.specs.ByHand.{AreTables, CreatesTable, refusal_by_topol
 use crate::{Primaries, Workflows};
 use mt_event::Reason;
 use mt_model::{Entry, EntryKey, MAX_KEYSPACES, PrimaryFault, TopologyFault};
-use mt_names::{KeyspaceName, RuleKey, RuleTarget, TableName};
+use mt_names::{KeyspaceName, RuleKey, RuleTarget, ShardList, TableName};
 use mt_primary::Primary;
 use mt_topology::Topology;
 use mt_workflow::Workflow;
@@ -54,7 +54,7 @@ pub(crate) fn add_keyspace(
     if primaries.reserve(1).is_err() {
         return Err(Reason::Memory);
     }
-    if let Err(fault) = topology.add_keyspace(name) {
+    if let Err(fault) = topology.add_keyspace(name, ShardList::unsharded()) {
         return Err(refusal_by_topology(fault));
     }
     match primaries.insert(name.copied(), Primary::new(alloc)) {

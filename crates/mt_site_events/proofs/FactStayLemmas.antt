@@ -31,7 +31,7 @@ module _ (more : List Scope) (p : Plain) where
     reached = reached;
     scopes_are = refl;
     topology = record {
-      served = record { keyspaces = stands.topology.served.keyspaces; entries = stands.topology.served.entries; places = stands.topology.served.places };
+      served = record { keyspaces = stands.topology.served.keyspaces; shards = stands.topology.served.shards; entries = stands.topology.served.entries; places = stands.topology.served.places };
       places = stands.topology.places;
     };
     rows = record {

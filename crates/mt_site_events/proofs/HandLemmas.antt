@@ -13,7 +13,7 @@ use Rattle.mt_names.proofs.EntryLemmas.{none_from}
 use Rattle.mt_model.specs.declared.entries.EntryKey.TheVariants as about
 use Rattle.mt_model.specs.declared.entries.Scope.{Scope}
 use Rattle.mt_model.specs.Limits.{most_keyspaces, most_rules}
-use Rattle.mt_model.specs.Topology.{KeyspaceState, TopologyState, is_marked, is_present, keyspace_at, with_keyspace, with_rule}
+use Rattle.mt_model.specs.Topology.{KeyspaceState, TopologyState, is_marked, is_present, keyspace_at, new_keyspace, with_keyspace, with_rule}
 use Rattle.mt_primary.specs.Primary.{empty_primary, has_table, is_denied_at}
 use Rattle.mt_topology.specs.Edits.{add_keyspace_refusal, edit_rule_grows, edit_rule_refusal}
 use Rattle.mt_plain.specs.Answers.{Answers, answer_of}
@@ -41,7 +41,7 @@ pub record KeyspaceLaws : Type 0 where
   pub answered : (p : Plain) (event : Event) → Answers p event (answer_of p event)
   pub limits : (p : Plain) → IsReached p → IsWithinLimits p
   pub count : (p : Plain) (t : TopologyState) → IsReached p → TopologyStands p t → length t.keyspaces ≡ length p.topology.keyspaces
-  pub topology : (p : Plain) (t : TopologyState) (name : List ℕ) → Answers p (add_keyspace name) done → TopologyStands p t → TopologyStands (next p (add_keyspace name) done) (with_keyspace t name)
+  pub topology : (p : Plain) (t : TopologyState) (name : List ℕ) → Answers p (add_keyspace name) done → TopologyStands p t → TopologyStands (next p (add_keyspace name) done) (with_keyspace t name [])
   pub rows : (p : Plain) → IsReached p → (at : rows.Primaries) → rows.RowsStand p at → (name : List ℕ) → Answers p (add_keyspace name) done → rows.RowsStand (next p (add_keyspace name) done) at
 
 -- a keyspace that refuses nothing isn't there yet
@@ -55,9 +55,9 @@ free_keyspace p name none = by (has_keyspace p name) none
 -- and what is there without tables has none
 module _ (p : Plain) (name : List ℕ) where
   abbrev last : List ℕ × KeyspaceState
-  last = (name, record { tables = []; denied = [] })
+  last = (name, new_keyspace [])
 
-  tables_pushed : (k n : List ℕ) → is_present (with_keyspace p.topology name).keyspaces k n ≡ is_present p.topology.keyspaces k n
+  tables_pushed : (k n : List ℕ) → is_present (with_keyspace p.topology name []).keyspaces k n ≡ is_present p.topology.keyspaces k n
   tables_pushed k n = pushed p.topology.keyspaces
     where
       at_end : (b : Bool) → option_map_or (λ (s : KeyspaceState). is_marked s.tables n) (cond b (Some last.1) None) false ≡ false
@@ -86,13 +86,13 @@ module _ (laws : Laws) (law : KeyspaceLaws) (p : Plain) (scopes : List Scope) (o
   abbrev more : Primaries
   more = old.primaries ++ (name, empty_primary) ∷ []
 
-  keyspace_making : Answers p (add_keyspace name) done → StandsWith (next p (add_keyspace name) done) scopes (record old { topology = with_keyspace old.topology name; primaries = more })
+  keyspace_making : Answers p (add_keyspace name) done → StandsWith (next p (add_keyspace name) done) scopes (record old { topology = with_keyspace old.topology name []; primaries = more })
   keyspace_making given =
-      core_stands laws p (add_keyspace name) done stands.reached given refl scopes old (record old { topology = with_keyspace old.topology name; primaries = more }) stands refl
+      core_stands laws p (add_keyspace name) done stands.reached given refl scopes old (record old { topology = with_keyspace old.topology name []; primaries = more }) stands refl
       (law.topology p old.topology name given stands.topology)
       (same_primaries (next p (add_keyspace name) done) (primary_of old.primaries) (primary_of more) (law.rows p stands.reached (primary_of old.primaries) stands.rows name given) (λ k. primary_of-push old.primaries name k absent))
       (record {
-        there = λ k. is_some-push_both old.primaries p.topology.keyspaces name k empty_primary (record { tables = []; denied = [] }) (stands.primaries.there k);
+        there = λ k. is_some-push_both old.primaries p.topology.keyspaces name k empty_primary (new_keyspace []) (stands.primaries.there k);
         count = pushed_count;
         tables = λ k n. ap (λ s. has_table s n) (primary_of-push old.primaries name k absent) ∙ stands.primaries.tables k n
             ∙ sym (ap (λ b. cond (list_any (λ w. moves w n && same_text w.target k) p.lives) true b) (tables_pushed p name k n));
@@ -105,14 +105,14 @@ module _ (laws : Laws) (law : KeyspaceLaws) (p : Plain) (scopes : List Scope) (o
       absent : primary_at old.primaries name ≡ None
       absent = none_from (primary_at old.primaries name) (stands.primaries.there name ∙ free)
 
-      pushed_count : length more ≡ length (with_keyspace p.topology name).keyspaces
+      pushed_count : length more ≡ length (with_keyspace p.topology name []).keyspaces
       pushed_count =
           length-append old.primaries ((name, empty_primary) ∷ []) ∙ ap (λ n. n + 1) stands.primaries.count
-          ∙ sym (length-append p.topology.keyspaces ((name, record { tables = []; denied = [] }) ∷ []))
+          ∙ sym (length-append p.topology.keyspaces ((name, new_keyspace []) ∷ []))
 
 pub keyspace_steps : Laws → KeyspaceLaws → (scopes : List Scope) (old new : CoreState) (name : List ℕ) (answer : Answer) → AddsKeyspace old name answer new → Steps scopes old (add_keyspace name) answer new
 keyspace_steps laws law scopes old new name answer did p stands =
-    does_steps p scopes old (record old { topology = with_keyspace old.topology name; primaries = old.primaries ++ (name, empty_primary) ∷ [] }) (add_keyspace name)
+    does_steps p scopes old (record old { topology = with_keyspace old.topology name []; primaries = old.primaries ++ (name, empty_primary) ∷ [] }) (add_keyspace name)
     (told (add_keyspace_refusal old.topology.keyspaces name)) true refl (λ e. refl) (keyspace_refusing laws law p scopes old name stands) stands (keyspace_making laws law p scopes old name stands) (law.answered p (add_keyspace name)) answer new did
 
 -- ---- a rule edited

@@ -33,6 +33,7 @@ module _ (said : Said) (p : Plain) (core : CoreState) (stands : Stands p core) w
   pub same : IsSameTopology core.topology (served p)
   same = record {
     keyspaces = λ name. stands.topology.served.keyspaces name ∙ sym (lists.keyspaces name);
+    shards = λ name. stands.topology.served.shards name ∙ sym (lists.shards name);
     values = λ key. stands.topology.served.entries key ∙ sym (lists.entries key);
   }
 

@@ -8,7 +8,7 @@ use Rattle.std.specs.Prelude.{◌&&◌, ◌||◌, is_some, unwrap_or}
 use Rattle.mt_names.specs.Names.{same_text}
 use Rattle.mt_names.specs.Same.{same_target}
 use Rattle.mt_model.specs.declared.rows.RowChange.{RowChange}
-use Rattle.mt_model.specs.Topology.{KeyspaceState, Keyspaces, is_marked, is_present, keyspace_at, with_keyspace}
+use Rattle.mt_model.specs.Topology.{KeyspaceState, Keyspaces, is_marked, is_present, keyspace_at, new_keyspace, with_keyspace}
 use Rattle.mt_names.specs.declared.types.TypeSet.{TypeSet}
 use Rattle.mt_names.proofs.EntryLemmas.{some_from}
 use Rattle.mt_plain.specs.Events.{Way}
@@ -278,20 +278,20 @@ undone_sides w = by w.way
     by (Some way) = left way (eqb (way.done - 1) 0)
 
 -- a new keyspace has no tables
-present_pushed : (ks : Keyspaces) (name keyspace table : List ℕ) → is_present (ks ++ (name, record { tables = []; denied = [] }) ∷ []) keyspace table ≡ is_present ks keyspace table
+present_pushed : (ks : Keyspaces) (name keyspace table : List ℕ) → is_present (ks ++ (name, new_keyspace []) ∷ []) keyspace table ≡ is_present ks keyspace table
 present_pushed [] name keyspace table = by (same_text keyspace name)
   where
-    by : (b : Bool) → option_map_or (λ (s : KeyspaceState). is_marked s.tables table) (cond b (Some (record { tables = []; denied = [] })) None) false ≡ false
+    by : (b : Bool) → option_map_or (λ (s : KeyspaceState). is_marked s.tables table) (cond b (Some (new_keyspace [])) None) false ≡ false
     by true = refl
     by false = refl
 present_pushed (k ∷ ks) name keyspace table = by (same_text keyspace k.0) (present_pushed ks name keyspace table)
   where
-    by : (b : Bool) → is_present (ks ++ (name, record { tables = []; denied = [] }) ∷ []) keyspace table ≡ is_present ks keyspace table
-        → option_map_or (λ (s : KeyspaceState). is_marked s.tables table) (cond b (Some k.1) (keyspace_at (ks ++ (name, record { tables = []; denied = [] }) ∷ []) keyspace)) false
+    by : (b : Bool) → is_present (ks ++ (name, new_keyspace []) ∷ []) keyspace table ≡ is_present ks keyspace table
+        → option_map_or (λ (s : KeyspaceState). is_marked s.tables table) (cond b (Some k.1) (keyspace_at (ks ++ (name, new_keyspace []) ∷ []) keyspace)) false
         ≡ option_map_or (λ (s : KeyspaceState). is_marked s.tables table) (cond b (Some k.1) (keyspace_at ks keyspace)) false
     by true again = refl
     by false again = again
 
-pub there_pushed : (p : Plain) (name keyspace table : List ℕ) → cond (list_any (λ w. moves w table && same_text w.target keyspace) p.lives) true (is_present (with_keyspace p.topology name).keyspaces keyspace table) ≡ true → has_table p keyspace table ≡ true
+pub there_pushed : (p : Plain) (name keyspace table : List ℕ) → cond (list_any (λ w. moves w table && same_text w.target keyspace) p.lives) true (is_present (with_keyspace p.topology name []).keyspaces keyspace table) ≡ true → has_table p keyspace table ≡ true
 there_pushed p name keyspace table h =
     ap (λ b. cond (list_any (λ w. moves w table && same_text w.target keyspace) p.lives) true b) (sym (present_pushed p.topology.keyspaces name keyspace table)) ∙ h

@@ -40,7 +40,7 @@ refusal_by_topology other = full
 abbrev pub AddsKeyspace : CoreState → (name : List ℕ) → Answer → CoreState → Type 0
 AddsKeyspace old name =
     Does old (option_map refusal_by_topology (add_keyspace_refusal old.topology.keyspaces name)) true
-    (record old { topology = with_keyspace old.topology name; primaries = old.primaries ++ (name, empty_primary) ∷ [] })
+    (record old { topology = with_keyspace old.topology name []; primaries = old.primaries ++ (name, empty_primary) ∷ [] })
 
 -- a table: it is there, without rows at its keyspace's primary
 abbrev pub AddsTable : CoreState → (keyspace table : List ℕ) → Answer → CoreState → Type 0

@@ -11,7 +11,7 @@ const NO_RULES: &str = "{\"rules\":[]}";
 
 /// The dump of the two keyspaces, of which `commerce` has the table.
 const BARE: &str =
-    "{\"denied\":[],\"keyspaces\":[{\"name\":\"commerce\",\"tables\":[\"corder\"]},{\"name\":\"customer\",\"tables\":[]}],\"rules\":[],\"version\":1}";
+    "{\"denied\":[],\"keyspaces\":[{\"name\":\"commerce\",\"shards\":[\"-\"],\"tables\":[\"corder\"]},{\"name\":\"customer\",\"shards\":[\"-\"],\"tables\":[]}],\"rules\":[],\"version\":2}";
 
 /// A workflow is taken back where no rule stood before: its name, its table at the target and its rules are gone, and a next
 /// one may have them.
@@ -68,7 +68,7 @@ const RULED: &str =
 
 /// The dump with them.
 const RULED_DUMP: &str =
-    "{\"denied\":[],\"keyspaces\":[{\"name\":\"commerce\",\"tables\":[\"corder\"]},{\"name\":\"customer\",\"tables\":[]}],\"rules\":[{\"from_table\":\"commerce.corder@replica\",\"to_tables\":[\"commerce.corder\"]},{\"from_table\":\"corder\",\"to_tables\":[\"commerce.corder\"]}],\"version\":1}";
+    "{\"denied\":[],\"keyspaces\":[{\"name\":\"commerce\",\"shards\":[\"-\"],\"tables\":[\"corder\"]},{\"name\":\"customer\",\"shards\":[\"-\"],\"tables\":[]}],\"rules\":[{\"from_table\":\"commerce.corder@replica\",\"to_tables\":[\"commerce.corder\"]},{\"from_table\":\"corder\",\"to_tables\":[\"commerce.corder\"]}],\"version\":2}";
 
 /// The rules that stood before are those that stand again.
 const GIVES_BACK_RULES: [Act; 11] = [
@@ -96,7 +96,7 @@ const OTHER_RULES: &str = "{\"rules\":[{\"from_table\":\"x\",\"to_tables\":[\"co
 
 /// The dump then, with a table that was made at the target meanwhile.
 const OTHERS: &str =
-    "{\"denied\":[],\"keyspaces\":[{\"name\":\"commerce\",\"tables\":[\"corder\"]},{\"name\":\"customer\",\"tables\":[\"cart\"]}],\"rules\":[{\"from_table\":\"x\",\"to_tables\":[\"commerce.x\"]}],\"version\":1}";
+    "{\"denied\":[],\"keyspaces\":[{\"name\":\"commerce\",\"shards\":[\"-\"],\"tables\":[\"corder\"]},{\"name\":\"customer\",\"shards\":[\"-\"],\"tables\":[\"cart\"]}],\"rules\":[{\"from_table\":\"x\",\"to_tables\":[\"commerce.x\"]}],\"version\":2}";
 
 /// What is edited beside a workflow stays as it was edited.
 const LEAVES_OTHERS: [Act; 12] = [
@@ -211,7 +211,7 @@ const NAMED_TWICE: [Act; 9] = [
 
 /// The dump of the two keyspaces, of which `commerce` has two tables.
 const TWO_TABLES: &str =
-    "{\"denied\":[],\"keyspaces\":[{\"name\":\"commerce\",\"tables\":[\"cart\",\"corder\"]},{\"name\":\"customer\",\"tables\":[]}],\"rules\":[],\"version\":1}";
+    "{\"denied\":[],\"keyspaces\":[{\"name\":\"commerce\",\"shards\":[\"-\"],\"tables\":[\"cart\",\"corder\"]},{\"name\":\"customer\",\"shards\":[\"-\"],\"tables\":[]}],\"rules\":[],\"version\":2}";
 
 /// A watcher refuses what denies `corder`.
 const REFUSED: [Act; 12] = [

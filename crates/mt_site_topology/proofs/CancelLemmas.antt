@@ -9,7 +9,7 @@ use Rattle.mt_model.specs.declared.entries.Entry.{Entry}
 use Rattle.mt_model.specs.declared.entries.EntryKey.{EntryKey}
 use Rattle.mt_model.specs.declared.entries.EntryKey.TheVariants as about
 use Rattle.mt_model.specs.Part.{with_entries, without_places}
-use Rattle.mt_model.specs.Topology.{HasDistinctPlaces, Rules, TopologyState, has_place, is_denied, is_present, key_of, keyspace_at, rule_at, value_of}
+use Rattle.mt_model.specs.Topology.{HasDistinctPlaces, Rules, TopologyState, cuts_at, has_place, is_denied, is_present, key_of, keyspace_at, rule_at, value_of}
 use Rattle.mt_model.proofs.PlaceLemmas.{same-without_places}
 use Rattle.mt_plain.specs.Next.{without_live}
 use Rattle.mt_plain.specs.Plain.{Live, Plain, has_part, live_at, part_owner}
@@ -20,7 +20,7 @@ use Rattle.mt_site_topology.proofs.KeyLemmas.{listed_part}
 use Rattle.mt_site_topology.proofs.PartLemmas.{part_place}
 use Rattle.mt_site_topology.proofs.PlaceLemmas.{distinct_dropped, holds, places_dropped}
 use Rattle.mt_site_topology.proofs.StandLemmas.{IsFound, IsOwned}
-use Rattle.mt_site_topology.proofs.WriteLemmas.{distinct_written, keyspaces_written, places_written, values_written}
+use Rattle.mt_site_topology.proofs.WriteLemmas.{cuts_written, distinct_written, keyspaces_written, places_written, values_written}
 
 keyed : (u : TopologyState) (key : EntryKey) → key_of (value_of u key) ≡ key
 keyed u (about.Rule key) = refl
@@ -149,6 +149,9 @@ module _ (p q : Plain) (t : TopologyState) (w : Live) (kept : Rules) (same : q.t
       keyspaces = λ n.
           (same-without_places written (keys_of_part w) distinct).keyspaces n ∙ keyspaces_written t (kept_entries kept w) n ∙ stands.served.keyspaces n
           ∙ sym (ap (λ (u : TopologyState). is_some (keyspace_at u.keyspaces n)) same);
+      shards = λ n.
+          (same-without_places written (keys_of_part w) distinct).shards n ∙ cuts_written t (kept_entries kept w) n ∙ stands.served.shards n
+          ∙ sym (ap (λ (u : TopologyState). cuts_at u.keyspaces n) same);
       entries = values;
       places = distinct_dropped written (keys_of_part w) distinct;
     };

@@ -1,5 +1,5 @@
 -- Complete: the end is written over the part and the source's tables, and places that hold nothing are dropped.
-use Rattle.std.proofs.Common.{All, slice_index_or, ◌≡◌, ◌≢◌, ℕ, Bool, true, false, not, cond, ◌&&◌, ◌||◌, List, Option, None, Some, is_some, refl, sym, ap, ◌∙◌}
+use Rattle.std.proofs.Common.{All, slice_index_or, ◌≡◌, ◌≢◌, ℕ, Bool, true, false, not, cond, ◌&&◌, ◌||◌, List, [], ◌∷◌, Option, None, Some, is_some, refl, sym, ap, ◌∙◌}
 use Rattle.std.proofs.Math.Bool.{and-false, and-true}
 use Rattle.std.proofs.lemmas.List.Elements.{All-contains_itself}
 use Rattle.std.proofs.lemmas.Bool.{and_from, and_parts, or_right}
@@ -10,8 +10,9 @@ use Rattle.mt_model.specs.declared.entries.Entry.{Entry}
 use Rattle.mt_model.specs.declared.entries.EntryKey.{EntryKey}
 use Rattle.mt_model.specs.declared.entries.EntryKey.TheVariants as about
 use Rattle.mt_model.specs.Part.{with_entries, without_places}
-use Rattle.mt_model.specs.Topology.{HasDistinctPlaces, TopologyState, has_place, is_denied, is_present, keyspace_at, value_of}
+use Rattle.mt_model.specs.Topology.{HasDistinctPlaces, KeyspaceState, TopologyState, cuts_at, has_place, is_denied, is_present, keyspace_at, value_of, with_new_table}
 use Rattle.mt_model.proofs.PlaceLemmas.{keyspace_at-stays, same-without_places}
+use Rattle.mt_model.proofs.TopologyLemmas.{read_at-unchanged}
 use Rattle.mt_plain.specs.Next.{completed, with_tables, without_live, without_tables}
 use Rattle.mt_plain.specs.Plain.{Live, Plain, has_part, is_side, live_at, mover, moves, part_owner}
 use Rattle.mt_plain.specs.Serve.{served_by, served_entry, step_of_entry, types_by}
@@ -24,7 +25,7 @@ use Rattle.mt_site_topology.proofs.KeyLemmas.{all_counted, any_there, moved, sam
 use Rattle.mt_site_topology.proofs.PartLemmas.{part_place, serve_same}
 use Rattle.mt_site_topology.proofs.PlaceLemmas.{distinct_dropped, holds, places_dropped}
 use Rattle.mt_site_topology.proofs.StandLemmas.{IsFound, IsOwned}
-use Rattle.mt_site_topology.proofs.WriteLemmas.{distinct_written, keyspaces_written, places_written, values_written}
+use Rattle.mt_site_topology.proofs.WriteLemmas.{cuts_written, distinct_written, keyspaces_written, places_written, values_written}
 
 -- what ends is about a table that moves
 pub ends_moved : (w : Live) (key : EntryKey) → ends w key ≡ true → moves w (table_of key) ≡ true
@@ -190,10 +191,21 @@ module _ (p q : Plain) (t : TopologyState) (w : Live) (same : q.topology ≡ com
       ap (λ (u : TopologyState). is_some (keyspace_at u.keyspaces name)) same
       ∙ keyspace_at-stays (with_tables w.tables) _ w.target name ∙ keyspace_at-stays (without_tables w.tables) p.topology.keyspaces w.source name
 
+  cuts_with_tables : (tables : List (List ℕ)) (state : KeyspaceState) → (with_tables tables state).cuts ≡ state.cuts
+  cuts_with_tables [] state = refl
+  cuts_with_tables (table ∷ tables) state = cuts_with_tables tables (with_new_table table state)
+
+  same_shards : (name : List ℕ) → cuts_at q.topology.keyspaces name ≡ cuts_at p.topology.keyspaces name
+  same_shards name =
+      ap (λ (u : TopologyState). cuts_at u.keyspaces name) same
+      ∙ read_at-unchanged (λ s. s.cuts) [] (with_tables w.tables) _ w.target name (λ state found is. cuts_with_tables w.tables state)
+      ∙ read_at-unchanged (λ s. s.cuts) [] (without_tables w.tables) p.topology.keyspaces w.source name (λ state found is. refl)
+
   pub complete_stands : TopologyStands q (without_places (with_entries t (end_entries w)) (end_keys w))
   complete_stands = record {
     served = record {
       keyspaces = λ n. (same-without_places written (end_keys w) distinct).keyspaces n ∙ keyspaces_written t (end_entries w) n ∙ stands.served.keyspaces n ∙ sym (same_keyspaces n);
+      shards = λ n. (same-without_places written (end_keys w) distinct).shards n ∙ cuts_written t (end_entries w) n ∙ stands.served.shards n ∙ sym (same_shards n);
       entries = values;
       places = distinct_dropped written (end_keys w) distinct;
     };

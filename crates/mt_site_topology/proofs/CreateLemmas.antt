@@ -28,7 +28,7 @@ use Rattle.mt_site_topology.proofs.KeyLemmas.{from_listed, listed_part, rule_in_
 use Rattle.mt_site_topology.proofs.PartLemmas.{keyed, serve_same}
 use Rattle.mt_site_topology.proofs.PlaceLemmas.{distinct_placed, places_elsewhere}
 use Rattle.mt_site_topology.proofs.StandLemmas.{IsFound, IsOwned}
-use Rattle.mt_site_topology.proofs.WriteLemmas.{distinct_written, keyspaces_written, places_written, values_written}
+use Rattle.mt_site_topology.proofs.WriteLemmas.{cuts_written, distinct_written, keyspaces_written, places_written, values_written}
 
 -- ---- what is kept
 
@@ -143,6 +143,7 @@ module _ (p : Plain) (w : Live) where
     create_stands = record {
       served = record {
         keyspaces = λ name. keyspaces_written (with_places t (keys_of_part w)) (part_entries kept w no_types) name ∙ (same-with_places t (keys_of_part w)).keyspaces name ∙ stands.served.keyspaces name;
+        shards = λ name. cuts_written (with_places t (keys_of_part w)) (part_entries kept w no_types) name ∙ (same-with_places t (keys_of_part w)).shards name ∙ stands.served.shards name;
         entries = values;
         places = distinct_written (with_places t (keys_of_part w)) (part_entries kept w no_types) (distinct_placed t (keys_of_part w) stands.served.places);
       };

@@ -11,7 +11,7 @@ use Rattle.mt_names.proofs.SameLemmas.{same_key_decides, same_text_decides}
 use Rattle.mt_model.specs.declared.entries.Entry.TheVariants as entry
 use Rattle.mt_model.specs.declared.entries.EntryKey.{EntryKey}
 use Rattle.mt_model.specs.declared.entries.EntryKey.TheVariants as about
-use Rattle.mt_model.specs.Topology.{HasDistinctPlaces, KeyspaceState, TopologyState, has_place, keyspace_at, value_of, with_keyspace, with_mark_place, with_new_table, with_rule, with_rule_place, with_table}
+use Rattle.mt_model.specs.Topology.{HasDistinctPlaces, KeyspaceState, TopologyState, cuts_at, has_place, keyspace_at, new_keyspace, value_of, with_keyspace, with_mark_place, with_new_table, with_rule, with_rule_place, with_table}
 use Rattle.mt_model.proofs.DistinctLemmas.{distinct-rules, distinct-with_keyspace, distinct-with_rule, distinct-with_table}
 use Rattle.mt_model.proofs.PlaceLemmas.{keyspace_at-stays}
 use Rattle.mt_model.proofs.TopologyLemmas.{keyspace_at-changed_here, read_at-unchanged, rule_at-with_rule_elsewhere, rule_at-with_rule_here, value_of-rules_changed, value_of-with_keyspace, value_of-with_table_elsewhere, value_of-with_table_here, with_mark_place-there, with_rule_place-there}
@@ -44,31 +44,26 @@ module _ (p q : Plain) (lives : q.lives ≡ p.lives) (t next_t : TopologyState) 
 
 -- ---- a keyspace more
 
-pushed : (f : KeyspaceState → Bool) → f (record { tables = []; denied = [] }) ≡ false → (es : List (List ℕ × KeyspaceState)) (name k : List ℕ)
-    → option_map_or f (lookup (same_text k) (es ++ (name, record { tables = []; denied = [] }) ∷ [])) false ≡ option_map_or f (lookup (same_text k) es) false
-pushed f empty es name k = by (lookup (same_text k) es) refl
-  where
-    new : KeyspaceState
-    new = record { tables = []; denied = [] }
+module _ {A : Type 0} (f : KeyspaceState → A) (none : A) where
+  pushed : f (new_keyspace []) ≡ none → (es : List (List ℕ × KeyspaceState)) (name k : List ℕ)
+      → option_map_or f (lookup (same_text k) (es ++ (name, new_keyspace []) ∷ [])) none ≡ option_map_or f (lookup (same_text k) es) none
+  pushed empty es name k = by (lookup (same_text k) es) refl
+    where
+      either : (b : Bool) → f (new_keyspace []) ≡ none → option_map_or f (cond b (Some (new_keyspace [])) None) none ≡ none
+      either true is = is
+      either false is = refl
 
-    read : Option KeyspaceState → Bool
-    read o = option_map_or f o false
+      by : (o : Option KeyspaceState) → lookup (same_text k) es ≡ o → option_map_or f (lookup (same_text k) (es ++ (name, new_keyspace []) ∷ [])) none ≡ option_map_or f (lookup (same_text k) es) none
+      by None is =
+          ap (λ o. option_map_or f o none) (lookup-push_new same_text es (name, new_keyspace []) k is) ∙ either (same_text k name) empty
+          ∙ sym (ap (λ o. option_map_or f o none) is)
+      by (Some state) is =
+          ap (λ o. option_map_or f o none) (lookup-push_stood same_text es (name, new_keyspace []) k state is) ∙ sym (ap (λ o. option_map_or f o none) is)
 
-    either : (b : Bool) → f (record { tables = []; denied = [] }) ≡ false → option_map_or f (cond b (Some (record { tables = []; denied = [] })) None) false ≡ false
-    either true is = is
-    either false is = refl
-
-    by : (o : Option KeyspaceState) → lookup (same_text k) es ≡ o → option_map_or f (lookup (same_text k) (es ++ (name, record { tables = []; denied = [] }) ∷ [])) false ≡ option_map_or f (lookup (same_text k) es) false
-    by None is =
-        ap (λ o. option_map_or f o false) (lookup-push_new same_text es (name, record { tables = []; denied = [] }) k is) ∙ either (same_text k name) empty
-        ∙ sym (ap (λ o. option_map_or f o false) is)
-    by (Some state) is =
-        ap (λ o. option_map_or f o false) (lookup-push_stood same_text es (name, record { tables = []; denied = [] }) k state is) ∙ sym (ap (λ o. option_map_or f o false) is)
-
-none_in_new : (t : TopologyState) (name : List ℕ) (key : EntryKey) → has_place (with_keyspace t name) key ≡ has_place t key
+none_in_new : (t : TopologyState) (name : List ℕ) (key : EntryKey) → has_place (with_keyspace t name []) key ≡ has_place t key
 none_in_new t name (about.Rule key) = refl
-none_in_new t name (about.Denied k n) = pushed (λ s. is_some (lookup (same_text n) s.denied)) refl t.keyspaces name k
-none_in_new t name (about.Present k n) = pushed (λ s. is_some (lookup (same_text n) s.tables)) refl t.keyspaces name k
+none_in_new t name (about.Denied k n) = pushed (λ s. is_some (lookup (same_text n) s.denied)) false refl t.keyspaces name k
+none_in_new t name (about.Present k n) = pushed (λ s. is_some (lookup (same_text n) s.tables)) false refl t.keyspaces name k
 
 one_more : (es : List (List ℕ × KeyspaceState)) (name k : List ℕ) (s : KeyspaceState) → is_some (lookup (same_text k) (es ++ (name, s) ∷ [])) ≡ (is_some (lookup (same_text k) es) || same_text k name)
 one_more es name k s = by (lookup (same_text k) es) refl
@@ -81,16 +76,19 @@ one_more es name k s = by (lookup (same_text k) es) refl
     by None is = ap is_some (lookup-push_new same_text es (name, s) k is) ∙ either (same_text k name) ∙ sym (ap (λ (o : Option KeyspaceState). is_some o || same_text k name) is)
     by (Some state) is = ap is_some (lookup-push_stood same_text es (name, s) k state is) ∙ sym (ap (λ (o : Option KeyspaceState). is_some o || same_text k name) is)
 
-pub keyspace_stands : (p q : Plain) (t : TopologyState) (name : List ℕ) → q.lives ≡ p.lives → q.topology ≡ with_keyspace p.topology name → has_keyspace p name ≡ false → TopologyStands p t → TopologyStands q (with_keyspace t name)
+pub keyspace_stands : (p q : Plain) (t : TopologyState) (name : List ℕ) → q.lives ≡ p.lives → q.topology ≡ with_keyspace p.topology name [] → has_keyspace p name ≡ false → TopologyStands p t → TopologyStands q (with_keyspace t name [])
 keyspace_stands p q t name lives made absent stands = record {
   served = record {
     keyspaces = λ k.
         one_more t.keyspaces name k _ ∙ ap (λ b. b || same_text k name) (stands.served.keyspaces k) ∙ sym (one_more p.topology.keyspaces name k _)
         ∙ sym (ap (λ (u : TopologyState). is_some (keyspace_at u.keyspaces k)) made);
-    entries = λ key. entry_still p q lives t (with_keyspace t name) stands key (value_of-with_keyspace t name key) (ap (λ u. value_of u key) made ∙ value_of-with_keyspace p.topology name key);
-    places = distinct-with_keyspace t name (none_from (keyspace_at t.keyspaces name) (stands.served.keyspaces name ∙ absent)) stands.served.places;
+    shards = λ k.
+        pushed (λ s. s.cuts) [] refl t.keyspaces name k ∙ stands.served.shards k ∙ sym (pushed (λ s. s.cuts) [] refl p.topology.keyspaces name k)
+        ∙ sym (ap (λ (u : TopologyState). cuts_at u.keyspaces k) made);
+    entries = λ key. entry_still p q lives t (with_keyspace t name []) stands key (value_of-with_keyspace t name [] key) (ap (λ u. value_of u key) made ∙ value_of-with_keyspace p.topology name [] key);
+    places = distinct-with_keyspace t name [] (none_from (keyspace_at t.keyspaces name) (stands.served.keyspaces name ∙ absent)) stands.served.places;
   };
-  places = λ key. place_still p q lives t (with_keyspace t name) stands key (none_in_new t name key) (ap (λ u. has_place u key) made ∙ none_in_new p.topology name key);
+  places = λ key. place_still p q lives t (with_keyspace t name []) stands key (none_in_new t name key) (ap (λ u. has_place u key) made ∙ none_in_new p.topology name key);
 }
 
 -- ---- a table more
@@ -120,6 +118,10 @@ table_stands p q t k n lives made there stands = record {
     keyspaces = λ name.
         keyspace_at-stays (with_new_table n) t.keyspaces k name ∙ stands.served.keyspaces name ∙ sym (keyspace_at-stays (with_new_table n) p.topology.keyspaces k name)
         ∙ sym (ap (λ (u : TopologyState). is_some (keyspace_at u.keyspaces name)) made);
+    shards = λ name.
+        read_at-unchanged (λ s. s.cuts) [] (with_new_table n) t.keyspaces k name (λ state found is. refl) ∙ stands.served.shards name
+        ∙ sym (read_at-unchanged (λ s. s.cuts) [] (with_new_table n) p.topology.keyspaces k name (λ state found is. refl))
+        ∙ sym (ap (λ (u : TopologyState). cuts_at u.keyspaces name) made);
     entries = λ key. ⊎_elim (λ is. here key is) (λ other. entry_still p q lives t (with_table t k n) stands key (value_of-with_table_elsewhere t k n key other) (ap (λ u. value_of u key) made ∙ value_of-with_table_elsewhere p.topology k n key other)) (same_or_apart (about.Present k n) key);
     places = distinct-with_table t k n stands.served.places;
   };
@@ -170,6 +172,7 @@ pub rule_stands : (p q : Plain) (t : TopologyState) (r : RuleKey) (target : Opti
 rule_stands p q t r target lives made free distinct stands = record {
   served = record {
     keyspaces = λ name. stands.served.keyspaces name ∙ sym (ap (λ (u : TopologyState). is_some (keyspace_at u.keyspaces name)) made);
+    shards = λ name. stands.served.shards name ∙ sym (ap (λ (u : TopologyState). cuts_at u.keyspaces name) made);
     entries = λ key. ⊎_elim (λ is. here key is) (λ other. entry_still p q lives t (ruled t r target) stands key (rule_value_elsewhere t r target key other) (ap (λ u. value_of u key) made ∙ rule_value_elsewhere p.topology r target key other)) (same_or_apart (about.Rule r) key);
     places = distinct-rules t (with_rule t.rules r target) (distinct-with_rule t.rules r target stands.served.places.rules) stands.served.places;
   };

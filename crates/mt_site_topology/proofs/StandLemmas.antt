@@ -6,7 +6,7 @@ use Rattle.mt_model.specs.declared.entries.EntryKey.{EntryKey}
 use Rattle.mt_model.specs.declared.entries.EntryKey.TheVariants as about
 use Rattle.mt_model.specs.declared.entries.Entry.{Entry}
 use Rattle.mt_model.specs.Part.{with_entries}
-use Rattle.mt_model.specs.Topology.{HasDistinctPlaces, TopologyState, has_place, keyspace_at, value_of}
+use Rattle.mt_model.specs.Topology.{HasDistinctPlaces, TopologyState, cuts_at, has_place, keyspace_at, value_of}
 use Rattle.mt_plain.specs.Answers.{Answers}
 use Rattle.mt_plain.specs.Events.{Event, Answer, write, read, advance, show}
 use Rattle.mt_plain.specs.Next.{next}
@@ -15,7 +15,7 @@ use Rattle.mt_plain.specs.Serve.{served_entry}
 use Rattle.mt_laws.specs.Changes.{ChangesLives, ChangesTopology, HasSides, IsOfRows}
 use Rattle.mt_laws.specs.WayBack.{IsReached}
 use Rattle.mt_site_topology.specs.Stands.{TopologyStands}
-use Rattle.mt_site_topology.proofs.WriteLemmas.{distinct_written, keyspaces_written, places_written}
+use Rattle.mt_site_topology.proofs.WriteLemmas.{cuts_written, distinct_written, keyspaces_written, places_written}
 
 -- ---- the same parts
 
@@ -54,11 +54,12 @@ module _ (p q : Plain) (owned : IsOwned p) (owned_next : IsOwned q) (found : IsF
 -- ---- the same topology as if no workflow were live
 
 pub stands_on : (p q : Plain) (t u : TopologyState) → TopologyStands p t → q.topology ≡ p.topology → ((key : EntryKey) → is_some (part_owner q key) ≡ is_some (part_owner p key))
-    → ((name : List ℕ) → is_some (keyspace_at u.keyspaces name) ≡ is_some (keyspace_at t.keyspaces name)) → ((key : EntryKey) → value_of u key ≡ served_entry q key)
+    → ((name : List ℕ) → is_some (keyspace_at u.keyspaces name) ≡ is_some (keyspace_at t.keyspaces name)) → ((name : List ℕ) → cuts_at u.keyspaces name ≡ cuts_at t.keyspaces name) → ((key : EntryKey) → value_of u key ≡ served_entry q key)
     → HasDistinctPlaces u → ((key : EntryKey) → has_place u key ≡ has_place t key) → TopologyStands q u
-stands_on p q t u stands same owners keyspaces values distinct places = record {
+stands_on p q t u stands same owners keyspaces shards values distinct places = record {
   served = record {
     keyspaces = λ name. keyspaces name ∙ stands.served.keyspaces name ∙ sym (ap (λ (x : TopologyState). is_some (keyspace_at x.keyspaces name)) same);
+    shards = λ name. shards name ∙ stands.served.shards name ∙ sym (ap (λ (x : TopologyState). cuts_at x.keyspaces name) same);
     entries = values;
     places = distinct;
   };
@@ -86,13 +87,13 @@ module _ (laws : Laws) (p : Plain) (event : Event) (answer : Answer) (reached : 
 
   -- nothing is written
   pub stays : (t : TopologyState) → TopologyStands p t → ¬ (ChangesTopology event) → ((key : EntryKey) → value_of t key ≡ served_entry (next p event answer) key) → TopologyStands (next p event answer) t
-  stays t stands kept values = stands_on p (next p event answer) t t stands (laws.topology p event answer kept) owners_next (λ name. refl) values stands.served.places (λ key. refl)
+  stays t stands kept values = stands_on p (next p event answer) t t stands (laws.topology p event answer kept) owners_next (λ name. refl) (λ name. refl) values stands.served.places (λ key. refl)
 
   -- entries are written
   pub writes : (t : TopologyState) (entries : List Entry) → TopologyStands p t → ¬ (ChangesTopology event) → ((key : EntryKey) → value_of (with_entries t entries) key ≡ served_entry (next p event answer) key)
       → TopologyStands (next p event answer) (with_entries t entries)
   writes t entries stands kept values =
-      stands_on p (next p event answer) t (with_entries t entries) stands (laws.topology p event answer kept) owners_next (keyspaces_written t entries) values
+      stands_on p (next p event answer) t (with_entries t entries) stands (laws.topology p event answer kept) owners_next (keyspaces_written t entries) (cuts_written t entries) values
       (distinct_written t entries stands.served.places) (places_written t entries)
 
 -- the events on rows and streams

@@ -6,10 +6,10 @@ use Rattle.mt_model.specs.declared.entries.Entry.{Entry}
 use Rattle.mt_model.specs.declared.entries.Entry.TheVariants as entry
 use Rattle.mt_model.specs.declared.entries.EntryKey.{EntryKey}
 use Rattle.mt_model.specs.Part.{with_entries}
-use Rattle.mt_model.specs.Topology.{HasDistinctPlaces, TopologyState, has_place, key_of, keyspace_at, value_of, with_denied_mark, with_entry, with_table_mark}
+use Rattle.mt_model.specs.Topology.{HasDistinctPlaces, TopologyState, cuts_at, has_place, key_of, keyspace_at, value_of, with_denied_mark, with_entry, with_table_mark}
 use Rattle.mt_model.proofs.DistinctLemmas.{distinct-with_entry}
 use Rattle.mt_model.proofs.PlaceLemmas.{fold-keeps, fold-unchanged, has_place-written, keyspace_at-stays}
-use Rattle.mt_model.proofs.TopologyLemmas.{value_of-written_elsewhere, value_of-written_here}
+use Rattle.mt_model.proofs.TopologyLemmas.{read_at-unchanged, value_of-written_elsewhere, value_of-written_here}
 use Rattle.mt_site_topology.specs.Keys.{lists, same_about}
 use Rattle.mt_site_topology.proofs.KeyLemmas.{same_about_decides}
 
@@ -26,6 +26,14 @@ keyspace_written t (entry.Present keyspace table mark) name = keyspace_at-stays 
 
 pub keyspaces_written : (t : TopologyState) (entries : List Entry) (name : List ℕ) → is_some (keyspace_at (with_entries t entries).keyspaces name) ≡ is_some (keyspace_at t.keyspaces name)
 keyspaces_written t entries name = fold-unchanged with_entry (λ u. is_some (keyspace_at u.keyspaces name)) (λ u e. keyspace_written u e name) t entries
+
+cuts_of_one : (t : TopologyState) (e : Entry) (name : List ℕ) → cuts_at (with_entry t e).keyspaces name ≡ cuts_at t.keyspaces name
+cuts_of_one t (entry.Rule key target) name = refl
+cuts_of_one t (entry.Denied keyspace table mark) name = read_at-unchanged (λ s. s.cuts) [] (with_denied_mark table mark) t.keyspaces keyspace name (λ state found is. refl)
+cuts_of_one t (entry.Present keyspace table mark) name = read_at-unchanged (λ s. s.cuts) [] (with_table_mark table mark) t.keyspaces keyspace name (λ state found is. refl)
+
+pub cuts_written : (t : TopologyState) (entries : List Entry) (name : List ℕ) → cuts_at (with_entries t entries).keyspaces name ≡ cuts_at t.keyspaces name
+cuts_written t entries name = fold-unchanged with_entry (λ u. cuts_at u.keyspaces name) (λ u e. cuts_of_one u e name) t entries
 
 -- ---- values
 

@@ -1,5 +1,5 @@
 //! Laws on what is made by hand.
-ghost use Rattle.std.specs.Prelude.{ℕ, List, Option};
+ghost use Rattle.std.specs.Prelude.{ℕ, List, [], Option};
 ghost use Rattle.mt_laws.specs.WayBack.{IsReached};
 ghost use Rattle.mt_model.specs.Topology.{TopologyState, with_keyspace, with_rule, with_table};
 ghost use Rattle.mt_names.specs.declared.keys.RuleKey.{RuleKey};
@@ -16,7 +16,7 @@ use mt_laws::only_what_stands_has_a_place;
 /// made of it, whatever workflows are live.
 pub fn edits_by_hand_are_made_in_the_topology()
     ensures keyspace { (p : Plain) (t : TopologyState) (name : List ℕ) → Answers p (add_keyspace name) done → TopologyStands p t
-        → TopologyStands (next p (add_keyspace name) done) (with_keyspace t name) }
+        → TopologyStands (next p (add_keyspace name) done) (with_keyspace t name []) }
     ensures table { (p : Plain) (t : TopologyState) (keyspace table : List ℕ) → Answers p (add_table keyspace table) done
         → TopologyStands p t → TopologyStands (next p (add_table keyspace table) done) (with_table t keyspace table) }
     ensures rule { (p : Plain) (t : TopologyState) (key : RuleKey) (target : Option RuleTarget) → IsReached p

@@ -25,7 +25,7 @@ made_same old made new refusal grows (shown s) same is = absurd is
 
 pub keyspace_same : (old new : CoreState) (name : List ℕ) (answer : Answer) → AddsKeyspace old name answer new → new.workflows ≡ old.workflows
 keyspace_same old new name answer =
-    made_same old (record old { topology = with_keyspace old.topology name; primaries = old.primaries ++ (name, empty_primary) ∷ [] }) new
+    made_same old (record old { topology = with_keyspace old.topology name []; primaries = old.primaries ++ (name, empty_primary) ∷ [] }) new
     (option_map refusal_by_topology (add_keyspace_refusal old.topology.keyspaces name)) true answer refl
 
 pub table_same : (old new : CoreState) (keyspace table : List ℕ) (answer : Answer) → AddsTable old keyspace table answer new → new.workflows ≡ old.workflows

@@ -7,11 +7,11 @@ use std::alloc::{AllocError, Global};
 
 /// The dump of two keyspaces, of which `b` has the table `t`.
 const TWO: &str =
-    "{\"denied\":[],\"keyspaces\":[{\"name\":\"a\",\"tables\":[]},{\"name\":\"b\",\"tables\":[\"t\"]}],\"rules\":[],\"version\":1}";
+    "{\"denied\":[],\"keyspaces\":[{\"name\":\"a\",\"shards\":[\"-\"],\"tables\":[]},{\"name\":\"b\",\"shards\":[\"-\"],\"tables\":[\"t\"]}],\"rules\":[],\"version\":2}";
 
 /// The dump of those two with a rule and a denial.
 const DENIED: &str =
-    "{\"denied\":[\"b.t\"],\"keyspaces\":[{\"name\":\"a\",\"tables\":[]},{\"name\":\"b\",\"tables\":[\"t\"]}],\"rules\":[{\"from_table\":\"x\",\"to_tables\":[\"b.t\"]}],\"version\":1}";
+    "{\"denied\":[\"b.t\"],\"keyspaces\":[{\"name\":\"a\",\"shards\":[\"-\"],\"tables\":[]},{\"name\":\"b\",\"shards\":[\"-\"],\"tables\":[\"t\"]}],\"rules\":[{\"from_table\":\"x\",\"to_tables\":[\"b.t\"]}],\"version\":2}";
 
 /// The two keyspaces, to go over.
 static TWO_MADE: [(Call<'static>, &str); 3] = TWO_KEYSPACES;
@@ -90,7 +90,8 @@ fn a_dump_is_sorted_and_read_back(rt: HostRuntime) {
 }
 
 /// Texts that are read as a topology.
-static TAKEN: [&str; 4] = [
+static TAKEN: [&str; 5] = [
+    "{\"version\":2}",
     "{\"version\":1}",
     "{\"version\":1,\"rules\":null,\"shards\":3}",
     "{\"rules\":[],\"version\":1,\"keyspaces\":[{\"tables\":[\"t\"],\"name\":\"a\"}],\"denied\":[\"a.t\"]}",
@@ -131,12 +132,40 @@ fn the_last_of_members_counts(rt: HostRuntime) {
     }
 }
 
+/// The dump of two keyspaces, of which `a` has three shards.
+const SHARDED: &str =
+    "{\"denied\":[],\"keyspaces\":[{\"name\":\"a\",\"shards\":[\"-40\",\"40-80\",\"80-\"],\"tables\":[]},{\"name\":\"b\",\"shards\":[\"-\"],\"tables\":[\"t\"]}],\"rules\":[],\"version\":2}";
+
+/// Texts with shards, with the dump of what they are read as: they count in version 2 alone, and there a keyspace may leave them out.
+static WITH_SHARDS: [(&str, &str); 4] = [
+    (SHARDED, SHARDED),
+    (
+        "{\"version\":2,\"keyspaces\":[{\"tables\":[\"t\"],\"name\":\"b\"},{\"shards\":1,\"shards\":[\"-40\",\"40-80\",\"80-\"],\"name\":\"a\"}]}",
+        SHARDED,
+    ),
+    (
+        "{\"version\":1,\"keyspaces\":[{\"name\":\"a\",\"shards\":[\"-40\",\"40-80\",\"80-\"]},{\"name\":\"b\",\"tables\":[\"t\"],\"shards\":{}}]}",
+        TWO,
+    ),
+    (
+        "{\"version\":2,\"keyspaces\":[{\"name\":\"a\",\"shards\":[\"-\"]},{\"name\":\"b\",\"tables\":[\"t\"]}]}",
+        TWO,
+    ),
+];
+
+#[test]
+fn shards_are_read(rt: HostRuntime) {
+    for (text, want) in &WITH_SHARDS {
+        assert!(rt; is_read_as(rt.alloc(), text, want), "at {text}");
+    }
+}
+
 /// Texts that are no dumps.
-static REFUSED: [&str; 29] = [
+static REFUSED: [&str; 36] = [
     "{",
     "[]",
     "{}",
-    "{\"version\":2}",
+    "{\"version\":3}",
     "{\"version\":1.0}",
     "{\"version\":\"1\"}",
     "{\"version\":1,\"denied\":null}",
@@ -153,7 +182,7 @@ static REFUSED: [&str; 29] = [
     "{\"version\":1,\"keyspaces\":[{\"name\":\"a\",\"tables\":[\"t\"]}],\"denied\":[\"b.t\"]}",
     "{\"version\":1,\"keyspaces\":[{\"name\":\"a\",\"tables\":[\"t\"]}],\"denied\":[\"a.t\",\"a.t\"]}",
     "{\"version\":1,\"keyspaces\":[{\"name\":\"a\",\"tables\":[\"t\"]}],\"denied\":[\"t\"]}",
-    "{\"version\":1,\"version\":2}",
+    "{\"version\":2,\"version\":3}",
     "{\"version\":1,\"keyspaces\":[],\"keyspaces\":1}",
     "{\"version\":1,\"denied\":[],\"denied\":null}",
     "{\"version\":1,\"rules\":null,\"rules\":1}",
@@ -162,6 +191,13 @@ static REFUSED: [&str; 29] = [
     "{\"version\":1,\"rules\":{}}",
     "{\"version\":1,\"rules\":[{\"from_table\":\"x\",\"to_tables\":[]}]}",
     "{\"version\":1,\"rules\":[{\"from_table\":\"x\",\"to_tables\":[\"a.x\"]},{\"from_table\":\"x\",\"to_tables\":[\"a.x\"]}]}",
+    "{\"version\":2,\"keyspaces\":[{\"name\":\"a\",\"shards\":null}]}",
+    "{\"version\":2,\"keyspaces\":[{\"name\":\"a\",\"shards\":[]}]}",
+    "{\"version\":2,\"keyspaces\":[{\"name\":\"a\",\"shards\":\"-\"}]}",
+    "{\"version\":2,\"keyspaces\":[{\"name\":\"a\",\"shards\":[1]}]}",
+    "{\"version\":2,\"keyspaces\":[{\"name\":\"a\",\"shards\":[\"-80\",\"8000-\"]}]}",
+    "{\"version\":2,\"keyspaces\":[{\"name\":\"a\",\"shards\":[\"80-\",\"-80\"]}]}",
+    "{\"version\":2,\"keyspaces\":[{\"name\":\"a\",\"shards\":[\"-10\",\"10-20\",\"20-30\",\"30-40\",\"40-50\",\"50-60\",\"60-70\",\"70-80\",\"80-\"]}]}",
 ];
 
 #[test]

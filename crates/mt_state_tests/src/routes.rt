@@ -6,11 +6,11 @@ use std::alloc::Global;
 
 /// Two keyspaces with three tables, of which one is denied, and two rules.
 const DUMP: &str =
-    "{\"denied\":[\"b.t\"],\"keyspaces\":[{\"name\":\"a\",\"tables\":[\"s\"]},{\"name\":\"b\",\"tables\":[\"t\",\"u\"]}],\"rules\":[{\"from_table\":\"x\",\"to_tables\":[\"b.t\"]},{\"from_table\":\"y@replica\",\"to_tables\":[\"a.s\"]}],\"version\":1}";
+    "{\"denied\":[\"b.t\"],\"keyspaces\":[{\"name\":\"a\",\"shards\":[\"-\"],\"tables\":[\"s\"]},{\"name\":\"b\",\"shards\":[\"-\"],\"tables\":[\"t\",\"u\"]}],\"rules\":[{\"from_table\":\"x\",\"to_tables\":[\"b.t\"]},{\"from_table\":\"y@replica\",\"to_tables\":[\"a.s\"]}],\"version\":2}";
 
 /// The dump behind the changes.
 const WRITTEN: &str =
-    "{\"denied\":[],\"keyspaces\":[{\"name\":\"a\",\"tables\":[\"s\"]},{\"name\":\"b\",\"tables\":[\"u\"]}],\"rules\":[{\"from_table\":\"x\",\"to_tables\":[\"a.s\"]},{\"from_table\":\"y@replica\",\"to_tables\":[\"a.s\"]}],\"version\":1}";
+    "{\"denied\":[],\"keyspaces\":[{\"name\":\"a\",\"shards\":[\"-\"],\"tables\":[\"s\"]},{\"name\":\"b\",\"shards\":[\"-\"],\"tables\":[\"u\"]}],\"rules\":[{\"from_table\":\"x\",\"to_tables\":[\"a.s\"]},{\"from_table\":\"y@replica\",\"to_tables\":[\"a.s\"]}],\"version\":2}";
 
 fn rule(key: &str, target: &str) -> Result<Entry, NameFault> {
     Ok(Entry::Rule(RuleKey::parse(key)?, Some(RuleTarget::parse(target)?)))

@@ -1,6 +1,6 @@
 //! A topology by direct calls.
 
-use mt_names::{KeyspaceName, NameFault, RuleKey, RuleTarget, TableName, TabletType};
+use mt_names::{KeyspaceName, NameFault, RuleKey, RuleTarget, ShardList, TableName, TabletType};
 use mt_topology::{Entry, EntryKey, Topology, TopologyFault};
 use std::alloc::Global;
 
@@ -40,7 +40,10 @@ fn printed(answer: Result<(), TopologyFault>) -> &'static str {
 }
 
 fn add_keyspace(topology: &mut Topology, name: &str) -> Result<&'static str, NameFault> {
-    Ok(printed(topology.add_keyspace(&KeyspaceName::parse(name)?)))
+    let name = KeyspaceName::parse(name)?;
+    Ok(printed(
+        topology.add_keyspace(&name, ShardList::unsharded()),
+    ))
 }
 
 fn add_table(

@@ -2,7 +2,7 @@
 
 use mt_denied::DeniedFault;
 use mt_keyspace::Keyspaces;
-use mt_names::{KeyspaceName, NameFault, TableName};
+use mt_names::{KeyspaceName, NameFault, ShardList, TableName};
 use std::alloc::Global;
 
 /// A place that is made.
@@ -75,7 +75,8 @@ fn first_of_both(alloc: Global, keyspaces: &mut Keyspaces) -> Option<&'static st
     let Ok(name) = KeyspaceName::parse("k") else {
         return Some("the name");
     };
-    if keyspaces.add_keyspace(alloc, &name).is_err() || !is_filled(alloc, keyspaces, 256) {
+    let shards = ShardList::unsharded();
+    if keyspaces.add_keyspace(alloc, &name, shards).is_err() || !is_filled(alloc, keyspaces, 256) {
         return Some("the keyspace");
     }
     match first_wrong(keyspaces, Call::Table) {

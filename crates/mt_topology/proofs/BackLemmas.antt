@@ -10,6 +10,7 @@ use Rattle.mt_names.specs.declared.keys.RuleTarget.{RuleTarget}
 use Rattle.mt_names.specs.declared.text.Alphabet.TheVariants.{Plain, WithDollar}
 use Rattle.mt_names.specs.Keys.{IsRuleTarget, target_text}
 use Rattle.mt_names.specs.Names.{IsKeyspaceName, IsTableName, same_text}
+use Rattle.mt_names.specs.Shards.{Cuts}
 use Rattle.mt_names.proofs.EntryLemmas.{lookup-push_elsewhere, lookup-push_here, lookup-set_value_elsewhere, lookup-set_value_here}
 use Rattle.mt_names.proofs.KeyLemmas.{read_target-target_text}
 use Rattle.mt_names.proofs.NameLemmas.{read_name-name}
@@ -18,10 +19,12 @@ use Rattle.mt_model.specs.Documents.{denied_text, tables_in_order}
 use Rattle.mt_model.specs.Topology.{Keyspaces, KeyspaceState, Marks, is_denied, is_marked, keyspace_at}
 use Rattle.mt_rules.specs.Member.{unless_fault}
 use Rattle.mt_rules.proofs.KeysLemmas.{none_yet, still_none}
+use Rattle.mt_keyspace.specs.declared.load.DumpVersion.TheVariants.{Two}
 use Rattle.mt_keyspace.specs.Load.{denials_of, keyspaces_of, state_of, tables_of, with_denial, with_denial_of, with_new_denial, with_new_keyspace, with_new_mark}
 use Rattle.mt_keyspace.specs.Values.{IsNamedKeyspace, keyspace_value}
 use Rattle.mt_keyspace.proofs.DifferLemmas.{of_keyspaces, of_tables}
 use Rattle.mt_keyspace.proofs.GatherLemmas.{or-grouped}
+use Rattle.mt_topology.proofs.ShardLemmas.{shards_back}
 
 -- ---- keyspaces without denials
 
@@ -29,7 +32,7 @@ abbrev pub read_tables : List (List ℕ) → Marks
 read_tables tables = map (λ table. (table, true)) tables
 
 abbrev pub read_state : KeyspaceState → KeyspaceState
-read_state state = record { tables = read_tables (tables_in_order state); denied = [] }
+read_state state = record { cuts = state.cuts; tables = read_tables (tables_in_order state); denied = [] }
 
 abbrev pub read_keyspaces : Keyspaces → Keyspaces
 read_keyspaces ks = map (λ k. (k.0, read_state k.1)) ks
@@ -45,19 +48,22 @@ tables_back marks (n ∷ tables) named lacks distinct =
     ∙ tables_back (marks ++ (n, true) ∷ []) tables named.1 (still_none same_text same_text_decides marks n true tables lacks.1 distinct.0) distinct.1
     ∙ ap Some (append_assoc marks ((n, true) ∷ []) (read_tables tables))
 
-state_back : (k : List ℕ × KeyspaceState) → IsNamedKeyspace k → IsDistinct same_text (tables_in_order k.1) → state_of (keyspace_value k) ≡ Some (read_state k.1)
-state_back k named distinct = ap (option_map (λ tables. record { tables = tables; denied = [] })) (tables_back [] (tables_in_order k.1) named.tables (none_yet Bool same_text (tables_in_order k.1)) distinct)
+state_back : (k : List ℕ × KeyspaceState) → IsNamedKeyspace k → IsDistinct same_text (tables_in_order k.1) → state_of Two (keyspace_value k) ≡ Some (read_state k.1)
+state_back k named distinct =
+    ap (option_and_then (λ cuts. option_map (λ tables. record { cuts = cuts; tables = tables; denied = [] }) (option_and_then (tables_of []) (Some (items_of (map string (tables_in_order k.1)))))))
+    (shards_back k.1.cuts named.cuts named.ranges)
+    ∙ ap (option_map (λ tables. record { cuts = k.1.cuts; tables = tables; denied = [] })) (tables_back [] (tables_in_order k.1) named.tables (none_yet Bool same_text (tables_in_order k.1)) distinct)
 
 pub keyspaces_back : (before ks : Keyspaces) → AllByRecursion IsNamedKeyspace ks → AllByRecursion (λ k. IsDistinct same_text (tables_in_order k.1)) ks → AllByRecursion (λ n. keyspace_at before n ≡ None) (keys_of ks) → IsDistinct same_text (keys_of ks)
-    → keyspaces_of before (items_of (map keyspace_value ks)) ≡ Some (before ++ read_keyspaces ks)
+    → keyspaces_of Two before (items_of (map keyspace_value ks)) ≡ Some (before ++ read_keyspaces ks)
 unfolding IsDistinct
 keyspaces_back before [] named tables lacks distinct = ap Some (sym (append-nil before))
 keyspaces_back before (k ∷ ks) named tables lacks distinct =
     let rest = items_of (map keyspace_value ks) in
     let more = before ++ (k.0, read_state k.1) ∷ [] in
-    ap (λ r. option_and_then (λ m. keyspaces_of m rest) (option_and_then (λ name. option_and_then (with_new_keyspace before name) (state_of (keyspace_value k))) (unless_fault r))) (read_name-name Plain k.0 named.0.name)
-    ∙ ap (λ s. option_and_then (λ m. keyspaces_of m rest) (option_and_then (with_new_keyspace before k.0) s)) (state_back k named.0 tables.0)
-    ∙ ap (λ o. option_and_then (λ m. keyspaces_of m rest) (if is_some o then None else Some more)) lacks.0
+    ap (λ r. option_and_then (λ m. keyspaces_of Two m rest) (option_and_then (λ name. option_and_then (with_new_keyspace before name) (state_of Two (keyspace_value k))) (unless_fault r))) (read_name-name Plain k.0 named.0.name)
+    ∙ ap (λ s. option_and_then (λ m. keyspaces_of Two m rest) (option_and_then (with_new_keyspace before k.0) s)) (state_back k named.0 tables.0)
+    ∙ ap (λ o. option_and_then (λ m. keyspaces_of Two m rest) (if is_some o then None else Some more)) lacks.0
     ∙ keyspaces_back more ks named.1 tables.1 (still_none same_text same_text_decides before k.0 (read_state k.1) (keys_of ks) lacks.1 distinct.0) distinct.1
     ∙ ap Some (append_assoc before ((k.0, read_state k.1) ∷ []) (read_keyspaces ks))
 
@@ -132,16 +138,24 @@ all_ready ks text (o ∷ texts) r ready differ = (stays_ready ks text o r ready.
 abbrev pub tables_alone : Keyspaces → List (List ℕ × Marks)
 tables_alone ks = map (λ k. (k.0, k.1.tables)) ks
 
-tables_stay : (test : List ℕ → Bool) (ks : Keyspaces) (new state : KeyspaceState) → new.tables ≡ state.tables → lookup test ks ≡ Some state → tables_alone (set_value test ks new) ≡ tables_alone ks
-unfolding some_or
-tables_stay test [] new state same found = refl
-tables_stay test (k ∷ ks) new state same found = by (tables_stay test ks new state same) (test k.0) refl
-  where
-    by : (lookup test ks ≡ Some state → tables_alone (set_value test ks new) ≡ tables_alone ks) → (t : Bool) → test k.0 ≡ t → tables_alone (set_value test (k ∷ ks) new) ≡ tables_alone (k ∷ ks)
-    by again true t =
-        let is : k.1 ≡ state = ap (some_or state) (rw t at found) in
-        rw t (ap (λ ts. (k.0, ts) ∷ tables_alone ks) (same ∙ ap (λ s. s.tables) (sym is)))
-    by again false t = rw t (ap (λ l. (k.0, k.1.tables) ∷ l) (again (rw t at found)))
+-- and so do the shards
+abbrev pub cuts_alone : Keyspaces → List (List ℕ × Cuts)
+cuts_alone ks = map (λ k. (k.0, k.1.cuts)) ks
+
+module _ {A : Type 0} (part : KeyspaceState → A) (test : List ℕ → Bool) where
+  abbrev parts : Keyspaces → List (List ℕ × A)
+  parts ks = map (λ k. (k.0, part k.1)) ks
+
+  part_stays : (ks : Keyspaces) (new state : KeyspaceState) → part new ≡ part state → lookup test ks ≡ Some state → parts (set_value test ks new) ≡ parts ks
+  unfolding some_or
+  part_stays [] new state same found = refl
+  part_stays (k ∷ ks) new state same found = by (part_stays ks new state same) (test k.0) refl
+    where
+      by : (lookup test ks ≡ Some state → parts (set_value test ks new) ≡ parts ks) → (t : Bool) → test k.0 ≡ t → parts (set_value test (k ∷ ks) new) ≡ parts (k ∷ ks)
+      by again true t =
+          let is : k.1 ≡ state = ap (some_or state) (rw t at found) in
+          rw t (ap (λ p. (k.0, p) ∷ parts ks) (same ∙ ap part (sym is)))
+      by again false t = rw t (ap (λ l. (k.0, part k.1) ∷ l) (again (rw t at found)))
 
 marked_more : (marks : Marks) (table other : List ℕ) → lookup (same_text table) marks ≡ None → is_marked (marks ++ (table, true) ∷ []) other ≡ (same_text other table || is_marked marks other)
 marked_more marks table other none = by (same_text other table) refl
@@ -189,18 +203,20 @@ pub record Denies (old : Keyspaces) (texts : List (List ℕ)) : Type 0 where
   pub new : Keyspaces
   pub reads : denials_of old (items_of (map string texts)) ≡ Some new
   pub tables : tables_alone new ≡ tables_alone old
+  pub cuts : cuts_alone new ≡ cuts_alone old
   pub denied : (k u : List ℕ) → IsKeyspaceName k → is_denied new k u ≡ (list_any (same_text (denied_text k u)) texts || is_denied old k u)
 
 pub denials_back : (ks : Keyspaces) (texts : List (List ℕ)) → AllByRecursion (IsReady ks) texts → IsDistinct same_text texts → Denies ks texts
 unfolding IsDistinct
-denials_back ks [] ready distinct = record { new = ks; reads = refl; tables = refl; denied = λ k u named. refl }
+denials_back ks [] ready distinct = record { new = ks; reads = refl; tables = refl; cuts = refl; denied = λ k u named. refl }
 denials_back ks (text ∷ texts) ready distinct =
     let r = ready.0 in
     let rest = denials_back (after_denial ks text r) texts (all_ready ks text texts r ready.1 distinct.0) distinct.1 in
     record {
       new = rest.new;
       reads = ap (λ o. option_and_then (λ more. denials_of more (items_of (map string texts))) o) (one_denial ks text r) ∙ rest.reads;
-      tables = rest.tables ∙ tables_stay (same_text r.target.keyspace) ks (with_denied r.state r.target.table) r.state refl r.found;
+      tables = rest.tables ∙ part_stays (λ s. s.tables) (same_text r.target.keyspace) ks (with_denied r.state r.target.table) r.state refl r.found;
+      cuts = rest.cuts ∙ part_stays (λ s. s.cuts) (same_text r.target.keyspace) ks (with_denied r.state r.target.table) r.state refl r.found;
       denied = λ k u named. rest.denied k u named ∙ ap (λ b. list_any (same_text (denied_text k u)) texts || b) (denied_more ks text r k u named)
           ∙ sym (or-grouped (same_text (denied_text k u) text) (list_any (same_text (denied_text k u)) texts) (is_denied ks k u));
     }

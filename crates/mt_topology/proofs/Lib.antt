@@ -1,3 +1,4 @@
+pub mod AsciiLemmas
 pub mod BackLemmas
 pub mod ClearLemmas
 pub mod DumpLemmas
@@ -11,4 +12,6 @@ pub mod ReleaseLemmas
 pub mod ReserveLemmas
 pub mod RoomLemmas
 pub mod SaysLemmas
+pub mod ShardLemmas
 pub mod TextLemmas
+pub mod VersionLemmas

@@ -1,5 +1,5 @@
 -- What is dumped is loaded again.
-use Rattle.std.proofs.Common.{◌≡◌, ◌≤◌, ℕ, suc, max, ◌||◌, nat_lt, Bool, true, false, if◌then◌else◌, List, [], ◌∷◌, map, flat_map, fold, length, Option, None, Some, is_some, option_map, option_and_then, Ok, Err, IsUtf8, refl, sym, ap, subst, ◌∙◌, arith}
+use Rattle.std.proofs.Common.{◌≡◌, ◌≤◌, ℕ, suc, max, ◌||◌, nat_lt, Bool, true, false, if◌then◌else◌, List, [], ◌∷◌, map, flat_map, fold, length, Option, None, Some, is_some, unwrap_or, option_map, option_and_then, Ok, Err, IsUtf8, refl, sym, ap, subst, ◌∙◌, arith}
 use Rattle.std.proofs.lemmas.Bool.{true≢false, le-ltb}
 use Rattle.std.proofs.lemmas.List.{length-map}
 use Rattle.std.proofs.lemmas.List.Elements.{recursion_from_All}
@@ -22,13 +22,14 @@ use Rattle.mt_model.specs.declared.entries.EntryKey.{EntryKey}
 use Rattle.mt_model.specs.declared.entries.EntryKey.TheVariants as about
 use Rattle.mt_model.specs.declared.faults.TopologyFault.TheVariants.{BadDump, Full}
 use Rattle.mt_model.specs.Limits.{most_keyspaces, most_rules, most_tables_in_keyspace}
-use Rattle.mt_model.specs.Documents.{denied_sorted, denied_text, denied_texts, keyspaces_in_order, marked, put_by_text, sorted_rules, tables_in_order}
-use Rattle.mt_model.specs.Topology.{HasDistinctPlaces, Keyspaces, KeyspaceState, Marks, Rules, TopologyState, is_denied, is_marked, is_present, keyspace_at, rule_at, value_of}
+use Rattle.mt_model.specs.Documents.{denied_sorted, denied_text, denied_texts, keyspaces_in_order, marked, put_by_text, shard_texts, sorted_rules, tables_in_order}
+use Rattle.mt_model.specs.Topology.{HasDistinctPlaces, Keyspaces, KeyspaceState, Marks, Rules, TopologyState, cuts_at, is_denied, is_marked, is_present, keyspace_at, rule_at, value_of}
 use Rattle.mt_model.proofs.TopologyLemmas.{found_at, tables_distinct}
 use Rattle.mt_rules.specs.Values.{ruled, rule_value}
 use Rattle.mt_rules.proofs.BackLemmas.{not_deep, rules_read_back}
 use Rattle.mt_rules.proofs.KeysLemmas.{none_yet}
 use Rattle.mt_rules.proofs.ReadLemmas.{value_of_text-some}
+use Rattle.mt_keyspace.specs.declared.load.DumpVersion.TheVariants.{Two}
 use Rattle.mt_keyspace.specs.Load.{denials_of, has_too_many_tables, keyspaces_in}
 use Rattle.mt_keyspace.specs.Values.{IsDenialText, IsNamedKeyspace, by_name, keyspace_value}
 use Rattle.mt_keyspace.specs.Written.{denied_in_order}
@@ -37,8 +38,9 @@ use Rattle.mt_keyspace.proofs.GatherLemmas.{or-false, or-true}
 use Rattle.mt_keyspace.proofs.SortLemmas.{marked-found}
 use Rattle.mt_topology.specs.Dump.{is_too_large, whole_topology, within_limits}
 use Rattle.mt_topology.specs.Says.{HasDeniedTables, Says}
-use Rattle.mt_topology.specs.Values.{IsNamedTopology, dump_value}
-use Rattle.mt_topology.proofs.BackLemmas.{Denies, IsReady, same_denial, denials_back, keyspaces_back, read_keyspaces, read_state, read_tables, tables_alone}
+use Rattle.mt_topology.specs.Values.{IsNamedTopology, dump_value, value_with}
+use Rattle.mt_topology.specs.Versions.{keyspace_value_one}
+use Rattle.mt_topology.proofs.BackLemmas.{Denies, IsReady, cuts_alone, same_denial, denials_back, keyspaces_back, read_keyspaces, read_state, read_tables, tables_alone}
 use Rattle.mt_topology.proofs.OnceLemmas.{denied_once, of_pairs, names_of, unsorted}
 use Rattle.mt_topology.proofs.OrderLemmas.{all-ordered, any-sorted, distinct-ordered, distinct-sorted, keyspace_at-ordered, length-ordered, length-sorted}
 
@@ -48,20 +50,33 @@ texts_not_deep : (texts : List (List ℕ)) → items_depth (items_of (map string
 texts_not_deep [] = omega arith
 texts_not_deep (t ∷ ts) = max-le {a = 0} (omega arith) (texts_not_deep ts)
 
-keyspaces_not_deep : (ks : Keyspaces) → items_depth (items_of (map keyspace_value ks)) ≤ 2
-keyspaces_not_deep [] = omega arith
-keyspaces_not_deep (k ∷ ks) =
+pub keyspace_depth_one : (k : List ℕ × KeyspaceState) → depth (keyspace_value_one k) ≤ 2
+keyspace_depth_one k =
     let tables = texts_not_deep (tables_in_order k.1) in
     let inside : max (suc (items_depth (items_of (map string (tables_in_order k.1))))) 0 ≤ 1 = max-le {a = suc (items_depth (items_of (map string (tables_in_order k.1))))} {b = 0} {k = 1} (omega (arith, tables)) (omega arith) in
-    max-le {a = depth (keyspace_value k)} (omega (arith, inside)) (keyspaces_not_deep ks)
+    omega (arith, inside)
 
-pub not_deep_dump : (t : TopologyState) → depth (dump_value t) ≤ max_depth
-not_deep_dump t =
+pub keyspace_depth : (k : List ℕ × KeyspaceState) → depth (keyspace_value k) ≤ 2
+keyspace_depth k =
+    let shards = texts_not_deep (shard_texts k.1) in
+    let tables = texts_not_deep (tables_in_order k.1) in
+    let h = suc (items_depth (items_of (map string (shard_texts k.1)))) in
+    let t = suc (items_depth (items_of (map string (tables_in_order k.1)))) in
+    let last : max t 0 ≤ 1 = max-le {a = t} {b = 0} {k = 1} (omega (arith, tables)) (omega arith) in
+    let inside : max h (max t 0) ≤ 1 = max-le {a = h} {b = max t 0} {k = 1} (omega (arith, shards)) last in
+    omega (arith, inside)
+
+keyspaces_not_deep : (value : List ℕ × KeyspaceState → Data) → ((k : List ℕ × KeyspaceState) → depth (value k) ≤ 2) → (ks : Keyspaces) → items_depth (items_of (map value ks)) ≤ 2
+keyspaces_not_deep value each [] = omega arith
+keyspaces_not_deep value each (k ∷ ks) = max-le {a = depth (value k)} (each k) (keyspaces_not_deep value each ks)
+
+pub not_deep_with : (value : List ℕ × KeyspaceState → Data) → ((k : List ℕ × KeyspaceState) → depth (value k) ≤ 2) → (n : ℕ) (t : TopologyState) → depth (value_with n value t) ≤ max_depth
+not_deep_with value each n t =
     let denied = texts_not_deep (denied_in_order t) in
-    let keyspaces = keyspaces_not_deep (keyspaces_in_order t) in
+    let keyspaces = keyspaces_not_deep value each (keyspaces_in_order t) in
     let rules = not_deep (sorted_rules t.rules) in
     let d = suc (items_depth (items_of (map string (denied_in_order t)))) in
-    let k = suc (items_depth (items_of (map keyspace_value (keyspaces_in_order t)))) in
+    let k = suc (items_depth (items_of (map value (keyspaces_in_order t)))) in
     let r = suc (items_depth (items_of (map rule_value (sorted_rules t.rules)))) in
     let one : max r (max 0 0) ≤ 3 = max-le {a = r} {b = max 0 0} {k = 3} (omega (arith, rules)) (omega arith) in
     let two : max k (max r (max 0 0)) ≤ 3 = max-le {a = k} {b = max r (max 0 0)} {k = 3} (omega (arith, keyspaces)) one in
@@ -119,6 +134,13 @@ module _ (t : TopologyState) (distinct : HasDistinctPlaces t) where
       by : (o : Option KeyspaceState) → keyspace_at t.keyspaces k ≡ o → option_map_or (λ state. is_marked state.tables u) (option_map read_state o) false ≡ option_map_or (λ state. is_marked state.tables u) o false
       by None none = refl
       by (Some state) some = marked_read (tables_in_order state) u ∙ any-sorted (same_text u) (marked state.tables) ∙ marked-found state.tables u (tables_distinct t k state distinct some)
+
+  cuts_read : (k : List ℕ) → cuts_at (read_keyspaces (keyspaces_in_order t)) k ≡ cuts_at t.keyspaces k
+  cuts_read k = ap (λ o. option_map_or (λ state. state.cuts) o []) (read_at k) ∙ by (keyspace_at t.keyspaces k)
+    where
+      by : (o : Option KeyspaceState) → option_map_or (λ state. state.cuts) (option_map read_state o) [] ≡ option_map_or (λ state. state.cuts) o []
+      by None = refl
+      by (Some state) = refl
 
   some_read : (k : List ℕ) → is_some (keyspace_at (read_keyspaces (keyspaces_in_order t)) k) ≡ is_some (keyspace_at t.keyspaces k)
   some_read k = ap is_some (read_at k) ∙ by (keyspace_at t.keyspaces k)
@@ -202,9 +224,19 @@ module _ (t : TopologyState) (distinct : HasDistinctPlaces t) (names : AllByRecu
       by None = refl
       by (Some s) = refl
 
+  cuts_by : (ks : Keyspaces) (k : List ℕ) → cuts_at ks k ≡ unwrap_or (lookup (same_text k) (cuts_alone ks)) []
+  cuts_by ks k = sym (ap (λ o. unwrap_or o []) (lookup-map_values (λ s. s.cuts) (same_text k) ks) ∙ by (keyspace_at ks k))
+    where
+      by : (o : Option KeyspaceState) → unwrap_or (option_map (λ s. s.cuts) o) [] ≡ option_map_or (λ s. s.cuts) o []
+      by None = refl
+      by (Some s) = refl
+
   module _ (made : Denies (read_keyspaces (keyspaces_in_order t)) (denied_sorted t)) where
     some_made : (k : List ℕ) → is_some (keyspace_at made.new k) ≡ is_some (keyspace_at t.keyspaces k)
     some_made k = some_by made.new k ∙ ap (λ es. is_some (lookup (same_text k) es)) made.tables ∙ sym (some_by (read_keyspaces (keyspaces_in_order t)) k) ∙ some_read t distinct k
+
+    cuts_made : (k : List ℕ) → cuts_at made.new k ≡ cuts_at t.keyspaces k
+    cuts_made k = cuts_by made.new k ∙ ap (λ es. unwrap_or (lookup (same_text k) es) []) made.cuts ∙ sym (cuts_by (read_keyspaces (keyspaces_in_order t)) k) ∙ cuts_read t distinct k
 
     present_made : (k u : List ℕ) → is_present made.new k u ≡ is_present t.keyspaces k u
     present_made k u =
@@ -281,7 +313,7 @@ made_of t distinct named there =
     denials_back (read_keyspaces (keyspaces_in_order t)) texts (each_ready t distinct names there texts (subst (AllByRecursion IsDenialText) (denied_once t distinct named) named.denied) (λ text among. among))
     (distinct-sorted (flat_map denied_texts t.keyspaces) (texts_differ t.keyspaces distinct.keyspaces (recursion_from_All (λ k. IsDistinct same_text (keys_of k.1.denied)) t.keyspaces distinct.denied) names))
 
-keyspaces_read : (t : TopologyState) (distinct : HasDistinctPlaces t) (named : IsNamedTopology t) (made : Denies (read_keyspaces (keyspaces_in_order t)) (denied_sorted t)) → keyspaces_in (dump_value t) ≡ Some made.new
+keyspaces_read : (t : TopologyState) (distinct : HasDistinctPlaces t) (named : IsNamedTopology t) (made : Denies (read_keyspaces (keyspaces_in_order t)) (denied_sorted t)) → keyspaces_in Two (dump_value t) ≡ Some made.new
 keyspaces_read t distinct named made =
     ap (λ o. option_and_then (λ ks. denials_of ks (items_of (map string (denied_in_order t)))) o)
     (keyspaces_back [] (keyspaces_in_order t) named.keyspaces
@@ -296,9 +328,9 @@ dump_says t d text is distinct named within valid back there =
     let names = names_in t named in
     let made = made_of t distinct named there in
     let found : TopologyState = record { rules = ruled (sorted_rules t.rules); keyspaces = made.new } in
-    let shallow : depth d ≤ max_depth = let deep = ap depth is in let bound = not_deep_dump t in omega (arith, deep, bound) in
+    let shallow : depth d ≤ max_depth = let deep = ap depth is in let bound = not_deep_with keyspace_value keyspace_depth 2 t in omega (arith, deep, bound) in
     let whole : whole_topology (dump_value t) ≡ Some found =
-    ap (λ o. option_and_then (λ rules. option_map (λ keyspaces. record { rules = rules; keyspaces = keyspaces }) (keyspaces_in (dump_value t))) o) (rules_read_back t.rules named.rules)
+    ap (λ o. option_and_then (λ rules. option_map (λ keyspaces. record { rules = rules; keyspaces = keyspaces }) (keyspaces_in Two (dump_value t))) o) (rules_read_back t.rules named.rules)
     ∙ ap (option_map (λ keyspaces. record { rules = ruled (sorted_rules t.rules); keyspaces = keyspaces })) (keyspaces_read t distinct named made) in
     let within_it : within_limits found ≡ Ok found = ap (λ b. if b then Err Full else Ok found) (small t named within made.new made.tables) in (
       found,
@@ -307,6 +339,7 @@ dump_says t d text is distinct named within valid back there =
           ∙ ap (λ o. option_map_or within_limits o (Err BadDump)) whole ∙ within_it,
       record {
         keyspaces = some_made t distinct names there made;
+        shards = cuts_made t distinct names there made;
         values = λ key. by (ruled (sorted_rules t.rules)) made.new named.rules.says (denied_made t distinct names there made) (present_made t distinct names there made) key;
       },
     )

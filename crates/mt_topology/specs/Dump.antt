@@ -1,5 +1,5 @@
--- The dump of a topology, version 1: which topology the value of a text says, or which fault comes first.
-use Rattle.std.specs.Prelude.{ℕ, ◌==◌, ◌||◌, nat_lt, Bool, false, if◌then◌else◌, List, length, codes, Option, None, Some, option_map, option_and_then, Result, Ok, Err}
+-- The dump of a topology, of either version: which topology the value of a text says, or which fault comes first.
+use Rattle.std.specs.Prelude.{ℕ, ◌==◌, ◌||◌, nat_lt, Bool, if◌then◌else◌, List, length, codes, Option, None, Some, option_map, option_and_then, Result, Ok, Err}
 use Rattle.std.specs.List.{list_any}
 use Rattle.std.specs.Option.{option_map_or}
 use Rattle.serde_json.specs.Data.{Data, Num, unsigned, negative, float}
@@ -10,22 +10,26 @@ use Rattle.mt_model.specs.Limits.{most_keyspaces, most_rules}
 use Rattle.mt_model.specs.Topology.{Keyspaces, Rules, TopologyState}
 use Rattle.mt_rules.specs.Read.{value_of_text}
 use Rattle.mt_rules.specs.Member.{rules_in}
+use Rattle.mt_keyspace.specs.declared.load.DumpVersion.{DumpVersion}
+use Rattle.mt_keyspace.specs.declared.load.DumpVersion.TheVariants.{One, Two}
 use Rattle.mt_keyspace.specs.Load.{has_too_many_tables, keyspaces_in}
 pub use Rattle.mt_keyspace.specs.Load.{IsUnlessMemory}
 
--- a number is the integer 1
-abbrev pub is_one : Option Num → Bool
-is_one None = false
-is_one (Some (unsigned n)) = n == 1
-is_one (Some (negative z)) = false
-is_one (Some (float x)) = false
+-- the version that a number is: the integer 1 or 2
+abbrev pub version_from : Option Num → Option DumpVersion
+version_from None = None
+version_from (Some (unsigned n)) = if n == 1 then Some One else if n == 2 then Some Two else None
+version_from (Some (negative z)) = None
+version_from (Some (float x)) = None
 
--- the topology that a value says, however large, or none
+-- the topology that a value of a version says, however large, or none
+abbrev pub topology_in : Data → DumpVersion → Option TopologyState
+topology_in d version =
+    option_and_then (λ rules. option_map (λ keyspaces. record { rules = rules; keyspaces = keyspaces }) (keyspaces_in version d)) (rules_in (get (codes "rules") d))
+
+-- that of a value, which tells its version
 abbrev pub whole_topology : Data → Option TopologyState
-whole_topology d =
-    if is_one (option_and_then as_number (get (codes "version") d)) then
-    option_and_then (λ rules. option_map (λ keyspaces. record { rules = rules; keyspaces = keyspaces }) (keyspaces_in d)) (rules_in (get (codes "rules") d))
-    else None
+whole_topology d = option_and_then (topology_in d) (version_from (option_and_then as_number (get (codes "version") d)))
 
 -- a limit is passed
 abbrev pub is_too_large : TopologyState → Bool

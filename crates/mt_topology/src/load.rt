@@ -5,9 +5,9 @@ ghost use Rattle.serde_json.specs.Find.{as_number, get};
 ghost use Rattle.serde_json.specs.View.{view};
 ghost use Rattle.mt_rules.specs.Member.{rules_in};
 ghost use Rattle.mt_keyspace.specs.Load.{IsUnlessMemory, or_bad_dump};
-ghost use Rattle.mt_topology.specs.Dump.{is_one, joined, topology_of_text, unless_many, whole_topology, within_limits};
+ghost use Rattle.mt_topology.specs.Dump.{joined, topology_of_text, unless_many, version_from, whole_topology, within_limits};
 
-use mt_keyspace::{Keyspaces, drafts_in, is_too_large, settled};
+use mt_keyspace::{DumpVersion, Keyspaces, drafts_in, is_too_large, settled};
 use mt_model::TopologyFault;
 use mt_rules::{RoutingRules, RulesFault};
 use serde_json::Value;
@@ -25,11 +25,15 @@ fn rules_in(alloc: Global, member: Option<&Value>) -> Result<Option<RoutingRules
     }
 }
 
-/// Whether a document is of the version that is read.
-fn is_version_one(document: &Value) -> bool
-    ensures { result ≡ is_one (option_and_then as_number (get (codes "version") (view document.now))) }
+/// The version that a document is of, if it is one that is read.
+fn version_of(document: &Value) -> Option<DumpVersion>
+    ensures { result ≡ version_from (option_and_then as_number (get (codes "version") (view document.now))) }
 {
-    document.get("version").and_then(Value::as_u64) == Some(1)
+    match document.get("version").and_then(Value::as_u64) {
+        Some(1) => Some(DumpVersion::One),
+        Some(2) => Some(DumpVersion::Two),
+        _ => None,
+    }
 }
 
 /// The rules and the keyspaces that a document tells. A limit is told last.
@@ -39,11 +43,11 @@ fn parts_of_value(
 ) -> Result<(RoutingRules, Keyspaces), TopologyFault>
     ensures { IsUnlessMemory (joined result) (option_map_or within_limits (whole_topology (view document.now)) (Err TopologyFault.BadDump)) }
 {
-    if !is_version_one(document) {
+    let Some(version) = version_of(document) else {
         return Err(TopologyFault::BadDump);
-    }
+    };
     let rules = rules_in(alloc, document.get("rules"))?;
-    let drafts = drafts_in(alloc, document)?;
+    let drafts = drafts_in(alloc, version, document)?;
     let Some(rules) = rules else {
         return Err(TopologyFault::Full);
     };

@@ -1,13 +1,14 @@
 //! The topology as one value.
-ghost use Rattle.std.specs.Prelude.{◌≡◌, ◌<◌, ◌≤◌, true, Some, IfOk, IfErr, length, map, slice_get, string_bytes};
+ghost use Rattle.std.specs.Prelude.{◌≡◌, ◌<◌, ◌≤◌, true, Some, IfOk, IfErr, length, map, option_copied, option_map, slice_get, string_bytes};
 ghost use Rattle.std.specs.List.{AllByRecursion};
 ghost use Rattle.mt_model.specs.Limits.{most_keyspaces};
-ghost use Rattle.mt_model.specs.Topology.{HasDistinctPlaces, empty_topology, has_place, is_denied, is_present, key_of, resolution, routes_of, rule_at, value_of, with_entry, with_keyspace, with_keyspace_state, with_rule, with_table, without_table_place};
+ghost use Rattle.mt_model.specs.Topology.{HasDistinctPlaces, empty_topology, has_place, is_denied, is_present, key_of, keyspace_at, resolution, routes_of, rule_at, value_of, with_entry, with_keyspace, with_keyspace_state, with_rule, with_table, without_table_place};
 ghost use Rattle.mt_model.specs.Part.{with_entries};
 ghost use Rattle.mt_keyspace.specs.Load.{IsUnlessMemory};
 ghost use Rattle.mt_topology.specs.Dump.{topology_of_text};
 ghost use Rattle.mt_topology.specs.Says.{HasDeniedTables, Says};
 ghost use Rattle.mt_topology.specs.Values.{dump_value};
+ghost use Rattle.mt_topology.specs.Versions.{IsUnsharded, dump_text_one};
 ghost use Rattle.serde_json.specs.Written.{compact_text};
 ghost use Rattle.mt_model.specs.Documents.{dump_text};
 ghost use Rattle.mt_keyspace.specs.Edits.{Edits, add_keyspace_refusal, add_table_grows, add_table_refusal};
@@ -21,9 +22,9 @@ mod part;
 
 use crate::rules::{put_rule, rule_for, take_rule};
 use crate::{load, routes, write};
-use mt_keyspace::Keyspaces;
+use mt_keyspace::{Keyspace, Keyspaces};
 use mt_model::{Entry, EntryKey, TopologyFault};
-use mt_names::{KeyspaceName, RuleKey, RuleTarget, TableName, TabletType};
+use mt_names::{KeyspaceName, RuleKey, RuleTarget, ShardList, TableName, TabletType};
 use mt_rules::RoutingRules;
 use std::alloc::{AllocError, Global};
 use std::marker::Model;
@@ -57,11 +58,13 @@ impl Topology {
         }
     }
 
-    /// Reads a dump, version 1: an object in which `version` is the number 1, `keyspaces` a list of objects with a `name`
-    /// and a list of `tables`, `denied` a list of texts `keyspace.table`, and `rules` a list as that of routing rules. A
-    /// missing list is empty, and other members are ignored; of a member that stands twice the last one counts.
-    /// `T6 BadDump` of any fault of the text: no JSON, another shape or version, a bad name, a repetition, a denied table
-    /// that isn't in its keyspace. Only where there is none, `T5 Full` past 32 keyspaces, past 256 tables of a keyspace, or
+    /// Reads a dump: an object in which `version` is the number 1 or 2, `keyspaces` a list of objects with a `name`
+    /// and a list of `tables`, `denied` a list of texts `keyspace.table`, and `rules` a list as that of routing rules. In version 2 a
+    /// keyspace may have a list of `shards`, the texts of their key ranges in order; one without it has the one shard `-`, as each
+    /// keyspace has in version 1, where `shards` is ignored. Any other missing list is empty, and other members are ignored; of a member
+    /// that stands twice the last one counts.
+    /// `T6 BadDump` of any fault of the text: no JSON, another shape or version, a bad name, a repetition, shards of which one is no key
+    /// range, that are none or more than eight, or that don't cover all keys once, a denied table that isn't in its keyspace. Only where there is none, `T5 Full` past 32 keyspaces, past 256 tables of a keyspace, or
     /// past 4,096 rules. `T0 Memory`.
     pub fn load(alloc: Global, text: &[u8]) -> Result<Self, TopologyFault>
         ensures { IsUnlessMemory result (topology_of_text text.now) }
@@ -74,16 +77,17 @@ impl Topology {
         })
     }
 
-    /// The dump of the topology, version 1, as `load` reads it: the compact text that `serde_json` writes of its value; the keyspaces sorted
-    /// by their names, each with its
+    /// The dump of the topology, version 2, as `load` reads it: the compact text that `serde_json` writes of its value; the keyspaces sorted
+    /// by their names, each with its shards in the order of their ranges, and its
     /// tables sorted; the denied tables sorted by the bytes of their texts `keyspace.table`; the rules as routing rules are
     /// written. Places without a rule, and tables that aren't there or denied, are left out. Where each denied table is
-    /// there in its keyspace, `load` reads it back as the same topology: it has the same keyspaces, and says the same of
-    /// every entry. `T0 Memory`.
+    /// there in its keyspace, `load` reads it back as the same topology: it has the same keyspaces with the same shards, and says the
+    /// same of every entry. Where each keyspace has one shard it is read as what version 1 told of the topology. `T0 Memory`.
     pub fn dump(&self, alloc: Global) -> Result<String, TopologyFault>
         ensures text { IfOk result (λ text. string_bytes text ≡ dump_text self.now) }
         ensures value { IfOk result (λ text. string_bytes text ≡ compact_text (dump_value self.now)) }
         ensures says { IfOk result (λ text. HasDeniedTables self.now → Says (string_bytes text) self.now) }
+        ensures versions { IfOk result (λ text. IsUnsharded self.now → topology_of_text (dump_text_one self.now) ≡ topology_of_text (string_bytes text)) }
         ensures memory { IfErr result (λ fault. fault ≡ TopologyFault.Memory) }
     {
         match write::text_of_parts(alloc, &self.rules, &self.keyspaces) {
@@ -338,11 +342,22 @@ impl Topology {
         }
     }
 
-    /// Adds a keyspace without tables. `T4 Exists`, `T5 Full` at a 33rd, `T0 Memory`.
-    pub fn add_keyspace(&mut self, name: &KeyspaceName) -> Result<(), TopologyFault>
-        ensures { Edits self.old (add_keyspace_refusal self.old.keyspaces name.now) true (with_keyspace self.old name.now) result self.new }
+    /// Adds a keyspace of these shards, without tables. `T4 Exists`, `T5 Full` at a 33rd, `T0 Memory`.
+    pub fn add_keyspace(
+        &mut self,
+        name: &KeyspaceName,
+        shards: ShardList,
+    ) -> Result<(), TopologyFault>
+        ensures { Edits self.old (add_keyspace_refusal self.old.keyspaces name.now) true (with_keyspace self.old name.now shards) result self.new }
     {
-        self.keyspaces.add_keyspace(self.alloc, name)
+        self.keyspaces.add_keyspace(self.alloc, name, shards)
+    }
+
+    /// The shards of a keyspace, if it is there. It takes no memory.
+    pub fn shards(&self, keyspace: &KeyspaceName) -> Option<&ShardList>
+        ensures { option_copied result ≡ option_map (λ state. state.cuts) (keyspace_at self.now.keyspaces keyspace.now) }
+    {
+        self.keyspaces.get(keyspace).map(Keyspace::shards)
     }
 
     /// Adds a table to a keyspace. `T1 NoKeyspace`, `T4 Exists`, `T5 Full` at a 257th place of the keyspace, `T0 Memory`.

@@ -1,7 +1,9 @@
 //! Writing a dump.
 ghost use Rattle.std.specs.Prelude.{◌≡◌, IfOk, string_bytes};
+ghost use Rattle.mt_topology.specs.Dump.{topology_of_text};
 ghost use Rattle.mt_topology.specs.Says.{HasDeniedTables, Says};
 ghost use Rattle.mt_topology.specs.Values.{dump_value};
+ghost use Rattle.mt_topology.specs.Versions.{IsUnsharded, dump_text_one};
 ghost use Rattle.mt_model.specs.Documents.{dump_text};
 ghost use Rattle.serde_json.specs.Written.{compact_text};
 
@@ -19,6 +21,8 @@ pub fn text_of_parts(
     ensures value { IfOk result (λ text. string_bytes text ≡ compact_text (dump_value (record { rules = rules.now; keyspaces = keyspaces.now }))) }
     ensures says { IfOk result (λ text. HasDeniedTables (record { rules = rules.now; keyspaces = keyspaces.now })
         → Says (string_bytes text) (record { rules = rules.now; keyspaces = keyspaces.now })) }
+    ensures versions { IfOk result (λ text. IsUnsharded (record { rules = rules.now; keyspaces = keyspaces.now })
+        → topology_of_text (dump_text_one (record { rules = rules.now; keyspaces = keyspaces.now })) ≡ topology_of_text (string_bytes text)) }
 {
     rules.facts();
     keyspaces.facts();
@@ -29,6 +33,6 @@ pub fn text_of_parts(
     keyspaces.push_list(alloc, &mut text)?;
     text.push_str(",\"rules\":")?;
     rules.push_list(alloc, &mut text)?;
-    text.push_str(",\"version\":1}")?;
+    text.push_str(",\"version\":2}")?;
     Ok(text)
 }

@@ -8,4 +8,4 @@ use Rattle.mt_keyspace.specs.Load.{keyspaces_of}
 use Rattle.mt_keyspace.proofs.load.drafts_of.Given as goal
 
 abbrev pub invariant-values : goal.invariant-values
-invariant-values l = (keyspaces_of [] (items_view l.list) ≡ keyspaces_of l.drafts.entries (items_view (drop l.value-index l.list))) × IsDistinct same_text (keys_of l.drafts.entries)
+invariant-values l = (keyspaces_of l.version [] (items_view l.list) ≡ keyspaces_of l.version l.drafts.entries (items_view (drop l.value-index l.list))) × IsDistinct same_text (keys_of l.drafts.entries)

@@ -5,5 +5,5 @@ use Rattle.mt_keyspace.proofs.routes.push_routes.Given as goal
 
 abbrev pub invariant-loop-table : goal.invariant-loop-table
 invariant-loop-table l =
-    l.list.items ++ table_routes (l.name, record { tables = l.table-iterator; denied = [] })
-    ≡ l.fn.list.items ++ table_routes (l.name, record { tables = l.places.entries; denied = [] })
+    l.list.items ++ table_routes (l.name, record { cuts = []; tables = l.table-iterator; denied = [] })
+    ≡ l.fn.list.items ++ table_routes (l.name, record { cuts = []; tables = l.places.entries; denied = [] })

@@ -5,5 +5,5 @@ use Rattle.mt_keyspace.proofs.routes.table_entry.Given as goal
 
 abbrev pub invariant-loop-table : goal.invariant-loop-table
 invariant-loop-table l =
-    slice_get (table_routes (l.name, record { tables = l.places.entries; denied = [] })) l.index
-    ≡ slice_get (table_routes (l.name, record { tables = l.table-iterator; denied = [] })) l.before
+    slice_get (table_routes (l.name, record { cuts = []; tables = l.places.entries; denied = [] })) l.index
+    ≡ slice_get (table_routes (l.name, record { cuts = []; tables = l.table-iterator; denied = [] })) l.before

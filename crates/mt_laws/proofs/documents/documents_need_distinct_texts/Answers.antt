@@ -66,4 +66,4 @@ differ : rules_text first.rules ≢ rules_text second.rules
 differ e = let byte : 120 ≡ 121 = ap (λ text. get_or text 44 0) e in omega (arith, byte)
 
 pub returns : goal.returns
-returns c = (first, second, record { keyspaces = λ name. refl; values = values }, first_distinct, second_distinct, differ)
+returns c = (first, second, record { keyspaces = λ name. refl; shards = λ name. refl; values = values }, first_distinct, second_distinct, differ)

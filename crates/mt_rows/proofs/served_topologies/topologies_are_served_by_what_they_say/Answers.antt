@@ -1,5 +1,5 @@
 -- By cases on the key that is looked up; what is not served differs at a keyspace, at an entry, or in its places.
-use Rattle.std.proofs.Common.{◌≡◌, ◌≢◌, ℕ, Bool, true, false, List, [], ◌∷◌, codes, Option, is_some, refl, sym, ap, ◌∙◌}
+use Rattle.std.proofs.Common.{◌≡◌, ◌≢◌, ℕ, Bool, true, false, List, [], ◌∷◌, codes, Option, is_some, length, arith, refl, sym, ap, ◌∙◌}
 use Rattle.std.proofs.lemmas.Bool.{true≢false}
 use Rattle.std.proofs.lemmas.List.Elements.{All-from_recursion}
 use Rattle.std.specs.List.{IsDistinct}
@@ -12,7 +12,7 @@ use Rattle.mt_names.proofs.SameLemmas.{same_key_decides, same_text_decides}
 use Rattle.mt_model.specs.declared.entries.Entry.TheVariants as entry
 use Rattle.mt_model.specs.declared.entries.EntryKey.{EntryKey}
 use Rattle.mt_model.specs.declared.entries.EntryKey.TheVariants as about
-use Rattle.mt_model.specs.Topology.{HasDistinctPlaces, KeyspaceState, is_marked, is_routed, value_of}
+use Rattle.mt_model.specs.Topology.{HasDistinctPlaces, KeyspaceState, is_marked, is_routed, new_keyspace, value_of}
 use Rattle.mt_plain.specs.Serve.{mark_in, served_entry}
 use Rattle.mt_rows.specs.Answers.{commerce, customer, corder}
 use Rattle.mt_rows.specs.ServedTopologies.{ruled, turned, two_keyspaces, with_blank_place}
@@ -54,10 +54,10 @@ turned_places =
     }
 
 pub returns-clause-what_was_made_by_hand_is_served : goal.returns-clause-what_was_made_by_hand_is_served
-returns-clause-what_was_made_by_hand_is_served c = record { keyspaces = λ name. refl; entries = λ key. refl; places = ruled_places }
+returns-clause-what_was_made_by_hand_is_served c = record { keyspaces = λ name. refl; shards = λ name. refl; entries = λ key. refl; places = ruled_places }
 
 pub returns-clause-a_place_that_holds_nothing_may_stand : goal.returns-clause-a_place_that_holds_nothing_may_stand
-returns-clause-a_place_that_holds_nothing_may_stand c = record { keyspaces = λ name. refl; entries = each; places = blank_places }
+returns-clause-a_place_that_holds_nothing_may_stand c = record { keyspaces = λ name. refl; shards = λ name. refl; entries = each; places = blank_places }
   where
     of_rule : (key : RuleKey) (t : Bool) → same_key key (plain corder) ≡ t → value_of with_blank_place (about.Rule key) ≡ value_of ruled.topology (about.Rule key)
     of_rule key true t =
@@ -73,11 +73,11 @@ returns-clause-a_place_that_holds_nothing_may_stand c = record { keyspaces = λ 
 
 pub returns-clause-keyspaces_may_stand_in_another_order : goal.returns-clause-keyspaces_may_stand_in_another_order
 returns-clause-keyspaces_may_stand_in_another_order c =
-    record { keyspaces = λ name. ap is_some (found name); entries = each; places = turned_places }
+    record { keyspaces = λ name. ap is_some (found name); shards = λ name. ap (λ o. option_map_or (λ state. state.cuts) o []) (found name); entries = each; places = turned_places }
   where
     found : (name : List ℕ) → lookup (same_text name) turned.keyspaces ≡ lookup (same_text name) two_keyspaces.topology.keyspaces
     found name =
-        lookup-turned same_text same_text_decides customer commerce name (record { tables = []; denied = [] }) (record { tables = (corder, true) ∷ []; denied = [] })
+        lookup-turned same_text same_text_decides customer commerce name (new_keyspace []) (record { cuts = []; tables = (corder, true) ∷ []; denied = [] })
         (λ e. true≢false (sym ((same_text_decides customer commerce).1 e)))
 
     each : (key : EntryKey) → value_of turned key ≡ served_entry two_keyspaces key
@@ -94,6 +94,9 @@ returns-clause-no_place_may_stand_twice c = λ served. let wrong : true ≡ fals
 
 pub returns-clause-no_denial_may_be_invented : goal.returns-clause-no_denial_may_be_invented
 returns-clause-no_denial_may_be_invented c = λ served. let wrong : true ≡ false = ap mark_in (served.entries (about.Denied commerce corder)) in true≢false wrong
+
+pub returns-clause-no_shard_may_be_invented : goal.returns-clause-no_shard_may_be_invented
+returns-clause-no_shard_may_be_invented c = λ served. let wrong : 1 ≡ 0 = ap length (served.shards commerce) in omega (arith, wrong)
 
 pub returns-clause-no_keyspace_may_be_lost : goal.returns-clause-no_keyspace_may_be_lost
 returns-clause-no_keyspace_may_be_lost c = λ served. let wrong : false ≡ true = served.keyspaces customer in true≢false (sym wrong)

@@ -1,5 +1,5 @@
 -- All room is there before the topology gets the keyspace.
-use Rattle.std.proofs.Common.{◌≡◌, ap, false, is_some, refl, sym, ◌∙◌}
+use Rattle.std.proofs.Common.{◌≡◌, [], ap, false, is_some, refl, sym, ◌∙◌}
 use Rattle.std.specs.Option.{option_map}
 use Rattle.mt_model.specs.Topology.{TopologyState, with_keyspace}
 use Rattle.mt_site_state.specs.ByHand.{refusal_by_topology}
@@ -36,5 +36,6 @@ returns c = λ (workflows : Workflows).
     let made = c.in_default.ensures in
     let pushed = c.in-Ok.ensures.entries ∙ primary_pushed c.reserve.new.self primaries name c.copied.result c.new.result (c.reserve.ensures.entries) c.copied.ensures c.new.ensures absent in
     let by_topology : TopologyState → CoreState = λ t. record { topology = t; primaries = c.insert.new.self.entries; workflows = workflows } in
-    let by_primaries : Primaries → CoreState = λ ps. record { topology = with_keyspace c.args.topology.now name; primaries = ps; workflows = workflows } in
-    (ap (option_map refusal_by_topology) made.0, ap by_topology made.1 ∙ ap by_primaries pushed)
+    let by_primaries : Primaries → CoreState = λ ps. record { topology = with_keyspace c.args.topology.now name []; primaries = ps; workflows = workflows } in
+    let unsharded = ap (with_keyspace c.args.topology.now name) c.unsharded.ensures in
+    (ap (option_map refusal_by_topology) made.0, ap by_topology (made.1 ∙ unsharded) ∙ ap by_primaries pushed)

@@ -19,9 +19,25 @@ pub returns-clause-read : goal.returns-clause-read
 unfolding serde_json_on_literals
 returns-clause-read c = by_reading (codes "{\"keyspaces\":[{\"name\":\"b\",\"tables\":[\"t\"]}],\"denied\":[\"b.t\"],\"version\":1}") _ (codes "{\"keyspaces\":[{\"name\":\"b\",\"tables\":[\"t\"]}],\"denied\":[\"b.t\"],\"version\":1}", (refl, refl)) refl
 
+pub returns-clause-sharded : goal.returns-clause-sharded
+unfolding serde_json_on_literals
+returns-clause-sharded c = by_reading (codes "{\"keyspaces\":[{\"name\":\"b\",\"shards\":[\"-80\",\"80-\"]},{\"name\":\"a\"}],\"version\":2}") _ (codes "{\"keyspaces\":[{\"name\":\"b\",\"shards\":[\"-80\",\"80-\"]},{\"name\":\"a\"}],\"version\":2}", (refl, refl)) refl
+
+pub returns-clause-ignored : goal.returns-clause-ignored
+unfolding serde_json_on_literals
+returns-clause-ignored c = by_reading (codes "{\"keyspaces\":[{\"name\":\"b\",\"shards\":[\"-80\",\"80-\"]}],\"version\":1}") _ (codes "{\"keyspaces\":[{\"name\":\"b\",\"shards\":[\"-80\",\"80-\"]}],\"version\":1}", (refl, refl)) refl
+
 pub returns-clause-version : goal.returns-clause-version
 unfolding serde_json_on_literals
-returns-clause-version c = by_reading (codes "{\"version\":2}") _ (codes "{\"version\":2}", (refl, refl)) refl
+returns-clause-version c = by_reading (codes "{\"version\":3}") _ (codes "{\"version\":3}", (refl, refl)) refl
+
+pub returns-clause-covering : goal.returns-clause-covering
+unfolding serde_json_on_literals
+returns-clause-covering c = by_reading (codes "{\"keyspaces\":[{\"name\":\"b\",\"shards\":[\"-80\",\"90-\"]}],\"version\":2}") _ (codes "{\"keyspaces\":[{\"name\":\"b\",\"shards\":[\"-80\",\"90-\"]}],\"version\":2}", (refl, refl)) refl
+
+pub returns-clause-none : goal.returns-clause-none
+unfolding serde_json_on_literals
+returns-clause-none c = by_reading (codes "{\"keyspaces\":[{\"name\":\"b\",\"shards\":[]}],\"version\":2}") _ (codes "{\"keyspaces\":[{\"name\":\"b\",\"shards\":[]}],\"version\":2}", (refl, refl)) refl
 
 pub returns-clause-denied : goal.returns-clause-denied
 unfolding serde_json_on_literals

@@ -7,7 +7,7 @@ use Rattle.mt_keyspace.proofs.draft.Draft.deny.Goals as goal
 
 pub returns : goal.returns
 returns c =
-    let state : KeyspaceState = record { tables = c.self.inside.tables.entries; denied = c.self.inside.denied.entries } in
+    let state : KeyspaceState = record { cuts = c.self.inside.shards; tables = c.self.inside.tables.entries; denied = c.self.inside.denied.entries } in
     let table = c.args.table in
     let there : is_marked state.tables table ≡ true = ap (λ s. is_marked s.tables table) c.self.view_is ∙ sym c.has_table.ensures ∙ c.if-not-has_table.false in
     subst (λ s. IsUnlessMemory (answer_with (record state { denied = c.add_mark.new.marks.entries }) c.add_mark.result) (or_bad_dump (with_new_denial table s))) c.self.view_is

@@ -3,7 +3,7 @@ use Rattle.std.proofs.Common.{◌≡◌, [], ◌∷◌, ◌++◌, None, false, i
 use Rattle.std.proofs.lemmas.Bool.{ne_eqb}
 use Rattle.indexmap.specs.IndexMap.{insert_entry}
 use Rattle.mt_names.specs.Names.{same_text}
-use Rattle.mt_model.specs.Topology.{keyspace_at}
+use Rattle.mt_model.specs.Topology.{keyspace_at, new_keyspace}
 use Rattle.mt_keyspace.specs.Edits.{add_keyspace_refusal}
 use Rattle.mt_keyspace.specs.Keyspaces.{AreKeyspaces}
 use Rattle.mt_keyspace.proofs.EditLemmas.{keyspace_pushed, keyspace_taken, on_ok}
@@ -12,7 +12,7 @@ use Rattle.mt_keyspace.proofs.keyspaces.Keyspaces.add_keyspace.Goals as goal
 
 -- it isn't refused, and goes last
 pushed : (c : goal.Else-is_err) → (add_keyspace_refusal c.self.inside.places.entries c.args.name.now ≡ None)
-    × (c.insert.new.self.entries ≡ c.self.inside.places.entries ++ (c.args.name.now, record { tables = []; denied = [] }) ∷ [])
+    × (c.insert.new.self.entries ≡ c.self.inside.places.entries ++ (c.args.name.now, new_keyspace c.args.shards) ∷ [])
 pushed c =
     let keyspaces = c.self.inside.places in
     let name = c.args.name.now in
@@ -23,10 +23,10 @@ pushed c =
     )
 
 pub invariant_of-self-2 : goal.invariant_of-self-2
-invariant_of-self-2 c = let p = pushed c in subst AreKeyspaces (sym p.1) (one_more c.self.inside.places.entries c.args.name.now p.0 c.self.invariant)
+invariant_of-self-2 c = let p = pushed c in subst AreKeyspaces (sym p.1) (one_more c.self.inside.places.entries c.args.name.now c.args.shards p.0 c.self.invariant)
 
 pub returns : goal.returns
 returns c =
     let p = pushed c in
     let is = c.self.view_is in
-    (ap (λ ks. add_keyspace_refusal ks c.args.name.now) (sym is) ∙ p.0, p.1 ∙ ap (λ ks. ks ++ (c.args.name.now, record { tables = []; denied = [] }) ∷ []) is)
+    (ap (λ ks. add_keyspace_refusal ks c.args.name.now) (sym is) ∙ p.0, p.1 ∙ ap (λ ks. ks ++ (c.args.name.now, new_keyspace c.args.shards) ∷ []) is)
