@@ -1,12 +1,11 @@
 -- What an event makes of the live workflows, and what it leaves as it was.
-use Rattle.std.proofs.Common.{◌≡◌, ◌⊎◌, inl, inr, ℕ, suc, ◌+◌, ◌-◌, Bool, true, false, not, cond, eqb, List, [], ◌∷◌, ◌++◌, map, find, length, Option, None, Some, option_map, refl, sym, ap, ◌∙◌, map-id}
+use Rattle.std.proofs.Common.{◌≡◌, ◌⊎◌, inl, inr, ℕ, ◌+◌, Bool, true, false, not, List, [], ◌∷◌, ◌++◌, map, find, length, Option, None, Some, option_map, refl, sym, ap, ◌∙◌, map-id}
 use Rattle.std.specs.Option.{option_map_or}
-use Rattle.mt_names.specs.declared.types.TypeSet.{TypeSet}
 use Rattle.mt_names.specs.Names.{same_text}
 use Rattle.mt_names.proofs.SameLemmas.{same_text_decides}
 use Rattle.mt_plain.specs.Events.{Event, create, advance, begin_switch, begin_reverse, step, undo, cancel, complete, StreamName, forward, back, Answer, done, row, advanced, shown, refused, Way}
-use Rattle.mt_plain.specs.Next.{created, live_stepped, live_undone, next, next_taken, on_way_of, types_and, types_without, way_stepped, with_advance, with_completed, with_fresh_stream, with_live, with_way_to, without_live}
-use Rattle.mt_plain.specs.Plain.{Live, Plain, behind_last, changes_primary, create_back, each_once, live_at, next_step, write_journal}
+use Rattle.mt_plain.specs.Next.{created, live_stepped, live_undone, next, next_taken, on_way_of, types_and, types_without, with_advance, with_completed, with_live, with_way_to, without_live}
+use Rattle.mt_plain.specs.Plain.{Live, Plain, each_once, live_at}
 use Rattle.mt_plain.specs.Slots.{is_fresh, live_advanced, log_length, with_position}
 use Rattle.mt_plain.specs.Writes.{writes_to}
 use Rattle.mt_laws.specs.Changes.{HasSides}
@@ -29,37 +28,16 @@ live_next p event other w = w
 
 -- ---- it keeps its name, sides and tables
 
-sides-cond : (t : Bool) (w a b : Live) → HasSides w a → HasSides w b → HasSides w (cond t a b)
-sides-cond true w a b one two = one
-sides-cond false w a b one two = two
-
 sides-position : (w : Live) (name : StreamName) (t : Bool) (position : ℕ) → HasSides w (with_position w name t position)
 sides-position w name true position = record { name = refl; source = refl; target = refl; tables = refl }
 sides-position w forward false position = record { name = refl; source = refl; target = refl; tables = refl }
 sides-position w back false position = record { name = refl; source = refl; target = refl; tables = refl }
 
-sides-way : (w v : Live) (switched : TypeSet) (way : Option Way) → HasSides w v → HasSides w (record v { switched = switched; way = way })
-sides-way w v switched way same = record { name = same.name; source = same.source; target = same.target; tables = same.tables }
-
-sides-fresh : (w : Live) (way : Way) → HasSides w (with_fresh_stream w way)
-sides-fresh w way =
-    sides-cond (not (changes_primary way)) w w _ (sides_same w)
-    (sides-cond way.back w _ _ (record { name = refl; source = refl; target = refl; tables = refl }) (record { name = refl; source = refl; target = refl; tables = refl }))
-
-sides-stepped : (w : Live) (way : Way) → HasSides w (way_stepped w way)
-sides-stepped w way =
-    sides-cond (eqb (suc (next_step way)) (behind_last way)) w _ _ (sides-way w (with_fresh_stream w way) way.after None (sides-fresh w way))
-    (record { name = refl; source = refl; target = refl; tables = refl })
-
 pub sides-live_stepped : (p : Plain) (w : Live) (way : Way) → HasSides w (live_stepped p w way)
-sides-live_stepped p w way =
-    let same = sides-stepped w way in
-    sides-cond (eqb (next_step way) create_back) w _ _ (record { name = same.name; source = same.source; target = same.target; tables = same.tables })
-    (sides-cond (eqb (next_step way) write_journal) w _ _ (record { name = same.name; source = same.source; target = same.target; tables = same.tables }) same)
+sides-live_stepped p w way = record { name = refl; source = refl; target = refl; tables = refl }
 
 pub sides-undone : (w : Live) (way : Way) → HasSides w (live_undone w way)
-sides-undone w way =
-    sides-cond (eqb (way.done - 1) 0) w _ _ (record { name = refl; source = refl; target = refl; tables = refl }) (record { name = refl; source = refl; target = refl; tables = refl })
+sides-undone w way = record { name = refl; source = refl; target = refl; tables = refl }
 
 pub sides-on_way : (w : Live) (change : Way → Live) → ((way : Way) → HasSides w (change way)) → (o : Option Way) → HasSides w (option_map_or change o w)
 sides-on_way w change each None = sides_same w

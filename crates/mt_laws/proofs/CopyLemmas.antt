@@ -12,7 +12,7 @@ use Rattle.mt_names.proofs.SameLemmas.{same_text_decides}
 use Rattle.mt_model.specs.Rows.{Row}
 use Rattle.mt_plain.specs.Answers.{Answers}
 use Rattle.mt_plain.specs.Events.{Event, read, advance, step, StreamName, Refusal, full, no_watcher, not_level, nothing_under_way, stale, undoing, Answer, done, row, advanced, shown, refused, Way}
-use Rattle.mt_plain.specs.Next.{live_stepped, live_undone, next}
+use Rattle.mt_plain.specs.Next.{next}
 use Rattle.mt_plain.specs.Plain.{Copied, not_begun, up_to, Live, LogEntry, Plain, Write, catch_up, is_side, live_at, mover, moves, next_step, number_of, owner, refresh_source, refresh_target, switch_reads, write_journal}
 use Rattle.mt_plain.specs.Plain.{ended}
 use Rattle.mt_plain.specs.Refuse.{advance_at, advance_refusal, in_workflow, is_of_primary, is_still_copying, most_journal_entries, new_owner, old_owner, or_else, own_refusal, refusal_of, refuse_if, step_refusal, will_read_other_side}
@@ -26,7 +26,7 @@ use Rattle.mt_laws.proofs.LiveLemmas.{IsIn, find_some, find_the_one, text_apart,
 use Rattle.mt_laws.proofs.ReachLemmas.{live_by_name, reached_has_parts, reached_have}
 use Rattle.mt_laws.proofs.StreamLemmas.{runs_at_the_owner}
 use Rattle.mt_laws.proofs.RefusalLemmas.{in_workflow-none, or_else-none, refuse_if-none, reverse-none, switch-none}
-use Rattle.mt_laws.proofs.UntouchedLemmas.{same_fed, same_workflow, traffic-advanced, copy-live_stepped, copy-undone}
+use Rattle.mt_laws.proofs.UntouchedLemmas.{same_fed, same_workflow, traffic-advanced}
 use Rattle.mt_laws.proofs.WritableLemmas.{side_by-is_side}
 
 -- ---- the tests of the level
@@ -184,20 +184,6 @@ share-any a b c false true z e = refl
 share-any a b c false false true e = refl
 share-any a b c false false false e = absurd (true≢false (sym e ∙ rw (and-false a, and-false b, and-false c) refl))
 
--- a step and an undo leave the copy
-module _ (p : Plain) (w : Live) (way : Way) where
-  copied-stepped : (live_stepped p w way).copied ≡ w.copied
-  copied-stepped = ap (λ c. c.1) (copy-live_stepped p w way)
-
-  pub fed-stepped : (live_stepped p w way).fed ≡ w.fed
-  fed-stepped = ap (λ c. c.0) (copy-live_stepped p w way)
-
-  copied-undone : (live_undone w way).copied ≡ w.copied
-  copied-undone = ap (λ c. c.1) (copy-undone w way)
-
-  fed-undone : (live_undone w way).fed ≡ w.fed
-  fed-undone = ap (λ c. c.0) (copy-undone w way)
-
 -- nothing is left to copy behind the end
 none_kept : {A : Type 0} (test : A → Bool) (xs : List A) → ((x : A) → test x ≡ false) → filter test xs ≡ []
 none_kept test [] each = refl
@@ -240,8 +226,8 @@ ended_kept p event w holds = record {
   reverse = λ types begins none any.
       holds (or_right (is_some w.way) (w.switched.primary || (w.switched.replica || w.switched.rdonly))
       (share-any types.primary types.replica types.rdonly w.switched.primary w.switched.replica w.switched.rdonly (reverse-none p types w none).1));
-  steps = λ at way steps opens none any. copied-stepped p w way ∙ ended_open w way opens holds;
-  undoes = λ at way undoes opens none any. copied-undone p w way ∙ ended_open w way opens holds;
+  steps = λ at way steps opens none any. ended_open w way opens holds;
+  undoes = λ at way undoes opens none any. ended_open w way opens holds;
   advances = λ workflow stream at at_most events rows live none given any.
       let same = traffic-advanced p w stream at at_most events rows in
       let is = holds (sym (ap (λ t. is_some t.1 || (t.0.primary || (t.0.replica || t.0.rdonly))) same) ∙ any) in
@@ -281,8 +267,8 @@ fed_kept p event w = record {
   same = omega arith;
   switch = λ types begins none. omega arith;
   reverse = λ types begins none. omega arith;
-  steps = λ at way steps opens none. let e = fed-stepped p w way in omega arith;
-  undoes = λ at way undoes opens none. let e = fed-undone p w way in omega arith;
+  steps = λ at way steps opens none. omega arith;
+  undoes = λ at way undoes opens none. omega arith;
   advances = λ workflow stream at at_most events rows live none given. omega arith;
 }
 

@@ -13,18 +13,16 @@ use Rattle.mt_model.specs.declared.entries.EntryKey.{EntryKey}
 use Rattle.mt_model.specs.declared.entries.EntryKey.TheVariants as about
 use Rattle.mt_model.specs.Topology.{TopologyState, rule_at}
 use Rattle.mt_plain.specs.Events.{Way}
-use Rattle.mt_plain.specs.Next.{live_stepped, live_undone, way_stepped}
-use Rattle.mt_plain.specs.Plain.{Live, Plain, allow_target, behind_last, before_way, changes_primary, create_back, deny_source, differ, first_step, in_keyspace, next_step, owner_by, refresh_source, refresh_target, stands_done, write_journal}
-use Rattle.mt_plain.specs.Refuse.{new_owner}
+use Rattle.mt_plain.specs.Next.{closes, live_stepped, live_undone}
+use Rattle.mt_plain.specs.Plain.{Live, Plain, allow_target, behind_last, before_way, changes_primary, deny_source, differ, first_step, in_keyspace, next_step, owner_by, refresh_source, refresh_target, stands_done, write_journal}
 use Rattle.mt_plain.specs.Serve.{is_denied_at, is_listed_at, refuses_by, rule_step, serve, serve_plain, serve_rule, served_by, step_of_entry, step_of_list, types_by}
-use Rattle.mt_plain.specs.Slots.{log_length}
 use Rattle.mt_laws.specs.Changes.{HasSides}
 use Rattle.mt_laws.specs.Effects.{entry_stepped, entry_undone, last_step, list_stepped, list_undone}
 use Rattle.mt_laws.proofs.ChangeLemmas.{sides-live_stepped, sides-undone}
 use Rattle.mt_laws.proofs.ListLemmas.{cond-ap, cond-either}
 use Rattle.mt_laws.proofs.PlainWords.{changes_reads, types_by_way}
 use Rattle.mt_laws.proofs.TrafficLemmas.{serve-same}
-use Rattle.mt_laws.proofs.WayStepLemmas.{closes, fewer, first_step-le, more, same_done, switched-way_stepped, was_done, way-stepped, way-undone}
+use Rattle.mt_laws.proofs.WayStepLemmas.{fewer, first_step-le, more, same_done, was_done, way-stepped, way-undone}
 
 -- ---- sets of types that are alike as far as a step is concerned
 
@@ -256,15 +254,7 @@ listed-same w v same types keyspace = rw (← same.source, ← same.target) refl
 -- ---- a step
 
 switched-closed : (p : Plain) (w : Live) (way : Way) → closes way ≡ true → (live_stepped p w way).switched ≡ way.after
-switched-closed p w way t = by (eqb (next_step way) create_back) (eqb (next_step way) write_journal)
-  where
-    closed : (way_stepped w way).switched ≡ way.after
-    closed = switched-way_stepped w way ∙ ap (λ b. cond b way.after w.switched) t
-
-    by : (a b : Bool) → (cond a (record (way_stepped w way) { fresh_at = log_length p (new_owner w) }) (cond b (record (way_stepped w way) { switched = way.after }) (way_stepped w way))).switched ≡ way.after
-    by true b = closed
-    by false true = refl
-    by false false = closed
+switched-closed p w way t = ap (λ b. cond (b || eqb (next_step way) write_journal) way.after w.switched) t
 
 before_opens : (w : Live) (way : Way) → w.way ≡ Some way → before_way w ≡ way.before
 before_opens w way opens = ap (λ o. option_map_or (λ (x : Way). x.before) o w.switched) opens
@@ -300,9 +290,6 @@ module _ (p : Plain) (w : Live) (way : Way) (opens : w.way ≡ Some way) where
 
 -- ---- an undo
 
-pub switched-undone : (w : Live) (way : Way) → (live_undone w way).switched ≡ w.switched
-switched-undone w way = cond-ap (λ v. v.switched) (eqb (way.done - 1) 0) (record w { way = None }) (record w { way = Some (fewer way) }) ∙ cond-either (λ s. s ≡ w.switched) (eqb (way.done - 1) 0) _ _ refl refl
-
 module _ (w : Live) (way : Way) (opens : w.way ≡ Some way) (settled : w.switched ≡ way.before) where
   abbrev undone : Live
   undone = live_undone w way
@@ -313,12 +300,12 @@ module _ (w : Live) (way : Way) (opens : w.way ≡ Some way) (settled : w.switch
       by : (t : Bool) → eqb (way.done - 1) 0 ≡ t → before_way undone ≡ before_way w
       by true t =
           ap (λ o. option_map_or (λ (x : Way). x.before) o undone.switched) (way-undone w way ∙ ap (λ b. cond b None (Some (fewer way))) t)
-          ∙ switched-undone w way ∙ settled ∙ sym (before_opens w way opens)
+          ∙ settled ∙ sym (before_opens w way opens)
       by false t =
           before_opens undone (fewer way) (way-undone w way ∙ ap (λ b. cond b None (Some (fewer way))) t) ∙ sym (before_opens w way opens)
 
   types-undone : (n : ℕ) → types_by undone n ≡ cond (eqb (last_step way) n) way.before (types_by w n)
-  types-undone = undone-types w undone way opens (way-undone w way) (switched-undone w way ∙ settled)
+  types-undone = undone-types w undone way opens (way-undone w way) settled
 
   pub served-undone : (u : TopologyState) (key : EntryKey) → served_by u undone key ≡ entry_undone u w way key
   served-undone u key =

@@ -2,89 +2,57 @@
 use Rattle.std.proofs.Common.{◌≡◌, ℕ, suc, ◌-◌, ◌≤◌, Bool, true, false, not, cond, eqb, length, None, Some, refl, sym, ap, ◌∙◌, subst, arith, eqb-true}
 use Rattle.std.proofs.lemmas.Bool.{true≢false, and_right}
 use Rattle.std.specs.Option.{option_map_or}
-use Rattle.std.specs.Prelude.{◌&&◌}
+use Rattle.std.specs.Prelude.{◌&&◌, ◌||◌}
 use Rattle.mt_names.specs.declared.types.TypeSet.{TypeSet}
 use Rattle.mt_plain.specs.Events.{Way}
-use Rattle.mt_plain.specs.Next.{live_stepped, live_undone, with_fresh_stream, with_way_to}
+use Rattle.mt_plain.specs.Next.{closes, live_stepped, live_undone, with_way_to}
 use Rattle.mt_plain.specs.Plain.{Live, Plain, behind_last, catch_up, changes_primary, create_back, next_step, refresh_target, stands_done, write_journal}
 use Rattle.mt_plain.specs.Refuse.{new_owner}
 use Rattle.mt_plain.specs.Slots.{log_length}
 use Rattle.mt_plain.specs.Writes.{writes_to}
 use Rattle.mt_laws.specs.Changes.{HasSides}
 use Rattle.mt_laws.proofs.ChangeLemmas.{sides-live_stepped}
-use Rattle.mt_laws.proofs.CopyLemmas.{fed-stepped}
 use Rattle.mt_laws.proofs.FedLemmas.{IsFed, Level, at_by, level_moved, side_same, writes_same, if-not}
 use Rattle.mt_laws.proofs.PartLemmas.{IsSettled}
 use Rattle.mt_laws.proofs.PendingLemmas.{pending_end}
 use Rattle.mt_laws.proofs.PlainWords.{side_by}
 use Rattle.mt_laws.proofs.StreamLemmas.{IsTurned, differ_not, differ_to}
-use Rattle.mt_laws.proofs.WayStepLemmas.{before_then, done_by, done_in_order, fewer, more, no_way, none_done, not_before, one_way, undone_by, was_done, way-stepped}
+use Rattle.mt_laws.proofs.WayStepLemmas.{before_then, done_by, done_in_order, fewer, more, no_way, none_done, not_before, one_way, undone_by, was_done}
 
 -- ---- a step
 
 module _ (p : Plain) (w : Live) (way : Way) (opens : w.way ≡ Some way) (is : IsFed p w) (turned : IsTurned w) where
-  abbrev closed : Live
-  closed = record (with_fresh_stream w way) { switched = way.after; way = None }
-
-  abbrev goes_on : Live
-  goes_on = record w { way = Some (more way) }
-
   abbrev made_at : ℕ
   made_at = log_length p (new_owner w)
-
-  -- the workflow after a step, by whether it makes the stream, journals or closes
-  abbrev by_tests : (makes journals closes : Bool) → Live
-  by_tests makes journals closes =
-      cond makes (record (cond closes closed goes_on) { fresh_at = made_at }) (cond journals (record (cond closes closed goes_on) { switched = way.after }) (cond closes closed goes_on))
 
   abbrev v : Live
   v = live_stepped p w way
 
-  abbrev closes : Bool
-  closes = eqb (suc (next_step way)) (behind_last way)
-
-  now : v.way ≡ cond closes None (Some (more way))
-  now = way-stepped p w way
-
   sides : HasSides w v
   sides = sides-live_stepped p w way
 
-  fed : v.fed ≡ w.fed
-  fed = fed-stepped p w way
+  -- the position at rest behind a step, by whether it closes the way, whether that changes writes, and its direction
+  abbrev stepped_at : (closing changes backward is_target : Bool) → ℕ
+  stepped_at closing changes backward is_target =
+      cond is_target (cond (closing && changes && not backward) w.fresh_at w.back_at) (cond (closing && changes && backward) w.fresh_at w.forward_at)
 
-  is_by : (c : Bool) → closes ≡ c → v ≡ by_tests (eqb (next_step way) create_back) (eqb (next_step way) write_journal) c
-  is_by c e = ap (by_tests (eqb (next_step way) create_back) (eqb (next_step way) write_journal)) e
+  at_now : (c : Bool) → closes way ≡ c → (b : Bool) → at_by v b ≡ stepped_at c (changes_primary way) way.back b
+  at_now c e b = ap (λ l. stepped_at l (changes_primary way) way.back b) e
 
   -- the last step
-  module _ (c : closes ≡ true) where
-    closed_types : (m j : Bool) → (by_tests m j true).switched ≡ way.after
-    closed_types true j = refl
-    closed_types false true = refl
-    closed_types false false = refl
-
-    closed_at : (m j b : Bool) → at_by (by_tests m j true) b ≡ at_by (with_fresh_stream w way) b
-    closed_at true j true = refl
-    closed_at true j false = refl
-    closed_at false true true = refl
-    closed_at false true false = refl
-    closed_at false false true = refl
-    closed_at false false false = refl
-
+  module _ (c : closes way ≡ true) where
     last_types : v.switched ≡ way.after
-    last_types = ap (λ x. x.switched) (is_by true c) ∙ closed_types (eqb (next_step way) create_back) (eqb (next_step way) write_journal)
+    last_types = ap (λ l. cond (l || eqb (next_step way) write_journal) way.after w.switched) c
 
-    last_at : (b : Bool) → at_by v b ≡ at_by (with_fresh_stream w way) b
-    last_at b = ap (λ x. at_by x b) (is_by true c) ∙ closed_at (eqb (next_step way) create_back) (eqb (next_step way) write_journal) b
+    same_at : changes_primary way ≡ false → (b : Bool) → at_by v b ≡ at_by w b
+    same_at e b = at_now true c b ∙ ap (λ t. stepped_at true t way.back b) e
 
-    same_at : changes_primary way ≡ false → (b : Bool) → at_by (with_fresh_stream w way) b ≡ at_by w b
-    same_at e b = ap (λ t. at_by (cond (not t) w (cond way.back (record w { forward_at = w.fresh_at }) (record w { back_at = w.fresh_at }))) b) e
-
-    fresh_here : changes_primary way ≡ true → at_by (with_fresh_stream w way) (not way.before.primary) ≡ w.fresh_at
+    fresh_here : changes_primary way ≡ true → at_by v (not way.before.primary) ≡ w.fresh_at
     fresh_here e =
-        ap (λ t. at_by (cond (not t) w (cond way.back (record w { forward_at = w.fresh_at }) (record w { back_at = w.fresh_at }))) (not way.before.primary)) e
-        ∙ ap (λ b. at_by (cond way.back (record w { forward_at = w.fresh_at }) (record w { back_at = w.fresh_at })) (not b)) (turned way opens e) ∙ by way.back
+        at_now true c (not way.before.primary) ∙ ap (λ t. stepped_at true t way.back (not way.before.primary)) e
+        ∙ ap (λ b. stepped_at true true way.back (not b)) (turned way opens e) ∙ by way.back
       where
-        by : (b : Bool) → at_by (cond b (record w { forward_at = w.fresh_at }) (record w { back_at = w.fresh_at })) (not b) ≡ w.fresh_at
+        by : (b : Bool) → stepped_at true true b (not b) ≡ w.fresh_at
         by true = refl
         by false = refl
 
@@ -92,17 +60,17 @@ module _ (p : Plain) (w : Live) (way : Way) (opens : w.way ≡ Some way) (is : I
     last_rests true e =
         let b = not way.before.primary in
         subst (λ s. Level p v (side_by v s) (at_by v s)) (sym (ap (λ s. s.primary) last_types ∙ differ_to way.before.primary way.after.primary e))
-        (level_moved p w v sides fed b w.fresh_at (at_by v b) (last_at b ∙ fresh_here e) (is.fresh way opens e (done_by way create_back (suc 10) eleven (omega arith) (omega arith))))
+        (level_moved p w v sides refl b w.fresh_at (at_by v b) (fresh_here e) (is.fresh way opens e (done_by way create_back (suc 10) eleven (omega arith) (omega arith))))
       where
         eleven : next_step way ≡ suc 10
         eleven = let f : suc (next_step way) ≡ 12 = eqb-true (suc (next_step way)) (behind_last way) c ∙ ap (λ s. cond s 12 1) e in omega arith
     last_rests false e =
         let b = way.before.primary in
         subst (λ s. Level p v (side_by v s) (at_by v s)) (sym (ap (λ s. s.primary) last_types ∙ differ_not way.before.primary way.after.primary e))
-        (level_moved p w v sides fed b (at_by w b) (at_by v b) (last_at b ∙ same_at e b) (is.before way opens (ap (λ t. t && stands_done way write_journal) e)))
+        (level_moved p w v sides refl b (at_by w b) (at_by v b) (same_at e b) (is.before way opens (ap (λ t. t && stands_done way write_journal) e)))
 
     rests_now : v.way ≡ None
-    rests_now = now ∙ ap (λ t. cond t None (Some (more way))) c
+    rests_now = ap (λ t. cond t None (Some (more way))) c
 
     pub last_fed : IsFed p v
     last_fed = record {
@@ -113,29 +81,14 @@ module _ (p : Plain) (w : Live) (way : Way) (opens : w.way ≡ Some way) (is : I
     }
 
   -- each other step
-  module _ (c : closes ≡ false) (tested : eqb (next_step way) catch_up ≡ true → length (writes_to p w) ≤ w.fed) where
+  module _ (c : closes way ≡ false) (tested : eqb (next_step way) catch_up ≡ true → length (writes_to p w) ≤ w.fed) where
     opened_now : v.way ≡ Some (more way)
-    opened_now = now ∙ ap (λ t. cond t None (Some (more way))) c
-
-    kept_at : (m j b : Bool) → at_by (by_tests m j false) b ≡ at_by w b
-    kept_at true j true = refl
-    kept_at true j false = refl
-    kept_at false true true = refl
-    kept_at false true false = refl
-    kept_at false false true = refl
-    kept_at false false false = refl
-
-    same_at_by : (b : Bool) → at_by v b ≡ at_by w b
-    same_at_by b = ap (λ x. at_by x b) (is_by false c) ∙ kept_at (eqb (next_step way) create_back) (eqb (next_step way) write_journal) b
-
-    kept_fresh : (j : Bool) → (by_tests false j false).fresh_at ≡ w.fresh_at
-    kept_fresh true = refl
-    kept_fresh false = refl
+    opened_now = ap (λ t. cond t None (Some (more way))) c
 
     before_on : (changes_primary (more way) && stands_done (more way) write_journal) ≡ false → Level p v (side_by v way.before.primary) (at_by v way.before.primary)
     before_on guard =
         let b = way.before.primary in
-        level_moved p w v sides fed b (at_by w b) (at_by v b) (same_at_by b) (is.before way opens (by (changes_primary way) refl))
+        level_moved p w v sides refl b (at_by w b) (at_by v b) (at_now false c b) (is.before way opens (by (changes_primary way) refl))
       where
         by : (t : Bool) → changes_primary way ≡ t → (changes_primary way && stands_done way write_journal) ≡ false
         by false t = ap (λ x. x && stands_done way write_journal) t
@@ -148,11 +101,10 @@ module _ (p : Plain) (w : Live) (way : Way) (opens : w.way ≡ Some way) (is : I
     window_on changes caught waits = by (eqb (next_step way) catch_up) refl
       where
         by : (t : Bool) → eqb (next_step way) catch_up ≡ t → length (writes_to p v) ≤ v.fed
-        by true t = let a = tested t in let e = writes_are in let f = fed in omega arith
+        by true t = let a = tested t in let e = writes_are in omega arith
         by false t =
             let a = is.window way opens changes (before_then way catch_up t caught) (not_before way refresh_target waits) in
             let e = writes_are in
-            let f = fed in
             omega arith
 
     -- the stream that is made begins behind all
@@ -163,13 +115,12 @@ module _ (p : Plain) (w : Live) (way : Way) (opens : w.way ≡ Some way) (is : I
         let a = is.before way opens (and_right (changes_primary way) (stands_done way write_journal) early) in
         let d = is.window way opens changes (done_by way catch_up 5 five (omega arith) (omega arith)) (undone_by way refresh_target 5 five (omega arith)) in
         let le = a.0 in
-        let f = fed in
         let g = writes_are in
         let level : Level p v (new_owner w) made_at = (omega arith, pending_end p v v.fed (new_owner w) (omega arith)) in
         subst (λ k. Level p v k v.fresh_at) (owner_is ∙ sym (side_same w v sides (not way.before.primary))) (subst (Level p v (new_owner w)) (sym fresh_is) level)
       where
         fresh_is : v.fresh_at ≡ made_at
-        fresh_is = ap (λ x. x.fresh_at) (is_by false c) ∙ ap (λ m. (by_tests m (eqb (next_step way) write_journal) false).fresh_at) makes
+        fresh_is = ap (λ m. cond m made_at w.fresh_at) makes
 
         turn : (b : Bool) → cond b w.source w.target ≡ side_by w (not b)
         turn true = refl
@@ -184,8 +135,7 @@ module _ (p : Plain) (w : Live) (way : Way) (opens : w.way ≡ Some way) (is : I
         by : (t : Bool) → eqb (next_step way) create_back ≡ t → Level p v (side_by v (not way.before.primary)) v.fresh_at
         by true t = made_level changes t
         by false t =
-            level_moved p w v sides fed (not way.before.primary) w.fresh_at v.fresh_at
-            (ap (λ x. x.fresh_at) (is_by false c) ∙ ap (λ m. (by_tests m (eqb (next_step way) write_journal) false).fresh_at) t ∙ kept_fresh (eqb (next_step way) write_journal))
+            level_moved p w v sides refl (not way.before.primary) w.fresh_at v.fresh_at (ap (λ m. cond m made_at w.fresh_at) t)
             (is.fresh way opens changes (before_then way create_back t created))
 
     pub on_fed : IsFed p v
@@ -200,9 +150,9 @@ module _ (p : Plain) (w : Live) (way : Way) (opens : w.way ≡ Some way) (is : I
     }
 
   pub stepped_fed : (eqb (next_step way) catch_up ≡ true → length (writes_to p w) ≤ w.fed) → IsFed p v
-  stepped_fed tested = by closes refl
+  stepped_fed tested = by (closes way) refl
     where
-      by : (c : Bool) → closes ≡ c → IsFed p v
+      by : (c : Bool) → closes way ≡ c → IsFed p v
       by true c = last_fed c
       by false c = on_fed c tested
 
@@ -210,7 +160,7 @@ module _ (p : Plain) (w : Live) (way : Way) (opens : w.way ≡ Some way) (is : I
 
 module _ (p : Plain) (w : Live) (way : Way) (opens : w.way ≡ Some way) (is : IsFed p w) (settled : IsSettled w) (early : stands_done way write_journal ≡ false) where
   abbrev undone : Bool → Live
-  undone t = cond t (record w { way = None }) (record w { way = Some (fewer way) })
+  undone t = record w { way = cond t None (Some (fewer way)) }
 
   guard : (changes_primary way && stands_done way write_journal) ≡ false
   guard = and_right (changes_primary way) (stands_done way write_journal) early

@@ -9,7 +9,7 @@ use Rattle.mt_names.proofs.SameLemmas.{same_text_decides}
 use Rattle.mt_plain.specs.Answers.{Answers, Run, after}
 use Rattle.mt_plain.specs.Drive.{way_of}
 use Rattle.mt_plain.specs.Events.{Event, step, undo, Answer, done, row, advanced, shown, refused, Way}
-use Rattle.mt_plain.specs.Next.{journal_after, live_stepped, next}
+use Rattle.mt_plain.specs.Next.{closes, journal_after, live_stepped, next}
 use Rattle.mt_plain.specs.Plain.{Live, Plain, live_at, next_step, stands_done, write_journal}
 use Rattle.mt_plain.specs.Refuse.{undo_refusal}
 use Rattle.mt_laws.specs.Changes.{IsOf}
@@ -26,7 +26,7 @@ use Rattle.mt_laws.proofs.TrafficLemmas.{begin_ends_nothing, begin_rests, not_en
 use Rattle.mt_laws.proofs.UntouchedLemmas.{same_journal, traffic-advanced}
 use Rattle.mt_laws.proofs.WayBackLemmas.{one_event}
 use Rattle.mt_laws.proofs.WayLemmas.{undo_before_journal}
-use Rattle.mt_laws.proofs.WayStepLemmas.{closes, more, no_way, now_done, still_done, way-stepped, way_holds, way_holds-by}
+use Rattle.mt_laws.proofs.WayStepLemmas.{more, no_way, now_done, still_done, way-stepped, way_holds, way_holds-by}
 
 -- ---- behind the journal a way stays behind it as long as it is open
 

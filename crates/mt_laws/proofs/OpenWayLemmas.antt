@@ -2,7 +2,7 @@
 use Rattle.std.proofs.Common.{◌≡◌, ℕ, suc, ◌+◌, ◌-◌, ◌≤◌, Bool, true, false, cond, eqb, Some, refl, sym, ap, ◌∙◌, arith}
 use Rattle.std.proofs.lemmas.Bool.{true≢false, eq-eqb}
 use Rattle.mt_plain.specs.Events.{Event, Way}
-use Rattle.mt_plain.specs.Next.{live_stepped, live_undone, types_and, types_without, with_way_to}
+use Rattle.mt_plain.specs.Next.{closes, live_stepped, live_undone, types_and, types_without, with_way_to}
 use Rattle.mt_plain.specs.Plain.{Live, Plain, behind_last, changes_primary, first_step, next_step, write_journal}
 use Rattle.mt_laws.specs.WayBack.{IsReached}
 use Rattle.mt_laws.proofs.ChangeLemmas.{made_live}
@@ -12,7 +12,7 @@ use Rattle.mt_laws.proofs.ReachLemmas.{reached_have}
 use Rattle.mt_laws.proofs.RefusalLemmas.{reverse-none, switch-none}
 use Rattle.mt_laws.proofs.StepCountLemmas.{backward_has_steps, forward_has_steps, has_steps}
 use Rattle.mt_laws.proofs.UntouchedLemmas.{traffic-advanced}
-use Rattle.mt_laws.proofs.WayStepLemmas.{closes, fewer, more, no_way_holds, way-stepped, way-undone, way_holds, way_holds-by}
+use Rattle.mt_laws.proofs.WayStepLemmas.{fewer, more, no_way_holds, way-stepped, way-undone, way_holds, way_holds-by}
 
 abbrev pub HasStep : Live → Type 0
 HasStep w = (way : Way) → w.way ≡ Some way → suc (next_step way) ≤ behind_last way

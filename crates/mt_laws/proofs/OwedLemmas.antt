@@ -10,7 +10,7 @@ use Rattle.mt_names.proofs.SameLemmas.{same_text_decides}
 use Rattle.mt_model.specs.Limits.{most_rules, most_tables_in_keyspace}
 use Rattle.mt_plain.specs.Answers.{Answers}
 use Rattle.mt_plain.specs.Events.{Event, create, begin_switch, begin_reverse, step, undo, cancel, Answer, done, Way}
-use Rattle.mt_plain.specs.Next.{live_stepped, live_undone, next, types_and, types_without, with_way_to}
+use Rattle.mt_plain.specs.Next.{closes, live_stepped, live_undone, next, types_and, types_without, with_way_to}
 use Rattle.mt_plain.specs.Plain.{Live, Plain, each_once, first_step, live_at, stands_done, twelve_keys, write_journal}
 use Rattle.mt_plain.specs.Refuse.{cancel_refusal, keys_without_rule, most_workflows, owed, owed_by, refusal_of, rule_count, table_count, undo_refusal}
 use Rattle.mt_laws.specs.Changes.{ChangesWay, IsOf}
@@ -25,7 +25,7 @@ use Rattle.mt_laws.proofs.RefusalLemmas.{in_workflow-none}
 use Rattle.mt_laws.proofs.StepUndoneLemmas.{at_way_undone, undo_way}
 use Rattle.mt_laws.proofs.UntouchedLemmas.{next_elsewhere, same_traffic, traffic-advanced}
 use Rattle.mt_laws.proofs.WayLemmas.{undo_before_journal}
-use Rattle.mt_laws.proofs.WayStepLemmas.{closes, fewer, first_step-le, more, not_before, way-stepped, way-undone}
+use Rattle.mt_laws.proofs.WayStepLemmas.{fewer, first_step-le, more, not_before, way-stepped, way-undone}
 
 -- ---- sums over live workflows
 

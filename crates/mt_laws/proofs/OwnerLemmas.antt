@@ -1,15 +1,15 @@
 -- A side whose primary doesn't refuse a moved table is the owner.
-use Rattle.std.proofs.Common.{◌≡◌, ◌⊎◌, inl, inr, ℕ, ◌-◌, Bool, true, false, not, cond, eqb, List, Option, None, Some, refl, sym, ap, ◌∙◌, arith, eqb-true}
+use Rattle.std.proofs.Common.{◌≡◌, ◌⊎◌, inl, inr, ℕ, ◌-◌, Bool, true, false, not, cond, eqb, List, Option, None, Some, refl, sym, ap, ◌∙◌, arith}
+use Rattle.std.specs.Prelude.{◌||◌}
 use Rattle.std.proofs.lemmas.Bool.{true≢false, not-false, or_cases}
 use Rattle.mt_names.specs.declared.types.TypeSet.{TypeSet}
 use Rattle.mt_names.specs.Names.{same_text}
 use Rattle.mt_names.proofs.SameLemmas.{same_text_decides}
 use Rattle.mt_plain.specs.Events.{Event, Way}
-use Rattle.mt_plain.specs.Next.{live_stepped, live_undone, types_and, types_without, way_stepped, with_way_to}
-use Rattle.mt_plain.specs.Plain.{Live, Plain, changes_primary, create_back, differ, is_side, mover, moves, next_step, owner, refresh_source, refresh_target, stands_done, write_journal}
-use Rattle.mt_plain.specs.Refuse.{new_owner}
+use Rattle.mt_plain.specs.Next.{closes, live_stepped, live_undone, types_and, types_without, with_way_to}
+use Rattle.mt_plain.specs.Plain.{Live, Plain, changes_primary, differ, is_side, mover, moves, next_step, owner, refresh_source, refresh_target, stands_done, write_journal}
 use Rattle.mt_plain.specs.Serve.{refuses}
-use Rattle.mt_plain.specs.Slots.{live_advanced, log_length}
+use Rattle.mt_plain.specs.Slots.{live_advanced}
 use Rattle.mt_laws.specs.WayBack.{IsReached}
 use Rattle.mt_laws.proofs.ChangeLemmas.{made_live}
 use Rattle.mt_laws.proofs.LiveLemmas.{IsIn, find_some}
@@ -19,7 +19,7 @@ use Rattle.mt_laws.proofs.KeepLemmas.{Keeps}
 use Rattle.mt_laws.proofs.ReachLemmas.{reached_have}
 use Rattle.mt_laws.proofs.UntouchedLemmas.{traffic-advanced}
 use Rattle.mt_laws.proofs.WayLemmas.{undo_before_journal}
-use Rattle.mt_laws.proofs.WayStepLemmas.{before_then, closes, done_in_order, fewer, more, no_way_holds, none_done, switched-way_stepped, was_done, way-way_stepped, way_holds, way_holds-by}
+use Rattle.mt_laws.proofs.WayStepLemmas.{before_then, done_in_order, fewer, more, no_way_holds, none_done, was_done, way_holds, way_holds-by}
 use Rattle.mt_laws.proofs.WritableLemmas.{before_by, owner-if, primary-step, refused-source, refused-target, step_by}
 
 -- ---- behind the journal the switched types are those from after the way
@@ -39,28 +39,17 @@ stepped_journaled : (v : Live) (way : Way) → v.way ≡ cond (closes way) None 
 stepped_journaled v way now holds = way_holds-by (Journaled v) v (closes way) (more way) now (λ goes_on journaled. holds journaled goes_on)
 
 step_journaled : (p : Plain) (w : Live) (way : Way) → w.way ≡ Some way → IsJournaled w → IsJournaled (live_stepped p w way)
-step_journaled p w way opens holds = by (eqb (next_step way) create_back) refl (eqb (next_step way) write_journal) refl
+step_journaled p w way opens holds = stepped_journaled (live_stepped p w way) way refl (λ journaled goes_on. ap (λ l. cond (l || journals) way.after w.switched) goes_on ∙ by journals refl journaled)
   where
-    creates : Live
-    creates = record (way_stepped w way) { fresh_at = log_length p (new_owner w) }
+    journals : Bool
+    journals = eqb (next_step way) write_journal
 
-    journals : Live
-    journals = record (way_stepped w way) { switched = way.after }
-
-    stays : eqb (next_step way) write_journal ≡ false → stands_done (more way) write_journal ≡ true → closes way ≡ false → (way_stepped w way).switched ≡ way.after
-    stays other journaled goes_on = switched-way_stepped w way ∙ ap (λ l. cond l way.after w.switched) goes_on ∙ holds way opens (before_then way write_journal other journaled)
-
-    by : (t : Bool) → eqb (next_step way) create_back ≡ t → (u : Bool) → eqb (next_step way) write_journal ≡ u → IsJournaled (cond t creates (cond u journals (way_stepped w way)))
-    by true e u f = stepped_journaled creates way (way-way_stepped w way) (stays (ap (λ n. eqb n 6) (eqb-true (next_step way) 5 e)))
-    by false e true f = stepped_journaled journals way (way-way_stepped w way) (λ journaled goes_on. refl)
-    by false e false f = stepped_journaled (way_stepped w way) way (way-way_stepped w way) (stays f)
+    by : (t : Bool) → journals ≡ t → stands_done (more way) write_journal ≡ true → cond journals way.after w.switched ≡ way.after
+    by true e journaled = ap (λ l. cond l way.after w.switched) e
+    by false e journaled = ap (λ l. cond l way.after w.switched) e ∙ holds way opens (before_then way write_journal e journaled)
 
 undo_journaled : (w : Live) (way : Way) → stands_done way write_journal ≡ false → IsJournaled (live_undone w way)
-undo_journaled w way before = by (eqb (way.done - 1) 0)
-  where
-    by : (t : Bool) → IsJournaled (cond t (record w { way = None }) (record w { way = Some (fewer way) }))
-    by true = no_way_holds (Journaled w) (record w { way = None }) refl
-    by false = way_holds (Journaled w) (record w { way = Some (fewer way) }) (fewer way) refl (λ e. absurd (true≢false (sym (was_done way write_journal e) ∙ before)))
+undo_journaled w way before = way_holds-by (Journaled (live_undone w way)) (live_undone w way) (eqb (way.done - 1) 0) (fewer way) refl (λ goes_on e. absurd (true≢false (sym (was_done way write_journal e) ∙ before)))
 
 begin_journaled : (backward : Bool) (change : TypeSet → TypeSet) (w : Live) → IsJournaled (with_way_to backward change w)
 begin_journaled backward change w =

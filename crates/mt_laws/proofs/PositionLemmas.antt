@@ -1,6 +1,7 @@
 -- The positions of streams, and the logs that they read.
 use Rattle.std.proofs.Common.{◌≡◌, ◌⊎◌, inl, inr, ℕ, suc, ◌+◌, ◌-◌, ◌≤◌, Bool, true, false, not, cond, eqb, ltb, List, [], ◌∷◌, take, length, Option, None, Some, option_map, refl, sym, ap, ◌∙◌, subst, arith, eqb-true, ltb-true}
-use Rattle.std.proofs.lemmas.Bool.{true≢false, and_from, or_cases, and_parts, not-false, not-true}
+use Rattle.std.proofs.Math.Bool.{not-not}
+use Rattle.std.proofs.lemmas.Bool.{true≢false, and_from, or_cases, and_parts, not-false, not-true, false_from_ne_true}
 use Rattle.std.proofs.lemmas.List.{length-drop, length-take}
 use Rattle.std.proofs.lemmas.List.Sums.{length-filter}
 use Rattle.std.proofs.Math.Nat.{min-le_right}
@@ -11,8 +12,8 @@ use Rattle.mt_names.specs.declared.types.TypeSet.{TypeSet}
 use Rattle.mt_names.specs.Names.{same_text}
 use Rattle.mt_plain.specs.Answers.{Answers, IsCut, advanced_of}
 use Rattle.mt_plain.specs.Events.{Event, advance, StreamName, forward, back, Slot, StreamState, running, stopped, frozen, Answer, advanced, Way}
-use Rattle.mt_plain.specs.Next.{live_stepped, live_undone, next, types_and, types_without, way_stepped, with_fresh_stream, with_way_to}
-use Rattle.mt_plain.specs.Plain.{Live, LogEntry, Plain, behind_last, changes_primary, create_back, live_at, next_step, stands_done, write_journal}
+use Rattle.mt_plain.specs.Next.{closes, live_stepped, live_undone, next, types_and, types_without, with_way_to}
+use Rattle.mt_plain.specs.Plain.{Live, LogEntry, Plain, behind_last, changes_primary, create_back, live_at, next_step, stands_done}
 use Rattle.mt_plain.specs.Refuse.{advance_refusal, new_owner}
 use Rattle.mt_plain.specs.Slots.{applies, running_by, is_feeding, is_fresh, live_advanced, log_length, log_of, may_be_cut, most_events, most_rows, past, read_side, readable, room_in_log, running_at, slot_at_rest, slot_by_way, slot_of, with_position, written_side}
 use Rattle.mt_laws.specs.Changes.{HasSides}
@@ -84,26 +85,6 @@ rest_same w v e f back = f
 position_if : (v : Live) (name : StreamName) (t : Bool) → is_fresh v.way name ≡ t → position_in v name ≡ cond t v.fresh_at (rest_at v name)
 position_if v name t e = ap (λ b. cond b v.fresh_at (rest_at v name)) e
 
--- whether a way in a direction feeds by a stream
-abbrev feeds_by : Bool → StreamName → Bool
-feeds_by backward forward = not backward
-feeds_by backward back = backward
-
-feeds_by-way : (way : Way) (name : StreamName) → feeds_by way.back name ≡ is_feeding way name
-feeds_by-way way forward = refl
-feeds_by-way way back = refl
-
--- two that agree on the way and the positions
-position_same : (v u : Live) → u.way ≡ v.way → u.fresh_at ≡ v.fresh_at → u.forward_at ≡ v.forward_at → u.back_at ≡ v.back_at → (name : StreamName) → position_in u name ≡ position_in v name
-position_same v u a b c d name =
-    ap (λ o. cond (is_fresh o name) u.fresh_at (rest_at u name)) a ∙ ap (λ n. cond (is_fresh v.way name) n (rest_at u name)) b
-    ∙ ap (cond (is_fresh v.way name) v.fresh_at) (rest_same v u c d name)
-
-moves_same : (p : Plain) (w v u : Live) (name : StreamName) → u.way ≡ v.way → u.fresh_at ≡ v.fresh_at → u.forward_at ≡ v.forward_at → u.back_at ≡ v.back_at → Moves p w v name → Moves p w u name
-moves_same p w v u name a b c d (stays e (inl f)) = stays (position_same v u a b c d name ∙ e) (inl (rest_same v u c d name ∙ f))
-moves_same p w v u name a b c d (stays e (inr f)) = stays (position_same v u a b c d name ∙ e) (inr (rest_same v u c d name ∙ f))
-moves_same p w v u name a b c d (renewed e f) = renewed (position_same v u a b c d name ∙ e) (rest_same v u c d name ∙ f)
-
 and-last : (a b c : Bool) → c ≡ false → (a && b && c) ≡ false
 and-last true true c e = e
 and-last true false c e = refl
@@ -117,11 +98,8 @@ module _ (p : Plain) (w : Live) (way : Way) (opens : w.way ≡ Some way) (turned
   abbrev fresh : ℕ
   fresh = log_length p (new_owner w)
 
-  abbrev closed : Live
-  closed = record (with_fresh_stream w way) { switched = way.after; way = None }
-
-  abbrev goes_on : Live
-  goes_on = record w { way = Some (more way) }
+  abbrev v : Live
+  v = live_stepped p w way
 
   was : position_in w name ≡ cond (is_fresh (Some way) name) w.fresh_at (rest_at w name)
   was = ap (λ o. cond (is_fresh o name) w.fresh_at (rest_at w name)) opens
@@ -148,33 +126,46 @@ module _ (p : Plain) (w : Live) (way : Way) (opens : w.way ≡ Some way) (turned
       by back is =
           ap (read_side w) is ∙ sym (ap (λ b. cond b w.source w.target) (not-true way.back (sym (ap (λ m. not (is_feeding way m)) is) ∙ other))) ∙ sym owner_is
 
-  -- the step that makes it
-  made_moves : next_step way ≡ 5 → (c : Bool) → eqb (suc (next_step way)) (behind_last way) ≡ c → Moves p w (record (cond c closed goes_on) { fresh_at = fresh }) name
-  made_moves here true c = absurd (not_last (changes_primary way) (next_step way) here c)
-  made_moves here false c = by (is_fresh (Some (more way)) name) refl
+  -- the position at rest: that of the stream that the way has made, once it closes
+  rest_by : (closing : Bool) → closes way ≡ closing → rest_at v name ≡ cond (closing && changes_primary way && not (is_feeding way name)) w.fresh_at (rest_at w name)
+  rest_by closing c = by name ∙ ap (λ l. cond (l && changes_primary way && not (is_feeding way name)) w.fresh_at (rest_at w name)) c
     where
-      v : Live
-      v = record goes_on { fresh_at = fresh }
+      by : (n : StreamName) → rest_at v n ≡ cond (closes way && changes_primary way && not (is_feeding way n)) w.fresh_at (rest_at w n)
+      by forward = ap (λ b. cond (closes way && changes_primary way && b) w.fresh_at w.forward_at) (sym (not-not way.back))
+      by back = refl
+
+  position_by : (closing : Bool) → closes way ≡ closing → position_in v name ≡ cond (is_fresh (cond closing None (Some (more way))) name) v.fresh_at (rest_at v name)
+  position_by closing c = ap (λ l. cond (is_fresh (cond l None (Some (more way))) name) v.fresh_at (rest_at v name)) c
+
+  -- the step that makes it
+  made_moves : next_step way ≡ 5 → Moves p w v name
+  made_moves here = by (is_fresh (Some (more way)) name) refl
+    where
+      goes_on : closes way ≡ false
+      goes_on = false_from_ne_true (closes way) (not_last (changes_primary way) (next_step way) here)
 
       not_yet : is_fresh (Some way) name ≡ false
       not_yet = and-last (changes_primary way) (not (is_feeding way name)) (stands_done way create_back) (undone_by way create_back 5 here (omega arith))
 
       by : (t : Bool) → is_fresh (Some (more way)) name ≡ t → Moves p w v name
-      by true t = renewed (position_if v name true t ∙ ap (log_length p) (sym (reads_new_owner t))) (rest_same w v refl refl name)
+      by true t =
+          renewed
+          (position_by false goes_on ∙ ap (λ b. cond b v.fresh_at (rest_at v name)) t ∙ ap (λ n. cond (eqb n create_back) fresh w.fresh_at) here ∙ ap (log_length p) (sym (reads_new_owner t)))
+          (rest_by false goes_on)
       by false t =
-          stays (position_if v name false t ∙ rest_same w v refl refl name ∙ sym (was ∙ ap (λ b. cond b w.fresh_at (rest_at w name)) not_yet)) (inl (rest_same w v refl refl name))
+          stays
+          (position_by false goes_on ∙ ap (λ b. cond b v.fresh_at (rest_at v name)) t ∙ rest_by false goes_on ∙ sym (was ∙ ap (λ b. cond b w.fresh_at (rest_at w name)) not_yet))
+          (inl (rest_by false goes_on))
 
   -- each other step
-  other_moves : eqb (next_step way) create_back ≡ false → (c : Bool) → eqb (suc (next_step way)) (behind_last way) ≡ c → Moves p w (cond c closed goes_on) name
+  other_moves : eqb (next_step way) create_back ≡ false → (c : Bool) → closes way ≡ c → Moves p w v name
   other_moves other false c =
       stays
-      (rest_fresh ∙ ap (cond (is_fresh (Some (more way)) name) w.fresh_at) (rest_same w goes_on refl refl name)
+      (position_by false c ∙ ap (λ m. cond (is_fresh (Some (more way)) name) (cond m fresh w.fresh_at) (rest_at v name)) other
+      ∙ ap (cond (is_fresh (Some (more way)) name) w.fresh_at) (rest_by false c)
       ∙ ap (λ m. cond (changes_primary way && not (is_feeding way name) && m) w.fresh_at (rest_at w name)) (same_done way create_back other) ∙ sym was)
-      (inl (rest_same w goes_on refl refl name))
-    where
-      rest_fresh : position_in goes_on name ≡ cond (is_fresh (Some (more way)) name) w.fresh_at (rest_at goes_on name)
-      rest_fresh = refl
-  other_moves other true c = stays (rest_closed (changes_primary way) refl) (inr (rest_closed (changes_primary way) refl))
+      (inl (rest_by false c))
+  other_moves other true c = stays (position_by true c ∙ rest_closed) (inr rest_closed)
     where
       made : changes_primary way ≡ true → stands_done way create_back ≡ true
       made changes =
@@ -182,29 +173,22 @@ module _ (p : Plain) (w : Live) (way : Way) (opens : w.way ≡ Some way) (turned
           let is : next_step way ≡ 11 = omega arith in
           done_by way create_back 11 is (omega arith) (omega arith)
 
-      by : (changes backward m : Bool) → (changes ≡ true → m ≡ true) → (n : StreamName)
-          → rest_at (cond (not changes) w (cond backward (record w { forward_at = w.fresh_at }) (record w { back_at = w.fresh_at }))) n
-          ≡ cond (changes && not (feeds_by backward n) && m) w.fresh_at (rest_at w n)
-      by false backward m holds n = refl
-      by true true m holds forward = ap (λ b. cond b w.fresh_at w.forward_at) (sym (holds refl))
-      by true true m holds back = refl
-      by true false m holds forward = refl
-      by true false m holds back = ap (λ b. cond b w.fresh_at w.back_at) (sym (holds refl))
+      by : (changes feeds m : Bool) → (changes ≡ true → m ≡ true) → (changes && not feeds) ≡ (changes && not feeds && m)
+      by false feeds m holds = refl
+      by true true m holds = refl
+      by true false m holds = sym (holds refl)
 
-      rest_closed : (changes : Bool) → changes_primary way ≡ changes → rest_at closed name ≡ position_in w name
-      rest_closed changes is =
-          rest_same (with_fresh_stream w way) closed refl refl name ∙ by (changes_primary way) way.back (stands_done way create_back) made name
-          ∙ ap (λ f. cond (changes_primary way && not f && stands_done way create_back) w.fresh_at (rest_at w name)) (feeds_by-way way name) ∙ sym was
+      rest_closed : rest_at v name ≡ position_in w name
+      rest_closed =
+          rest_by true c
+          ∙ ap (λ b. cond b w.fresh_at (rest_at w name)) (by (changes_primary way) (is_feeding way name) (stands_done way create_back) made) ∙ sym was
 
-  step_moves : Moves p w (live_stepped p w way) name
-  step_moves = by (eqb (next_step way) create_back) refl (eqb (next_step way) write_journal)
+  step_moves : Moves p w v name
+  step_moves = by (eqb (next_step way) create_back) refl
     where
-      by : (t : Bool) → eqb (next_step way) create_back ≡ t → (u : Bool) → Moves p w (cond t (record (way_stepped w way) { fresh_at = fresh }) (cond u (record (way_stepped w way) { switched = way.after }) (way_stepped w way))) name
-      by true t u = made_moves (eqb-true (next_step way) 5 t) (eqb (suc (next_step way)) (behind_last way)) refl
-      by false t true =
-          moves_same p w (way_stepped w way) (record (way_stepped w way) { switched = way.after }) name refl refl refl refl
-          (other_moves t (eqb (suc (next_step way)) (behind_last way)) refl)
-      by false t false = other_moves t (eqb (suc (next_step way)) (behind_last way)) refl
+      by : (t : Bool) → eqb (next_step way) create_back ≡ t → Moves p w v name
+      by true t = made_moves (eqb-true (next_step way) 5 t)
+      by false t = other_moves t (closes way) refl
 
 -- ---- an undo
 
@@ -227,16 +211,12 @@ undo_position w way opens name = by (eqb (way.done - 1) 0)
     later true t = inr (position_if v name true t ∙ sym (ap (λ o. cond (is_fresh o name) w.fresh_at (rest_at w name)) opens ∙ ap (λ b. cond b w.fresh_at (rest_at w name)) (was_fresh t)))
     later false t = inl (position_if v name false t ∙ rest_same w v refl refl name)
 
-    by : (c : Bool) → (position_in (cond c rests v) name ≡ rest_at w name) ⊎ (position_in (cond c rests v) name ≡ position_in w name)
+    by : (c : Bool) → (position_in (record w { way = cond c None (Some (fewer way)) }) name ≡ rest_at w name) ⊎ (position_in (record w { way = cond c None (Some (fewer way)) }) name ≡ position_in w name)
     by true = inl (rest_same w rests refl refl name)
     by false = later (is_fresh (Some (fewer way)) name) refl
 
 undo_rest : (w : Live) (way : Way) (name : StreamName) → rest_at (live_undone w way) name ≡ rest_at w name
-undo_rest w way name = by (eqb (way.done - 1) 0)
-  where
-    by : (c : Bool) → rest_at (cond c (record w { way = None }) (record w { way = Some (fewer way) })) name ≡ rest_at w name
-    by true = rest_same w (record w { way = None }) refl refl name
-    by false = rest_same w (record w { way = Some (fewer way) }) refl refl name
+undo_rest w way name = rest_same w (live_undone w way) refl refl name
 
 -- ---- a begin
 

@@ -11,7 +11,7 @@ use Rattle.mt_model.specs.declared.entries.EntryKey.TheVariants as about
 use Rattle.mt_model.specs.Topology.{TopologyState, value_of}
 use Rattle.mt_plain.specs.Answers.{Answers, Run, after, reply_of}
 use Rattle.mt_plain.specs.Events.{Event, begin_switch, begin_reverse, step, undo, cancel, complete, StreamName, forward, back, StreamState, running, stopped, Slot, Answer, done, row, advanced, shown, refused, Way, past_journal, stale, undoing}
-use Rattle.mt_plain.specs.Next.{after_advance, live_stepped, live_undone, next, on_way_of}
+use Rattle.mt_plain.specs.Next.{after_advance, closes, live_stepped, live_undone, next, on_way_of}
 use Rattle.mt_plain.specs.Plain.{Live, Plain, allow_target, before_way, changes_primary, create_back, deny_source, first_step, has_part, is_side, live_at, mover, moves, next_step, owner_by, refresh_source, refresh_target, stands_done, start_back, stop_feeding, write_journal}
 use Rattle.mt_plain.specs.Refuse.{or_else, own_refusal, refuse_if, step_refusal, undo_refusal}
 use Rattle.mt_plain.specs.Serve.{is_denied_at, owned_before, refuses, serve, served_by, served_entry, step_of_entry, types_by}
@@ -29,7 +29,7 @@ use Rattle.mt_laws.proofs.TrafficLemmas.{serve-same}
 use Rattle.mt_laws.proofs.UntouchedLemmas.{same_way, same_workflow}
 use Rattle.mt_laws.proofs.WayBackLemmas.{has_part-same, in_part-of, one_event, owner_of_part}
 use Rattle.mt_laws.proofs.WayLemmas.{undo_before_journal}
-use Rattle.mt_laws.proofs.WayStepLemmas.{closes, fewer, more, no_way, one_way, way-stepped}
+use Rattle.mt_laws.proofs.WayStepLemmas.{fewer, more, no_way, one_way, way-stepped}
 use Rattle.mt_laws.proofs.WritableLemmas.{before_by}
 
 -- ---- what is served and refused follows from the types from before the way, and those at each step
@@ -150,7 +150,7 @@ state_again way stream o =
 undone_traffic : (w m : Live) (way : Way) → w.way ≡ Some way → m.way ≡ Some (more way) → IsSettled m → stands_done (more way) write_journal ≡ false → SameTraffic w (live_undone m (more way))
 undone_traffic w m way opens opened settled before = by (eqb ((more way).done - 1) 0) refl
   where
-    by : (t : Bool) → eqb ((more way).done - 1) 0 ≡ t → SameTraffic w (cond t (record m { way = None }) (record m { way = Some (fewer (more way)) }))
+    by : (t : Bool) → eqb ((more way).done - 1) 0 ≡ t → SameTraffic w (record m { way = cond t None (Some (fewer (more way))) })
     by true e =
         let zero_left : suc way.done - 1 ≡ 0 = eqb-true (suc way.done - 1) 0 e in
         let none : way.done ≡ 0 = omega arith in

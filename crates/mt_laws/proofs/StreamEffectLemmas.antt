@@ -2,9 +2,10 @@
 use Rattle.std.proofs.Common.{◌≡◌, ◌≢◌, ℕ, suc, ◌-◌, ◌<◌, ◌≤◌, Bool, true, false, not, cond, eqb, Option, None, Some, option_map, refl, sym, ap, ◌∙◌, arith, eqb-true}
 use Rattle.std.proofs.lemmas.Bool.{true≢false, eq-eqb, false_from_ne_true}
 use Rattle.std.specs.Option.{option_map_or}
+use Rattle.std.specs.Prelude.{◌&&◌, ◌||◌}
 use Rattle.mt_names.specs.declared.types.TypeSet.{TypeSet}
 use Rattle.mt_plain.specs.Events.{StreamName, forward, back, running, stopped, frozen, Slot, Way}
-use Rattle.mt_plain.specs.Next.{live_stepped, live_undone, with_fresh_stream}
+use Rattle.mt_plain.specs.Next.{closes, live_stepped, live_undone}
 use Rattle.mt_plain.specs.Plain.{Live, Plain, before_way, behind_last, changes_primary, create_back, differ, freeze_old, next_step, stands_done, start_back, stop_feeding, write_journal}
 use Rattle.mt_plain.specs.Refuse.{new_owner}
 use Rattle.mt_plain.specs.Slots.{is_feeding, log_length, slot_before_way, slot_by_way, slot_of}
@@ -53,15 +54,7 @@ either-same : {A : Type 0} (t : Bool) (x : A) → cond t x x ≡ x
 either-same true x = refl
 either-same false x = refl
 
--- ---- the workflow behind a step, by the number of the step and that behind the last
-
-abbrev way_at : Live → Way → ℕ → ℕ → Live
-way_at w way n b = cond (eqb (suc n) b) (record (with_fresh_stream w way) { switched = way.after; way = None }) (record w { way = Some (more way) })
-
-abbrev live_at_step : Plain → Live → Way → ℕ → ℕ → Live
-live_at_step p w way n b =
-    cond (eqb n create_back) (record (way_at w way n b) { fresh_at = log_length p (new_owner w) })
-    (cond (eqb n write_journal) (record (way_at w way n b) { switched = way.after }) (way_at w way n b))
+-- ---- a step
 
 -- a slot behind a step of this number
 abbrev slot_at_step : Way → StreamName → (n log_end : ℕ) → Option Slot → Option Slot
@@ -89,8 +82,17 @@ module _ (p : Plain) (w : Live) (way : Way) (name : StreamName) (opens : w.way �
   abbrev rests : Option Slot
   rests = rest_slot w.forward_at w.back_at way.before.primary name
 
-  at_step : (n b : ℕ) → next_step way ≡ n → behind_last way ≡ b → stepped ≡ live_at_step p w way n b
-  at_step n b is last = ap (λ m. live_at_step p w way m (behind_last way)) is ∙ ap (live_at_step p w way n) last
+  -- the positions at rest, by whether the step closes the way, and whether that changes writes
+  abbrev rests_by : (closing changes : Bool) → (target_owns : Bool) → Option Slot
+  rests_by closing changes target_owns =
+      rest_slot (cond (closing && changes && way.back) w.fresh_at w.forward_at) (cond (closing && changes && not way.back) w.fresh_at w.back_at) target_owns name
+
+  -- behind the last step
+  at_close : closes way ≡ true → slot_of stepped name ≡ rests_by true (changes_primary way) way.after.primary
+  at_close c =
+      closed-slot stepped name (ap (λ b. cond b None (Some (more way))) c)
+      ∙ ap (λ l. rests_by (closes way) (changes_primary way) (cond (l || eqb (next_step way) write_journal) way.after w.switched).primary) c
+      ∙ ap (λ l. rests_by l (changes_primary way) way.after.primary) c
 
   by_number : (n : ℕ) → next_step way ≡ n → slot_of stepped name ≡ slot_at_step way name n log_end (slot_of w name) → Stepped
   by_number n is e = e ∙ ap (λ m. slot_at_step way name m log_end (slot_of w name)) (sym is)
@@ -105,12 +107,12 @@ module _ (p : Plain) (w : Live) (way : Way) (name : StreamName) (opens : w.way �
       first : next_step way ≡ 0
       first = omega (arith, left, last)
 
-      is : stepped ≡ record w { switched = way.after; way = None }
-      is = at_step 0 1 first last ∙ ap (λ (x : Live). record x { switched = way.after; way = None }) (ap (λ b. cond (not b) w (cond way.back (record w { forward_at = w.fresh_at }) (record w { back_at = w.fresh_at }))) none)
+      closing : closes way ≡ true
+      closing = eq-eqb (suc (next_step way)) (behind_last way) (omega (arith, first, last))
 
       behind : slot_of stepped name ≡ rests
       behind =
-          ap (λ v. slot_of v name) is ∙ closed-slot (record w { switched = way.after; way = None }) name refl
+          at_close closing ∙ ap (λ t. rests_by true t way.after.primary) none
           ∙ ap (λ b. rest_slot w.forward_at w.back_at b name) (differ-false way.before.primary way.after.primary none)
 
       here : slot_at_step way name 0 log_end (slot_of w name) ≡ rests
@@ -133,17 +135,20 @@ module _ (p : Plain) (w : Live) (way : Way) (name : StreamName) (opens : w.way �
         ∙ ap (λ x. way_slot true (is_feeding way name) stops creates x w.fresh_at rests) c
 
     -- and behind it, while the way is open
-    now : (v : Live) → stepped ≡ v → v.way ≡ Some (more way) → v.forward_at ≡ w.forward_at → v.back_at ≡ w.back_at
+    now : (made : Bool) → eqb (next_step way) create_back ≡ made → closes way ≡ false
         → (stops creates starts : Bool) → stands_done (more way) stop_feeding ≡ stops → stands_done (more way) create_back ≡ creates → stands_done (more way) start_back ≡ starts
-        → slot_of stepped name ≡ way_slot true (is_feeding way name) stops creates starts v.fresh_at rests
-    now v is going same_forward same_back stops creates starts a b c =
-        ap (λ x. slot_of x name) is ∙ open-slot v (more way) name going
-        ∙ ap (λ f. way_slot (changes_primary way) (is_feeding way name) (stands_done (more way) stop_feeding) (stands_done (more way) create_back) (stands_done (more way) start_back) v.fresh_at (rest_slot f v.back_at way.before.primary name)) same_forward
-        ∙ ap (λ f. way_slot (changes_primary way) (is_feeding way name) (stands_done (more way) stop_feeding) (stands_done (more way) create_back) (stands_done (more way) start_back) v.fresh_at (rest_slot w.forward_at f way.before.primary name)) same_back
-        ∙ ap (λ x. way_slot x (is_feeding way name) (stands_done (more way) stop_feeding) (stands_done (more way) create_back) (stands_done (more way) start_back) v.fresh_at rests) changes
-        ∙ ap (λ x. way_slot true (is_feeding way name) x (stands_done (more way) create_back) (stands_done (more way) start_back) v.fresh_at rests) a
-        ∙ ap (λ x. way_slot true (is_feeding way name) stops x (stands_done (more way) start_back) v.fresh_at rests) b
-        ∙ ap (λ x. way_slot true (is_feeding way name) stops creates x v.fresh_at rests) c
+        → slot_of stepped name ≡ way_slot true (is_feeding way name) stops creates starts (cond made log_end w.fresh_at) rests
+    now made e open_still stops creates starts a b c =
+        open-slot stepped (more way) name (ap (λ l. cond l None (Some (more way))) open_still)
+        ∙ ap (λ l. way_slot (changes_primary way) (is_feeding way name) (stands_done (more way) stop_feeding) (stands_done (more way) create_back) (stands_done (more way) start_back) stepped.fresh_at (rests_by l (changes_primary way) way.before.primary)) open_still
+        ∙ ap (λ m. way_slot (changes_primary way) (is_feeding way name) (stands_done (more way) stop_feeding) (stands_done (more way) create_back) (stands_done (more way) start_back) (cond m log_end w.fresh_at) rests) e
+        ∙ ap (λ x. way_slot x (is_feeding way name) (stands_done (more way) stop_feeding) (stands_done (more way) create_back) (stands_done (more way) start_back) (cond made log_end w.fresh_at) rests) changes
+        ∙ ap (λ x. way_slot true (is_feeding way name) x (stands_done (more way) create_back) (stands_done (more way) start_back) (cond made log_end w.fresh_at) rests) a
+        ∙ ap (λ x. way_slot true (is_feeding way name) stops x (stands_done (more way) start_back) (cond made log_end w.fresh_at) rests) b
+        ∙ ap (λ x. way_slot true (is_feeding way name) stops creates x (cond made log_end w.fresh_at) rests) c
+
+    open_at : next_step way ≢ 11 → closes way ≡ false
+    open_at apart = false_from_ne_true (closes way) (λ t. let e = eqb-true (suc (next_step way)) (behind_last way) t in let f = last in absurd (apart (omega arith)))
 
     further : (n : ℕ) → next_step way ≡ n → next_step (more way) ≡ suc n
     further n is = omega (arith, is)
@@ -151,7 +156,7 @@ module _ (p : Plain) (w : Live) (way : Way) (name : StreamName) (opens : w.way �
     stops : next_step way ≡ 4 → Stepped
     stops is =
         let e = further 4 is in
-        by_number 4 is (now (record w { way = Some (more way) }) (at_step 4 12 is last) refl refl refl true false false
+        by_number 4 is (now false (ap (λ n. eqb n create_back) is) (open_at (λ x. absurd (omega arith))) true false false
         (done_by (more way) stop_feeding 5 e (omega arith) (omega arith)) (undone_by (more way) create_back 5 e (omega arith)) (undone_by (more way) start_back 5 e (omega arith))
         ∙ by (is_feeding way name) rests
         ∙ ap (slot_at_step way name 4 log_end) (sym (was false false false (undone_by way stop_feeding 4 is (omega arith)) (undone_by way create_back 4 is (omega arith)) (undone_by way start_back 4 is (omega arith)))))
@@ -164,7 +169,7 @@ module _ (p : Plain) (w : Live) (way : Way) (name : StreamName) (opens : w.way �
     creates : next_step way ≡ 5 → Stepped
     creates is =
         let e = further 5 is in
-        by_number 5 is (now (record w { way = Some (more way); fresh_at = log_end }) (at_step 5 12 is last) refl refl refl true true false
+        by_number 5 is (now true (ap (λ n. eqb n create_back) is) (open_at (λ x. absurd (omega arith))) true true false
         (done_by (more way) stop_feeding 6 e (omega arith) (omega arith)) (done_by (more way) create_back 6 e (omega arith) (omega arith)) (undone_by (more way) start_back 6 e (omega arith))
         ∙ by (is_feeding way name) rests
         ∙ ap (slot_at_step way name 5 log_end) (sym (was true false false (done_by way stop_feeding 5 is (omega arith) (omega arith)) (undone_by way create_back 5 is (omega arith)) (undone_by way start_back 5 is (omega arith)))))
@@ -176,7 +181,7 @@ module _ (p : Plain) (w : Live) (way : Way) (name : StreamName) (opens : w.way �
     starts : next_step way ≡ 10 → Stepped
     starts is =
         let e = further 10 is in
-        by_number 10 is (now (record w { way = Some (more way) }) (at_step 10 12 is last) refl refl refl true true true
+        by_number 10 is (now false (ap (λ n. eqb n create_back) is) (open_at (λ x. absurd (omega arith))) true true true
         (done_by (more way) stop_feeding 11 e (omega arith) (omega arith)) (done_by (more way) create_back 11 e (omega arith) (omega arith)) (done_by (more way) start_back 11 e (omega arith) (omega arith))
         ∙ by (is_feeding way name) rests
         ∙ ap (slot_at_step way name 10 log_end) (sym (was true true false (done_by way stop_feeding 10 is (omega arith) (omega arith)) (done_by way create_back 10 is (omega arith) (omega arith)) (undone_by way start_back 10 is (omega arith)))))
@@ -188,20 +193,19 @@ module _ (p : Plain) (w : Live) (way : Way) (name : StreamName) (opens : w.way �
     freezes : next_step way ≡ 11 → Stepped
     freezes is = by_number 11 is (behind ∙ by way.back name ∙ ap (slot_at_step way name 11 log_end) (sym here))
       where
-        -- the stream that the way has made takes its place
-        closed : Bool → Live
-        closed b = record (cond b (record w { forward_at = w.fresh_at }) (record w { back_at = w.fresh_at })) { switched = way.after; way = None }
+        closing : closes way ≡ true
+        closing = let f = last in eq-eqb (suc (next_step way)) (behind_last way) (omega arith)
 
+        -- the stream that the way has made takes its place
         behind : slot_of stepped name ≡ cond way.back (rest_slot w.fresh_at w.back_at false name) (rest_slot w.forward_at w.fresh_at true name)
         behind =
-            ap (λ v. slot_of v name) (at_step 11 12 is last ∙ ap (λ b. record (cond (not b) w (cond way.back (record w { forward_at = w.fresh_at }) (record w { back_at = w.fresh_at }))) { switched = way.after; way = None }) changes)
-            ∙ cases way.back (differ-true way.before.primary way.after.primary changes ∙ ap not (turned changes))
+            at_close closing ∙ ap (λ t. rests_by true t way.after.primary) changes
+            ∙ ap (rests_by true true) (differ-true way.before.primary way.after.primary changes ∙ ap not (turned changes)) ∙ shape way.back
           where
-            cases : (b : Bool) → way.after.primary ≡ not b
-                → slot_of (record (cond b (record w { forward_at = w.fresh_at }) (record w { back_at = w.fresh_at })) { switched = way.after; way = None }) name
+            shape : (b : Bool) → rest_slot (cond b w.fresh_at w.forward_at) (cond (not b) w.fresh_at w.back_at) (not b) name
                 ≡ cond b (rest_slot w.fresh_at w.back_at false name) (rest_slot w.forward_at w.fresh_at true name)
-            cases true e = closed-slot (record w { forward_at = w.fresh_at; switched = way.after; way = None }) name refl ∙ ap (λ t. rest_slot w.fresh_at w.back_at t name) e
-            cases false e = closed-slot (record w { back_at = w.fresh_at; switched = way.after; way = None }) name refl ∙ ap (λ t. rest_slot w.forward_at w.fresh_at t name) e
+            shape true = refl
+            shape false = refl
 
         here : slot_of w name ≡ way_slot true (is_feeding way name) true true true w.fresh_at (rest_slot w.forward_at w.back_at way.back name)
         here =
@@ -218,41 +222,20 @@ module _ (p : Plain) (w : Live) (way : Way) (name : StreamName) (opens : w.way �
 
     -- any other step
     module _ (not_stop : eqb (next_step way) 4 ≡ false) (not_create : eqb (next_step way) 5 ≡ false) (not_start : eqb (next_step way) 10 ≡ false) (not_last : eqb (next_step way) 11 ≡ false) where
-      open_still : eqb (suc (next_step way)) (behind_last way) ≡ false
-      open_still = false_from_ne_true (eqb (suc (next_step way)) (behind_last way)) (λ t.
-          let at : next_step way ≡ 11 = omega (arith, eqb-true (suc (next_step way)) (behind_last way) t ∙ last) in
-          true≢false (sym (eq-eqb (next_step way) 11 at) ∙ not_last))
-
       stays : Stepped
-      stays = cases (eqb (next_step way) write_journal) refl
+      stays =
+          now false not_create (open_at (λ at. true≢false (sym (eq-eqb (next_step way) 11 at) ∙ not_last)))
+          (stands_done way stop_feeding) (stands_done way create_back) (stands_done way start_back)
+          (same_done way stop_feeding not_stop) (same_done way create_back not_create) (same_done way start_back not_start)
+          ∙ sym (was (stands_done way stop_feeding) (stands_done way create_back) (stands_done way start_back) refl refl refl)
+          ∙ sym (ap (λ t. cond (is_feeding way name) (cond t (in_state stopped slot) (cond (eqb (next_step way) freeze_old) (cond way.back None (in_state frozen slot)) slot)) (other_stepped (next_step way) log_end slot)) not_stop
+          ∙ ap (λ t. cond (is_feeding way name) (cond t (cond way.back None (in_state frozen slot)) slot) (other_stepped (next_step way) log_end slot)) not_last
+          ∙ ap (λ t. cond (is_feeding way name) slot (cond t (Some (record { state = stopped; position = log_end })) (cond (eqb (next_step way) start_back) (in_state running slot) slot))) not_create
+          ∙ ap (λ t. cond (is_feeding way name) slot (cond t (in_state running slot) slot)) not_start
+          ∙ either-same (is_feeding way name) slot)
         where
-          going : Live
-          going = record w { way = Some (more way) }
-
-          same : (v : Live) → stepped ≡ v → v.way ≡ Some (more way) → v.forward_at ≡ w.forward_at → v.back_at ≡ w.back_at → v.fresh_at ≡ w.fresh_at → Stepped
-          same v is opened same_forward same_back same_fresh =
-              now v is opened same_forward same_back (stands_done way stop_feeding) (stands_done way create_back) (stands_done way start_back)
-              (same_done way stop_feeding not_stop) (same_done way create_back not_create) (same_done way start_back not_start)
-              ∙ ap (λ f. way_slot true (is_feeding way name) (stands_done way stop_feeding) (stands_done way create_back) (stands_done way start_back) f rests) same_fresh
-              ∙ sym (was (stands_done way stop_feeding) (stands_done way create_back) (stands_done way start_back) refl refl refl)
-              ∙ sym (ap (λ t. cond (is_feeding way name) (cond t (in_state stopped slot) (cond (eqb (next_step way) freeze_old) (cond way.back None (in_state frozen slot)) slot)) (other_stepped (next_step way) log_end slot)) not_stop
-              ∙ ap (λ t. cond (is_feeding way name) (cond t (cond way.back None (in_state frozen slot)) slot) (other_stepped (next_step way) log_end slot)) not_last
-              ∙ ap (λ t. cond (is_feeding way name) slot (cond t (Some (record { state = stopped; position = log_end })) (cond (eqb (next_step way) start_back) (in_state running slot) slot))) not_create
-              ∙ ap (λ t. cond (is_feeding way name) slot (cond t (in_state running slot) slot)) not_start
-              ∙ either-same (is_feeding way name) slot)
-            where
-              slot : Option Slot
-              slot = slot_of w name
-
-          shape : (j : Bool) → eqb (next_step way) write_journal ≡ j → stepped ≡ cond j (record going { switched = way.after }) going
-          shape j e =
-              ap (λ t. cond t (record (way_at w way (next_step way) (behind_last way)) { fresh_at = log_end }) (cond (eqb (next_step way) write_journal) (record (way_at w way (next_step way) (behind_last way)) { switched = way.after }) (way_at w way (next_step way) (behind_last way)))) not_create
-              ∙ ap (λ t. cond (eqb (next_step way) write_journal) (record (cond t (record (with_fresh_stream w way) { switched = way.after; way = None }) going) { switched = way.after }) (cond t (record (with_fresh_stream w way) { switched = way.after; way = None }) going)) open_still
-              ∙ ap (λ t. cond t (record going { switched = way.after }) going) e
-
-          cases : (j : Bool) → eqb (next_step way) write_journal ≡ j → Stepped
-          cases true e = same (record going { switched = way.after }) (shape true e) refl refl refl refl
-          cases false e = same going (shape false e) refl refl refl refl
+          slot : Option Slot
+          slot = slot_of w name
 
     of_writes : Stepped
     of_writes = at_4 (eqb (next_step way) 4) refl
@@ -301,8 +284,8 @@ module _ (w : Live) (way : Way) (name : StreamName) (opens : w.way ≡ Some way)
   saved_is : saved ≡ stood
   saved_is = before-rest w way.before.primary name (ap (λ o. (option_map_or (λ (x : Way). x.before) o w.switched).primary) opens)
 
-  at_undone : (b : Bool) → eqb (way.done - 1) 0 ≡ b → undone ≡ cond b (record w { way = None }) (record w { way = Some (fewer way) })
-  at_undone b e = ap (λ t. cond t (record w { way = None }) (record w { way = Some (fewer way) })) e
+  at_undone : (b : Bool) → eqb (way.done - 1) 0 ≡ b → undone ≡ record w { way = cond b None (Some (fewer way)) }
+  at_undone b e = ap (λ t. record w { way = cond t None (Some (fewer way)) }) e
 
   none_started : stands_done way start_back ≡ false
   none_started = undone_by way start_back (next_step way) refl (omega (arith, few))

@@ -5,7 +5,7 @@ use Rattle.std.specs.Option.{option_map_or}
 use Rattle.std.specs.Prelude.{◌&&◌, ◌||◌}
 use Rattle.mt_names.specs.Names.{same_text}
 use Rattle.mt_plain.specs.Events.{Event, StreamName, forward, back, Slot, running, stopped, Way}
-use Rattle.mt_plain.specs.Next.{live_stepped, live_undone, types_and, types_without, with_way_to}
+use Rattle.mt_plain.specs.Next.{closes, live_stepped, live_undone, types_and, types_without, with_way_to}
 use Rattle.mt_plain.specs.Plain.{Live, Plain, changes_primary, create_back, differ, live_at, owner, stands_done, start_back, stop_feeding, write_journal}
 use Rattle.mt_plain.specs.Slots.{feeding_slot, is_feeding, live_advanced, other_slot, read_side, running_at, slot_at_rest, slot_by_way, slot_of}
 use Rattle.mt_laws.specs.Copies.{frozen_at, runs_at}
@@ -18,7 +18,7 @@ use Rattle.mt_laws.proofs.PartLemmas.{IsSettled}
 use Rattle.mt_laws.proofs.ReachLemmas.{reached_has_parts, reached_have}
 use Rattle.mt_laws.proofs.UntouchedLemmas.{traffic-advanced}
 use Rattle.mt_laws.proofs.PlainWords.{side_by}
-use Rattle.mt_laws.proofs.WayStepLemmas.{closes, done_in_order, fewer, more, no_way_holds, way-stepped, way-undone, way_holds, way_holds-by}
+use Rattle.mt_laws.proofs.WayStepLemmas.{done_in_order, fewer, more, no_way_holds, way-stepped, way-undone, way_holds, way_holds-by}
 use Rattle.mt_laws.proofs.WritableLemmas.{owner-if}
 
 -- ---- a way that changes writes leads back where primary was switched before it, and only there

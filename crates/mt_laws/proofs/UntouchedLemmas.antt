@@ -1,12 +1,12 @@
 -- What each event leaves as it was.
-use Rattle.std.proofs.Common.{◌≡◌, ◌⊎◌, inl, inr, ℕ, suc, ◌+◌, ◌-◌, Bool, true, false, not, cond, eqb, List, find, Option, None, Some, option_map, is_some, refl, sym, ap, ◌∙◌, subst}
+use Rattle.std.proofs.Common.{◌≡◌, ◌⊎◌, inl, inr, ℕ, ◌+◌, Bool, true, false, not, cond, List, find, Option, None, Some, option_map, is_some, refl, sym, ap, ◌∙◌, subst}
 use Rattle.std.specs.Option.{option_map_or}
 use Rattle.mt_names.specs.declared.types.TypeSet.{TypeSet}
 use Rattle.mt_names.specs.Names.{same_text}
 use Rattle.mt_names.proofs.SameLemmas.{same_text_decides}
 use Rattle.mt_plain.specs.Events.{Event, write, read, add_keyspace, add_table, edit_rule, advance, begin_switch, begin_reverse, step, undo, cancel, complete, show, StreamName, forward, back, Answer, done, row, advanced, shown, refused, Way}
-use Rattle.mt_plain.specs.Next.{live_stepped, live_undone, next, next_taken, on_way_of, types_and, types_without, way_stepped, with_advance, with_completed, with_fresh_stream, with_way_to}
-use Rattle.mt_plain.specs.Plain.{Copied, Live, Plain, behind_last, changes_primary, create_back, live_at, next_step, write_journal, LogEntry}
+use Rattle.mt_plain.specs.Next.{live_stepped, live_undone, next, next_taken, on_way_of, types_and, types_without, with_advance, with_completed, with_way_to}
+use Rattle.mt_plain.specs.Plain.{Copied, Live, Plain, live_at, LogEntry}
 use Rattle.mt_plain.specs.Slots.{is_fresh, live_advanced, with_position}
 use Rattle.mt_laws.specs.Changes.{BeginsWay, ChangesLives, ChangesLogs, ChangesNumbers, ChangesTopology, ChangesWay, ChangesWrites, HasSides, IsAdvance, IsOf, IsStep, MovesStream, OnlyTells}
 use Rattle.mt_laws.proofs.ChangeLemmas.{LivesAfter, ended, live_after, live_next, live_taken, lives_after, made, mapped, sides-next}
@@ -154,23 +154,6 @@ traffic-position w back false position = refl
 pub traffic-advanced : (p : Plain) (w : Live) (name : StreamName) (at at_most events rows : ℕ) → traffic (live_advanced p w name at at_most events rows) ≡ traffic w
 traffic-advanced p w name at at_most events rows = traffic-position w name (is_fresh w.way name) (at + events)
 
-switched-undone : (w : Live) (way : Way) → (live_undone w way).switched ≡ w.switched
-switched-undone w way = field-cond (λ v. v.switched) (eqb (way.done - 1) 0) _ _ w.switched refl refl
-
-copy-fresh : (w : Live) (way : Way) → copy (with_fresh_stream w way) ≡ copy w
-copy-fresh w way = field-cond copy (not (changes_primary way)) w _ (copy w) refl (field-cond copy way.back _ _ (copy w) refl refl)
-
-copy-stepped : (w : Live) (way : Way) → copy (way_stepped w way) ≡ copy w
-copy-stepped w way = field-cond copy (eqb (suc (next_step way)) (behind_last way)) _ _ (copy w) (copy-fresh w way) refl
-
-pub copy-live_stepped : (p : Plain) (w : Live) (way : Way) → copy (live_stepped p w way) ≡ copy w
-copy-live_stepped p w way =
-    field-cond copy (eqb (next_step way) create_back) _ _ (copy w) (copy-stepped w way)
-    (field-cond copy (eqb (next_step way) write_journal) _ _ (copy w) (copy-stepped w way) (copy-stepped w way))
-
-pub copy-undone : (w : Live) (way : Way) → copy (live_undone w way) ≡ copy w
-copy-undone w way = field-cond copy (eqb (way.done - 1) 0) _ _ (copy w) refl refl
-
 module _ {A : Type 0} (field : Live → A) where
   -- what an event that is done leaves, and what an advance leaves, each answer leaves
   live_leaves : (p : Plain) (event : Event) (answer : Answer) (w : Live) → field (live_taken p event w) ≡ field w
@@ -189,7 +172,7 @@ taken-switched p (begin_switch workflow types) w other = field-changed (λ v. v.
 taken-switched p (begin_reverse workflow types) w other = field-changed (λ v. v.switched) (with_way_to true (λ switched. types_without switched types)) workflow w refl
 taken-switched p (step workflow at) w other = absurd (other tt)
 taken-switched p (undo workflow at) w other =
-    field-changed (λ v. v.switched) (λ v. on_way_of (live_undone v) v) workflow w (field-on_way (λ v. v.switched) w (live_undone w) (switched-undone w) w.way)
+    field-changed (λ v. v.switched) (λ v. on_way_of (live_undone v) v) workflow w (field-on_way (λ v. v.switched) w (live_undone w) (λ way. refl) w.way)
 taken-switched p event w other = refl
 
 taken-way : (p : Plain) (event : Event) (w : Live) → ¬ (ChangesWay event) → (live_taken p event w).way ≡ w.way
@@ -202,8 +185,8 @@ taken-way p event w other = refl
 taken-copy : (p : Plain) (event : Event) (w : Live) → copy (live_taken p event w) ≡ copy w
 taken-copy p (begin_switch workflow types) w = field-changed copy (with_way_to false (λ switched. types_and switched types)) workflow w refl
 taken-copy p (begin_reverse workflow types) w = field-changed copy (with_way_to true (λ switched. types_without switched types)) workflow w refl
-taken-copy p (step workflow at) w = field-changed copy (λ v. on_way_of (live_stepped p v) v) workflow w (field-on_way copy w (live_stepped p w) (copy-live_stepped p w) w.way)
-taken-copy p (undo workflow at) w = field-changed copy (λ v. on_way_of (live_undone v) v) workflow w (field-on_way copy w (live_undone w) (copy-undone w) w.way)
+taken-copy p (step workflow at) w = field-changed copy (λ v. on_way_of (live_stepped p v) v) workflow w (field-on_way copy w (live_stepped p w) (λ way. refl) w.way)
+taken-copy p (undo workflow at) w = field-changed copy (λ v. on_way_of (live_undone v) v) workflow w (field-on_way copy w (live_undone w) (λ way. refl) w.way)
 taken-copy p event w = refl
 
 taken-positions : (p : Plain) (event : Event) (w : Live) → ¬ (MovesStream event) → positions (live_taken p event w) ≡ positions w
@@ -211,8 +194,7 @@ taken-positions p (begin_switch workflow types) w other = field-changed position
 taken-positions p (begin_reverse workflow types) w other = field-changed positions (with_way_to true (λ switched. types_without switched types)) workflow w refl
 taken-positions p (step workflow at) w other = absurd (other tt)
 taken-positions p (undo workflow at) w other =
-    field-changed positions (λ v. on_way_of (live_undone v) v) workflow w
-    (field-on_way positions w (live_undone w) (λ way. field-cond positions (eqb (way.done - 1) 0) _ _ (positions w) refl refl) w.way)
+    field-changed positions (λ v. on_way_of (live_undone v) v) workflow w (field-on_way positions w (live_undone w) (λ way. refl) w.way)
 taken-positions p event w other = refl
 
 -- a workflow that is live before and after an event

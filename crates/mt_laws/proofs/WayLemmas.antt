@@ -1,22 +1,22 @@
 -- What an event that is taken makes of the way of a live workflow.
 use Rattle.std.proofs.Common.{◌≡◌, ℕ, ◌-◌, Bool, true, false, not, cond, eqb, List, Option, None, Some, refl, sym, ap, ◌∙◌, arith}
+use Rattle.std.specs.Prelude.{◌||◌}
 use Rattle.std.proofs.lemmas.Bool.{true≢false}
 use Rattle.std.specs.Option.{option_map_or}
 use Rattle.mt_names.specs.declared.types.TypeSet.{TypeSet}
 use Rattle.mt_names.specs.Names.{same_text}
 use Rattle.mt_plain.specs.Answers.{Answers}
 use Rattle.mt_plain.specs.Events.{Event, Answer, Refusal, nothing_under_way, past_journal, stale, Way}
-use Rattle.mt_plain.specs.Next.{live_stepped, live_undone, types_and, types_without, way_stepped, with_way_to}
-use Rattle.mt_plain.specs.Plain.{Live, Plain, create_back, live_at, next_step, stands_done, write_journal}
-use Rattle.mt_plain.specs.Refuse.{new_owner, or_else, refuse_if, undo_refusal}
-use Rattle.mt_plain.specs.Slots.{log_length}
+use Rattle.mt_plain.specs.Next.{closes, live_stepped, live_undone, types_and, types_without, with_way_to}
+use Rattle.mt_plain.specs.Plain.{Live, Plain, live_at, next_step, stands_done, write_journal}
+use Rattle.mt_plain.specs.Refuse.{or_else, refuse_if, undo_refusal}
 use Rattle.mt_laws.specs.Changes.{BeginsWay, IsStep}
 use Rattle.mt_laws.specs.Copies.{Undoes}
 use Rattle.mt_laws.proofs.ChangeLemmas.{live_next}
 use Rattle.mt_laws.proofs.KeepLemmas.{Keeps, next_has}
 use Rattle.mt_laws.proofs.RefusalLemmas.{or_else-none, refuse_if-none, switch-none, reverse-none}
 use Rattle.mt_laws.proofs.UntouchedLemmas.{traffic-advanced}
-use Rattle.mt_laws.proofs.WayStepLemmas.{closes, fewer, more, not_before, now_done, switched-way_stepped, way-way_stepped}
+use Rattle.mt_laws.proofs.WayStepLemmas.{fewer, more, not_before, now_done}
 
 pub data WayChange (event : Event) (w v : Live) : Type 0 where
   kept : v.way ≡ w.way → v.switched ≡ w.switched → WayChange event w v
@@ -32,41 +32,28 @@ module _ (event : Event) (w : Live) (way : Way) (opens : w.way ≡ Some way) (st
   -- what it leaves, by the traffic of the workflow after it
   stepped_to : (v : Live) → (t : Bool) → v.way ≡ cond t None (Some (more way)) → (t ≡ true → v.switched ≡ way.after)
       → (t ≡ false → (stands_done way write_journal ≡ false → w.switched ≡ way.before) → stands_done (more way) write_journal ≡ false → v.switched ≡ way.before) → WayChange event w v
-  stepped_to v true is closes settled = completed way steps opens is (closes refl)
-  stepped_to v false is closes settled = goes_on way (more way) opens is refl refl (settled refl)
-
--- a step that is not the journal's
-other_step : (event : Event) (w v : Live) (way : Way) → w.way ≡ Some way → IsStep event → v.way ≡ (way_stepped w way).way → v.switched ≡ (way_stepped w way).switched → WayChange event w v
-other_step event w v way opens steps same_way same_switched =
-    stepped_to event w way opens steps v (closes way) (same_way ∙ way-way_stepped w way)
-    (λ t. same_switched ∙ switched-way_stepped w way ∙ ap (λ l. cond l way.after w.switched) t)
-    (λ f settled before. same_switched ∙ switched-way_stepped w way ∙ ap (λ l. cond l way.after w.switched) f ∙ settled (not_before way write_journal before))
-
-journal_step : (event : Event) (w v : Live) (way : Way) → w.way ≡ Some way → IsStep event → eqb (next_step way) write_journal ≡ true → v.way ≡ (way_stepped w way).way → v.switched ≡ way.after → WayChange event w v
-journal_step event w v way opens steps here same_way is =
-    stepped_to event w way opens steps v (closes way) (same_way ∙ way-way_stepped w way) (λ t. is)
-    (λ f settled before. absurd (true≢false (sym (now_done way write_journal (omega arith) here) ∙ before)))
+  stepped_to v true is last settled = completed way steps opens is (last refl)
+  stepped_to v false is last settled = goes_on way (more way) opens is refl refl (settled refl)
 
 step_change : (p : Plain) (event : Event) (w : Live) (way : Way) → w.way ≡ Some way → IsStep event → WayChange event w (live_stepped p w way)
-step_change p event w way opens steps = by (eqb (next_step way) create_back) (eqb (next_step way) write_journal) refl
+step_change p event w way opens steps =
+    stepped_to event w way opens steps (live_stepped p w way) (closes way) refl
+    (λ t. ap (λ l. cond (l || journals) way.after w.switched) t)
+    (λ f settled before. ap (λ l. cond (l || journals) way.after w.switched) f ∙ by journals refl settled before)
   where
-    creates : Live
-    creates = record (way_stepped w way) { fresh_at = log_length p (new_owner w) }
+    journals : Bool
+    journals = eqb (next_step way) write_journal
 
-    journals : Live
-    journals = record (way_stepped w way) { switched = way.after }
-
-    by : (t u : Bool) → eqb (next_step way) write_journal ≡ u → WayChange event w (cond t creates (cond u journals (way_stepped w way)))
-    by true u e = other_step event w creates way opens steps refl refl
-    by false true e = journal_step event w journals way opens steps e refl refl
-    by false false e = other_step event w (way_stepped w way) way opens steps refl refl
+    by : (t : Bool) → journals ≡ t → (stands_done way write_journal ≡ false → w.switched ≡ way.before) → stands_done (more way) write_journal ≡ false → cond journals way.after w.switched ≡ way.before
+    by true e settled before = absurd (true≢false (sym (now_done way write_journal (omega arith) e) ∙ before))
+    by false e settled before = ap (λ l. cond l way.after w.switched) e ∙ settled (not_before way write_journal before)
 
 -- ---- an undo
 
 undo_change : (event : Event) (w : Live) (way : Way) → w.way ≡ Some way → Undoes event → stands_done way write_journal ≡ false → WayChange event w (live_undone w way)
 undo_change event w way opens undoes before = by (eqb (way.done - 1) 0)
   where
-    by : (t : Bool) → WayChange event w (cond t (record w { way = None }) (record w { way = Some (fewer way) }))
+    by : (t : Bool) → WayChange event w (record w { way = cond t None (Some (fewer way)) })
     by true = abandoned way undoes opens refl refl before
     by false = goes_on way (fewer way) opens refl refl refl (λ settled later. settled before)
 

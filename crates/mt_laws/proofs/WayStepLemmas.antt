@@ -3,11 +3,9 @@ use Rattle.std.proofs.Common.{◌≡◌, ℕ, suc, ◌+◌, ◌-◌, ◌≤◌, 
 use Rattle.std.proofs.lemmas.Bool.{true≢false, and_from, and_parts, eq-eqb, false_from_ne_true}
 use Rattle.std.specs.Cmp.{both_ways}
 use Rattle.mt_plain.specs.Events.{Way}
-use Rattle.mt_plain.specs.Next.{live_stepped, live_undone, way_stepped, with_fresh_stream}
-use Rattle.mt_plain.specs.Plain.{Live, Plain, behind_last, create_back, first_step, next_step, stands_done, write_journal}
-use Rattle.mt_plain.specs.Refuse.{new_owner}
-use Rattle.mt_plain.specs.Slots.{log_length}
-use Rattle.mt_laws.proofs.ListLemmas.{cond-ap, cond-either}
+use Rattle.mt_plain.specs.Next.{closes, live_stepped, live_undone}
+use Rattle.mt_plain.specs.Plain.{Live, Plain, first_step, next_step, stands_done}
+use Rattle.mt_laws.proofs.ListLemmas.{cond-either}
 use Rattle.mt_laws.proofs.PlainWords.{changes_reads}
 
 -- ---- the way that is open, where one is
@@ -26,7 +24,7 @@ module _ (Q : Way → Type 0) (w : Live) where
   pub way_holds : (way : Way) → w.way ≡ Some way → Q way → (other : Way) → w.way ≡ Some other → Q other
   way_holds way opens holds other now = subst Q (one_way w.way way other opens now) holds
 
-  pub way_holds-by : (closes : Bool) (way : Way) → w.way ≡ cond closes None (Some way) → (closes ≡ false → Q way) → (other : Way) → w.way ≡ Some other → Q other
+  pub way_holds-by : (ends : Bool) (way : Way) → w.way ≡ cond ends None (Some way) → (ends ≡ false → Q way) → (other : Way) → w.way ≡ Some other → Q other
   way_holds-by true way now holds = no_way_holds now
   way_holds-by false way now holds = way_holds way now (holds refl)
 
@@ -38,28 +36,12 @@ more way = record way { done = suc way.done }
 abbrev pub fewer : Way → Way
 fewer way = record way { done = way.done - 1; undoing = true }
 
--- whether the next step is the last
-abbrev pub closes : Way → Bool
-closes way = eqb (suc (next_step way)) (behind_last way)
-
--- a step closes the way, and its types are switched, or one step more stands done
-pub way-way_stepped : (w : Live) (way : Way) → (way_stepped w way).way ≡ cond (closes way) None (Some (more way))
-way-way_stepped w way = cond-ap (λ v. v.way) (closes way) (record (with_fresh_stream w way) { switched = way.after; way = None }) (record w { way = Some (more way) })
-
-pub switched-way_stepped : (w : Live) (way : Way) → (way_stepped w way).switched ≡ cond (closes way) way.after w.switched
-switched-way_stepped w way = cond-ap (λ v. v.switched) (closes way) (record (with_fresh_stream w way) { switched = way.after; way = None }) (record w { way = Some (more way) })
-
+-- a step closes the way, or one step more stands done; an undo closes it, or one step less does
 pub way-stepped : (p : Plain) (w : Live) (way : Way) → (live_stepped p w way).way ≡ cond (closes way) None (Some (more way))
-way-stepped p w way = by (eqb (next_step way) create_back) (eqb (next_step way) write_journal)
-  where
-    by : (t u : Bool) → (cond t (record (way_stepped w way) { fresh_at = log_length p (new_owner w) }) (cond u (record (way_stepped w way) { switched = way.after }) (way_stepped w way))).way ≡ cond (closes way) None (Some (more way))
-    by true u = way-way_stepped w way
-    by false true = way-way_stepped w way
-    by false false = way-way_stepped w way
+way-stepped p w way = refl
 
--- an undo closes the way, or one step less stands done
 pub way-undone : (w : Live) (way : Way) → (live_undone w way).way ≡ cond (eqb (way.done - 1) 0) None (Some (fewer way))
-way-undone w way = cond-ap (λ v. v.way) (eqb (way.done - 1) 0) (record w { way = None }) (record w { way = Some (fewer way) })
+way-undone w way = refl
 
 -- ---- which steps stand done
 

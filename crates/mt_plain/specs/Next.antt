@@ -90,31 +90,51 @@ with_way_to back change w =
 abbrev pub with_way : Plain → (name : List ℕ) → (back : Bool) → (TypeSet → TypeSet) → Plain
 with_way p name back change = record p { lives = with_live (with_way_to back change) name p.lives; ways = suc p.ways }
 
--- a stream that the way has made is the one at rest once the way closes: the back stream after a way forward, the forward
--- stream after a way back (How traffic is switched)
-abbrev pub with_fresh_stream : Live → Way → Live
-with_fresh_stream w way =
-    if not (changes_primary way) then w else if way.back then record w { forward_at = w.fresh_at } else record w { back_at = w.fresh_at }
+-- a step closes its way where it is the last one
+abbrev pub closes : Way → Bool
+closes way = suc (next_step way) == behind_last way
 
--- the way closes with its last step; until then one step more stands done
-abbrev pub way_stepped : Live → Way → Live
-way_stepped w way =
-    if suc (next_step way) == behind_last way then record (with_fresh_stream w way) { switched = way.after; way = None }
-    else record w { way = Some (record way { done = suc way.done }) }
+-- the way behind a step: closed by the last one; until then one step more stands done
+abbrev pub way_stepped : Way → Option Way
+way_stepped way = if closes way then None else Some (record way { done = suc way.done })
 
--- what a step changes beside: a new stream begins at the end of the log that it reads; with the journal the new side owns the
--- tables (How traffic is switched: the journal is the point of no return)
+-- the types behind a step: with the journal the new side owns the tables, and with the last step all types are switched
+-- (How traffic is switched: the journal is the point of no return)
+abbrev pub types_stepped : Live → Way → TypeSet
+types_stepped w way = if closes way || (next_step way == write_journal) then way.after else w.switched
+
+-- the positions of the streams at rest behind a step: once a way closes that changes writes, the stream that it has made is one of them,
+-- the back stream after a way forward, the forward stream after a way back (How traffic is switched)
+abbrev pub forward_stepped : Live → Way → ℕ
+forward_stepped w way = if closes way && changes_primary way && way.back then w.fresh_at else w.forward_at
+
+abbrev pub back_stepped : Live → Way → ℕ
+back_stepped w way = if closes way && changes_primary way && not way.back then w.fresh_at else w.back_at
+
+-- the position of the stream that a way makes: it begins at the end of the log that it reads (How traffic is switched)
+abbrev pub fresh_stepped : Plain → Live → Way → ℕ
+fresh_stepped p w way = if next_step way == create_back then log_length p (new_owner w) else w.fresh_at
+
+-- what a step changes of a workflow (How traffic is switched)
 abbrev pub live_stepped : Plain → Live → Way → Live
 live_stepped p w way =
-    if next_step way == create_back then record (way_stepped w way) { fresh_at = log_length p (new_owner w) }
-    else if next_step way == write_journal then record (way_stepped w way) { switched = way.after }
-    else way_stepped w way
+    record w {
+      switched = types_stepped w way;
+      way = way_stepped way;
+      forward_at = forward_stepped w way;
+      back_at = back_stepped w way;
+      fresh_at = fresh_stepped p w way;
+    }
 
 -- an undo is the number of steps done less one; the way closes where none is done then
-abbrev pub live_undone : Live → Way → Live
-live_undone w way =
+abbrev pub way_undone : Way → Option Way
+way_undone way =
     let left = way.done - 1 in
-    if left == 0 then record w { way = None } else record w { way = Some (record way { done = left; undoing = true }) }
+    if left == 0 then None else Some (record way { done = left; undoing = true })
+
+-- what an undo changes of a workflow (this profile's own)
+abbrev pub live_undone : Live → Way → Live
+live_undone w way = record w { way = way_undone way }
 
 -- a workflow changed by its open way
 abbrev pub on_way_of : (Way → Live) → Live → Live

@@ -269,13 +269,9 @@ begun_sides backward change w = record { name = refl; source = refl; target = re
 pub undone_sides : (w : Live) → HasSides w (on_way_of (live_undone w) w)
 undone_sides w = by w.way
   where
-    left : (way : Way) (b : Bool) → HasSides w (cond b (record w { way = None }) (record w { way = Some (record way { done = way.done - 1; undoing = true }) }))
-    left way true = record { name = refl; source = refl; target = refl; tables = refl }
-    left way false = record { name = refl; source = refl; target = refl; tables = refl }
-
     by : (o : Option Way) → HasSides w (option_map_or (live_undone w) o w)
     by None = record { name = refl; source = refl; target = refl; tables = refl }
-    by (Some way) = left way (eqb (way.done - 1) 0)
+    by (Some way) = record { name = refl; source = refl; target = refl; tables = refl }
 
 -- a new keyspace has no tables
 present_pushed : (ks : Keyspaces) (name keyspace table : List ℕ) → is_present (ks ++ (name, new_keyspace []) ∷ []) keyspace table ≡ is_present ks keyspace table

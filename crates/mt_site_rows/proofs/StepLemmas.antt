@@ -11,7 +11,7 @@ use Rattle.mt_names.specs.Names.{same_text}
 use Rattle.mt_names.specs.declared.types.TypeSet.{TypeSet}
 use Rattle.mt_model.specs.declared.rows.RowChange.{RowChange}
 use Rattle.mt_plain.specs.Events.{StreamName, Slot, Way}
-use Rattle.mt_plain.specs.Next.{live_stepped, on_way_of, way_stepped, with_fresh_stream, with_live}
+use Rattle.mt_plain.specs.Next.{closes, live_stepped, on_way_of, with_live}
 use Rattle.mt_plain.specs.Plain.{Live, LogEntry, Plain, behind_last, changed_types, changes_primary, create_back, first_step, live_at, moves, next_step, owner, stands_done, write_journal}
 use Rattle.mt_plain.specs.Refuse.{is_behind, new_owner}
 use Rattle.mt_plain.specs.Slots.{log_length, read_side}
@@ -26,37 +26,17 @@ use Rattle.mt_site_rows.proofs.KnownLemmas.{itself, some_is}
 -- ---- what a step leaves
 
 module _ (p : Plain) (w : Live) where
-  fresh_sides : (way : Way) → HasSides w (with_fresh_stream w way)
-  fresh_sides way = by (not (changes_primary way)) way.back
-    where
-      by : (a b : Bool) → HasSides w (cond a w (cond b (record w { forward_at = w.fresh_at }) (record w { back_at = w.fresh_at })))
-      by true b = record { name = refl; source = refl; target = refl; tables = refl }
-      by false true = record { name = refl; source = refl; target = refl; tables = refl }
-      by false false = record { name = refl; source = refl; target = refl; tables = refl }
-
-  way_sides : (way : Way) → HasSides w (way_stepped w way)
-  way_sides way = by (eqb (suc (next_step way)) (behind_last way))
-    where
-      by : (b : Bool) → HasSides w (cond b (record (with_fresh_stream w way) { switched = way.after; way = None }) (record w { way = Some (record way { done = suc way.done }) }))
-      by true = let s = fresh_sides way in record { name = s.name; source = s.source; target = s.target; tables = s.tables }
-      by false = record { name = refl; source = refl; target = refl; tables = refl }
-
-  stepped_by : (way : Way) (a b : Bool) → HasSides w (cond a (record (way_stepped w way) { fresh_at = log_length p (new_owner w) }) (cond b (record (way_stepped w way) { switched = way.after }) (way_stepped w way)))
-  stepped_by way true b = let s = way_sides way in record { name = s.name; source = s.source; target = s.target; tables = s.tables }
-  stepped_by way false true = let s = way_sides way in record { name = s.name; source = s.source; target = s.target; tables = s.tables }
-  stepped_by way false false = way_sides way
-
   pub stepped_sides : HasSides w (on_way_of (live_stepped p w) w)
   stepped_sides = by w.way
     where
       by : (o : Option Way) → HasSides w (option_map_or (live_stepped p w) o w)
       by None = record { name = refl; source = refl; target = refl; tables = refl }
-      by (Some way) = stepped_by way (eqb (next_step way) create_back) (eqb (next_step way) write_journal)
+      by (Some way) = record { name = refl; source = refl; target = refl; tables = refl }
 
   -- ---- the owner
 
   module _ (way : Way) (course : IsOnCourse w way) where
-    closed_primary : eqb (suc (next_step way)) (behind_last way) ≡ true → way.after.primary ≡ w.switched.primary
+    closed_primary : closes way ≡ true → way.after.primary ≡ w.switched.primary
     closed_primary last = by (changes_primary way) refl
       where
         first_low : nat_le (first_step way) write_journal ≡ true
@@ -86,22 +66,12 @@ module _ (p : Plain) (w : Live) where
             no_journal false e = e
             no_journal true e = absurd (true≢false (sym (course.journals e) ∙ c))
 
-    way_primary : (way_stepped w way).switched.primary ≡ w.switched.primary
-    way_primary = by (eqb (suc (next_step way)) (behind_last way)) refl
-      where
-        by : (b : Bool) → eqb (suc (next_step way)) (behind_last way) ≡ b
-            → (cond (eqb (suc (next_step way)) (behind_last way)) (record (with_fresh_stream w way) { switched = way.after; way = None }) (record w { way = Some (record way { done = suc way.done }) })).switched.primary ≡ w.switched.primary
-        by true e = ap (λ b. (cond b (record (with_fresh_stream w way) { switched = way.after; way = None }) (record w { way = Some (record way { done = suc way.done }) })).switched.primary) e ∙ closed_primary e
-        by false e = ap (λ b. (cond b (record (with_fresh_stream w way) { switched = way.after; way = None }) (record w { way = Some (record way { done = suc way.done }) })).switched.primary) e
-
     pub stepped_primary : eqb (next_step way) write_journal ≡ false → (live_stepped p w way).switched.primary ≡ w.switched.primary
-    stepped_primary other =
-        ap (λ b. (cond (eqb (next_step way) create_back) (record (way_stepped w way) { fresh_at = log_length p (new_owner w) }) (cond b (record (way_stepped w way) { switched = way.after }) (way_stepped w way))).switched.primary) other
-        ∙ by (eqb (next_step way) create_back)
+    stepped_primary other = ap (λ b. (cond (closes way || b) way.after w.switched).primary) other ∙ by (closes way) refl
       where
-        by : (a : Bool) → (cond a (record (way_stepped w way) { fresh_at = log_length p (new_owner w) }) (way_stepped w way)).switched.primary ≡ w.switched.primary
-        by true = way_primary
-        by false = way_primary
+        by : (b : Bool) → closes way ≡ b → (cond (closes way || false) way.after w.switched).primary ≡ w.switched.primary
+        by true e = ap (λ b. (cond (b || false) way.after w.switched).primary) e ∙ closed_primary e
+        by false e = ap (λ b. (cond (b || false) way.after w.switched).primary) e
 
 owner_by_primary : (w v : Live) → HasSides w v → v.switched.primary ≡ w.switched.primary → owner v ≡ owner w
 owner_by_primary w v same e =
@@ -139,7 +109,7 @@ step_owner p w v named name live now course level = subst (λ x. (owner x ≡ ow
 
     on : (way : Way) → w.way ≡ Some way → (b : Bool) → eqb (next_step way) write_journal ≡ b → (owner (live_stepped p w way) ≡ owner w) ⊎ IsLevel p w
     on way is true e = inr (level way is (eqb-true (next_step way) write_journal e))
-    on way is false e = inl (owner_by_primary w (live_stepped p w way) (stepped_by p w way (eqb (next_step way) create_back) (eqb (next_step way) write_journal)) (stepped_primary p w way (course way is) e))
+    on way is false e = inl (owner_by_primary w (live_stepped p w way) (record { name = refl; source = refl; target = refl; tables = refl }) (stepped_primary p w way (course way is) e))
 
     by : (o : Option Way) → w.way ≡ o → (owner (option_map_or (live_stepped p w) w.way w) ≡ owner w) ⊎ IsLevel p w
     by None e = inl (ap (λ o. owner (option_map_or (live_stepped p w) o w)) e)

@@ -10,9 +10,9 @@ use Rattle.mt_names.proofs.SameLemmas.{same_text_decides}
 use Rattle.mt_model.specs.declared.entries.Scope.{Scope}
 use Rattle.mt_model.specs.Topology.{Marks, TopologyState}
 use Rattle.mt_laws.proofs.LiveLemmas.{all_from_in, any-in, text_differs}
-use Rattle.mt_laws.proofs.WayStepLemmas.{closes, more}
+use Rattle.mt_laws.proofs.WayStepLemmas.{more}
 use Rattle.mt_plain.specs.Events.{StreamName, forward, back, running, stopped, Way}
-use Rattle.mt_plain.specs.Next.{live_stepped, way_stepped, with_fresh_stream}
+use Rattle.mt_plain.specs.Next.{closes, fresh_stepped, live_stepped, types_stepped}
 use Rattle.mt_plain.specs.Plain.{Live, Plain, among, before_way, changes_primary, create_back, next_step, owner_by, refresh_source, refresh_target, stands_done, start_back, write_journal}
 use Rattle.mt_plain.specs.Refuse.{new_owner}
 use Rattle.mt_plain.specs.Serve.{is_listed_at}
@@ -155,17 +155,15 @@ none_marked primary (t ∷ ts) all = ap (λ b. (t, b) ∷ marks_of primary ts) a
 -- a way that a step leaves open: what stood before it stays
 pub open_stepped : (p : Plain) (v : Live) (way : Way) → closes way ≡ false
     → (types : TypeSet) × (fresh : ℕ) × (live_stepped p v way ≡ record v { switched = types; way = Some (more way); fresh_at = fresh })
-open_stepped p v way goes_on = by (eqb (next_step way) create_back) (eqb (next_step way) write_journal)
-  where
-    goes : way_stepped v way ≡ record v { way = Some (more way) }
-    goes = ap (λ b. cond b (record (with_fresh_stream v way) { switched = way.after; way = None }) (record v { way = Some (more way) })) goes_on
-
-    by : (t u : Bool) → (types : TypeSet) × (fresh : ℕ)
-        × (cond t (record (way_stepped v way) { fresh_at = log_length p (new_owner v) }) (cond u (record (way_stepped v way) { switched = way.after }) (way_stepped v way))
-        ≡ record v { switched = types; way = Some (more way); fresh_at = fresh })
-    by true u = (v.switched, log_length p (new_owner v), ap (λ (x : Live). record x { fresh_at = log_length p (new_owner v) }) goes)
-    by false true = (way.after, v.fresh_at, ap (λ (x : Live). record x { switched = way.after }) goes)
-    by false false = (v.switched, v.fresh_at, goes)
+open_stepped p v way goes_on =
+    (types_stepped v way, fresh_stepped p v way,
+    ap (λ l. record v {
+      switched = types_stepped v way;
+      way = cond l None (Some (more way));
+      forward_at = cond (l && changes_primary way && way.back) v.fresh_at v.forward_at;
+      back_at = cond (l && changes_primary way && not way.back) v.fresh_at v.back_at;
+      fresh_at = fresh_stepped p v way;
+    }) goes_on)
 
 pub saved_stays : (v : Live) (way now : Way) (types : TypeSet) (fresh : ℕ) (name : StreamName) → v.way ≡ Some way → now.before ≡ way.before
     → option_map (stream_of (record v { switched = types; way = Some now; fresh_at = fresh })) (slot_before_way (record v { switched = types; way = Some now; fresh_at = fresh }) name)

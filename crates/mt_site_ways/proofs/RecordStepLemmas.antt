@@ -14,9 +14,9 @@ use Rattle.mt_journal.specs.declared.entry.JournalEntry.{JournalEntry}
 use Rattle.mt_journal.specs.Journal.{entry_of}
 use Rattle.mt_laws.proofs.ChangeLemmas.{live_after, lives_after}
 use Rattle.mt_laws.proofs.ListLemmas.{cond-ap}
-use Rattle.mt_laws.proofs.WayStepLemmas.{before_then, closes, done_by, more, not_before, now_done, undone_by}
+use Rattle.mt_laws.proofs.WayStepLemmas.{before_then, done_by, more, not_before, now_done, undone_by}
 use Rattle.mt_plain.specs.Events.{StreamName, forward, back, done, step, Way}
-use Rattle.mt_plain.specs.Next.{journal_after, live_stepped, next, on_way_of}
+use Rattle.mt_plain.specs.Next.{closes, journal_after, live_stepped, next, on_way_of}
 use Rattle.mt_plain.specs.Plain.{Live, Plain, before_way, behind_last, create_back, has_part, live_at, mover, moves, next_step, owner_by, part_owner, refresh_source, refresh_target, stands_done, write_journal}
 use Rattle.mt_plain.specs.Serve.{is_listed_at, refuses, refuses_by, step_of_list, types_by}
 use Rattle.mt_plain.specs.Slots.{slot_before_way}

@@ -6,7 +6,7 @@ use Rattle.std.specs.Prelude.{◌||◌}
 use Rattle.mt_names.specs.declared.types.TypeSet.{TypeSet}
 use Rattle.mt_names.specs.Names.{same_text}
 use Rattle.mt_plain.specs.Events.{StreamName, forward, back, running, Way}
-use Rattle.mt_plain.specs.Next.{live_stepped, live_undone, on_way_of, way_stepped, with_step, with_undo, with_way, with_way_to}
+use Rattle.mt_plain.specs.Next.{closes, live_stepped, live_undone, on_way_of, way_undone, with_step, with_undo, with_way, with_way_to}
 use Rattle.mt_plain.specs.Plain.{Live, Plain, behind_last, changes_primary, create_back, live_at, next_step, stands_done, stop_feeding, write_journal}
 use Rattle.mt_plain.specs.Refuse.{new_owner}
 use Rattle.mt_plain.specs.Slots.{is_feeding, log_length, slot_before_way}
@@ -15,9 +15,8 @@ use Rattle.mt_laws.specs.Effects.{in_state, slot_stepped, slot_undone}
 use Rattle.mt_laws.specs.WayBack.{IsReached}
 use Rattle.mt_laws.proofs.ChangeLemmas.{sides-live_stepped, sides-on_way, sides-undone}
 use Rattle.mt_laws.proofs.CopyLemmas.{all_copied}
-use Rattle.mt_laws.proofs.EffectLemmas.{switched-undone}
 use Rattle.mt_laws.proofs.StepCountLemmas.{few_done}
-use Rattle.mt_laws.proofs.WayStepLemmas.{closes, done_by, fewer, first_step-le, more, switched-way_stepped, way-stepped, way-undone}
+use Rattle.mt_laws.proofs.WayStepLemmas.{done_by, fewer, first_step-le, more}
 use Rattle.mt_site_rows.specs.Rows.{stream_of}
 use Rattle.mt_site_state.specs.Core.{Workflows, workflow_at}
 use Rattle.mt_site_state.specs.Stands.{AreWorkflows, StandsFor}
@@ -27,7 +26,7 @@ use Rattle.mt_workflow.specs.Workflows.{WorkflowState, slot_of, with_slot}
 use Rattle.mt_steps.specs.declared.step.Step.{Step}
 use Rattle.mt_steps.specs.declared.step.Step.TheVariants.{SwitchReads, DenySource, RefreshSource, CatchUp, StopFeeding, CreateBack, Journal, AllowTarget, RefreshTarget, SwitchWriteRules, StartBack, FreezeOld}
 use Rattle.mt_steps.specs.Plans.{last_step, number, step_at}
-use Rattle.mt_steps.specs.Streams.{feeding_name, other_name, streams_undone, types_after, way_after, way_undone, with_streams, workflow_stepped, workflow_undone}
+use Rattle.mt_steps.specs.Streams.{feeding_name, other_name, streams_undone, types_after, way_after, with_streams, workflow_stepped, workflow_undone}
 use Rattle.mt_site_ways.proofs.ChangedLemmas.{changed-workflows, stands_for, stream-slots, with_traffic}
 use Rattle.mt_site_ways.proofs.SlotLemmas.{begun-slot, either-same, number-step_at, stepped-slots, undone-slots}
 
@@ -69,30 +68,6 @@ undone-both w way RefreshTarget kept = refl
 undone-both w way SwitchWriteRules kept = refl
 undone-both w way StartBack kept = refl
 undone-both w way FreezeOld kept = refl
-
--- ---- the types behind a step
-
-or-none : {A : Type 0} (t : Bool) (x y : A) → cond t x y ≡ cond (t || false) x y
-or-none true x y = refl
-or-none false x y = refl
-
-or-any : {A : Type 0} (t : Bool) (x y : A) → x ≡ cond (t || true) x y
-or-any true x y = refl
-or-any false x y = refl
-
-switched-stepped : (p : Plain) (w : Live) (way : Way) → (live_stepped p w way).switched ≡ cond (closes way || eqb (next_step way) write_journal) way.after w.switched
-switched-stepped p w way = by (eqb (next_step way) create_back) refl (eqb (next_step way) write_journal) refl
-  where
-    by : (t : Bool) → eqb (next_step way) create_back ≡ t → (u : Bool) → eqb (next_step way) write_journal ≡ u
-        → (cond t (record (way_stepped w way) { fresh_at = log_length p (new_owner w) }) (cond u (record (way_stepped w way) { switched = way.after }) (way_stepped w way))).switched
-        ≡ cond (closes way || u) way.after w.switched
-    by true a true b =
-        let e : next_step way ≡ 5 = eqb-true (next_step way) create_back a in
-        let f : next_step way ≡ 6 = eqb-true (next_step way) write_journal b in
-        absurd (omega (arith, e, f))
-    by true a false b = switched-way_stepped w way ∙ or-none (closes way) way.after w.switched
-    by false a true b = or-any (closes way) way.after w.switched
-    by false a false b = switched-way_stepped w way ∙ or-none (closes way) way.after w.switched
 
 -- ---- the events
 
@@ -145,9 +120,9 @@ module _ (p : Plain) (workflows : Workflows) (are : AreWorkflows p workflows) (n
           changed-workflows p (with_step p name) name (λ v. on_way_of (live_stepped p v) v) (λ v. sides-on_way v (live_stepped p v) (sides-live_stepped p v) v.way) refl refl elsewhere
           workflows are live w is_live found (live_stepped p live way) (ap (λ o. option_map_or (live_stepped p live) o live) opens) copied
           (way_after way next_one) (types_after w.switched way next_one) (slot_of (with_streams w way next_one position) forward) (slot_of (with_streams w way next_one position) back)
-          (ap (λ n. cond (eqb (suc n) (behind_last way)) None (Some (more way))) numbered ∙ sym (way-stepped p live way))
+          (ap (λ n. cond (eqb (suc n) (behind_last way)) None (Some (more way))) numbered)
           (ap (λ n. cond (eqb (suc n) (behind_last way) || eqb n write_journal) way.after w.switched) numbered
-          ∙ ap (cond (closes way || eqb (next_step way) write_journal) way.after) for.switched ∙ sym (switched-stepped p live way))
+          ∙ ap (cond (closes way || eqb (next_step way) write_journal) way.after) for.switched)
           (stream_is forward) (stream_is back)
 
       pub stepped-workflows : AreWorkflows (with_step p name) (set_value (same_text w.name) workflows (workflow_stepped w way next_one position))
@@ -166,7 +141,7 @@ module _ (p : Plain) (workflows : Workflows) (are : AreWorkflows p workflows) (n
       with_left v there other left =
           changed-workflows p (with_undo p name) name (λ x. on_way_of (live_undone x) x) (λ x. sides-on_way x (live_undone x) (sides-undone x) x.way) refl refl elsewhere
           workflows are live w is_live found (live_undone live way) (ap (λ o. option_map_or (live_undone live) o live) opens) copied
-          v w.switched there other left (for.switched ∙ sym (switched-undone live way))
+          v w.switched there other left for.switched
 
       module _ (kept : Option StreamValue) (gives_back : stands_done way create_back ≡ true → kept ≡ option_map (stream_of live) (slot_before_way live (other_name way))) where
         abbrev last_one : Step
@@ -188,7 +163,7 @@ module _ (p : Plain) (workflows : Workflows) (are : AreWorkflows p workflows) (n
             subst (λ v. AreWorkflows (with_undo p name) (set_value (same_text w.name) workflows v))
             (sym (ap (λ (v : WorkflowState). record v { way = way_undone way }) (undone-both w way last_one kept)))
             (with_left (way_undone way) (slot_of (streams_undone w way last_one kept) forward) (slot_of (streams_undone w way last_one kept) back)
-            (sym (way-undone live way)) (stream_undone forward) (stream_undone back))
+            refl (stream_undone forward) (stream_undone back))
 
       -- where no step stands done
       module _ (none : way.done ≡ 0) where
@@ -204,6 +179,6 @@ module _ (p : Plain) (workflows : Workflows) (are : AreWorkflows p workflows) (n
 
         pub closed-workflows : AreWorkflows (with_undo p name) (set_value (same_text w.name) workflows (record w { way = None }))
         closed-workflows =
-            with_left None w.forward w.back (sym (way-undone live way ∙ ap (λ n. cond (eqb (n - 1) 0) None (Some (fewer way))) none))
+            with_left None w.forward w.back (sym (ap (λ n. cond (eqb (n - 1) 0) None (Some (fewer way))) none))
             (for.forward ∙ ap (option_map (stream_of live)) (sym (same_slot forward)))
             (for.back ∙ ap (option_map (stream_of live)) (sym (same_slot back)))

@@ -1,8 +1,9 @@
 -- What the steps of a way, and their undo, do with the two streams of a workflow.
-use Rattle.std.specs.Prelude.{◌≡◌, ◌≤◌, ℕ, suc, ◌-◌, ◌&&◌, ◌||◌, ◌==◌, Bool, true, false, not, List, if◌then◌else◌, Option, None, Some, option_map}
+use Rattle.std.specs.Prelude.{◌≡◌, ◌≤◌, ℕ, suc, ◌&&◌, ◌||◌, ◌==◌, Bool, true, false, not, List, if◌then◌else◌, Option, None, Some, option_map}
 use Rattle.std.specs.Option.{option_map_or}
 use Rattle.mt_names.specs.declared.types.TypeSet.{TypeSet}
 use Rattle.mt_plain.specs.Events.{StreamName, forward, back, running, stopped, frozen, Way}
+use Rattle.mt_plain.specs.Next.{way_undone}
 use Rattle.mt_plain.specs.Plain.{behind_last, catch_up, ended, switch_reads, write_journal}
 use Rattle.mt_primary.specs.Primary.{PrimaryState, end_of}
 use Rattle.mt_stream.specs.Streams.{StreamValue, is_level}
@@ -99,10 +100,6 @@ abbrev pub streams_undone : WorkflowState → Way → Step → Option StreamValu
 streams_undone w way StopFeeding kept = with_slot w (feeding_name way) (option_map (in_state running) (slot_of w (feeding_name way)))
 streams_undone w way CreateBack kept = with_slot w (other_name way) kept
 streams_undone w way other kept = w
-
--- the way after an undo: one step less stands done, and it closes where none does (this profile's own)
-abbrev pub way_undone : Way → Option Way
-way_undone way = if way.done - 1 == 0 then None else Some (record way { done = way.done - 1; undoing = true })
 
 -- a workflow after the undo of a step (this profile's own)
 abbrev pub workflow_undone : WorkflowState → Way → Step → Option StreamValue → WorkflowState

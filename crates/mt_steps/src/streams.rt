@@ -1,11 +1,12 @@
 //! What the steps of a way, and their undo, do with the two streams of a workflow, and with the way.
 ghost use Rattle.std.specs.Prelude.{◌≡◌, ◌<◌, ◌≤◌, false, Some, option_copied};
 ghost use Rattle.std.specs.Option.{option_map_or};
+ghost use Rattle.mt_plain.specs.Next.{way_undone};
 ghost use Rattle.mt_plain.specs.Plain.{next_step, write_journal};
 ghost use Rattle.mt_stream.specs.Streams.{StreamValue, is_level};
 ghost use Rattle.mt_workflow.specs.Workflows.{slot_of, stream_name, way_from, with_slot};
 ghost use Rattle.mt_steps.specs.Plans.{last_step, number, step_at};
-ghost use Rattle.mt_steps.specs.Streams.{KeepsToFeed, feeding_name, is_fed, is_last, log_end, other_name, put_away, serves_other_side, stopped_stream, streams_undone, types_after, way_after, way_undone, with_streams};
+ghost use Rattle.mt_steps.specs.Streams.{KeepsToFeed, feeding_name, is_fed, is_last, log_end, other_name, put_away, serves_other_side, stopped_stream, streams_undone, types_after, way_after, with_streams};
 
 use crate::step::Step;
 use mt_names::Position;

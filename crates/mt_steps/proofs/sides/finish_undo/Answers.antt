@@ -1,10 +1,11 @@
 -- What the calls did, one after the other.
 use Rattle.std.proofs.Common.{ap, ◌∙◌}
 use Rattle.mt_model.specs.Part.{with_entries}
+use Rattle.mt_plain.specs.Next.{way_undone}
 use Rattle.mt_workflow.specs.Workflows.{WorkflowState, way_from}
 use Rattle.mt_steps.specs.Entries.{recorded_of}
 use Rattle.mt_steps.specs.Plans.{number}
-use Rattle.mt_steps.specs.Streams.{streams_undone, way_undone}
+use Rattle.mt_steps.specs.Streams.{streams_undone}
 use Rattle.mt_steps.specs.Undo.{UndoState}
 use Rattle.mt_steps.proofs.StepLemmas.{streams-given, undone_log, undone_places}
 use Rattle.mt_steps.proofs.sides.finish_undo.Goals as goal
