@@ -1,5 +1,7 @@
 -- Each drive ends within its turns, however its events are answered.
 use Rattle.std.proofs.Common.{◌≡◌, ◌≢◌, ◌⊎◌, inl, inr, ℕ, zero, suc, ◌+◌, ◌-◌, ◌<◌, ◌≤◌, Bool, true, false, not, cond, eqb, leb, List, ◌++◌, codes, Option, None, Some, Result, Ok, Err, refl, sym, ap, ◌∙◌, subst, arith}
+use Rattle.mt_plain.proofs.PlaceLemmas.{one-next}
+use Rattle.mt_laws.proofs.WayStepLemmas.{at_first, fewer-le}
 use Rattle.std.proofs.lemmas.Bool.{true≢false, eqb-true, eq-eqb}
 use Rattle.std.specs.List.{list_any}
 use Rattle.std.specs.Option.{option_map_or}
@@ -88,6 +90,7 @@ fails-fits turns tries p workflow refusal goes = subst (λ o. FitsHeard turns p 
         (λ before.
         let few : next_step goes.way ≤ 6 = few_done goes.way before in
         let many : 6 ≤ turns = enough-undo turns tries (next_step goes.way) few goes.enough in
+        let by_place = one-next goes.way goes.few in
         let of_way : goes.way.done ≤ next_step goes.way = omega arith in
         record { way = goes.way; is = goes.is; no_journal = before; enough = omega (arith, few, many, of_way); some = omega (arith, many) })
 
@@ -137,7 +140,7 @@ refused_step-fits : (turns tries : ℕ) (p : Plain) (workflow : List ℕ) (refus
 refused_step-fits turns (suc (suc left)) p workflow not_level goes a =
     let at = step-level p workflow (steps_done p workflow) goes.way (has_way p workflow goes.way goes.is) a in
     let (t, is, enough) = enough-again turns left (next_step goes.way) at goes.enough in
-    (t, is, record { way = goes.way; is = goes.is; left = goes.left; tried = omega arith; enough = enough })
+    (t, is, record { way = goes.way; is = goes.is; few = goes.few; left = goes.left; tried = omega arith; enough = enough })
 refused_step-fits turns tries p workflow other goes a = fails-fits turns tries p workflow other goes
 
 stepped-fits : (turns tries : ℕ) (p : Plain) (workflow : List ℕ) → Goes (suc turns) tries p workflow → FitsHeard turns (with_step p workflow) (unless_closed (way_of (with_step p workflow) workflow) drive.done (steps workflow most_tries))
@@ -152,6 +155,9 @@ stepped-fits turns tries p workflow goes = by (eqb (suc (next_step way)) (behind
     is : way_of q workflow ≡ cond (eqb (suc (next_step way)) (behind_last way)) None (Some (record way { done = suc way.done }))
     is = way_of-step p workflow way (has_way p workflow way goes.is)
 
+    on : next_step (record way { done = suc way.done }) ≡ suc (next_step way)
+    on = let now = one-next way goes.few in let then = one-next (record way { done = suc way.done }) goes.few in omega arith
+
     by : (t : Bool) → eqb (suc (next_step way)) (behind_last way) ≡ t → FitsHeard turns q (unless_closed (way_of q workflow) drive.done (steps workflow most_tries))
     by true t = subst (λ o. FitsHeard turns q (unless_closed o drive.done (steps workflow most_tries))) (sym (is ∙ ap (λ b. cond b None (Some (record way { done = suc way.done }))) t)) tt
     by false t =
@@ -160,9 +166,10 @@ stepped-fits turns tries p workflow goes = by (eqb (suc (next_step way)) (behind
         let goes_next : Goes turns most_tries q workflow = record {
           way = record way { done = suc way.done };
           is = next;
-          left = omega (arith, more, goes.left);
+          few = goes.few;
+          left = let one = on in omega (arith, more, goes.left);
           tried = omega arith;
-          enough = enough-step turns tries (next_step way) (next_step (record way { done = suc way.done })) goes.tried (omega arith) goes.enough;
+          enough = enough-step turns tries (next_step way) (next_step (record way { done = suc way.done })) goes.tried on goes.enough;
         } in
         subst (λ o. FitsHeard turns q (unless_closed o drive.done (steps workflow most_tries))) (sym next) goes_next
 
@@ -207,7 +214,7 @@ undone-fits turns p workflow refusal undoes = by (eqb (way.done - 1) 0) refl
         let undoes_next : Undoes turns q workflow = record {
           way = record way { done = way.done - 1; undoing = true };
           is = next;
-          no_journal = few_undone (record way { done = way.done - 1; undoing = true }) (omega (arith, few));
+          no_journal = few_undone (record way { done = way.done - 1; undoing = true }) (let le = fewer-le way in omega (arith, few, le));
           enough = omega (arith, undoes.enough, more);
           some = omega (arith, undoes.enough, more);
         } in
@@ -215,27 +222,28 @@ undone-fits turns p workflow refusal undoes = by (eqb (way.done - 1) 0) refl
 
 -- ---- the beginning
 
-begun-fits : (turns : ℕ) (p : Plain) (workflow : List ℕ) (backward : Bool) (change : TypeSet → TypeSet) (w : Live) → 300 ≤ turns → live_at p workflow ≡ Some w → (way : Way) → (with_way_to backward change w).way ≡ Some way → way.done ≡ 0 → next_step way < behind_last way → (q : Plain) → way_of q workflow ≡ (with_way_to backward change w).way → Goes turns most_tries q workflow
-begun-fits turns p workflow backward change w many found way is none left q next = record {
+begun-fits : (turns : ℕ) (p : Plain) (workflow : List ℕ) (backward : Bool) (change : TypeSet → TypeSet) (w : Live) → 300 ≤ turns → live_at p workflow ≡ Some w → (way : Way) → (with_way_to backward change w).way ≡ Some way → way.shards ≤ 1 → way.done ≡ 0 → first_step way + 0 < behind_last way → (q : Plain) → way_of q workflow ≡ (with_way_to backward change w).way → Goes turns most_tries q workflow
+begun-fits turns p workflow backward change w many found way is few none left q next = record {
   way = way;
   is = next ∙ is;
-  left = left;
+  few = few;
+  left = let at = at_first way none in omega (arith, at, left);
   tried = omega arith;
-  enough = subst (λ n. Enough turns most_tries (first_step way + n)) (sym none) (enough-begun (changes_reads way) turns many);
+  enough = let at : next_step way ≡ first_step way + 0 = let e = at_first way none in omega arith in subst (Enough turns most_tries) (sym at) (enough-begun (changes_reads way) turns many);
 }
 
 begun_switch-fits : (turns : ℕ) (p : Plain) (workflow : List ℕ) (types : TypeSet) → 300 ≤ turns → refusal_of p (begin_switch workflow types) ≡ None → Goes turns most_tries (next p (begin_switch workflow types) done) workflow
 begun_switch-fits turns p workflow types many none =
     let t = in_workflow-none (live_at p workflow) (begin_switch_refusal p types) none in
     let change : TypeSet → TypeSet = λ switched. types_and switched types in
-    begun-fits turns p workflow false change t.0 many t.1 _ refl refl (has_steps _ _ _ (forward_has_steps t.0.switched types (switch-none p types t.0 t.2).1))
+    begun-fits turns p workflow false change t.0 many t.1 _ refl (omega arith) refl (has_steps _ _ _ (forward_has_steps t.0.switched types (switch-none p types t.0 t.2).1))
     (next p (begin_switch workflow types) done) (way_of-begun p workflow false change t.0 t.1)
 
 begun_reverse-fits : (turns : ℕ) (p : Plain) (workflow : List ℕ) (types : TypeSet) → 300 ≤ turns → refusal_of p (begin_reverse workflow types) ≡ None → Goes turns most_tries (next p (begin_reverse workflow types) done) workflow
 begun_reverse-fits turns p workflow types many none =
     let t = in_workflow-none (live_at p workflow) (begin_reverse_refusal p types) none in
     let change : TypeSet → TypeSet = λ switched. types_without switched types in
-    begun-fits turns p workflow true change t.0 many t.1 _ refl refl (has_steps _ _ _ (backward_has_steps t.0.switched types (reverse-none p types t.0 t.2).1))
+    begun-fits turns p workflow true change t.0 many t.1 _ refl (omega arith) refl (has_steps _ _ _ (backward_has_steps t.0.switched types (reverse-none p types t.0 t.2).1))
     (next p (begin_reverse workflow types) done) (way_of-begun p workflow true change t.0 t.1)
 
 -- ---- each event of a drive
@@ -263,14 +271,14 @@ steps-fits turns p workflow tries (shown s) goes a = absurd (let h = a.1 in cc)
 
 feeds-fits : (turns : ℕ) (p : Plain) (workflow : List ℕ) (tries : ℕ) (answer : Answer) → Goes turns tries p workflow → Answers p (event_of p (feeds workflow tries)) answer → FitsHeard turns (next p (event_of p (feeds workflow tries)) answer) (heard (next p (event_of p (feeds workflow tries)) answer) (feeds workflow tries) answer)
 feeds-fits turns p workflow tries (refused refusal) goes a =
-    fails-fits turns tries p workflow refusal (record { way = goes.way; is = goes.is; left = goes.left; tried = goes.tried; enough = enough-fewer turns tries (next_step goes.way) goes.enough })
+    fails-fits turns tries p workflow refusal (record { way = goes.way; is = goes.is; few = goes.few; left = goes.left; tried = goes.tried; enough = enough-fewer turns tries (next_step goes.way) goes.enough })
 feeds-fits turns p workflow tries done goes a = goes
 feeds-fits turns p workflow tries (row r) goes a = goes
 feeds-fits turns p workflow tries (shown s) goes a = goes
 feeds-fits turns p workflow tries (advanced events rows) goes a =
     let name = feeding_stream p workflow in
     let same = way_of-advance p workflow name (position_of p workflow name) most_at_once events rows (live_at p workflow) in
-    record { way = goes.way; is = same ∙ goes.is; left = goes.left; tried = goes.tried; enough = goes.enough }
+    record { way = goes.way; is = same ∙ goes.is; few = goes.few; left = goes.left; tried = goes.tried; enough = goes.enough }
 
 gives_up-fits : (turns : ℕ) (p : Plain) (workflow : List ℕ) (refusal : Refusal) (answer : Answer) → Undoes (suc turns) p workflow → Answers p (event_of p (gives_up workflow refusal)) answer → FitsHeard turns (next p (event_of p (gives_up workflow refusal)) answer) (heard (next p (event_of p (gives_up workflow refusal)) answer) (gives_up workflow refusal) answer)
 gives_up-fits turns p workflow refusal (refused other) undoes a =

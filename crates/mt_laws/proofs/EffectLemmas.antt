@@ -1,5 +1,6 @@
 -- What a step and an undo change at an entry of the part, and on the primaries' own lists.
-use Rattle.std.proofs.Common.{◌≡◌, ◌≢◌, ℕ, suc, ◌+◌, ◌-◌, ◌<◌, ◌≤◌, Bool, true, false, not, cond, eqb, ltb, leb, List, Option, None, Some, refl, sym, ap, ◌∙◌, subst, arith, eqb-true, ltb-true, lt-ltb, le-leb}
+use Rattle.std.proofs.Common.{◌≡◌, ◌≢◌, ℕ, suc, ◌+◌, ◌-◌, ◌<◌, ◌≤◌, Bool, true, false, not, cond, eqb, ltb, leb, List, Option, None, Some, refl, sym, ap, ◌∙◌, subst, arith, eqb-true, ltb-true, lt-ltb, le-leb, ◌⊎◌, inl, inr, zero}
+use Rattle.std.specs.Cmp.{both_ways}
 use Rattle.std.proofs.lemmas.Bool.{true≢false, and_from, and_parts, eq-eqb, false_from_ne_true, leb-true}
 use Rattle.std.specs.Option.{option_map_or}
 use Rattle.std.specs.Prelude.{◌&&◌, ◌||◌}
@@ -14,15 +15,16 @@ use Rattle.mt_model.specs.declared.entries.EntryKey.TheVariants as about
 use Rattle.mt_model.specs.Topology.{TopologyState, rule_at}
 use Rattle.mt_plain.specs.Events.{Way}
 use Rattle.mt_plain.specs.Next.{closes, live_stepped, live_undone}
-use Rattle.mt_plain.specs.Plain.{Live, Plain, allow_target, behind_last, before_way, changes_primary, deny_source, differ, first_step, in_keyspace, next_step, owner_by, refresh_source, refresh_target, stands_done, write_journal}
+use Rattle.mt_plain.specs.Plain.{Live, Plain, allow_target, behind_last, before_way, changes_primary, deny_source, differ, first_step, in_keyspace, next_step, owner_by, refresh_source, refresh_target, stands_done, write_journal, last_step, last_place_of, next_place, repeated_step, step_at_place}
 use Rattle.mt_plain.specs.Serve.{is_denied_at, is_listed_at, refuses_by, rule_step, serve, serve_plain, serve_rule, served_by, step_of_entry, step_of_list, types_by}
+use Rattle.mt_plain.proofs.PlaceLemmas.{step-first}
 use Rattle.mt_laws.specs.Changes.{HasSides}
-use Rattle.mt_laws.specs.Effects.{entry_stepped, entry_undone, last_step, list_stepped, list_undone}
+use Rattle.mt_laws.specs.Effects.{entry_stepped, entry_undone, list_stepped, list_undone}
 use Rattle.mt_laws.proofs.ChangeLemmas.{sides-live_stepped, sides-undone}
 use Rattle.mt_laws.proofs.ListLemmas.{cond-ap, cond-either}
 use Rattle.mt_laws.proofs.PlainWords.{changes_reads, types_by_way}
 use Rattle.mt_laws.proofs.TrafficLemmas.{serve-same}
-use Rattle.mt_laws.proofs.WayStepLemmas.{fewer, first_step-le, more, same_done, was_done, way-stepped, way-undone}
+use Rattle.mt_laws.proofs.WayStepLemmas.{fewer, first_step-le, more, same_done, was_done, way-stepped, way-undone, OneOn, at_first, done_at, done_by, last-ge, now_done-in, one_on, repeated-ge}
 
 -- ---- sets of types that are alike as far as a step is concerned
 
@@ -166,11 +168,6 @@ closing-alike way closing n le other not_done = by (changes_primary way) refl (e
 
 -- ---- the types at an entry, behind a step
 
-more_done : (way : Way) (n : ℕ) → eqb (next_step way) n ≡ true → stands_done (more way) n ≡ true
-more_done way n here =
-    let is : next_step way ≡ n = eqb-true (next_step way) n here in
-    and_from (leb (first_step way) n) (ltb n (first_step way + suc way.done)) (le-leb (first_step way) n (omega (arith, is))) (lt-ltb n (first_step way + suc way.done) (omega (arith, is)))
-
 abbrev at_way : Way → Bool → TypeSet
 at_way way t = cond t way.after way.before
 
@@ -179,8 +176,8 @@ module _ (w v : Live) (way : Way) (opens : w.way ≡ Some way) where
   types_at n = ap (λ o. types_by_way w.switched o n) opens
 
   module _ (now : v.way ≡ cond (closes way) None (Some (more way))) (switched : closes way ≡ true → v.switched ≡ way.after) where
-    stepped-alike : (n m : ℕ) → n ≤ 11 → (closes way ≡ false → m ≡ n) → Alike n (types_by v m) (cond (eqb (next_step way) n) way.after (types_by w n))
-    stepped-alike n m le same = by (closes way) refl
+    stepped-alike : (n m : ℕ) → n ≤ 11 → n ≢ repeated_step way → (closes way ≡ false → m ≡ n) → Alike n (types_by v m) (cond (eqb (next_step way) n) way.after (types_by w n))
+    stepped-alike n m le once same = by (closes way) refl
       where
         closed : closes way ≡ true → types_by v m ≡ way.after
         closed t = ap (λ o. types_by_way v.switched o m) (now ∙ ap (λ b. cond b None (Some (more way))) t) ∙ switched t
@@ -194,7 +191,7 @@ module _ (w v : Live) (way : Way) (opens : w.way ≡ Some way) where
             done false d = subst (Alike n way.after) (sym (ap (at_way way) d)) (closing-alike way t n le b d)
 
         goes : (b : Bool) → eqb (next_step way) n ≡ b → at_way way (stands_done (more way) n) ≡ cond (eqb (next_step way) n) way.after (types_by w n)
-        goes true b = ap (at_way way) (more_done way n b) ∙ sym (ap (λ x. cond x way.after (types_by w n)) b)
+        goes true b = ap (at_way way) (now_done-in way n once b) ∙ sym (ap (λ x. cond x way.after (types_by w n)) b)
         goes false b = ap (at_way way) (same_done way n b) ∙ sym (ap (λ x. cond x way.after (types_by w n)) b ∙ types_at n)
 
         by : (t : Bool) → closes way ≡ t → Alike n (types_by v m) (cond (eqb (next_step way) n) way.after (types_by w n))
@@ -218,24 +215,48 @@ module _ (w v : Live) (way : Way) (opens : w.way ≡ Some way) where
             let r = and_parts (leb (first_step way) n) (ltb n (next_step way)) t in
             let above : first_step way ≤ n = leb-true (first_step way) n r.0 in
             let below = ltb-true n (next_step way) r.1 in
-            let apart : last_step way ≢ n = λ e. true≢false (sym (eq-eqb (last_step way) n e) ∙ other) in
-            absurd (omega (arith, above, below, apart, few)))
+            let low = first_step-le way in
+            let high = repeated-ge way in
+            let is : next_step way ≡ next_place way = step-first way (next_place way) (omega arith) in
+            let last : last_step way ≡ next_place way - 1 = step-first way (next_place way - 1) (omega arith) in
+            true≢false (sym (eq-eqb (last_step way) n (omega arith)) ∙ other))
+
+        -- the places of a way with one step less
+        short : 1 ≤ way.done → next_step (fewer way) ≡ last_step way
+        short le = let e : first_step way + (way.done - 1) ≡ next_place way - 1 = omega arith in ap (step_at_place way) e
+
+        some : (d : ℕ) → way.done ≡ d → stands_done way n ≡ true → 1 ≤ way.done
+        some zero e t =
+            let r = and_parts (leb (first_step way) n) (ltb n (next_step way)) t in
+            let above = leb-true (first_step way) n r.0 in
+            let below = ltb-true n (next_step way) r.1 in
+            let is = at_first way e in absurd (omega arith)
+        some (suc d) e t = omega arith
 
         fewer_at : eqb (last_step way) n ≡ true → stands_done (fewer way) n ≡ false
         fewer_at here = false_from_ne_true (stands_done (fewer way) n) (λ t.
-            let r = and_parts (leb (first_step way) n) (ltb n (first_step way + (way.done - 1))) t in
-            let below = ltb-true n (first_step way + (way.done - 1)) r.1 in
-            let above : first_step way ≤ n = leb-true (first_step way) n r.0 in
+            let le = some way.done refl (was_done way n t) in
+            let r = and_parts (leb (first_step way) n) (ltb n (next_step (fewer way))) t in
+            let below = ltb-true n (next_step (fewer way)) r.1 in
             let is = eqb-true (last_step way) n here in
-            absurd (omega (arith, above, below, is)))
+            let same = short le in
+            omega arith)
 
         fewer_else : (b : Bool) → eqb (last_step way) n ≡ false → stands_done way n ≡ b → stands_done (fewer way) n ≡ stands_done way n
         fewer_else true other b =
             let r = and_parts (leb (first_step way) n) (ltb n (next_step way)) b in
             let below = ltb-true n (next_step way) r.1 in
             let apart : last_step way ≢ n = λ e. true≢false (sym (eq-eqb (last_step way) n e) ∙ other) in
-            let short : n < first_step way + (way.done - 1) = omega (arith, below, apart, leb-true (first_step way) n r.0) in
-            and_from (leb (first_step way) n) (ltb n (first_step way + (way.done - 1))) r.0 (lt-ltb n (first_step way + (way.done - 1)) short) ∙ sym b
+            let le = some way.done refl b in
+            let e : suc (next_place way - 1) ≡ next_place way = omega arith in
+            let is : next_step way ≡ step_at_place way (suc (next_place way - 1)) = ap (step_at_place way) (sym e) in
+            let less = by (one_on way (next_place way - 1)) (λ f. apart f) (subst (λ x. suc n ≤ x) is below) in
+            and_from (leb (first_step way) n) (ltb n (next_step (fewer way))) r.0 (lt-ltb n (next_step (fewer way)) (subst (λ x. suc n ≤ x) (sym (short le)) less)) ∙ sym b
+          where
+            by : OneOn (step_at_place way (suc (next_place way - 1))) (last_step way) (repeated_step way) → last_step way ≢ n
+                → suc n ≤ step_at_place way (suc (next_place way - 1)) → suc n ≤ last_step way
+            by (inl f) apart below = omega (arith, f, apart, below)
+            by (inr f) apart below = let g = f.0 in omega (arith, g, below)
         fewer_else false other b = false_from_ne_true (stands_done (fewer way) n) (λ t. true≢false (sym (was_done way n t) ∙ b)) ∙ sym b
 
         by : (t : Bool) → eqb (way.done - 1) 0 ≡ t → types_by v n ≡ cond (eqb (last_step way) n) way.before (types_by w n)
@@ -256,6 +277,43 @@ listed-same w v same types keyspace = rw (← same.source, ← same.target) refl
 switched-closed : (p : Plain) (w : Live) (way : Way) → closes way ≡ true → (live_stepped p w way).switched ≡ way.after
 switched-closed p w way t = ap (λ b. cond (b || eqb (next_step way) write_journal) way.after w.switched) t
 
+-- no entry changes with a refresh
+entry-once : (way : Way) (w : Live) (key : EntryKey) → step_of_entry w key ≢ repeated_step way
+entry-once way w key = cond-either (λ n. step_of_entry w key ≢ n) way.back refresh_source refresh_target (no_refresh key).0 (no_refresh key).1
+  where
+    either : (t : Bool) (a b n : ℕ) → a ≢ n → b ≢ n → cond t a b ≢ n
+    either true a b n e f = e
+    either false a b n e f = f
+
+    rules : (type : Option TabletType) → (rule_step type ≢ refresh_source) × (rule_step type ≢ refresh_target)
+    rules None = (λ e. absurd (omega arith), λ e. absurd (omega arith))
+    rules (Some Primary) = (λ e. absurd (omega arith), λ e. absurd (omega arith))
+    rules (Some Replica) = (λ e. absurd (omega arith), λ e. absurd (omega arith))
+    rules (Some Rdonly) = (λ e. absurd (omega arith), λ e. absurd (omega arith))
+
+    no_refresh : (k : EntryKey) → (step_of_entry w k ≢ refresh_source) × (step_of_entry w k ≢ refresh_target)
+    no_refresh (about.Rule k) = rules k.tablet_type
+    no_refresh (about.Denied keyspace table) = (
+      either (same_text (owner_by w (before_way w)) keyspace) deny_source allow_target refresh_source (λ e. absurd (omega arith)) (λ e. absurd (omega arith)),
+      either (same_text (owner_by w (before_way w)) keyspace) deny_source allow_target refresh_target (λ e. absurd (omega arith)) (λ e. absurd (omega arith)),
+    )
+    no_refresh (about.Present keyspace table) = (λ e. absurd (omega arith), λ e. absurd (omega arith))
+
+-- ---- the refreshes
+
+step_of_list-in : (w : Live) (keyspace : List ℕ) → (2 ≤ step_of_list w keyspace) × (step_of_list w keyspace ≤ 8)
+step_of_list-in w keyspace = cond-either (λ n. (2 ≤ n) × (n ≤ 8)) (same_text (owner_by w (before_way w)) keyspace) refresh_source refresh_target (omega arith, omega arith) (omega arith, omega arith)
+
+-- where the way closes they stand done, or it changes no writes
+closing-lists : (way : Way) (step : ℕ) → 1 ≤ step → step ≤ 8 → closes way ≡ true → (stands_done way step ≡ true) ⊎ (changes_primary way ≡ false)
+closing-lists way step some le closing = by (changes_primary way) refl (eqb-true (suc (next_step way)) (behind_last way) closing)
+  where
+    by : (t : Bool) → changes_primary way ≡ t → suc (next_step way) ≡ behind_last way → (stands_done way step ≡ true) ⊎ (changes_primary way ≡ false)
+    by false t last = inr t
+    by true t last =
+        let at : next_step way ≡ 11 = omega (arith, last ∙ ap (λ b. cond {A = ℕ} b 12 1) t) in
+        inl (done_by way step 11 at some (omega (arith, le)))
+
 before_opens : (w : Live) (way : Way) → w.way ≡ Some way → before_way w ≡ way.before
 before_opens w way opens = ap (λ o. option_map_or (λ (x : Way). x.before) o w.switched) opens
 
@@ -271,22 +329,68 @@ module _ (p : Plain) (w : Live) (way : Way) (opens : w.way ≡ Some way) where
   served-stepped u key =
       let n = step_of_entry w key in
       let at = types_by stepped (step_of_entry stepped key) in
-      let alike = stepped-alike w stepped way opens (way-stepped p w way) (switched-closed p w way) n (step_of_entry stepped key) (step_of_entry-le w key)
+      let alike = stepped-alike w stepped way opens (way-stepped p w way) (switched-closed p w way) n (step_of_entry stepped key) (step_of_entry-le w key) (entry-once way w key)
       (λ t. entry_step-same stepped w (sides-live_stepped p w way) (before-stepped t) key) in
       sym (serve-same u u w stepped at key (sides-live_stepped p w way) refl)
       ∙ serve-alike u w at _ key alike
       ∙ cond-ap (λ types. serve u w types key) (eqb (next_step way) n) way.after (types_by w n)
 
   pub refused-stepped : (keyspace : List ℕ) → refuses_by stepped keyspace ≡ list_stepped w way keyspace
-  refused-stepped keyspace =
-      let n = step_of_list w keyspace in
-      let at = types_by stepped (step_of_list stepped keyspace) in
-      let same = sides-live_stepped p w way in
-      let alike = stepped-alike w stepped way opens (way-stepped p w way) (switched-closed p w way) n (step_of_list stepped keyspace) (step_of_list-le w keyspace)
-      (λ t. list_step-same stepped w same (before-stepped t) keyspace) in
-      listed-same w stepped same at keyspace
-      ∙ listed-alike w at _ keyspace alike
-      ∙ cond-ap (λ types. is_listed_at w types keyspace) (eqb (next_step way) n) way.after (types_by w n)
+  refused-stepped keyspace = listed-same w stepped (sides-live_stepped p w way) (types_by stepped m) keyspace ∙ by (closes way) refl
+    where
+      n : ℕ
+      n = step_of_list w keyspace
+
+      m : ℕ
+      m = step_of_list stepped keyspace
+
+      place : ℕ
+      place = last_place_of way n
+
+      some : 1 ≤ n
+      some = let low = (step_of_list-in w keyspace).0 in omega (arith, low)
+
+      was : types_by w n ≡ at_way way (stands_done way n)
+      was = ap (λ o. types_by_way w.switched o n) opens
+
+      -- what the law says, by its test
+      said : (b : Bool) → eqb (next_place way) place ≡ b → (x : TypeSet) → (b ≡ true → x ≡ way.after) → (b ≡ false → is_listed_at w x keyspace ≡ refuses_by w keyspace) → is_listed_at w x keyspace ≡ list_stepped w way keyspace
+      said true b x here there = ap (λ y. is_listed_at w y keyspace) (here refl) ∙ sym (ap (λ y. cond y (is_listed_at w way.after keyspace) (refuses_by w keyspace)) b)
+      said false b x here there = there refl ∙ sym (ap (λ y. cond y (is_listed_at w way.after keyspace) (refuses_by w keyspace)) b)
+
+      by : (t : Bool) → closes way ≡ t → is_listed_at w (types_by stepped m) keyspace ≡ list_stepped w way keyspace
+      by true t =
+          let now : types_by stepped m ≡ way.after = ap (λ o. types_by_way stepped.switched o m) (ap (λ b. cond b None (Some (more way))) t) ∙ switched-closed p w way t in
+          ap (λ y. is_listed_at w y keyspace) now
+          ∙ said (eqb (next_place way) place) refl way.after (λ e. refl) (λ e. last (closing-lists way n some (step_of_list-in w keyspace).1 t))
+        where
+          last : (stands_done way n ≡ true) ⊎ (changes_primary way ≡ false) → is_listed_at w way.after keyspace ≡ refuses_by w keyspace
+          last (inl done) = ap (λ y. is_listed_at w y keyspace) (sym (was ∙ ap (at_way way) done))
+          last (inr none) =
+              ap (λ d. (same_text w.source keyspace || same_text w.target keyspace) && d) (denied-alike w way.after (types_by w n) keyspace (sym (ap (λ (y : TypeSet). y.primary) was ∙ primaries (stands_done way n))))
+            where
+              primaries : (b : Bool) → (at_way way b).primary ≡ way.after.primary
+              primaries true = refl
+              primaries false = sym (differ-false way.before.primary way.after.primary none)
+      by false t =
+          let going : stepped.way ≡ Some (more way) = ap (λ b. cond b None (Some (more way))) t in
+          let now : types_by stepped m ≡ at_way way (stands_done (more way) n) =
+          ap (types_by stepped) (list_step-same stepped w (sides-live_stepped p w way) (before-stepped t) keyspace)
+          ∙ ap (λ o. types_by_way stepped.switched o n) going in
+          ap (λ y. is_listed_at w y keyspace) now
+          ∙ said (eqb (next_place way) place) refl (at_way way (stands_done (more way) n))
+          (λ e. let here = eqb-true (next_place way) place e in ap (at_way way) (done_at (more way) n some ∙ lt-ltb place (next_place (more way)) (omega arith)))
+          (λ e. ap (λ y. is_listed_at w y keyspace) (ap (at_way way) (same e) ∙ sym was))
+        where
+          same : eqb (next_place way) place ≡ false → stands_done (more way) n ≡ stands_done way n
+          same other =
+              done_at (more way) n some
+              ∙ both_ways (ltb place (next_place (more way))) (ltb place (next_place way))
+              (λ h. let lt = ltb-true place (next_place (more way)) h in
+              let ne : next_place way ≢ place = λ is. true≢false (sym (eq-eqb (next_place way) place is) ∙ other) in
+              lt-ltb place (next_place way) (omega arith))
+              (λ h. let lt = ltb-true place (next_place way) h in lt-ltb place (next_place (more way)) (omega arith))
+              ∙ sym (done_at way n some)
 
 -- ---- an undo
 
@@ -317,8 +421,61 @@ module _ (w : Live) (way : Way) (opens : w.way ≡ Some way) (settled : w.switch
 
   pub refused-undone : (keyspace : List ℕ) → refuses_by undone keyspace ≡ list_undone w way keyspace
   refused-undone keyspace =
-      let n = step_of_list w keyspace in
       listed-same w undone (sides-undone w way) (types_by undone (step_of_list undone keyspace)) keyspace
       ∙ ap (λ m. is_listed_at w (types_by undone m) keyspace) (list_step-same undone w (sides-undone w way) before-undone keyspace)
-      ∙ ap (λ types. is_listed_at w types keyspace) (types-undone n)
-      ∙ cond-ap (λ types. is_listed_at w types keyspace) (eqb (last_step way) n) way.before (types_by w n)
+      ∙ ap (λ y. is_listed_at w y keyspace) (by (eqb (way.done - 1) 0) refl)
+      ∙ cond-ap (λ y. is_listed_at w y keyspace) (eqb (next_place way) (suc place)) way.before (types_by w n)
+    where
+      n : ℕ
+      n = step_of_list w keyspace
+
+      place : ℕ
+      place = last_place_of way n
+
+      some : 1 ≤ n
+      some = let low = (step_of_list-in w keyspace).0 in omega (arith, low)
+
+      was : types_by w n ≡ at_way way (stands_done way n)
+      was = ap (λ o. types_by_way w.switched o n) opens
+
+      said : (b : Bool) → eqb (next_place way) (suc place) ≡ b → (x : TypeSet) → (b ≡ true → x ≡ way.before) → (b ≡ false → x ≡ types_by w n) → x ≡ cond (eqb (next_place way) (suc place)) way.before (types_by w n)
+      said true b x here there = here refl ∙ sym (ap (λ y. cond y way.before (types_by w n)) b)
+      said false b x here there = there refl ∙ sym (ap (λ y. cond y way.before (types_by w n)) b)
+
+      by : (t : Bool) → eqb (way.done - 1) 0 ≡ t → types_by undone n ≡ cond (eqb (next_place way) (suc place)) way.before (types_by w n)
+      by true t =
+          ap (λ o. types_by_way undone.switched o n) (ap (λ b. cond b None (Some (fewer way))) t) ∙ settled
+          ∙ said (eqb (next_place way) (suc place)) refl way.before (λ e. refl) (λ e. sym (was ∙ ap (at_way way) none))
+        where
+          none : stands_done way n ≡ false
+          none =
+              done_at way n some
+              ∙ false_from_ne_true (ltb place (next_place way)) (λ h.
+              let lt = ltb-true place (next_place way) h in
+              let few = eqb-true (way.done - 1) 0 t in
+              let low = first_step-le way in
+              let ge = last-ge way n in
+              let two = (step_of_list-in w keyspace).0 in
+              absurd (omega arith))
+      by false t =
+          ap (λ o. types_by_way undone.switched o n) (ap (λ b. cond b None (Some (fewer way))) t)
+          ∙ said (eqb (next_place way) (suc place)) refl (at_way way (stands_done (fewer way) n)) (λ e. ap (at_way way) (gone e)) (λ e. ap (at_way way) (same e) ∙ sym was)
+        where
+          gone : eqb (next_place way) (suc place) ≡ true → stands_done (fewer way) n ≡ false
+          gone e = let is = eqb-true (next_place way) (suc place) e in
+              done_at (fewer way) n some
+              ∙ false_from_ne_true (ltb place (next_place (fewer way))) (λ h. let lt = ltb-true place (next_place (fewer way)) h in let left = some_left way.done refl in absurd (omega arith))
+            where
+              some_left : (d : ℕ) → way.done ≡ d → 1 ≤ way.done
+              some_left zero e = absurd (true≢false (sym (ap (λ d. eqb (d - 1) 0) e) ∙ t))
+              some_left (suc d) e = omega arith
+
+          same : eqb (next_place way) (suc place) ≡ false → stands_done (fewer way) n ≡ stands_done way n
+          same other =
+              done_at (fewer way) n some
+              ∙ both_ways (ltb place (next_place (fewer way))) (ltb place (next_place way))
+              (λ h. let lt = ltb-true place (next_place (fewer way)) h in lt-ltb place (next_place way) (omega arith))
+              (λ h. let lt = ltb-true place (next_place way) h in
+              let ne : next_place way ≢ suc place = λ is. true≢false (sym (eq-eqb (next_place way) (suc place) is) ∙ other) in
+              lt-ltb place (next_place (fewer way)) (omega arith))
+              ∙ sym (done_at way n some)

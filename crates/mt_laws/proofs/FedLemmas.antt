@@ -7,7 +7,7 @@ use Rattle.mt_plain.specs.Answers.{Answers}
 use Rattle.mt_plain.specs.Events.{Event, write, StreamName, forward, back, Answer, done, Way}
 use Rattle.mt_plain.specs.Next.{next}
 use Rattle.mt_plain.specs.Plain.{Live, Plain, catch_up, changes_primary, create_back, is_side, moves, number_of, owner, refresh_target, stands_done, write_journal}
-use Rattle.mt_plain.specs.Slots.{is_fresh, log_length, read_side}
+use Rattle.mt_plain.specs.Slots.{is_fresh, log_length, read_side, is_feeding}
 use Rattle.mt_plain.specs.Writes.{writes_to}
 use Rattle.mt_laws.specs.Changes.{HasSides}
 use Rattle.mt_laws.specs.WayBack.{IsReached, ends_workflow}
@@ -111,8 +111,10 @@ module _ (p : Plain) (reached : IsReached p) (w : Live) (in_it : IsIn w p.lives)
           omega arith
 
       by : (b : Bool) → way.back ≡ b → w.fresh_at ≤ log_length p (side_by w (not b))
-      by true b = new forward (rw (changes, b, created) refl)
-      by false b = new back (rw (changes, b, created) refl)
+      by true b =
+          new forward (and_from (changes_primary way && not (is_feeding way forward)) (stands_done way create_back) (and_from (changes_primary way) (not (is_feeding way forward)) changes (ap (λ x. not (not x)) b)) created)
+      by false b =
+          new back (and_from (changes_primary way && not (is_feeding way back)) (stands_done way create_back) (and_from (changes_primary way) (not (is_feeding way back)) changes (ap not b)) created)
 
   here_owner : (keyspace : List ℕ) → owner w ≡ keyspace → IsWrittenAt p w keyspace
   here_owner keyspace is k t op given moved side = writes_at_the_owner p reached t w (found p reached w in_it t moved) k side op given ∙ is

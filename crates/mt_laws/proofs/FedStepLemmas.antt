@@ -202,7 +202,7 @@ module _ (p : Plain) (w : Live) (way : Way) (opens : w.way ≡ Some way) (is : I
 
 module _ (p : Plain) (w : Live) (is : IsFed p w) (at_rest : w.way ≡ None) (backward : Bool) (change : TypeSet → TypeSet) where
   abbrev first : Way
-  first = record { back = backward; before = w.switched; after = change w.switched; done = 0; undoing = false }
+  first = record { back = backward; shards = 1; before = w.switched; after = change w.switched; done = 0; undoing = false }
 
   nothing_done : (n : ℕ) → stands_done first (suc n) ≡ true → ⊥
   nothing_done n e = true≢false (sym e ∙ none_done first n refl)

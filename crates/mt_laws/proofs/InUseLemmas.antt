@@ -1,5 +1,5 @@
 -- A stream that isn't frozen goes on from where it stood, or begins at the end of its log.
-use Rattle.std.proofs.Common.{◌≡◌, ◌≢◌, ℕ, ◌-◌, ◌≤◌, Bool, true, false, not, cond, eqb, List, Option, None, Some, option_map, refl, sym, ap, ◌∙◌, subst, arith, eqb-true}
+use Rattle.std.proofs.Common.{◌≡◌, ◌≢◌, ℕ, ◌≤◌, Bool, true, false, not, cond, eqb, List, Option, None, Some, option_map, refl, sym, ap, ◌∙◌, subst, arith, eqb-true}
 use Rattle.std.proofs.lemmas.Bool.{true≢false}
 use Rattle.std.specs.Option.{option_map_or}
 use Rattle.mt_names.specs.declared.types.TypeSet.{TypeSet}
@@ -8,11 +8,11 @@ use Rattle.mt_names.proofs.SameLemmas.{same_text_decides}
 use Rattle.mt_plain.specs.Answers.{Answers}
 use Rattle.mt_plain.specs.Events.{Event, begin_switch, begin_reverse, show, StreamName, forward, back, StreamState, running, stopped, frozen, Slot, Answer, Way}
 use Rattle.mt_plain.specs.Next.{live_stepped, live_undone, next, types_and, types_without, with_way_to}
-use Rattle.mt_plain.specs.Plain.{Live, Plain, before_way, behind_last, changes_primary, create_back, each_once, freeze_old, live_at, next_step, stands_done, start_back, stop_feeding, write_journal}
+use Rattle.mt_plain.specs.Plain.{Live, Plain, before_way, behind_last, changes_primary, create_back, each_once, freeze_old, live_at, next_step, stands_done, start_back, stop_feeding, write_journal, last_step}
 use Rattle.mt_plain.specs.Refuse.{new_owner}
 use Rattle.mt_plain.specs.Slots.{is_feeding, live_advanced, log_length, read_side, slot_at_rest, slot_before_way, slot_by_way, slot_of}
 use Rattle.mt_laws.specs.Changes.{HasSides}
-use Rattle.mt_laws.specs.Effects.{feeding_stepped, in_state, last_step, other_stepped}
+use Rattle.mt_laws.specs.Effects.{feeding_stepped, in_state, other_stepped}
 use Rattle.mt_laws.specs.InUse.{StreamGoesOn, from_before, from_the_end}
 use Rattle.mt_laws.specs.Reached.{IsOnCourse}
 use Rattle.mt_laws.specs.WayBack.{IsReached}
@@ -30,7 +30,7 @@ use Rattle.mt_laws.proofs.StreamEffectLemmas.{slot-stepped, slot-undone}
 use Rattle.mt_laws.proofs.StreamLemmas.{read_by_other, reached_turned}
 use Rattle.mt_laws.proofs.UntouchedLemmas.{traffic-advanced}
 use Rattle.mt_laws.proofs.WayLemmas.{undo_before_journal}
-use Rattle.mt_laws.proofs.WayStepLemmas.{done_by}
+use Rattle.mt_laws.proofs.WayStepLemmas.{done_by, last-le}
 
 -- where a stream comes from, by the workflow before the event
 data ComesOf (p : Plain) (w : Live) (stream : StreamName) (b : Slot) : Type 0 where
@@ -81,7 +81,7 @@ begun_states w backward change rests stream =
     ∙ sym (ap (λ o. state_of_slot (slot_by_way w o stream)) rests)
   where
     way : Way
-    way = record { back = backward; before = w.switched; after = change w.switched; done = 0; undoing = false }
+    way = record { back = backward; shards = 1; before = w.switched; after = change w.switched; done = 0; undoing = false }
 
     v : Live
     v = with_way_to backward change w
@@ -221,13 +221,15 @@ module _ (p : Plain) (reached : IsReached p) (w : Live) (in_it : IsIn w p.lives)
 
     feeding_on_undo : is_feeding way stream ≡ true → (stops : Bool) → eqb (last_step way) stop_feeding ≡ stops → cond stops (in_state running slot) slot ≡ Some b → ComesOf p w stream b
     feeding_on_undo f true n e =
-        let is : next_step way - 1 ≡ 4 = eqb-true (next_step way - 1) 4 n in
+        let is : last_step way ≡ 4 = eqb-true (last_step way) 4 n in
+        let le = last-le way in
         in_another p w stream b running (slot_of w stream) refl e (feeding_in_use (omega arith) f)
     feeding_on_undo f false n e = as_it_was p w stream b e used
 
     other_on_undo : is_feeding way stream ≡ false → (creates : Bool) → eqb (last_step way) create_back ≡ creates → cond creates (slot_before_way w stream) slot ≡ Some b → ComesOf p w stream b
     other_on_undo f true n e =
-        let is : next_step way - 1 ≡ 5 = eqb-true (next_step way - 1) 5 n in
+        let is : last_step way ≡ 5 = eqb-true (last_step way) 5 n in
+        let le = last-le way in
         let changes = changes_by (omega arith) in
         absurd (used (unused_before w way opens (turned_if changes) changes stream f b e))
     other_on_undo f false n e = as_it_was p w stream b e used

@@ -25,7 +25,7 @@ use Rattle.mt_laws.proofs.StepUndoneLemmas.{at_way_stepped, one_more}
 use Rattle.mt_laws.proofs.TrafficLemmas.{begin_ends_nothing, begin_rests, not_ended_open, open_now, way_at}
 use Rattle.mt_laws.proofs.UntouchedLemmas.{same_journal, traffic-advanced}
 use Rattle.mt_laws.proofs.WayBackLemmas.{one_event}
-use Rattle.mt_laws.proofs.WayLemmas.{undo_before_journal}
+use Rattle.mt_laws.proofs.WayLemmas.{undo_before_journal, journal_once}
 use Rattle.mt_laws.proofs.WayStepLemmas.{more, no_way, now_done, still_done, way-stepped, way_holds, way_holds-by}
 
 -- ---- behind the journal a way stays behind it as long as it is open
@@ -67,7 +67,7 @@ journal_next p (step workflow at) done name w way live opens writes v later now 
     let is : v ≡ live_stepped p w way =
     live_after p (next p (step workflow at) done) (step workflow at) done (lives_after p (step workflow at) done) name w v live now
     ∙ at_way_stepped p w workflow way here opens in
-    subst PastWay (sym (one_more (closes way) v.way way later (ap (λ x. x.way) is ∙ way-stepped p w way) goes_on)) (now_done way write_journal (omega arith) journal)
+    subst PastWay (sym (one_more (closes way) v.way way later (ap (λ x. x.way) is ∙ way-stepped p w way) goes_on)) (now_done way write_journal (omega arith) (journal_once way) journal)
 journal_next p event answer name w way live opens writes v later now goes_on = absurd (true≢false (sym writes))
 
 -- ---- a way that an undo closes was never behind it

@@ -1,6 +1,9 @@
 -- What is owed to the live workflows: an undo and a Cancel take from it, and no event adds more than one.
 use Rattle.std.proofs.Common.{◌≡◌, ◌≢◌, inl, inr, ℕ, suc, ◌+◌, ◌-◌, ◌*◌, ◌≤◌, max, Bool, true, false, not, cond, eqb, leb, ltb, fold, length, List, [], ◌∷◌, map, filter, Option, None, Some, refl, sym, ap, ◌∙◌, subst, arith, length-append}
-use Rattle.std.proofs.lemmas.Bool.{true≢false, and_from, le-leb, leb-false, lt-ltb}
+use Rattle.mt_plain.proofs.PlaceLemmas.{one-next}
+use Rattle.mt_laws.proofs.OpenWayLemmas.{reached_one_shard}
+use Rattle.mt_laws.proofs.StepCountLemmas.{few_done}
+use Rattle.std.proofs.lemmas.Bool.{true≢false, leb-false}
 use Rattle.std.proofs.lemmas.List.{length-map}
 use Rattle.std.proofs.lemmas.List.Sums.{sum_by-cons, sum_by_push}
 use Rattle.std.specs.Option.{option_map_or}
@@ -11,7 +14,7 @@ use Rattle.mt_model.specs.Limits.{most_rules, most_tables_in_keyspace}
 use Rattle.mt_plain.specs.Answers.{Answers}
 use Rattle.mt_plain.specs.Events.{Event, create, begin_switch, begin_reverse, step, undo, cancel, Answer, done, Way}
 use Rattle.mt_plain.specs.Next.{closes, live_stepped, live_undone, next, types_and, types_without, with_way_to}
-use Rattle.mt_plain.specs.Plain.{Live, Plain, each_once, first_step, live_at, stands_done, twelve_keys, write_journal}
+use Rattle.mt_plain.specs.Plain.{Live, Plain, each_once, live_at, stands_done, twelve_keys, write_journal}
 use Rattle.mt_plain.specs.Refuse.{cancel_refusal, keys_without_rule, most_workflows, owed, owed_by, refusal_of, rule_count, table_count, undo_refusal}
 use Rattle.mt_laws.specs.Changes.{ChangesWay, IsOf}
 use Rattle.mt_laws.specs.WayBack.{IsReached}
@@ -25,7 +28,7 @@ use Rattle.mt_laws.proofs.RefusalLemmas.{in_workflow-none}
 use Rattle.mt_laws.proofs.StepUndoneLemmas.{at_way_undone, undo_way}
 use Rattle.mt_laws.proofs.UntouchedLemmas.{next_elsewhere, same_traffic, traffic-advanced}
 use Rattle.mt_laws.proofs.WayLemmas.{undo_before_journal}
-use Rattle.mt_laws.proofs.WayStepLemmas.{fewer, first_step-le, more, not_before, way-stepped, way-undone}
+use Rattle.mt_laws.proofs.WayStepLemmas.{fewer, more, not_before, way-stepped, way-undone}
 
 -- ---- sums over live workflows
 
@@ -232,26 +235,23 @@ owed_by_cancel p reached name given =
 
 -- ---- how much is owed at most
 
-most_owed : (w : Live) → owed_by w ≤ 7
-most_owed w = by w.way
+most_owed : (w : Live) → ((way : Way) → w.way ≡ Some way → way.shards ≡ 1) → owed_by w ≤ 7
+most_owed w has = by w.way refl
   where
-    open_most : (way : Way) (t : Bool) → stands_done way write_journal ≡ t → 1 + cond t 0 (max 1 way.done) ≤ 7
-    open_most way true e = omega arith
-    open_most way false e =
-        let first = first_step-le way in
-        let few : 7 ≤ way.done → ⊥ = λ le. true≢false (sym (and_from (leb (first_step way) 6) (ltb 6 (first_step way + way.done)) (le-leb (first_step way) 6 (omega arith)) (lt-ltb 6 (first_step way + way.done) (omega arith))) ∙ e) in
-        by_size way.done few
+    open_most : (way : Way) → way.shards ≡ 1 → (t : Bool) → stands_done way write_journal ≡ t → 1 + cond t 0 (max 1 way.done) ≤ 7
+    open_most way one true e = omega arith
+    open_most way one false e = let few = few_done way e in let is = one-next way (omega arith) in by_size way.done (omega arith)
       where
-        by_size : (n : ℕ) → (7 ≤ n → ⊥) → 1 + max 1 n ≤ 7
-        by_size n few = omega (arith, few)
+        by_size : (n : ℕ) → n ≤ 6 → 1 + max 1 n ≤ 7
+        by_size n few = omega arith
 
-    by : (o : Option Way) → 1 + owed_way o ≤ 7
-    by None = omega arith
-    by (Some way) = open_most way (stands_done way write_journal) refl
+    by : (o : Option Way) → w.way ≡ o → 1 + owed_way o ≤ 7
+    by None e = omega arith
+    by (Some way) e = open_most way (has way e) (stands_done way write_journal) refl
 
-sum_most : (f : Live → ℕ) → ((w : Live) → f w ≤ 7) → (xs : List Live) → sum_by f xs ≤ 7 * length xs
-sum_most f each [] = omega arith
-sum_most f each (x ∷ xs) = let a = sum_by-cons f x xs in let b = sum_most f each xs in let c = each x in omega (arith, a, b, c)
+sum_most : (f : Live → ℕ) (xs : List Live) → ((w : Live) → IsIn w xs → f w ≤ 7) → sum_by f xs ≤ 7 * length xs
+sum_most f [] each = omega arith
+sum_most f (x ∷ xs) each = let a = sum_by-cons f x xs in let b = sum_most f xs (λ w is. each w (inr is)) in let c = each x (inl refl) in omega (arith, a, b, c)
 
 -- 16 workflows are live at most
 abbrev AreFew : Plain → Type 0
@@ -301,7 +301,7 @@ few_next p event answer given few = by_taken (taken_or_same p event answer given
 pub owed_bounded : (p : Plain) → IsReached p → owed p ≤ 7 * most_workflows
 owed_bounded p reached =
     bound (length p.lives) (sum_by owed_by p.lives)
-    (reached_holds AreFew few_next (λ scopes. none_live) p reached) (sum_most owed_by most_owed p.lives)
+    (reached_holds AreFew few_next (λ scopes. none_live) p reached) (sum_most owed_by p.lives (λ w is. most_owed w (reached_one_shard p reached w is)))
   where
     none_live : 0 ≤ 16
     none_live = omega arith

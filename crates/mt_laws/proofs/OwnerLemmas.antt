@@ -56,7 +56,7 @@ begin_journaled backward change w =
     way_holds (Journaled w) (with_way_to backward change w) way refl (λ e. absurd (true≢false (sym e ∙ none_done way 5 refl)))
   where
     way : Way
-    way = record { back = backward; before = w.switched; after = change w.switched; done = 0; undoing = false }
+    way = record { back = backward; shards = 1; before = w.switched; after = change w.switched; done = 0; undoing = false }
 
 journaled_kept : (p : Plain) (event : Event) (w : Live) → IsJournaled w → Keeps IsJournaled p event w
 journaled_kept p event w holds = record {

@@ -227,7 +227,7 @@ begin_position w backward change name =
     ∙ rest_same w (with_way_to backward change w) refl refl name
   where
     way : Way
-    way = record { back = backward; before = w.switched; after = change w.switched; done = 0; undoing = false }
+    way = record { back = backward; shards = 1; before = w.switched; after = change w.switched; done = 0; undoing = false }
 
 -- ---- an advance
 

@@ -50,7 +50,7 @@ reached1 : IsReached p1
 reached1 = record { scopes = scopes; events = events; answers = answers; run = run; is = refl }
 
 abbrev way1 : Way
-way1 = record { back = false; before = no_types; after = all; done = 0; undoing = false }
+way1 = record { back = false; shards = 1; before = no_types; after = all; done = 0; undoing = false }
 
 abbrev live1 : Live
 live1 = record { name = name; source = codes "a"; target = codes "b"; tables = codes "t" ∷ []; switched = no_types; way = Some way1; fed = 1; copied = ended; forward_at = 1; back_at = 0; fresh_at = 0 }

@@ -12,7 +12,7 @@ use Rattle.mt_model.specs.Topology.{TopologyState, value_of}
 use Rattle.mt_plain.specs.Answers.{Answers, Run, after, reply_of}
 use Rattle.mt_plain.specs.Events.{Event, begin_switch, begin_reverse, step, undo, cancel, complete, StreamName, forward, back, StreamState, running, stopped, Slot, Answer, done, row, advanced, shown, refused, Way, past_journal, stale, undoing}
 use Rattle.mt_plain.specs.Next.{after_advance, closes, live_stepped, live_undone, next, on_way_of}
-use Rattle.mt_plain.specs.Plain.{Live, Plain, allow_target, before_way, changes_primary, create_back, deny_source, first_step, has_part, is_side, live_at, mover, moves, next_step, owner_by, refresh_source, refresh_target, stands_done, start_back, stop_feeding, write_journal}
+use Rattle.mt_plain.specs.Plain.{Live, Plain, allow_target, before_way, changes_primary, create_back, deny_source, first_step, has_part, is_side, live_at, mover, moves, next_step, owner_by, refresh_source, refresh_target, stands_done, start_back, stop_feeding, write_journal, step_at_place}
 use Rattle.mt_plain.specs.Refuse.{or_else, own_refusal, refuse_if, step_refusal, undo_refusal}
 use Rattle.mt_plain.specs.Serve.{is_denied_at, owned_before, refuses, serve, served_by, served_entry, step_of_entry, types_by}
 use Rattle.mt_plain.specs.Slots.{is_feeding, slot_at_rest, slot_before_way, slot_by_way, slot_of}
@@ -29,7 +29,7 @@ use Rattle.mt_laws.proofs.TrafficLemmas.{serve-same}
 use Rattle.mt_laws.proofs.UntouchedLemmas.{same_way, same_workflow}
 use Rattle.mt_laws.proofs.WayBackLemmas.{has_part-same, in_part-of, one_event, owner_of_part}
 use Rattle.mt_laws.proofs.WayLemmas.{undo_before_journal}
-use Rattle.mt_laws.proofs.WayStepLemmas.{fewer, more, no_way, one_way, way-stepped}
+use Rattle.mt_laws.proofs.WayStepLemmas.{fewer, more, no_way, one_way, way-stepped, at_first}
 use Rattle.mt_laws.proofs.WritableLemmas.{before_by}
 
 -- ---- what is served and refused follows from the types from before the way, and those at each step
@@ -80,14 +80,15 @@ module _ (w v : Live) (sides : HasSides w v) (same : SameTraffic w v) where
 pub nothing_done : (way : Way) (n : ℕ) → way.done ≡ 0 → stands_done way n ≡ false
 nothing_done way n none =
     false_from_ne_true (stands_done way n)
-    (λ t. let r = and_parts (leb (first_step way) n) (ltb n (first_step way + way.done)) t in
+    (λ t. let r = and_parts (leb (first_step way) n) (ltb n (next_step way)) t in
     let le = leb-true (first_step way) n r.0 in
-    let lt = ltb-true n (first_step way + way.done) r.1 in
+    let lt = ltb-true n (next_step way) r.1 in
+    let is = at_first way none in
     absurd (omega arith))
 
 -- the same steps stand done
 same_steps : (way : Way) (n : ℕ) → stands_done (fewer (more way)) n ≡ stands_done way n
-same_steps way n = let e : suc way.done - 1 ≡ way.done = omega arith in ap (λ d. leb (first_step way) n && ltb n (first_step way + d)) e
+same_steps way n = let e : suc way.done - 1 ≡ way.done = omega arith in ap (λ d. leb (first_step way) n && ltb n (step_at_place way (first_step way + d))) e
 
 -- what a stream does on a way, by whether the way changes writes and feeds by it, and whether its feeding is stopped, a new one made, and
 -- that started

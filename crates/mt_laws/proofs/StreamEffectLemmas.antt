@@ -1,18 +1,21 @@
 -- What a step and an undo change of a workflow's streams.
-use Rattle.std.proofs.Common.{◌≡◌, ◌≢◌, ℕ, suc, ◌-◌, ◌<◌, ◌≤◌, Bool, true, false, not, cond, eqb, Option, None, Some, option_map, refl, sym, ap, ◌∙◌, arith, eqb-true}
-use Rattle.std.proofs.lemmas.Bool.{true≢false, eq-eqb, false_from_ne_true}
+use Rattle.std.proofs.Common.{◌≡◌, ◌≢◌, ℕ, suc, ◌-◌, ◌<◌, ◌≤◌, Bool, true, false, not, cond, eqb, Option, None, Some, option_map, refl, sym, ap, ◌∙◌, arith, eqb-true, inl, inr, subst, leb, ◌+◌, ltb, ltb-true, lt-ltb}
+use Rattle.std.specs.Cmp.{both_ways}
+use Rattle.mt_plain.proofs.PlaceLemmas.{step-behind, step-first}
+use Rattle.mt_laws.proofs.ListLemmas.{cond-either}
+use Rattle.std.proofs.lemmas.Bool.{true≢false, eq-eqb, false_from_ne_true, leb-true, leb-false, and_parts, and_from}
 use Rattle.std.specs.Option.{option_map_or}
 use Rattle.std.specs.Prelude.{◌&&◌, ◌||◌}
 use Rattle.mt_names.specs.declared.types.TypeSet.{TypeSet}
 use Rattle.mt_plain.specs.Events.{StreamName, forward, back, running, stopped, frozen, Slot, Way}
 use Rattle.mt_plain.specs.Next.{closes, live_stepped, live_undone}
-use Rattle.mt_plain.specs.Plain.{Live, Plain, before_way, behind_last, changes_primary, create_back, differ, freeze_old, next_step, stands_done, start_back, stop_feeding, write_journal}
+use Rattle.mt_plain.specs.Plain.{Live, Plain, before_way, behind_last, changes_primary, create_back, differ, freeze_old, next_step, stands_done, start_back, stop_feeding, write_journal, last_step, next_place, repeated_step, step_at_place, first_step}
 use Rattle.mt_plain.specs.Refuse.{new_owner}
 use Rattle.mt_plain.specs.Slots.{is_feeding, log_length, slot_before_way, slot_by_way, slot_of}
-use Rattle.mt_laws.specs.Effects.{feeding_stepped, in_state, last_step, other_stepped, slot_stepped, slot_undone}
+use Rattle.mt_laws.specs.Effects.{feeding_stepped, in_state, other_stepped, slot_stepped, slot_undone}
 use Rattle.mt_laws.proofs.EffectLemmas.{differ-false}
 use Rattle.mt_laws.proofs.StepCountLemmas.{few_done}
-use Rattle.mt_laws.proofs.WayStepLemmas.{done_by, fewer, first_step-le, more, same_done, undone_by}
+use Rattle.mt_laws.proofs.WayStepLemmas.{done_by, fewer, first_step-le, more, same_done, undone_by, OneOn, fewer-le, next_on, one_on, repeated-ge, was_done}
 
 -- ---- a slot, by what it hangs on
 
@@ -150,12 +153,20 @@ module _ (p : Plain) (w : Live) (way : Way) (name : StreamName) (opens : w.way �
     open_at : next_step way ≢ 11 → closes way ≡ false
     open_at apart = false_from_ne_true (closes way) (λ t. let e = eqb-true (suc (next_step way)) (behind_last way) t in let f = last in absurd (apart (omega arith)))
 
-    further : (n : ℕ) → next_step way ≡ n → next_step (more way) ≡ suc n
-    further n is = omega (arith, is)
+    -- a step that is not repeated leads to the next number
+    further : (n : ℕ) → n ≢ repeated_step way → next_step way ≡ n → next_step (more way) ≡ suc n
+    further n once is = by (next_on way)
+      where
+        by : OneOn (next_step (more way)) (next_step way) (repeated_step way) → next_step (more way) ≡ suc n
+        by (inl e) = omega arith
+        by (inr e) = absurd (once (sym is ∙ e.1))
+
+    once : (n : ℕ) → n ≢ 2 → n ≢ 8 → n ≢ repeated_step way
+    once n a b = cond-either (λ m. n ≢ m) way.back 2 8 a b
 
     stops : next_step way ≡ 4 → Stepped
     stops is =
-        let e = further 4 is in
+        let e = further 4 (once 4 (λ x. absurd (omega arith)) (λ x. absurd (omega arith))) is in
         by_number 4 is (now false (ap (λ n. eqb n create_back) is) (open_at (λ x. absurd (omega arith))) true false false
         (done_by (more way) stop_feeding 5 e (omega arith) (omega arith)) (undone_by (more way) create_back 5 e (omega arith)) (undone_by (more way) start_back 5 e (omega arith))
         ∙ by (is_feeding way name) rests
@@ -168,7 +179,7 @@ module _ (p : Plain) (w : Live) (way : Way) (name : StreamName) (opens : w.way �
 
     creates : next_step way ≡ 5 → Stepped
     creates is =
-        let e = further 5 is in
+        let e = further 5 (once 5 (λ x. absurd (omega arith)) (λ x. absurd (omega arith))) is in
         by_number 5 is (now true (ap (λ n. eqb n create_back) is) (open_at (λ x. absurd (omega arith))) true true false
         (done_by (more way) stop_feeding 6 e (omega arith) (omega arith)) (done_by (more way) create_back 6 e (omega arith) (omega arith)) (undone_by (more way) start_back 6 e (omega arith))
         ∙ by (is_feeding way name) rests
@@ -180,7 +191,7 @@ module _ (p : Plain) (w : Live) (way : Way) (name : StreamName) (opens : w.way �
 
     starts : next_step way ≡ 10 → Stepped
     starts is =
-        let e = further 10 is in
+        let e = further 10 (once 10 (λ x. absurd (omega arith)) (λ x. absurd (omega arith))) is in
         by_number 10 is (now false (ap (λ n. eqb n create_back) is) (open_at (λ x. absurd (omega arith))) true true true
         (done_by (more way) stop_feeding 11 e (omega arith) (omega arith)) (done_by (more way) create_back 11 e (omega arith) (omega arith)) (done_by (more way) start_back 11 e (omega arith) (omega arith))
         ∙ by (is_feeding way name) rests
@@ -284,9 +295,6 @@ module _ (w : Live) (way : Way) (name : StreamName) (opens : w.way ≡ Some way)
   saved_is : saved ≡ stood
   saved_is = before-rest w way.before.primary name (ap (λ o. (option_map_or (λ (x : Way). x.before) o w.switched).primary) opens)
 
-  at_undone : (b : Bool) → eqb (way.done - 1) 0 ≡ b → undone ≡ record w { way = cond b None (Some (fewer way)) }
-  at_undone b e = ap (λ t. record w { way = cond t None (Some (fewer way)) }) e
-
   none_started : stands_done way start_back ≡ false
   none_started = undone_by way start_back (next_step way) refl (omega (arith, few))
 
@@ -315,13 +323,20 @@ module _ (w : Live) (way : Way) (name : StreamName) (opens : w.way ≡ Some way)
 
   -- the way is closed: no step of streams stood done
   closed : eqb (way.done - 1) 0 ≡ true → Undone
-  closed t = behind ∙ sym (other_step (not_number 4 (λ e. absurd (omega (arith, e, none)))) (not_number 5 (λ e. absurd (omega (arith, e, none)))) ∙ here)
+  closed t = behind ∙ sym (other_step (not_number 4 (λ e. absurd (omega (arith, e, last_is)))) (not_number 5 (λ e. absurd (omega (arith, e, last_is)))) ∙ here)
     where
       none : next_step way ≤ 2
-      none = let first = first_step-le way in omega (arith, first, eqb-true (way.done - 1) 0 t)
+      none =
+          let first = first_step-le way in let few_left = eqb-true (way.done - 1) 0 t in let high = repeated-ge way in
+          let is = step-first way (next_place way) (omega arith) in omega arith
+
+      last_is : last_step way ≤ 1
+      last_is =
+          let first = first_step-le way in let few_left = eqb-true (way.done - 1) 0 t in let high = repeated-ge way in
+          let is = step-first way (next_place way - 1) (omega arith) in omega arith
 
       behind : slot_of undone name ≡ stood
-      behind = ap (λ v. slot_of v name) (at_undone true t) ∙ closed-slot (record w { way = None }) name refl ∙ ap (λ (x : TypeSet). rest_slot w.forward_at w.back_at x.primary name) settled
+      behind = closed-slot undone name (ap (λ b. cond b None (Some (fewer way))) t) ∙ ap (λ (x : TypeSet). rest_slot w.forward_at w.back_at x.primary name) settled
 
       here : slot_of w name ≡ stood
       here =
@@ -335,17 +350,26 @@ module _ (w : Live) (way : Way) (name : StreamName) (opens : w.way ≡ Some way)
     changes : changes_primary way ≡ true
     changes = by (changes_primary way) refl
       where
+        -- with two places done the next step is a later one
+        two : (t : Bool) → leb (next_place way) (repeated_step way) ≡ t → behind_last way ≡ 1 → ⊥
+        two true t last =
+            let here = leb-true (next_place way) (repeated_step way) t in let is = step-first way (next_place way) here in let d = some_done in omega arith
+        two false t last =
+            let behind = leb-false (next_place way) (repeated_step way) t in let is = step-behind way (next_place way) (omega arith) in
+            let high = repeated-ge way in omega arith
+
         by : (t : Bool) → changes_primary way ≡ t → changes_primary way ≡ true
         by true t = t
-        by false t = let last : behind_last way ≡ 1 = ap (λ b. cond {A = ℕ} b 12 1) t in absurd (omega (arith, left, last, some_done))
+        by false t = let last : behind_last way ≡ 1 = ap (λ b. cond {A = ℕ} b 12 1) t in
+            absurd (two (leb (next_place way) (repeated_step way)) refl last)
 
     fewer_started : stands_done (fewer way) start_back ≡ false
-    fewer_started = undone_by (fewer way) start_back (next_step (fewer way)) refl (omega (arith, few))
+    fewer_started = let le = fewer-le way in undone_by (fewer way) start_back (next_step (fewer way)) refl (omega (arith, few, le))
 
     now_done : (stops creates : Bool) → stands_done (fewer way) stop_feeding ≡ stops → stands_done (fewer way) create_back ≡ creates
         → slot_of undone name ≡ way_slot true (is_feeding way name) stops creates false w.fresh_at stood
     now_done stops creates a b =
-        ap (λ v. slot_of v name) (at_undone false more_left) ∙ open-slot (record w { way = Some (fewer way) }) (fewer way) name refl
+        open-slot undone (fewer way) name (ap (λ b. cond b None (Some (fewer way))) more_left)
         ∙ ap (λ x. way_slot x (is_feeding way name) (stands_done (fewer way) stop_feeding) (stands_done (fewer way) create_back) (stands_done (fewer way) start_back) w.fresh_at stood) changes
         ∙ ap (λ x. way_slot true (is_feeding way name) x (stands_done (fewer way) create_back) (stands_done (fewer way) start_back) w.fresh_at stood) a
         ∙ ap (λ x. way_slot true (is_feeding way name) stops x (stands_done (fewer way) start_back) w.fresh_at stood) b
@@ -355,23 +379,59 @@ module _ (w : Live) (way : Way) (name : StreamName) (opens : w.way ≡ Some way)
         → slot_of w name ≡ way_slot true (is_feeding way name) stops creates false w.fresh_at stood
     was_done_by stops creates a b = stood_done stops creates a b ∙ ap (λ c. way_slot c (is_feeding way name) stops creates false w.fresh_at stood) changes
 
-    one_less : (n : ℕ) → next_step way ≡ suc n → next_step (fewer way) ≡ n
-    one_less n is = omega (arith, is, some_done)
+    -- the last step that stands done is the next one again
+    next_again : next_step (fewer way) ≡ last_step way
+    next_again = let d = some_done in let e : first_step way + (way.done - 1) ≡ next_place way - 1 = omega arith in ap (step_at_place way) e
+
+    one_before : OneOn (next_step way) (last_step way) (repeated_step way)
+    one_before =
+        let d = some_done in
+        let e : suc (next_place way - 1) ≡ next_place way = omega arith in
+        subst (λ x. OneOn (step_at_place way x) (last_step way) (repeated_step way)) e (one_on way (next_place way - 1))
+
+    last_by : (n : ℕ) → suc n ≢ repeated_step way → next_step way ≡ suc n → last_step way ≡ n
+    last_by n once is = by one_before
+      where
+        by : OneOn (next_step way) (last_step way) (repeated_step way) → last_step way ≡ n
+        by (inl e) = omega arith
+        by (inr e) = absurd (once (sym is ∙ e.0 ∙ e.1))
+
+    next_by : (n : ℕ) → n ≢ repeated_step way → last_step way ≡ n → next_step way ≡ suc n
+    next_by n once is = by one_before
+      where
+        by : OneOn (next_step way) (last_step way) (repeated_step way) → next_step way ≡ suc n
+        by (inl e) = omega arith
+        by (inr e) = absurd (once (sym is ∙ e.1))
+
+    undo_once : (n : ℕ) → n ≢ 2 → n ≢ 8 → n ≢ repeated_step way
+    undo_once n a b = cond-either (λ m. n ≢ m) way.back 2 8 a b
+
+    four : 4 ≢ repeated_step way
+    four = undo_once 4 (λ x. absurd (omega arith)) (λ x. absurd (omega arith))
+
+    five : 5 ≢ repeated_step way
+    five = undo_once 5 (λ x. absurd (omega arith)) (λ x. absurd (omega arith))
+
+    six : 6 ≢ repeated_step way
+    six = undo_once 6 (λ x. absurd (omega arith)) (λ x. absurd (omega arith))
+
+    one_less : (n : ℕ) → suc n ≢ repeated_step way → next_step way ≡ suc n → next_step (fewer way) ≡ n
+    one_less n once is = next_again ∙ last_by n once is
 
     -- the feeding stream runs again
     runs_again : next_step way ≡ 5 → Undone
     runs_again is =
-        now_done false false (undone_by (fewer way) stop_feeding 4 (one_less 4 is) (omega arith)) (undone_by (fewer way) create_back 4 (one_less 4 is) (omega arith))
+        now_done false false (undone_by (fewer way) stop_feeding 4 (one_less 4 five is) (omega arith)) (undone_by (fewer way) create_back 4 (one_less 4 five is) (omega arith))
         ∙ again
         ∙ sym (ap (λ s. cond (is_feeding way name) (in_state running s) s) here)
         ∙ sym (ap (λ t. cond (is_feeding way name) (cond t (in_state running (slot_of w name)) (slot_of w name)) (cond (eqb (last_step way) create_back) saved (slot_of w name))) at_stop
         ∙ ap (λ t. cond (is_feeding way name) (in_state running (slot_of w name)) (cond t saved (slot_of w name))) not_create)
       where
         at_stop : eqb (last_step way) stop_feeding ≡ true
-        at_stop = eq-eqb (last_step way) stop_feeding (omega (arith, is))
+        at_stop = eq-eqb (last_step way) stop_feeding (last_by 4 five is)
 
         not_create : eqb (last_step way) create_back ≡ false
-        not_create = not_number 5 (λ e. absurd (omega (arith, e, is)))
+        not_create = not_number 5 (λ e. let f = last_by 4 five is in absurd (omega arith))
 
         here : slot_of w name ≡ way_slot true (is_feeding way name) true false false w.fresh_at (rest_slot w.forward_at w.back_at way.back name)
         here =
@@ -395,7 +455,7 @@ module _ (w : Live) (way : Way) (name : StreamName) (opens : w.way ≡ Some way)
     -- what stood before the way stands in the place of the new stream again
     as_before : next_step way ≡ 6 → Undone
     as_before is =
-        now_done true false (done_by (fewer way) stop_feeding 5 (one_less 5 is) (omega arith) (omega arith)) (undone_by (fewer way) create_back 5 (one_less 5 is) (omega arith))
+        now_done true false (done_by (fewer way) stop_feeding 5 (one_less 5 six is) (omega arith) (omega arith)) (undone_by (fewer way) create_back 5 (one_less 5 six is) (omega arith))
         ∙ by (is_feeding way name)
         ∙ ap (λ s. cond (is_feeding way name) s stood) (sym here)
         ∙ ap (λ s. cond (is_feeding way name) (slot_of w name) s) (sym saved_is)
@@ -403,10 +463,10 @@ module _ (w : Live) (way : Way) (name : StreamName) (opens : w.way ≡ Some way)
         ∙ ap (λ t. cond (is_feeding way name) (slot_of w name) (cond t saved (slot_of w name))) at_create)
       where
         not_stop : eqb (last_step way) stop_feeding ≡ false
-        not_stop = not_number 4 (λ e. absurd (omega (arith, e, is)))
+        not_stop = not_number 4 (λ e. let f = last_by 5 six is in absurd (omega arith))
 
         at_create : eqb (last_step way) create_back ≡ true
-        at_create = eq-eqb (last_step way) create_back (omega (arith, is))
+        at_create = eq-eqb (last_step way) create_back (last_by 5 six is)
 
         here : slot_of w name ≡ way_slot true (is_feeding way name) true true false w.fresh_at stood
         here = was_done_by true true (done_by way stop_feeding 6 is (omega arith) (omega arith)) (done_by way create_back 6 is (omega arith) (omega arith))
@@ -418,19 +478,28 @@ module _ (w : Live) (way : Way) (name : StreamName) (opens : w.way ≡ Some way)
     -- any other
     stays_undone : last_step way ≢ 4 → last_step way ≢ 5 → Undone
     stays_undone a b =
-        now_done false false (undone_by (fewer way) stop_feeding (next_step (fewer way)) refl (omega (arith, few, a, b))) (undone_by (fewer way) create_back (next_step (fewer way)) refl (omega (arith, few, a, b)))
+        now_done (stands_done way stop_feeding) (stands_done way create_back) (kept stop_feeding (λ e. a e)) (kept create_back (λ e. b e))
         ∙ sym (other_step (not_number 4 a) (not_number 5 b)
-        ∙ was_done_by false false (undone_by way stop_feeding (next_step way) refl (omega (arith, few, a, b))) (undone_by way create_back (next_step way) refl (omega (arith, few, a, b))))
+        ∙ was_done_by (stands_done way stop_feeding) (stands_done way create_back) refl refl)
+      where
+        kept : (n : ℕ) → last_step way ≢ n → stands_done (fewer way) n ≡ stands_done way n
+        kept n apart = both_ways (stands_done (fewer way) n) (stands_done way n) (was_done way n)
+            (λ t. let r = and_parts (leb (first_step way) n) (ltb n (next_step way)) t in
+            and_from (leb (first_step way) n) (ltb n (next_step (fewer way))) r.0 (lt-ltb n (next_step (fewer way)) (by one_before (ltb-true n (next_step way) r.1) next_again)))
+          where
+            by : OneOn (next_step way) (last_step way) (repeated_step way) → n < next_step way → next_step (fewer way) ≡ last_step way → n < next_step (fewer way)
+            by (inl e) lt same = omega (arith, e, lt, same, apart)
+            by (inr e) lt same = let f = e.0 in omega (arith, f, lt, same)
 
     still_open : Undone
     still_open = at_4 (eqb (last_step way) 4) refl
       where
         at_5 : (t : Bool) → last_step way ≢ 4 → eqb (last_step way) 5 ≡ t → Undone
-        at_5 true a t = as_before (let e = eqb-true (last_step way) 5 t in omega (arith, e))
+        at_5 true a t = as_before (next_by 5 five (eqb-true (last_step way) 5 t))
         at_5 false a t = stays_undone a (λ e. true≢false (sym (eq-eqb (last_step way) 5 e) ∙ t))
 
         at_4 : (t : Bool) → eqb (last_step way) 4 ≡ t → Undone
-        at_4 true t = runs_again (let e = eqb-true (last_step way) 4 t in omega (arith, e))
+        at_4 true t = runs_again (next_by 4 four (eqb-true (last_step way) 4 t))
         at_4 false t = at_5 (eqb (last_step way) 5) (λ e. true≢false (sym (eq-eqb (last_step way) 4 e) ∙ t)) refl
 
   pub slot-undone : Undone

@@ -1,5 +1,6 @@
 -- What an event that is taken makes of the way of a live workflow.
-use Rattle.std.proofs.Common.{◌≡◌, ℕ, ◌-◌, Bool, true, false, not, cond, eqb, List, Option, None, Some, refl, sym, ap, ◌∙◌, arith}
+use Rattle.std.proofs.Common.{◌≡◌, ℕ, ◌-◌, Bool, true, false, not, cond, eqb, List, Option, None, Some, refl, sym, ap, ◌∙◌, arith, ◌≢◌}
+use Rattle.mt_laws.proofs.ListLemmas.{cond-either}
 use Rattle.std.specs.Prelude.{◌||◌}
 use Rattle.std.proofs.lemmas.Bool.{true≢false}
 use Rattle.std.specs.Option.{option_map_or}
@@ -8,7 +9,7 @@ use Rattle.mt_names.specs.Names.{same_text}
 use Rattle.mt_plain.specs.Answers.{Answers}
 use Rattle.mt_plain.specs.Events.{Event, Answer, Refusal, nothing_under_way, past_journal, stale, Way}
 use Rattle.mt_plain.specs.Next.{closes, live_stepped, live_undone, types_and, types_without, with_way_to}
-use Rattle.mt_plain.specs.Plain.{Live, Plain, live_at, next_step, stands_done, write_journal}
+use Rattle.mt_plain.specs.Plain.{Live, Plain, live_at, next_step, stands_done, write_journal, refresh_source, refresh_target, repeated_step}
 use Rattle.mt_plain.specs.Refuse.{or_else, refuse_if, undo_refusal}
 use Rattle.mt_laws.specs.Changes.{BeginsWay, IsStep}
 use Rattle.mt_laws.specs.Copies.{Undoes}
@@ -35,6 +36,10 @@ module _ (event : Event) (w : Live) (way : Way) (opens : w.way ≡ Some way) (st
   stepped_to v true is last settled = completed way steps opens is (last refl)
   stepped_to v false is last settled = goes_on way (more way) opens is refl refl (settled refl)
 
+-- the journal is no refresh
+pub journal_once : (way : Way) → write_journal ≢ repeated_step way
+journal_once way = cond-either (λ n. write_journal ≢ n) way.back refresh_source refresh_target (λ e. absurd (omega arith)) (λ e. absurd (omega arith))
+
 step_change : (p : Plain) (event : Event) (w : Live) (way : Way) → w.way ≡ Some way → IsStep event → WayChange event w (live_stepped p w way)
 step_change p event w way opens steps =
     stepped_to event w way opens steps (live_stepped p w way) (closes way) refl
@@ -45,7 +50,7 @@ step_change p event w way opens steps =
     journals = eqb (next_step way) write_journal
 
     by : (t : Bool) → journals ≡ t → (stands_done way write_journal ≡ false → w.switched ≡ way.before) → stands_done (more way) write_journal ≡ false → cond journals way.after w.switched ≡ way.before
-    by true e settled before = absurd (true≢false (sym (now_done way write_journal (omega arith) e) ∙ before))
+    by true e settled before = absurd (true≢false (sym (now_done way write_journal (omega arith) (journal_once way) e) ∙ before))
     by false e settled before = ap (λ l. cond l way.after w.switched) e ∙ settled (not_before way write_journal before)
 
 -- ---- an undo
@@ -61,7 +66,7 @@ undo_change event w way opens undoes before = by (eqb (way.done - 1) 0)
 
 begin_change : (event : Event) (backward : Bool) (change : TypeSet → TypeSet) (w : Live) → BeginsWay event → w.way ≡ None → WayChange event w (with_way_to backward change w)
 begin_change event backward change w begins rests =
-    begun (record { back = backward; before = w.switched; after = change w.switched; done = 0; undoing = false }) begins rests refl refl refl
+    begun (record { back = backward; shards = 1; before = w.switched; after = change w.switched; done = 0; undoing = false }) begins rests refl refl refl
 
 pub undo_before_journal : (at : ℕ) (w : Live) (way : Way) → w.way ≡ Some way → undo_refusal at w ≡ None → stands_done way write_journal ≡ false
 undo_before_journal at w way opens none =

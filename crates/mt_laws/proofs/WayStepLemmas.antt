@@ -1,10 +1,12 @@
 -- The open way of a workflow, with one step more done or one less: how it goes on, and which of its steps stand done.
-use Rattle.std.proofs.Common.{◌≡◌, ℕ, suc, ◌+◌, ◌-◌, ◌≤◌, Bool, true, false, cond, eqb, ltb, leb, Option, None, Some, refl, sym, ◌∙◌, subst, arith, eqb-true, ltb-true, lt-ltb, le-leb}
-use Rattle.std.proofs.lemmas.Bool.{true≢false, and_from, and_parts, eq-eqb, false_from_ne_true}
+use Rattle.std.proofs.Common.{◌≡◌, ◌≢◌, ◌⊎◌, inl, inr, ℕ, zero, suc, ◌+◌, ◌-◌, ◌≤◌, Bool, true, false, cond, eqb, ltb, leb, min, Option, None, Some, refl, sym, ap, ◌∙◌, subst, arith, eqb-true, ltb-true, lt-ltb, le-leb}
+use Rattle.std.proofs.lemmas.Bool.{true≢false, and_from, and_parts, eq-eqb, false_from_ne_true, leb-false, leb-true, ltb-false}
 use Rattle.std.specs.Cmp.{both_ways}
+use Rattle.std.specs.Prelude.{◌&&◌}
 use Rattle.mt_plain.specs.Events.{Way}
 use Rattle.mt_plain.specs.Next.{closes, live_stepped, live_undone}
-use Rattle.mt_plain.specs.Plain.{Live, Plain, first_step, next_step, stands_done}
+use Rattle.mt_plain.specs.Plain.{Live, Plain, first_step, last_place_of, next_place, next_step, repeated_step, stands_done, step_at_place, last_step}
+use Rattle.mt_plain.proofs.PlaceLemmas.{step-behind, step-first}
 use Rattle.mt_laws.proofs.ListLemmas.{cond-either}
 use Rattle.mt_laws.proofs.PlainWords.{changes_reads}
 
@@ -43,6 +45,46 @@ way-stepped p w way = refl
 pub way-undone : (w : Live) (way : Way) → (live_undone w way).way ≡ cond (eqb (way.done - 1) 0) None (Some (fewer way))
 way-undone w way = refl
 
+-- ---- the places of the plan
+
+-- the refresh that is repeated is the second step of a way's writes, or the eighth
+pub repeated-ge : (way : Way) → 2 ≤ repeated_step way
+repeated-ge way = cond-either (λ n. 2 ≤ n) way.back 2 8 (omega arith) (omega arith)
+
+-- a place further on, there is the next step, or the same one, which is the one that is repeated
+abbrev pub OneOn : (next now repeated : ℕ) → Type 0
+OneOn next now repeated = (next ≡ suc now) ⊎ ((next ≡ now) × (now ≡ repeated))
+
+pub one_on : (way : Way) (place : ℕ) → OneOn (step_at_place way (suc place)) (step_at_place way place) (repeated_step way)
+one_on way place = by (ltb place (repeated_step way)) refl
+  where
+    r : ℕ
+    r = repeated_step way
+
+    more_shards : ℕ
+    more_shards = way.shards - 1
+
+    behind : r ≤ place → (t : Bool) → leb (suc place - more_shards) r ≡ t → OneOn (step_at_place way (suc place)) (step_at_place way place) r
+    behind le true t =
+        let h = leb-true (suc place - more_shards) r t in
+        let a = step-behind way (suc place) (omega arith) in
+        let b = step-behind way place le in
+        inr (omega arith, omega arith)
+    behind le false t =
+        let h : suc r ≤ suc place - more_shards = leb-false (suc place - more_shards) r t in
+        let a = step-behind way (suc place) (omega arith) in
+        let b = step-behind way place le in
+        inl (omega arith)
+
+    by : (t : Bool) → ltb place r ≡ t → OneOn (step_at_place way (suc place)) (step_at_place way place) r
+    by true t = let lt = ltb-true place r t in inl (step-first way (suc place) (omega arith) ∙ ap suc (sym (step-first way place (omega arith))))
+    by false t = let le : r ≤ place = ltb-false place r t in behind le (leb (suc place - more_shards) r) refl
+
+pub next_on : (way : Way) → OneOn (next_step (more way)) (next_step way) (repeated_step way)
+next_on way =
+    let e : next_place (more way) ≡ suc (next_place way) = omega arith in
+    subst (λ n. OneOn (step_at_place way n) (next_step way) (repeated_step way)) (sym e) (one_on way (next_place way))
+
 -- ---- which steps stand done
 
 pub first_step-le : (way : Way) → first_step way ≤ 1
@@ -59,9 +101,17 @@ undone_by way n m is le =
     false_from_ne_true (stands_done way n)
     (λ t. let h = ltb-true n (next_step way) (and_parts (leb (first_step way) n) (ltb n (next_step way)) t).1 in absurd (omega arith))
 
--- where no step is done, none but the first may stand done
+-- where no step is done, the first is next
+pub at_first : (way : Way) → way.done ≡ 0 → next_step way ≡ first_step way
+at_first way none =
+    let first = first_step-le way in
+    let r = repeated-ge way in
+    let e = step-first way (next_place way) (omega arith) in
+    omega arith
+
+-- and none but it may stand done
 pub none_done : (way : Way) (n : ℕ) → way.done ≡ 0 → stands_done way (suc n) ≡ false
-none_done way n none = let first = first_step-le way in undone_by way (suc n) (first_step way + way.done) refl (omega arith)
+none_done way n none = let first = first_step-le way in undone_by way (suc n) (first_step way) (at_first way none) (omega arith)
 
 -- where a step stands done, so does each one before it, step 0 aside
 pub done_in_order : (way : Way) (m n : ℕ) → suc m ≤ n → stands_done way n ≡ true → stands_done way (suc m) ≡ true
@@ -69,34 +119,171 @@ done_in_order way m n le e =
     let h = ltb-true n (next_step way) (and_parts (leb (first_step way) n) (ltb n (next_step way)) e).1 in
     and_from (leb (first_step way) (suc m)) (ltb (suc m) (next_step way)) (early way (suc m) (omega arith)) (lt-ltb (suc m) (next_step way) (omega arith))
 
--- with one step more, those that stood done do, and the next one
+-- the step that is next comes no earlier with one more done, and no later with one less
+pub next-le : (way : Way) → next_step way ≤ next_step (more way)
+next-le way = by (next_on way)
+  where
+    by : OneOn (next_step (more way)) (next_step way) (repeated_step way) → next_step way ≤ next_step (more way)
+    by (inl e) = omega arith
+    by (inr e) = let f = e.0 in omega arith
+
+pub fewer-le : (way : Way) → next_step (fewer way) ≤ next_step way
+fewer-le way = by way.done refl
+  where
+    by : (n : ℕ) → way.done ≡ n → step_at_place way (first_step way + (way.done - 1)) ≤ step_at_place way (first_step way + way.done)
+    by zero e = subst (λ d. step_at_place way (first_step way + (d - 1)) ≤ step_at_place way (first_step way + d)) (sym e) (omega arith)
+    by (suc n) e =
+        let k : suc n - 1 ≡ n = omega arith in
+        subst (λ d. step_at_place way (first_step way + (d - 1)) ≤ step_at_place way (first_step way + d)) (sym e)
+        (subst (λ m. step_at_place way (first_step way + m) ≤ step_at_place way (first_step way + suc n)) (sym k) (next-le (record way { done = n })))
+
+pub last-le : (way : Way) → last_step way ≤ next_step way
+last-le way = by (next_place way) refl
+  where
+    by : (n : ℕ) → next_place way ≡ n → step_at_place way (next_place way - 1) ≤ step_at_place way (next_place way)
+    by zero e = let k : next_place way - 1 ≡ next_place way = omega arith in subst (λ m. step_at_place way m ≤ step_at_place way (next_place way)) (sym k) (omega arith)
+    by (suc n) e =
+        let k : next_place way - 1 ≡ n = omega arith in
+        subst (λ m. step_at_place way m ≤ step_at_place way (next_place way)) (sym k) (subst (λ m. step_at_place way n ≤ step_at_place way m) (sym e) (on (one_on way n)))
+      where
+        on : OneOn (step_at_place way (suc n)) (step_at_place way n) (repeated_step way) → step_at_place way n ≤ step_at_place way (suc n)
+        on (inl f) = omega arith
+        on (inr f) = let g = f.0 in omega arith
+
+-- with one step more, those that stood done do, and the next one, unless it is repeated
 pub still_done : (way : Way) (n : ℕ) → stands_done way n ≡ true → stands_done (more way) n ≡ true
 still_done way n e =
-    let r = and_parts (leb (first_step way) n) (ltb n (first_step way + way.done)) e in
-    let h = ltb-true n (first_step way + way.done) r.1 in
-    and_from (leb (first_step way) n) (ltb n (first_step way + suc way.done)) r.0 (lt-ltb n (first_step way + suc way.done) (omega arith))
+    let r = and_parts (leb (first_step way) n) (ltb n (next_step way)) e in
+    let h = ltb-true n (next_step way) r.1 in
+    let le = next-le way in
+    and_from (leb (first_step way) n) (ltb n (next_step (more way))) r.0 (lt-ltb n (next_step (more way)) (omega arith))
 
 pub not_before : (way : Way) (n : ℕ) → stands_done (more way) n ≡ false → stands_done way n ≡ false
 not_before way n e = false_from_ne_true (stands_done way n) (λ t. true≢false (sym (still_done way n t) ∙ e))
 
 pub before_then : (way : Way) (n : ℕ) → eqb (next_step way) n ≡ false → stands_done (more way) n ≡ true → stands_done way n ≡ true
 before_then way n other e =
-    let r = and_parts (leb (first_step way) n) (ltb n (first_step way + suc way.done)) e in
-    let h = ltb-true n (first_step way + suc way.done) r.1 in
-    let ne : first_step way + way.done ≡ n → ⊥ = λ is. true≢false (sym (eq-eqb (first_step way + way.done) n is) ∙ other) in
-    and_from (leb (first_step way) n) (ltb n (first_step way + way.done)) r.0 (lt-ltb n (first_step way + way.done) (omega arith))
+    let r = and_parts (leb (first_step way) n) (ltb n (next_step (more way))) e in
+    let h = ltb-true n (next_step (more way)) r.1 in
+    let ne : next_step way ≡ n → ⊥ = λ is. true≢false (sym (eq-eqb (next_step way) n is) ∙ other) in
+    and_from (leb (first_step way) n) (ltb n (next_step way)) r.0 (lt-ltb n (next_step way) (by h ne (next_on way)))
+  where
+    by : suc n ≤ next_step (more way) → (next_step way ≡ n → ⊥) → OneOn (next_step (more way)) (next_step way) (repeated_step way) → suc n ≤ next_step way
+    by h ne (inl e) = omega arith
+    by h ne (inr e) = let f = e.0 in omega arith
 
 pub same_done : (way : Way) (n : ℕ) → eqb (next_step way) n ≡ false → stands_done (more way) n ≡ stands_done way n
 same_done way n other = both_ways (stands_done (more way) n) (stands_done way n) (before_then way n other) (still_done way n)
 
-pub now_done : (way : Way) (n : ℕ) → 1 ≤ n → eqb (next_step way) n ≡ true → stands_done (more way) n ≡ true
-now_done way n le here =
-    let is : first_step way + way.done ≡ n = eqb-true (first_step way + way.done) n here in
-    and_from (leb (first_step way) n) (ltb n (first_step way + suc way.done)) (early way n le) (lt-ltb n (first_step way + suc way.done) (omega arith))
+pub now_done : (way : Way) (n : ℕ) → 1 ≤ n → n ≢ repeated_step way → eqb (next_step way) n ≡ true → stands_done (more way) n ≡ true
+now_done way n le once here =
+    let is : next_step way ≡ n = eqb-true (next_step way) n here in
+    and_from (leb (first_step way) n) (ltb n (next_step (more way))) (early way n le) (lt-ltb n (next_step (more way)) (by is (next_on way)))
+  where
+    by : next_step way ≡ n → OneOn (next_step (more way)) (next_step way) (repeated_step way) → suc n ≤ next_step (more way)
+    by is (inl e) = omega arith
+    by is (inr e) = absurd (once (sym is ∙ e.1))
+
+-- the next step is none before the first
+pub first-le : (way : Way) → first_step way ≤ next_step way
+first-le way = by (leb (next_place way) (repeated_step way)) refl
+  where
+    by : (t : Bool) → leb (next_place way) (repeated_step way) ≡ t → first_step way ≤ next_step way
+    by true t = let here = leb-true (next_place way) (repeated_step way) t in let is = step-first way (next_place way) here in omega arith
+    by false t =
+        let behind = leb-false (next_place way) (repeated_step way) t in
+        let is = step-behind way (next_place way) (omega arith) in
+        let low = first_step-le way in let ge = repeated-ge way in omega arith
+
+pub now_done-in : (way : Way) (n : ℕ) → n ≢ repeated_step way → eqb (next_step way) n ≡ true → stands_done (more way) n ≡ true
+now_done-in way n once here =
+    let is : next_step way ≡ n = eqb-true (next_step way) n here in
+    let low = first-le way in
+    and_from (leb (first_step way) n) (ltb n (next_step (more way))) (le-leb (first_step way) n (omega arith)) (lt-ltb n (next_step (more way)) (by is (next_on way)))
+  where
+    by : next_step way ≡ n → OneOn (next_step (more way)) (next_step way) (repeated_step way) → suc n ≤ next_step (more way)
+    by is (inl e) = omega arith
+    by is (inr e) = absurd (once (sym is ∙ e.1))
 
 -- with one step less, those that stand done did
 pub was_done : (way : Way) (n : ℕ) → stands_done (fewer way) n ≡ true → stands_done way n ≡ true
 was_done way n e =
-    let r = and_parts (leb (first_step way) n) (ltb n (first_step way + (way.done - 1))) e in
-    let h = ltb-true n (first_step way + (way.done - 1)) r.1 in
-    and_from (leb (first_step way) n) (ltb n (first_step way + way.done)) r.0 (lt-ltb n (first_step way + way.done) (omega arith))
+    let r = and_parts (leb (first_step way) n) (ltb n (next_step (fewer way))) e in
+    let h = ltb-true n (next_step (fewer way)) r.1 in
+    let le = fewer-le way in
+    and_from (leb (first_step way) n) (ltb n (next_step way)) r.0 (lt-ltb n (next_step way) (omega arith))
+
+-- ---- places of steps
+
+-- where the last place of a step is
+data LastPlace (way : Way) (step : ℕ) : Type 0 where
+  before : suc step ≤ repeated_step way → last_place_of way step ≡ step → LastPlace way step
+  repeated : step ≡ repeated_step way → last_place_of way step ≡ repeated_step way + (way.shards - 1) → LastPlace way step
+  behind : suc (repeated_step way) ≤ step → last_place_of way step ≡ step + (way.shards - 1) → LastPlace way step
+
+last_place : (way : Way) (step : ℕ) → LastPlace way step
+last_place way step = by (leb step (repeated_step way)) refl (eqb step (repeated_step way)) refl
+  where
+    by : (t : Bool) → leb step (repeated_step way) ≡ t → (u : Bool) → eqb step (repeated_step way) ≡ u → LastPlace way step
+    by true e true f = let is = eqb-true step (repeated_step way) f in repeated is (rw (e, f) (omega arith))
+    by true e false f =
+        let le = leb-true step (repeated_step way) e in
+        let apart : step ≢ repeated_step way = λ is. true≢false (sym (eq-eqb step (repeated_step way) is) ∙ f) in
+        before (omega arith) (rw (e, f) (omega arith))
+    by false e true f = let high = leb-false step (repeated_step way) e in let is = eqb-true step (repeated_step way) f in absurd (omega arith)
+    by false e false f = let high = leb-false step (repeated_step way) e in behind (omega arith) (rw (e, f) (omega arith))
+
+-- a step is done at a place just where its last place is before that
+pub step-past : (way : Way) (step place : ℕ) → ltb step (step_at_place way place) ≡ ltb (last_place_of way step) place
+step-past way step place = both_ways (ltb step (step_at_place way place)) (ltb (last_place_of way step) place) there back_again
+  where
+    there : ltb step (step_at_place way place) ≡ true → ltb (last_place_of way step) place ≡ true
+    there e = by (ltb-true step (step_at_place way place) e) (leb place (repeated_step way)) refl (last_place way step)
+      where
+        by : suc step ≤ step_at_place way place → (t : Bool) → leb place (repeated_step way) ≡ t → LastPlace way step → ltb (last_place_of way step) place ≡ true
+        by h true t (before lt is) = let le = leb-true place (repeated_step way) t in let at = step-first way place le in lt-ltb (last_place_of way step) place (omega arith)
+        by h true t (repeated same is) = let le = leb-true place (repeated_step way) t in let at = step-first way place le in absurd (omega arith)
+        by h true t (behind lt is) = let le = leb-true place (repeated_step way) t in let at = step-first way place le in absurd (omega arith)
+        by h false t (before lt is) = let high = leb-false place (repeated_step way) t in lt-ltb (last_place_of way step) place (omega arith)
+        by h false t (repeated same is) =
+            let high = leb-false place (repeated_step way) t in let at = step-behind way place (omega arith) in lt-ltb (last_place_of way step) place (omega arith)
+        by h false t (behind lt is) =
+            let high = leb-false place (repeated_step way) t in let at = step-behind way place (omega arith) in lt-ltb (last_place_of way step) place (omega arith)
+
+    back_again : ltb (last_place_of way step) place ≡ true → ltb step (step_at_place way place) ≡ true
+    back_again e = by (ltb-true (last_place_of way step) place e) (leb place (repeated_step way)) refl (last_place way step)
+      where
+        by : suc (last_place_of way step) ≤ place → (t : Bool) → leb place (repeated_step way) ≡ t → LastPlace way step → ltb step (step_at_place way place) ≡ true
+        by h true t (before lt is) = let le = leb-true place (repeated_step way) t in let at = step-first way place le in lt-ltb step (step_at_place way place) (omega arith)
+        by h true t (repeated same is) = let le = leb-true place (repeated_step way) t in absurd (omega arith)
+        by h true t (behind lt is) = let le = leb-true place (repeated_step way) t in absurd (omega arith)
+        by h false t (before lt is) =
+            let high = leb-false place (repeated_step way) t in let at = step-behind way place (omega arith) in lt-ltb step (step_at_place way place) (omega arith)
+        by h false t (repeated same is) =
+            let high = leb-false place (repeated_step way) t in let at = step-behind way place (omega arith) in lt-ltb step (step_at_place way place) (omega arith)
+        by h false t (behind lt is) =
+            let high = leb-false place (repeated_step way) t in let at = step-behind way place (omega arith) in lt-ltb step (step_at_place way place) (omega arith)
+
+-- it is none before the step's own number
+pub last-ge : (way : Way) (step : ℕ) → step ≤ last_place_of way step
+last-ge way step = by (last_place way step)
+  where
+    by : LastPlace way step → step ≤ last_place_of way step
+    by (before lt is) = omega arith
+    by (repeated same is) = omega arith
+    by (behind lt is) = omega arith
+
+-- a step stands done just where its last place does
+pub done_at : (way : Way) (step : ℕ) → 1 ≤ step → stands_done way step ≡ ltb (last_place_of way step) (next_place way)
+done_at way step le = ap (λ b. b && ltb step (next_step way)) (early way step le) ∙ step-past way step (next_place way)
+
+-- ---- one shard
+
+pub one-last_place : (way : Way) (step : ℕ) → way.shards ≤ 1 → last_place_of way step ≡ step
+one-last_place way step few = by (leb step (repeated_step way)) (eqb step (repeated_step way))
+  where
+    by : (a b : Bool) → cond a step (step + (way.shards - 1)) + cond b (min (way.shards - 1) (way.shards - 1)) 0 ≡ step
+    by true true = omega arith
+    by true false = omega arith
+    by false true = omega arith
+    by false false = omega arith

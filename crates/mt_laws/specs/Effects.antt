@@ -1,16 +1,12 @@
 -- What a step and an undo change of a live workflow: its entries, the primaries' own lists and its streams, each by one rule for all steps.
-use Rattle.std.specs.Prelude.{ℕ, ◌-◌, ◌==◌, Bool, if◌then◌else◌, List, Option, None, Some, option_map}
+use Rattle.std.specs.Prelude.{ℕ, suc, ◌==◌, Bool, if◌then◌else◌, List, Option, None, Some, option_map}
 use Rattle.mt_model.specs.declared.entries.Entry.{Entry}
 use Rattle.mt_model.specs.declared.entries.EntryKey.{EntryKey}
 use Rattle.mt_model.specs.Topology.{TopologyState}
 use Rattle.mt_plain.specs.Events.{StreamName, StreamState, running, stopped, frozen, Slot, Way}
-use Rattle.mt_plain.specs.Plain.{Live, create_back, freeze_old, next_step, start_back, stop_feeding}
+use Rattle.mt_plain.specs.Plain.{Live, create_back, freeze_old, last_place_of, last_step, next_place, next_step, start_back, stop_feeding}
 use Rattle.mt_plain.specs.Serve.{is_listed_at, refuses_by, serve, served_by, step_of_entry, step_of_list}
 use Rattle.mt_plain.specs.Slots.{is_feeding}
-
--- the last step of a way that stands done
-abbrev pub last_step : Way → ℕ
-last_step way = next_step way - 1
 
 -- ---- entries
 
@@ -24,13 +20,15 @@ entry_undone u w way key = if last_step way == step_of_entry w key then serve u 
 
 -- ---- own lists
 
--- whether a primary's own list has the moved tables behind the step that is next
+-- whether a primary's own list has the moved tables behind the place that is next: it changes with the last place of its refresh
 abbrev pub list_stepped : Live → Way → (keyspace : List ℕ) → Bool
-list_stepped w way keyspace = if next_step way == step_of_list w keyspace then is_listed_at w way.after keyspace else refuses_by w keyspace
+list_stepped w way keyspace =
+    if next_place way == last_place_of way (step_of_list w keyspace) then is_listed_at w way.after keyspace else refuses_by w keyspace
 
 -- and behind an undo
 abbrev pub list_undone : Live → Way → (keyspace : List ℕ) → Bool
-list_undone w way keyspace = if last_step way == step_of_list w keyspace then is_listed_at w way.before keyspace else refuses_by w keyspace
+list_undone w way keyspace =
+    if next_place way == suc (last_place_of way (step_of_list w keyspace)) then is_listed_at w way.before keyspace else refuses_by w keyspace
 
 -- ---- streams
 

@@ -17,9 +17,10 @@ pub record IsInPlace (u : TopologyState) (w : Live) : Type 0 where
   pub at_source : (table : List ℕ) → moves w table ≡ true → is_present u.keyspaces w.source table ≡ true
   pub at_target : (table : List ℕ) → moves w table ≡ true → is_present u.keyspaces w.target table ≡ false
 
--- an open way of a live workflow: it has a step left; the switched types are those from before it until its journal stands done, and
--- those after it from then on; only a way that changes primary has a journal
+-- an open way of a live workflow: its target has one shard yet; it has a step left; the switched types are those from before it until its
+-- journal stands done, and those after it from then on; only a way that changes primary has a journal
 pub record IsOnCourse (w : Live) (way : Way) : Type 0 where
+  pub shards : way.shards ≡ 1
   pub within : next_step way < behind_last way
   pub before : stands_done way write_journal ≡ false → w.switched ≡ way.before
   pub after : stands_done way write_journal ≡ true → w.switched ≡ way.after

@@ -11,10 +11,11 @@ pub data Enough (turns tries n : ℕ) : Type 0 where
   at_level : n ≡ 3 → 2 * tries + 17 ≤ turns → Enough turns tries n
   behind_level : 3 < n → 21 ≤ turns + n → Enough turns tries n
 
--- a way with a step left, and turns enough for it
+-- a way with a step left, and turns enough for it; its target has one shard, so each place of its plan is a step
 pub record Goes (turns tries : ℕ) (p : Plain) (workflow : List ℕ) : Type 0 where
   pub way : Way
   pub is : way_of p workflow ≡ Some way
+  pub few : way.shards ≤ 1
   pub left : next_step way < behind_last way
   pub tried : 0 < tries
   pub enough : Enough turns tries (next_step way)

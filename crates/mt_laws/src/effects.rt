@@ -13,8 +13,8 @@ ghost use Rattle.mt_plain.specs.Refuse.{new_owner};
 ghost use Rattle.mt_plain.specs.Serve.{refuses, refuses_by, served_by, served_entry};
 ghost use Rattle.mt_plain.specs.Slots.{log_length, slot_before_way, slot_of};
 
-/// What a step changes of its workflow, by one rule for all twelve numbers and both directions: the entries and the own lists
-/// that change with this step get the values of the types after the way, and all others stay.
+/// What a step changes of its workflow, by one rule for all twelve numbers and both directions: the entries that change with this
+/// step, and the own lists of which this is the last place, get the values of the types after the way, and all others stay.
 pub fn a_step_changes_what_changes_with_its_number()
     ensures entries { (p : Plain) (w : Live) (way : Way) → w.way ≡ Some way → (u : TopologyState) (key : EntryKey)
         → served_by u (live_stepped p w way) key ≡ entry_stepped u w way key }
@@ -25,8 +25,8 @@ pub fn a_step_changes_what_changes_with_its_number()
         → slot_of (live_stepped p w way) name ≡ slot_stepped way name (log_length p (new_owner w)) (slot_of w name) }
 {}
 
-/// What an undo changes of its workflow, before the journal: the entries and the own lists that changed with the last step have
-/// the values of the types before the way again, and all others stay.
+/// What an undo changes of its workflow, before the journal: the entries that changed with the last step, and the own lists of which
+/// the place that is taken back was the last one, have the values of the types before the way again, and all others stay.
 pub fn an_undo_changes_what_changed_with_the_last_step()
     ensures entries { (w : Live) (way : Way) → w.way ≡ Some way → w.switched ≡ way.before → (u : TopologyState) (key : EntryKey)
         → served_by u (live_undone w way) key ≡ entry_undone u w way key }
@@ -50,7 +50,7 @@ pub fn a_workflow_that_changes_changes_its_own_part()
 {}
 
 /// So a step and an undo, in each state that a run reaches, change just the entries of their workflow's part, and the own lists on its tables,
-/// that change with the step's number.
+/// that change with the step's number, and with its place.
 pub fn steps_and_undos_change_the_state_by_their_numbers()
     ensures step { (p : Plain) → IsReached p → (name : List ℕ) (w : Live) (way : Way) → live_at p name ≡ Some w → w.way ≡ Some way
         → (at : ℕ) (key : EntryKey) → served_entry (next p (step name at) done) key

@@ -99,10 +99,12 @@ refusal_text undoing = codes "F28 Undoing"
 refusal_text too_long = codes "F29 TooLong"
 refusal_text exists = codes "F30 Exists"
 
--- a switch or a reversal of traffic that is open: its direction, the switched types before it and after it, how many of
--- its steps stand done, and whether an undo of it was taken (MoveTables: SwitchTraffic, ReverseTraffic)
+-- a switch or a reversal of traffic that is open: its direction, how many shards the target has, each of which is refreshed at a place
+-- of its own, the switched types before it and after it, how many places of its plan stand done, and whether an undo of it was taken
+-- (MoveTables: SwitchTraffic, ReverseTraffic)
 pub record Way : Type 0 where
   pub back : Bool
+  pub shards : ℕ
   pub before : TypeSet
   pub after : TypeSet
   pub done : ℕ

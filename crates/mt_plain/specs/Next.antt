@@ -81,10 +81,10 @@ types_and a b = record { primary = a.primary || b.primary; replica = a.replica |
 abbrev pub types_without : TypeSet → TypeSet → TypeSet
 types_without a b = record { primary = a.primary && not b.primary; replica = a.replica && not b.replica; rdonly = a.rdonly && not b.rdonly }
 
--- a way opens, with no step done
+-- a way opens, with no step done; the target has one shard yet
 abbrev pub with_way_to : (back : Bool) → (TypeSet → TypeSet) → Live → Live
 with_way_to back change w =
-    record w { way = Some (record { back = back; before = w.switched; after = change w.switched; done = 0; undoing = false }) }
+    record w { way = Some (record { back = back; shards = 1; before = w.switched; after = change w.switched; done = 0; undoing = false }) }
 
 -- the state with a way opened, which gets the next number (this profile's own)
 abbrev pub with_way : Plain → (name : List ℕ) → (back : Bool) → (TypeSet → TypeSet) → Plain

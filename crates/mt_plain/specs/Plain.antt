@@ -1,6 +1,6 @@
 -- The plain state: the topology as if no workflow were live, the client tables as one list of acknowledged writes, the live
 -- workflows, and what the logs list (this profile's own; topology, workflows and streams are Vitess's).
-use Rattle.std.specs.Prelude.{ℕ, ◌+◌, Bool, true, not, ◌&&◌, ◌||◌, nat_le, nat_lt, if◌then◌else◌, List, [], ◌∷◌, filter, find, flat_map, Option, unwrap_or, is_some}
+use Rattle.std.specs.Prelude.{ℕ, ◌+◌, ◌-◌, Bool, true, not, ◌&&◌, ◌||◌, ◌==◌, nat_le, nat_lt, max, min, if◌then◌else◌, List, [], ◌∷◌, filter, find, flat_map, Option, unwrap_or, is_some}
 use Rattle.std.specs.List.{list_any}
 use Rattle.std.specs.Map.{lookup}
 use Rattle.std.specs.Option.{option_map_or}
@@ -218,10 +218,43 @@ first_step way = if (changed_types way).replica || (changed_types way).rdonly th
 abbrev pub behind_last : Way → ℕ
 behind_last way = if changes_primary way then 12 else 1
 
--- the step that is next (this profile's own)
-abbrev pub next_step : Way → ℕ
-next_step way = first_step way + way.done
+-- the refresh of the target's primaries, which are those of its shards: each of them is refreshed at a place of its own, behind the
+-- journal on a way forward, and before it on a way back (How traffic is switched)
+abbrev pub repeated_step : Way → ℕ
+repeated_step way = if way.back then refresh_source else refresh_target
 
--- a step stands done where it is among the first `done` of the way (this profile's own)
+-- the plan of a way is a row of places: each step has one, in the order of the steps' numbers, and the refresh of the target has one for
+-- each shard, in their order. The first place of a step (this profile's own)
+abbrev pub place_of_step : Way → (step : ℕ) → ℕ
+place_of_step way step = if nat_le step (repeated_step way) then step else step + (way.shards - 1)
+
+-- the step at a place (this profile's own)
+abbrev pub step_at_place : Way → (place : ℕ) → ℕ
+step_at_place way place = if nat_le place (repeated_step way) then place else max (repeated_step way) (place - (way.shards - 1))
+
+-- the place of a refresh of a shard of its side: the source has one shard, the target has those of the plan (this profile's own)
+abbrev pub place_of_refresh : Way → (step shard : ℕ) → ℕ
+place_of_refresh way step shard = place_of_step way step + (if step == repeated_step way then min shard (way.shards - 1) else 0)
+
+-- the last place of a step; once that stands done, the step does, for each shard (this profile's own)
+abbrev pub last_place_of : Way → (step : ℕ) → ℕ
+last_place_of way step = place_of_refresh way step (way.shards - 1)
+
+-- the shard that a place is for: the first one, but for the later places of the refresh of the target (this profile's own)
+abbrev pub shard_at_place : Way → (place : ℕ) → ℕ
+shard_at_place way place = if step_at_place way place == repeated_step way then place - repeated_step way else 0
+
+-- the place that is next, and the step there (this profile's own)
+abbrev pub next_place : Way → ℕ
+next_place way = first_step way + way.done
+
+abbrev pub next_step : Way → ℕ
+next_step way = step_at_place way (next_place way)
+
+-- the step at the place that was done last, where one stands done (this profile's own)
+abbrev pub last_step : Way → ℕ
+last_step way = step_at_place way (next_place way - 1)
+
+-- a step stands done where all its places are among the first `done` of the way (this profile's own)
 abbrev pub stands_done : Way → ℕ → Bool
 stands_done way step = nat_le (first_step way) step && nat_lt step (next_step way)

@@ -38,7 +38,7 @@ abbrev pub back_undone : Plain
 back_undone = after_events back_made (undo mv 6 ∷ [])
 
 abbrev pub back_way : ℕ → Bool → Option Way
-back_way steps is_undone = Some (record { back = true; before = all_types; after = no_types; done = steps; undoing = is_undone })
+back_way steps is_undone = Some (record { back = true; shards = 1; before = all_types; after = no_types; done = steps; undoing = is_undone })
 
 -- a rule of the source's own name stands before Create, and the workflow is completed
 abbrev pub ruled_and_completed : Plain
@@ -127,7 +127,7 @@ abbrev pub a_way_back_is_told : Type 0
 a_way_back_is_told = way_text (back_way 6 true) ≡ codes "back primary,replica,rdonly 6 undoing"
 
 abbrev pub a_way_of_one_type_is_told : Type 0
-a_way_of_one_type_is_told = way_text (Some (record { back = false; before = primary_type; after = record primary_type { replica = true }; done = 0; undoing = false })) ≡ codes "forward replica 0"
+a_way_of_one_type_is_told = way_text (Some (record { back = false; shards = 1; before = primary_type; after = record primary_type { replica = true }; done = 0; undoing = false })) ≡ codes "forward replica 0"
 
 abbrev pub a_dump_of_a_live_workflow : Type 0
 a_dump_of_a_live_workflow = output (watchers_of (commerce ∷ customer ∷ [])) (codes "keyspace commerce\nkeyspace customer\ntable commerce corder\ncreate mv commerce customer corder\ndump\n") ≡ codes "ok\nok\nok\nok\n{\"denied\":[\"customer.corder\"],\"keyspaces\":[{\"name\":\"commerce\",\"shards\":[\"-\"],\"tables\":[\"corder\"]},{\"name\":\"customer\",\"shards\":[\"-\"],\"tables\":[\"corder\"]}],\"rules\":[{\"from_table\":\"commerce.corder@rdonly\",\"to_tables\":[\"commerce.corder\"]},{\"from_table\":\"commerce.corder@replica\",\"to_tables\":[\"commerce.corder\"]},{\"from_table\":\"corder\",\"to_tables\":[\"commerce.corder\"]},{\"from_table\":\"corder@rdonly\",\"to_tables\":[\"commerce.corder\"]},{\"from_table\":\"corder@replica\",\"to_tables\":[\"commerce.corder\"]},{\"from_table\":\"customer.corder\",\"to_tables\":[\"commerce.corder\"]},{\"from_table\":\"customer.corder@rdonly\",\"to_tables\":[\"commerce.corder\"]},{\"from_table\":\"customer.corder@replica\",\"to_tables\":[\"commerce.corder\"]}],\"version\":2}\n"

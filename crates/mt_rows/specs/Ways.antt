@@ -57,7 +57,7 @@ Shows p types way first other =
     }))
 
 abbrev pub way_with : ℕ → Bool → Option Way
-way_with steps is_undone = Some (record { back = false; before = no_types; after = all_types; done = steps; undoing = is_undone })
+way_with steps is_undone = Some (record { back = false; shards = 1; before = no_types; after = all_types; done = steps; undoing = is_undone })
 
 abbrev pub at_position : StreamState → ℕ → Slot
 at_position state position = record { state = state; position = position }

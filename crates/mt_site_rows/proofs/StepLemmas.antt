@@ -12,9 +12,9 @@ use Rattle.mt_names.specs.declared.types.TypeSet.{TypeSet}
 use Rattle.mt_model.specs.declared.rows.RowChange.{RowChange}
 use Rattle.mt_plain.specs.Events.{StreamName, Slot, Way}
 use Rattle.mt_plain.specs.Next.{closes, live_stepped, on_way_of, with_live}
-use Rattle.mt_plain.specs.Plain.{Live, LogEntry, Plain, behind_last, changed_types, changes_primary, create_back, first_step, live_at, moves, next_step, owner, stands_done, write_journal}
-use Rattle.mt_plain.specs.Refuse.{is_behind, new_owner}
-use Rattle.mt_plain.specs.Slots.{log_length, read_side}
+use Rattle.mt_plain.specs.Plain.{Live, LogEntry, Plain, behind_last, changed_types, changes_primary, first_step, live_at, moves, next_step, owner, stands_done, write_journal}
+use Rattle.mt_plain.specs.Refuse.{is_behind}
+use Rattle.mt_plain.specs.Slots.{read_side}
 use Rattle.mt_plain.specs.Slots as plain
 use Rattle.mt_stream.specs.Streams.{is_level, past}
 use Rattle.mt_laws.specs.Changes.{HasSides}

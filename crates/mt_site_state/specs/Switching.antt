@@ -1,7 +1,7 @@
 -- What an event on a way does to the controller: a way is begun, forward or back; its next step is done, or its last one undone; and a
 -- workflow is completed (MoveTables: SwitchTraffic, ReverseTraffic, Complete). All of this page is this profile's own, unless a comment
 -- names a page of Vitess's documentation.
-use Rattle.std.specs.Prelude.{◌≡◌, ⊤, ℕ, suc, Bool, true, false, not, ◌==◌, nat_le, List, [], ◌∷◌, ◌++◌, fold, if◌then◌else◌, Option, None, Some, unwrap_or, Result, Ok, Err}
+use Rattle.std.specs.Prelude.{◌≡◌, ⊤, ℕ, suc, Bool, true, false, not, ◌==◌, nat_le, List, [], ◌∷◌, ◌++◌, fold, Option, None, Some, Result, Ok, Err}
 use Rattle.std.specs.Map.{remove_entry, set_value}
 use Rattle.std.specs.Option.{option_map_or}
 use Rattle.mt_names.specs.declared.types.TypeSet.{TypeSet}
@@ -10,13 +10,13 @@ use Rattle.mt_model.specs.declared.entries.Scope.{Scope}
 use Rattle.mt_model.specs.Part.{with_entries, without_places}
 use Rattle.mt_plain.specs.Events.{Answer, done, refused, Refusal, memory, no_workflow, nothing_to_switch, nothing_to_reverse, copying, past_journal, stale, undoing, full, nothing_under_way, Way}
 use Rattle.mt_plain.specs.Next.{types_and, types_without}
-use Rattle.mt_plain.specs.Plain.{next_step, stands_done, write_journal}
+use Rattle.mt_plain.specs.Plain.{last_step, next_step, stands_done, write_journal}
 use Rattle.mt_plain.specs.Refuse.{at_rest, complete_refusal, has_more, most_ways, or_else, refuse_if, share_type}
 use Rattle.mt_primary.specs.Writes.{without_table}
 use Rattle.mt_steps.specs.declared.fault.StepFault.{StepFault}
 use Rattle.mt_steps.specs.declared.log.OpenWay.{OpenWay}
 use Rattle.mt_steps.specs.Faults as step
-use Rattle.mt_steps.specs.Plans.{last_step, step_at}
+use Rattle.mt_steps.specs.Plans.{step_at}
 use Rattle.mt_steps.specs.Steps.{IsUndone, SidesState, Steps}
 use Rattle.mt_steps.specs.Undo.{UndoState, new_log}
 use Rattle.mt_stream.specs.Streams.{has_ended}
@@ -42,7 +42,7 @@ with_workflow core w = record core { workflows = set_value (same_text w.name) co
 
 -- the way that changes the switched types to these
 abbrev pub way_to : WorkflowState → (backward : Bool) → (types : TypeSet) → Way
-way_to w backward types = record { back = backward; before = w.switched; after = types; done = 0; undoing = false }
+way_to w backward types = record { back = backward; shards = 1; before = w.switched; after = types; done = 0; undoing = false }
 
 -- it is open on the workflow, and gets the next number, the first one 1; what is kept for its undo is kept from now on
 abbrev pub with_way : SiteState → WorkflowState → Way → SiteState

@@ -1,6 +1,6 @@
 -- A begin changes no entry.
-use Rattle.std.proofs.Common.{◌≡◌, ℕ, Bool, true, false, cond, ◌&&◌, List, Option, None, Some, is_some, refl, sym, ap, ◌∙◌, arith, ltb, leb, ◌≤◌}
-use Rattle.std.proofs.lemmas.Bool.{le-ltb, leb-true}
+use Rattle.std.proofs.Common.{◌≡◌, ℕ, Bool, true, false, cond, List, Option, None, Some, is_some, refl, sym, ap, ◌∙◌}
+use Rattle.mt_laws.proofs.StepUndoneLemmas.{nothing_done}
 use Rattle.std.specs.Option.{option_map_or}
 use Rattle.mt_names.proofs.EntryLemmas.{none_from}
 use Rattle.mt_names.specs.declared.types.TabletType.{TabletType}
@@ -13,7 +13,7 @@ use Rattle.mt_model.specs.declared.entries.EntryKey.TheVariants as about
 use Rattle.mt_model.specs.Topology.{TopologyState, value_of}
 use Rattle.mt_plain.specs.Events.{Refusal, under_way, Way}
 use Rattle.mt_plain.specs.Next.{with_way_to}
-use Rattle.mt_plain.specs.Plain.{Live, Plain, allow_target, deny_source, first_step, has_part, next_step, owner_by, part_owner, stands_done}
+use Rattle.mt_plain.specs.Plain.{Live, Plain, allow_target, deny_source, has_part, owner_by, part_owner, stands_done}
 use Rattle.mt_plain.specs.Refuse.{at_rest, in_workflow, or_else, refuse_if}
 use Rattle.mt_plain.specs.Serve.{serve, serve_plain, serve_rule, served_by, served_entry, step_of_entry, types_by}
 use Rattle.mt_site_topology.specs.Stands.{TopologyStands}
@@ -53,22 +53,13 @@ serve_turned u w v types (about.Rule key) s t = ap (entry.Rule key) (by key.tabl
 serve_turned u w v types (about.Denied keyspace table) s t = rw s refl
 serve_turned u w v types (about.Present keyspace table) s t = refl
 
-none_stands : (way : Way) (n : ℕ) → way.done ≡ 0 → stands_done way n ≡ false
-none_stands way n none = by (leb (first_step way) n) refl
-  where
-    by : (b : Bool) → leb (first_step way) n ≡ b → stands_done way n ≡ false
-    by true b =
-        let le : first_step way ≤ n = leb-true (first_step way) n b in
-        ap (λ x. x && ltb n (next_step way)) b ∙ le-ltb n (next_step way) (omega arith)
-    by false b = ap (λ x. x && ltb n (next_step way)) b
-
 module _ (u : TopologyState) (w : Live) (back : Bool) (change : TypeSet → TypeSet) (rests : w.way ≡ None) where
   abbrev fresh : Way
-  fresh = record { back = back; before = w.switched; after = change w.switched; done = 0; undoing = false }
+  fresh = record { back = back; shards = 1; before = w.switched; after = change w.switched; done = 0; undoing = false }
 
   types_stay : (n : ℕ) → types_by (with_way_to back change w) n ≡ types_by w n
   types_stay n =
-      ap (λ b. cond b (change w.switched) w.switched) (none_stands fresh n refl)
+      ap (λ b. cond b (change w.switched) w.switched) (nothing_done fresh n refl)
       ∙ sym (ap (λ (o : Option Way). option_map_or (λ way. cond (stands_done way n) way.after way.before) o w.switched) rests)
 
   step_stays : (key : EntryKey) → step_of_entry (with_way_to back change w) key ≡ step_of_entry w key

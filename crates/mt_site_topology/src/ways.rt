@@ -1,6 +1,5 @@
 //! Laws on the traffic commands.
 ghost use Rattle.std.specs.Prelude.{◌≡◌, ℕ, List, Some};
-ghost use Rattle.mt_laws.specs.Effects.{last_step};
 ghost use Rattle.mt_laws.specs.WayBack.{IsReached};
 ghost use Rattle.mt_model.specs.Part.{with_entries};
 ghost use Rattle.mt_model.specs.Topology.{Rules, TopologyState};
@@ -8,7 +7,7 @@ ghost use Rattle.mt_names.specs.declared.types.TypeSet.{TypeSet};
 ghost use Rattle.mt_plain.specs.Answers.{Answers};
 ghost use Rattle.mt_plain.specs.Events.{Way, begin_reverse, begin_switch, done, step, undo};
 ghost use Rattle.mt_plain.specs.Next.{next};
-ghost use Rattle.mt_plain.specs.Plain.{Live, Plain, live_at, next_step};
+ghost use Rattle.mt_plain.specs.Plain.{Live, Plain, last_step, live_at, next_step};
 ghost use Rattle.mt_site_topology.specs.Keys.{IsKept, part_entries, step_entries};
 ghost use Rattle.mt_site_topology.specs.Stands.{TopologyStands};
 

@@ -13,10 +13,9 @@ use Rattle.mt_laws.proofs.LiveLemmas.{all_from_in, any-in, text_differs}
 use Rattle.mt_laws.proofs.WayStepLemmas.{more}
 use Rattle.mt_plain.specs.Events.{StreamName, forward, back, running, stopped, Way}
 use Rattle.mt_plain.specs.Next.{closes, fresh_stepped, live_stepped, types_stepped}
-use Rattle.mt_plain.specs.Plain.{Live, Plain, among, before_way, changes_primary, create_back, next_step, owner_by, refresh_source, refresh_target, stands_done, start_back, write_journal}
-use Rattle.mt_plain.specs.Refuse.{new_owner}
+use Rattle.mt_plain.specs.Plain.{Live, Plain, among, before_way, changes_primary, create_back, owner_by, refresh_source, refresh_target, stands_done, start_back, write_journal}
 use Rattle.mt_plain.specs.Serve.{is_listed_at}
-use Rattle.mt_plain.specs.Slots.{feeding_slot, is_feeding, log_length, other_slot, slot_at_rest, slot_before_way, slot_by_way}
+use Rattle.mt_plain.specs.Slots.{feeding_slot, is_feeding, other_slot, slot_at_rest, slot_before_way, slot_by_way}
 use Rattle.mt_plain.specs.Slots as plain
 use Rattle.mt_primary.specs.Denials.{marks_of}
 use Rattle.mt_primary.specs.Primary.{PrimaryState, is_denied_at}
@@ -155,15 +154,17 @@ none_marked primary (t ∷ ts) all = ap (λ b. (t, b) ∷ marks_of primary ts) a
 -- a way that a step leaves open: what stood before it stays
 pub open_stepped : (p : Plain) (v : Live) (way : Way) → closes way ≡ false
     → (types : TypeSet) × (fresh : ℕ) × (live_stepped p v way ≡ record v { switched = types; way = Some (more way); fresh_at = fresh })
-open_stepped p v way goes_on =
-    (types_stepped v way, fresh_stepped p v way,
-    ap (λ l. record v {
-      switched = types_stepped v way;
-      way = cond l None (Some (more way));
-      forward_at = cond (l && changes_primary way && way.back) v.fresh_at v.forward_at;
-      back_at = cond (l && changes_primary way && not way.back) v.fresh_at v.back_at;
-      fresh_at = fresh_stepped p v way;
-    }) goes_on)
+open_stepped p v way goes_on = (
+  types_stepped v way,
+  fresh_stepped p v way,
+  ap (λ l. record v {
+    switched = types_stepped v way;
+    way = cond l None (Some (more way));
+    forward_at = cond (l && changes_primary way && way.back) v.fresh_at v.forward_at;
+    back_at = cond (l && changes_primary way && not way.back) v.fresh_at v.back_at;
+    fresh_at = fresh_stepped p v way;
+  }) goes_on,
+)
 
 pub saved_stays : (v : Live) (way now : Way) (types : TypeSet) (fresh : ℕ) (name : StreamName) → v.way ≡ Some way → now.before ≡ way.before
     → option_map (stream_of (record v { switched = types; way = Some now; fresh_at = fresh })) (slot_before_way (record v { switched = types; way = Some now; fresh_at = fresh }) name)

@@ -1,13 +1,17 @@
 -- The primaries of a workflow's sides where one step's own list changes, by a step or by its undo.
-use Rattle.std.proofs.Common.{◌≡◌, ◌≢◌, ℕ, Bool, true, false, not, cond, eqb, List, Some, is_some, sym, ap, ◌∙◌, subst}
-use Rattle.std.proofs.lemmas.Bool.{or_left, or_right}
+use Rattle.std.proofs.Common.{◌≡◌, ◌≢◌, ℕ, Bool, true, false, not, cond, eqb, List, Some, is_some, sym, ap, ◌∙◌, subst, suc, ◌-◌, ◌≤◌, arith, eqb-true}
+use Rattle.std.specs.Cmp.{both_ways}
+use Rattle.mt_laws.specs.Effects.{list_stepped, list_undone}
+use Rattle.mt_laws.proofs.WayStepLemmas.{one-last_place}
+use Rattle.mt_plain.proofs.PlaceLemmas.{one-last, one-next}
+use Rattle.std.proofs.lemmas.Bool.{or_left, or_right, eq-eqb}
 use Rattle.mt_names.specs.declared.types.TypeSet.{TypeSet}
 use Rattle.mt_names.specs.Names.{same_text}
 use Rattle.mt_model.specs.declared.entries.EntryKey.{EntryKey}
 use Rattle.mt_primary.specs.Primary.{PrimaryState}
 use Rattle.mt_primary.specs.Primary as primary
 use Rattle.mt_plain.specs.Events.{Way}
-use Rattle.mt_plain.specs.Plain.{Live, Plain, has_keyspace, has_part, is_side, moves, part_owner}
+use Rattle.mt_plain.specs.Plain.{Live, Plain, has_keyspace, has_part, is_side, moves, part_owner, last_place_of, last_step, next_place, next_step, refresh_source, refresh_target}
 use Rattle.mt_plain.specs.Serve.{has_table, is_listed_at, owned_before, refuses_by, step_of_list}
 use Rattle.mt_laws.specs.Changes.{HasSides}
 use Rattle.mt_laws.specs.Reached.{IsInPlace}
@@ -64,6 +68,28 @@ module _ (p : Plain) (old : Primaries) (live : Live) (w : WorkflowState) (way : 
 -- whether an own list has the moved tables, where those that change with a step are read with some types, and all others stay
 abbrev pub list_changed : Live → ℕ → TypeSet → (keyspace : List ℕ) → Bool
 list_changed live n types keyspace = cond (eqb n (step_of_list live keyspace)) (is_listed_at live types keyspace) (refuses_by live keyspace)
+
+-- with one shard a place is the number of a step
+module _ (live : Live) (way : Way) (one : way.shards ≤ 1) where
+  pub stepped_by_number : (keyspace : List ℕ) → list_stepped live way keyspace ≡ list_changed live (next_step way) way.after keyspace
+  stepped_by_number keyspace =
+      ap (λ n. cond (eqb n (last_place_of way (step_of_list live keyspace))) (is_listed_at live way.after keyspace) (refuses_by live keyspace)) (sym (one-next way one))
+      ∙ ap (λ n. cond (eqb (next_step way) n) (is_listed_at live way.after keyspace) (refuses_by live keyspace)) (one-last_place way (step_of_list live keyspace) one)
+
+  pub undone_by_number : (keyspace : List ℕ) → list_undone live way keyspace ≡ list_changed live (last_step way) way.before keyspace
+  undone_by_number keyspace =
+      ap (λ n. cond (eqb (next_place way) (suc n)) (is_listed_at live way.before keyspace) (refuses_by live keyspace)) (one-last_place way (step_of_list live keyspace) one)
+      ∙ ap (λ b. cond b (is_listed_at live way.before keyspace) (refuses_by live keyspace)) (by (owned_before live keyspace))
+      ∙ ap (λ n. cond (eqb n (step_of_list live keyspace)) (is_listed_at live way.before keyspace) (refuses_by live keyspace)) (sym (one-last way one))
+    where
+      less : (k n : ℕ) → eqb k (suc (suc n)) ≡ eqb (k - 1) (suc n)
+      less k n =
+          both_ways (eqb k (suc (suc n))) (eqb (k - 1) (suc n)) (λ t. let e = eqb-true k (suc (suc n)) t in eq-eqb (k - 1) (suc n) (omega arith))
+          (λ t. let e = eqb-true (k - 1) (suc n) t in eq-eqb k (suc (suc n)) (omega arith))
+
+      by : (b : Bool) → eqb (next_place way) (suc (cond {A = ℕ} b refresh_source refresh_target)) ≡ eqb (next_place way - 1) (cond {A = ℕ} b refresh_source refresh_target)
+      by true = less (next_place way) 1
+      by false = less (next_place way) 7
 
 module _ (p q : Plain) (old : Primaries) (live : Live) (w : WorkflowState) (way : Way) (at : IsAt p old live w way) (n : ℕ) (types : TypeSet)
     (next : IsNext p q live (list_changed live n types)) (rows : RowsStand q (primary_of old)) (source target : PrimaryState) where

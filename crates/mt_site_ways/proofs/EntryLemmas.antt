@@ -1,5 +1,10 @@
 -- The entries of a step: what the topology says there before the step, what is recorded of it, and what is written.
-use Rattle.std.proofs.Common.{◌≡◌, ◌≢◌, ℕ, zero, suc, ◌<◌, ◌≤◌, Bool, true, false, cond, eqb, leb, ltb, List, [], ◌∷◌, filter, map, Some, refl, sym, ap, ◌∙◌, arith, eqb-true, lt-ltb, le-leb}
+use Rattle.std.proofs.Common.{◌≡◌, ◌≢◌, ℕ, zero, suc, ◌<◌, ◌≤◌, Bool, true, false, cond, eqb, leb, ltb, List, [], ◌∷◌, filter, map, Some, refl, sym, ap, ◌∙◌, arith, eqb-true, lt-ltb, le-leb, ◌-◌}
+use Rattle.mt_laws.specs.WayBack.{IsReached}
+use Rattle.mt_laws.proofs.InPlaceLemmas.{live_in}
+use Rattle.mt_laws.proofs.OpenWayLemmas.{reached_one_shard}
+use Rattle.mt_plain.proofs.PlaceLemmas.{one-last, one-next, step-first}
+use Rattle.mt_laws.proofs.WayStepLemmas.{first_step-le, last-le}
 use Rattle.std.proofs.lemmas.Bool.{and_from, eqb-false, false_from_ne_true}
 use Rattle.std.proofs.lemmas.List.Elements.{recursion_from_All}
 use Rattle.std.specs.Option.{option_map_or}
@@ -8,7 +13,7 @@ use Rattle.mt_model.specs.declared.entries.Entry.{Entry}
 use Rattle.mt_model.specs.declared.entries.EntryKey.{EntryKey}
 use Rattle.mt_model.specs.Topology.{TopologyState, key_of, value_of}
 use Rattle.mt_plain.specs.Events.{Way}
-use Rattle.mt_plain.specs.Plain.{Live, Plain, before_way, behind_last, changes_primary, first_step, has_part, next_step, part_owner, stands_done}
+use Rattle.mt_plain.specs.Plain.{Live, Plain, before_way, behind_last, changes_primary, first_step, has_part, last_step, next_step, part_owner, stands_done, live_at, next_place}
 use Rattle.mt_plain.specs.Serve.{serve, step_of_entry, types_by}
 use Rattle.mt_laws.proofs.ListLemmas.{cond-either}
 use Rattle.mt_site_topology.proofs.BeginLemmas.{serve_turned}
@@ -21,7 +26,7 @@ use Rattle.mt_site_topology.specs.Stands.{TopologyStands}
 use Rattle.mt_site_state.specs.Stands.{StandsFor}
 use Rattle.mt_steps.proofs.EntryLemmas.{key_of-value_of}
 use Rattle.mt_steps.specs.Entries.{is_of_step, recorded, recorded_of, step_entries}
-use Rattle.mt_steps.specs.Plans.{last_step, number, step_at}
+use Rattle.mt_steps.specs.Plans.{number, step_at}
 use Rattle.mt_workflow.specs.Workflows.{WorkflowState, keys_of_part, live_of, rules_only, wanted}
 use Rattle.mt_site_ways.proofs.KeepLemmas.{entry_step, eqb_turned, filter_same, filtered_same}
 
@@ -52,14 +57,27 @@ module _ (way : Way) (within : next_step way < behind_last way) where
   next_numbered = numbered (next_step way) below_twelve
 
   pub last_numbered : number (step_at (last_step way)) ≡ last_step way
-  last_numbered = numbered (last_step way) (omega (arith, below_twelve))
+  last_numbered = numbered (last_step way) (let le = last-le way in omega (arith, below_twelve, le))
 
--- the last step stands done, where any does
-pub last_done : (way : Way) → eqb way.done 0 ≡ false → stands_done way (last_step way) ≡ true
-last_done way some =
+-- the target of a live workflow has one shard yet
+pub one_shard : (p : Plain) → IsReached p → (name : List ℕ) (live : Live) → live_at p name ≡ Some live → (way : Way) → live.way ≡ Some way → way.shards ≤ 1
+one_shard p reached name live is_live way opens = let one = reached_one_shard p reached live (live_in p name live is_live) way opens in omega arith
+
+-- so the last step stands done, where any does
+pub last_done : (way : Way) → way.shards ≤ 1 → eqb way.done 0 ≡ false → stands_done way (last_step way) ≡ true
+last_done way one some =
     let ne : way.done ≢ 0 = eqb-false way.done 0 some in
+    let next = one-next way one in
+    let last = one-last way one in
     and_from (leb (first_step way) (last_step way)) (ltb (last_step way) (next_step way))
-    (le-leb (first_step way) (last_step way) (omega (arith, ne))) (lt-ltb (last_step way) (next_step way) (omega (arith, ne)))
+    (le-leb (first_step way) (last_step way) (omega (arith, ne, last))) (lt-ltb (last_step way) (next_step way) (omega (arith, ne, next, last)))
+
+-- where no place stands done it is the first one
+pub none_last : (way : Way) → way.done ≡ 0 → last_step way ≡ 0
+none_last way none =
+    let first = first_step-le way in
+    let is = step-first way (next_place way - 1) (omega (arith, first, none)) in
+    omega (arith, first, none, is)
 
 -- ---- what is recorded
 

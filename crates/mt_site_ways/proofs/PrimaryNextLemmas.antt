@@ -1,6 +1,6 @@
 -- What is known where a core stands for a state, and the next state of a way's events.
-use Rattle.std.proofs.Common.{◌≡◌, ℕ, Bool, true, false, cond, ◌&&◌, List, Option, None, Some, refl, sym, ap, ◌∙◌, subst, arith, ltb, leb, ◌≤◌}
-use Rattle.std.proofs.lemmas.Bool.{le-ltb, leb-true}
+use Rattle.std.proofs.Common.{◌≡◌, ℕ, Bool, true, false, cond, List, Option, None, Some, refl, sym, ap, ◌∙◌, subst}
+use Rattle.mt_laws.proofs.StepUndoneLemmas.{nothing_done}
 use Rattle.std.proofs.lemmas.List.Sums.{length-filter}
 use Rattle.std.specs.Option.{option_map_or}
 use Rattle.mt_names.specs.declared.types.TypeSet.{TypeSet}
@@ -10,7 +10,7 @@ use Rattle.mt_model.specs.declared.entries.Scope.{Scope}
 use Rattle.mt_model.specs.Topology.{is_present}
 use Rattle.mt_plain.specs.Events.{Way}
 use Rattle.mt_plain.specs.Next.{with_live, with_way_to}
-use Rattle.mt_plain.specs.Plain.{Live, LogEntry, Plain, first_step, has_part, live_at, next_step, part_owner, stands_done}
+use Rattle.mt_plain.specs.Plain.{Live, LogEntry, Plain, has_part, live_at, part_owner, stands_done}
 use Rattle.mt_plain.specs.Refuse.{new_owner}
 use Rattle.mt_plain.specs.Serve.{has_table, is_listed_at, refuses_by, step_of_list}
 use Rattle.mt_plain.specs.Slots.{log_length, log_of}
@@ -43,22 +43,13 @@ on_way p primaries are live w for way opens placed owned = record { are = are; s
 pub tables_stay : (p : Plain) (name : List ℕ) (f : Live → Live) → ((w : Live) → HasSides w (f w)) → (keyspace table : List ℕ) → has_table (record p { lives = with_live f name p.lives }) keyspace table ≡ has_table p keyspace table
 tables_stay p name f same keyspace table = ap (λ b. cond b true (is_present p.topology.keyspaces keyspace table)) (any_changed p.lives name f same keyspace table)
 
--- ---- a way with no step done
-
-no_step_stands : (way : Way) (n : ℕ) → way.done ≡ 0 → stands_done way n ≡ false
-no_step_stands way n none = by (leb (first_step way) n) refl
-  where
-    by : (b : Bool) → leb (first_step way) n ≡ b → stands_done way n ≡ false
-    by true b =
-        let le : first_step way ≤ n = leb-true (first_step way) n b in
-        ap (λ x. x && ltb n (next_step way)) b ∙ le-ltb n (next_step way) (omega arith)
-    by false b = ap (λ x. x && ltb n (next_step way)) b
+-- ---- a begin
 
 -- a begin changes no own list
 pub begun_list : (w : Live) (back : Bool) (change : TypeSet → TypeSet) → w.way ≡ None → (keyspace : List ℕ) → refuses_by (with_way_to back change w) keyspace ≡ refuses_by w keyspace
 begun_list w back change rests keyspace =
     ap (λ types. is_listed_at w types keyspace)
-    (ap (λ b. cond b (change w.switched) w.switched) (no_step_stands (record { back = back; before = w.switched; after = change w.switched; done = 0; undoing = false }) (step_of_list (with_way_to back change w) keyspace) refl)
+    (ap (λ b. cond b (change w.switched) w.switched) (nothing_done (record { back = back; shards = 1; before = w.switched; after = change w.switched; done = 0; undoing = false }) (step_of_list (with_way_to back change w) keyspace) refl)
     ∙ sym (ap (λ (o : Option Way). option_map_or (λ way. cond (stands_done way (step_of_list w keyspace)) way.after way.before) o w.switched) rests))
 
 -- ---- the end of a log

@@ -10,14 +10,13 @@ use Rattle.mt_primary.specs.Primary.{PrimaryState, has_table}
 use Rattle.mt_plain.specs.Events.{Way}
 use Rattle.mt_plain.specs.Plain.{Live, Plain, is_side, moves, next_step, refresh_source, refresh_target}
 use Rattle.mt_plain.specs.Serve.{Serves, is_listed_at, owned_before, step_of_list}
-use Rattle.mt_laws.specs.Effects.{list_stepped}
 use Rattle.mt_steps.specs.Plans.{step_at}
 use Rattle.mt_steps.specs.Refreshes.{RefreshesSide, Sites, notice_at}
 use Rattle.mt_steps.specs.Steps.{Attempts}
 use Rattle.mt_workflow.specs.Workflows.{WorkflowState}
 use Rattle.mt_site_rows.specs.Rows.{RowsStand}
 use Rattle.mt_site_state.specs.Core.{Primaries, primary_of}
-use Rattle.mt_site_ways.proofs.ChangeLemmas.{IsAt, Listed, Stand, changes, joined, of_source, of_target, source_side, source_tables, stays, target_side, target_tables}
+use Rattle.mt_site_ways.proofs.ChangeLemmas.{IsAt, Listed, Stand, changes, joined, of_source, of_target, source_side, source_tables, stays, target_side, target_tables, list_changed}
 use Rattle.mt_site_ways.proofs.DenialLemmas.{Known, denied_after, refreshed}
 use Rattle.mt_site_ways.proofs.ListLemmas.{IsNext}
 use Rattle.mt_site_ways.proofs.NumberLemmas.{at_first, at_other, at_second, denied_before}
@@ -51,7 +50,7 @@ module _ (scopes : List Scope) (may_answer : Answering) (id : ℕ) (t : Topology
   primaries_stay (suc (suc (suc (suc (suc (suc (suc (suc (suc (suc (suc (suc n)))))))))))) a b is = all_stay is.1
 
 module _ (known : Known) (p q : Plain) (primaries : Primaries) (live : Live) (w : WorkflowState) (way : Way) (at : IsAt p primaries live w way)
-    (next : IsNext p q live (list_stepped live way)) (rows : RowsStand q (primary_of primaries)) (t : TopologyState) (serves : Serves p t)
+    (next : IsNext p q live (list_changed live (next_step way) way.after)) (rows : RowsStand q (primary_of primaries)) (t : TopologyState) (serves : Serves p t)
     (scopes : List Scope) (may_answer : Answering) (id : ℕ) (old new : Sites)
     (from_source : old.source ≡ primary_of primaries w.source) (from_target : old.target ≡ primary_of primaries w.target) where
   abbrev n : ℕ

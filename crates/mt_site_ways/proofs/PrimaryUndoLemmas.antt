@@ -1,5 +1,6 @@
 -- The list that a refresh records, and the undo that gives it back.
 use Rattle.std.proofs.Common.{◌≡◌, ℕ, zero, suc, Bool, true, false, not, cond, eqb, ◌||◌, List, [], ◌∷◌, map, Option, None, Some, refl, sym, ap, ◌∙◌, subst, arith, eqb-true}
+use Rattle.mt_site_ways.proofs.EntryLemmas.{none_last}
 use Rattle.std.proofs.lemmas.Bool.{true≢false, or_right}
 use Rattle.std.specs.Option.{option_map_or}
 use Rattle.std.specs.Prelude.{Ok}
@@ -10,12 +11,11 @@ use Rattle.mt_watch.specs.Asking.{Answering}
 use Rattle.mt_primary.specs.Denials.{AreDenialsSet, marks_of, told_by_marks}
 use Rattle.mt_primary.specs.Primary.{PrimaryState, has_table, is_denied_at}
 use Rattle.mt_plain.specs.Events.{Way, past_journal, stale, undo}
-use Rattle.mt_plain.specs.Plain.{Live, Plain, among, live_at, mover, moves, next_step, refresh_source, refresh_target, stands_done, write_journal}
+use Rattle.mt_plain.specs.Plain.{Live, Plain, among, last_step, live_at, mover, moves, next_step, refresh_source, refresh_target, stands_done, write_journal}
 use Rattle.mt_plain.specs.Refuse.{in_workflow, on_way, or_else, refuse_if, refusal_of, undo_refusal}
 use Rattle.mt_plain.specs.Serve.{is_listed_at, owned_before, refuses_by, step_of_list}
-use Rattle.mt_laws.specs.Effects.{list_undone}
-use Rattle.mt_laws.proofs.WayStepLemmas.{done_by, first_step-le}
-use Rattle.mt_steps.specs.Plans.{last_step, step_at}
+use Rattle.mt_laws.proofs.WayStepLemmas.{done_by, last-le}
+use Rattle.mt_steps.specs.Plans.{step_at}
 use Rattle.mt_steps.specs.Refreshes.{RefreshesSide, Sites}
 use Rattle.mt_steps.specs.Steps.{Attempts, IsGivenBack, given_listed}
 use Rattle.mt_workflow.specs.Workflows.{WorkflowState}
@@ -24,7 +24,7 @@ use Rattle.mt_site_rows.specs.Rows.{RowsStand}
 use Rattle.mt_site_rows.proofs.KnownLemmas.{itself}
 use Rattle.mt_site_state.specs.Core.{Primaries, primary_of}
 use Rattle.mt_site_state.specs.Stands.{ArePrimaries}
-use Rattle.mt_site_ways.proofs.ChangeLemmas.{IsAt, Listed, Stand, changes, joined, of_source, of_target, sides_apart, source_tables, stays, target_tables}
+use Rattle.mt_site_ways.proofs.ChangeLemmas.{IsAt, Listed, Stand, changes, joined, of_source, of_target, sides_apart, source_tables, stays, target_tables, list_changed}
 use Rattle.mt_site_ways.proofs.DenialLemmas.{Known, given_back}
 use Rattle.mt_site_ways.proofs.ListLemmas.{IsNext, same_stand}
 use Rattle.mt_site_ways.proofs.NumberLemmas.{allowed_at_source, allowed_at_target, at_first, at_other, list_before}
@@ -114,22 +114,23 @@ module _ (way : Way) (early : stands_done way write_journal ≡ false) where
       by : (b : Bool) → eqb (last_step way) refresh_target ≡ b → eqb (last_step way) refresh_target ≡ false
       by true e =
           let last = eqb-true (last_step way) refresh_target e in
-          absurd (true≢false (sym (done_by way 6 9 (omega (arith, last)) (omega arith) (omega arith)) ∙ early))
+          let le = last-le way in
+          absurd (true≢false (sym (done_by way 6 (next_step way) refl (omega arith) (omega (arith, last, le))) ∙ early))
       by false e = e
 
 module _ (known : Known) (p q : Plain) (primaries : Primaries) (live : Live) (w : WorkflowState) (way : Way) (at : IsAt p primaries live w way)
-    (next : IsNext p q live (list_undone live way)) (rows : RowsStand q (primary_of primaries)) where
+    (next : IsNext p q live (list_changed live (last_step way) way.before)) (rows : RowsStand q (primary_of primaries)) where
   abbrev n : ℕ
   n = last_step way
 
   -- where no step stands done no list changes
   pub none_stands : eqb way.done 0 ≡ true → ArePrimaries q primaries × RowsStand q (primary_of primaries)
   none_stands none =
-      same_stand p q live (list_undone live way) next primaries at.are rows
+      same_stand p q live (list_changed live (last_step way) way.before) next primaries at.are rows
       (λ keyspace. ap (λ b. cond b (is_listed_at live way.before keyspace) (refuses_by live keyspace)) (other (owned_before live keyspace)))
     where
       zero_last : n ≡ 0
-      zero_last = let none_done = eqb-true way.done 0 none in let first = first_step-le way in omega (arith, none_done, first)
+      zero_last = none_last way (eqb-true way.done 0 none)
 
       other : (b : Bool) → eqb n (cond {A = ℕ} b refresh_source refresh_target) ≡ false
       other true = ap (λ m. eqb m refresh_source) zero_last

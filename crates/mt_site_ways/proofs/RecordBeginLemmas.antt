@@ -1,5 +1,6 @@
 -- What is kept of a way that begins.
 use Rattle.std.proofs.Common.{◌≡◌, ◌≢◌, ℕ, suc, Bool, List, None, Some, refl, sym, ap, ◌∙◌, ◌++◌, ◌∷◌, []}
+use Rattle.mt_laws.proofs.StepUndoneLemmas.{nothing_done}
 use Rattle.std.proofs.lemmas.Bool.{true≢false}
 use Rattle.std.specs.Map.{set_value}
 use Rattle.mt_names.specs.Names.{same_text}
@@ -15,7 +16,6 @@ use Rattle.mt_steps.specs.declared.log.OpenWay.{OpenWay}
 use Rattle.mt_steps.specs.Undo.{new_log}
 use Rattle.mt_workflow.specs.Workflows.{WorkflowState}
 use Rattle.mt_site_ways.proofs.RecordOpenLemmas.{begins, unused_yet}
-use Rattle.mt_site_ways.proofs.TopologyLemmas.{none_stands}
 
 module _ (p q : Plain) (scopes : List Scope) (s : SiteState) (stands : SiteStands p scopes s) (name : List ℕ) (w : WorkflowState) (backward : Bool) (types : TypeSet)
     (found : workflow_at s.core.workflows name ≡ Some w) (rests : w.way ≡ None) (w_named : w.name ≡ name) where
@@ -42,9 +42,9 @@ module _ (p q : Plain) (scopes : List Scope) (s : SiteState) (stands : SiteStand
     kept = new_log_of w;
     unused = λ f. unused_yet p q s.core now.core s.ways now.ways stands.ways name w v fresh u found rests refl refl workflows_now open_now refl refl;
     undo = λ f. record {
-      entries = λ n t. absurd (true≢false (sym t ∙ none_stands fresh n refl));
-      listed = λ t. absurd (true≢false (sym t ∙ none_stands fresh refresh_source refl));
-      slot = λ t. absurd (true≢false (sym t ∙ none_stands fresh create_back refl));
+      entries = λ n t. absurd (true≢false (sym t ∙ nothing_done fresh n refl));
+      listed = λ t. absurd (true≢false (sym t ∙ nothing_done fresh refresh_source refl));
+      slot = λ t. absurd (true≢false (sym t ∙ nothing_done fresh create_back refl));
     };
   }
 

@@ -1,5 +1,6 @@
 -- What is kept of a way behind a step of it.
 use Rattle.std.proofs.Common.{◌≡◌, ◌≢◌, ℕ, suc, Bool, true, false, cond, eqb, length, List, [], ◌∷◌, ◌++◌, map, None, Some, option_map, refl, sym, ap, ◌∙◌, subst, arith, eqb-true}
+use Rattle.mt_laws.proofs.WayLemmas.{journal_once}
 use Rattle.std.proofs.lemmas.Bool.{eq-eqb, false_from_ne_true, true≢false}
 use Rattle.std.proofs.lemmas.List.{length_push}
 use Rattle.std.specs.List.{AllByRecursion}
@@ -14,7 +15,7 @@ use Rattle.mt_journal.specs.declared.entry.JournalEntry.{JournalEntry}
 use Rattle.mt_journal.specs.Journal.{entry_of}
 use Rattle.mt_laws.proofs.ChangeLemmas.{live_after, lives_after}
 use Rattle.mt_laws.proofs.ListLemmas.{cond-ap}
-use Rattle.mt_laws.proofs.WayStepLemmas.{before_then, done_by, more, not_before, now_done, undone_by}
+use Rattle.mt_laws.proofs.WayStepLemmas.{before_then, done_by, more, not_before, now_done, undone_by, next-le}
 use Rattle.mt_plain.specs.Events.{StreamName, forward, back, done, step, Way}
 use Rattle.mt_plain.specs.Next.{closes, journal_after, live_stepped, next, on_way_of}
 use Rattle.mt_plain.specs.Plain.{Live, Plain, before_way, behind_last, create_back, has_part, live_at, mover, moves, next_step, owner_by, part_owner, refresh_source, refresh_target, stands_done, write_journal}
@@ -167,7 +168,8 @@ module _ (p : Plain) (scopes asked : List Scope) (may_answer : Answering) (s : S
       not_refreshed : eqb (number this) refresh_target ≡ false
       not_refreshed = false_from_ne_true (eqb (number this) refresh_target) (λ t.
           let at : next_step way ≡ 8 = sym is_next ∙ eqb-true (number this) refresh_target t in
-          true≢false (sym (done_by (more way) write_journal 9 (omega (arith, at)) (omega arith) (omega arith)) ∙ not_written))
+          let le = next-le way in
+          true≢false (sym (done_by (more way) write_journal (next_step (more way)) refl (omega arith) (omega (arith, at, le))) ∙ not_written))
 
       listed_give : stands_done (more way) refresh_source ≡ true → log.listed ≡ Some (map (λ table. (table, false)) now.tables)
       listed_give done_now =
@@ -210,7 +212,7 @@ module _ (p : Plain) (scopes asked : List Scope) (may_answer : Answering) (s : S
       where
         by : (b : Bool) → eqb (next_step way) write_journal ≡ b
             → entry_of (cond b (s.ways.journal ++ journal_entry o.number w way (sides_of s w).source (sides_of s w).target ∷ []) s.ways.journal) o.number ≡ None
-        by true b = absurd (true≢false (sym (now_done way write_journal (omega arith) b) ∙ not_written))
+        by true b = absurd (true≢false (sym (now_done way write_journal (omega arith) (journal_once way) b) ∙ not_written))
         by false b = kept_before.unused (not_before way write_journal not_written)
 
     open_now : (live : Live) → live ≡ live_stepped p v way → IsOpenOn sides.journal live now (more way) u

@@ -1,5 +1,5 @@
 -- What is kept of a way behind an undo of a step of it, and behind its close where no step stands done.
-use Rattle.std.proofs.Common.{◌≡◌, ◌≢◌, ℕ, ◌-◌, Bool, true, false, cond, eqb, length, List, map, None, Some, option_map, refl, sym, ap, ◌∙◌, subst, arith, eqb-true}
+use Rattle.std.proofs.Common.{◌≡◌, ◌≢◌, ℕ, ◌-◌, Bool, true, false, cond, eqb, length, List, map, None, Some, option_map, refl, sym, ap, ◌∙◌, subst, arith, eqb-true, ◌+◌}
 use Rattle.std.proofs.lemmas.Bool.{eqb-false, false_from_ne_true, true≢false}
 use Rattle.std.specs.List.{AllByRecursion}
 use Rattle.std.specs.Map.{set_value}
@@ -16,7 +16,7 @@ use Rattle.mt_laws.proofs.WayStepLemmas.{fewer, undone_by, was_done}
 use Rattle.mt_plain.specs.Answers.{Answers}
 use Rattle.mt_plain.specs.Events.{done, undo, Way}
 use Rattle.mt_plain.specs.Next.{live_undone, next, on_way_of}
-use Rattle.mt_plain.specs.Plain.{Live, Plain, before_way, create_back, live_at, next_step, refresh_source, stands_done, write_journal}
+use Rattle.mt_plain.specs.Plain.{Live, Plain, before_way, create_back, last_step, live_at, next_step, refresh_source, stands_done, write_journal, first_step, next_place, step_at_place}
 use Rattle.mt_plain.specs.Refuse.{in_workflow, undo_refusal}
 use Rattle.mt_plain.specs.Slots.{slot_before_way}
 use Rattle.mt_site_rows.specs.Rows.{stream_of}
@@ -27,7 +27,7 @@ use Rattle.mt_site_state.specs.Ways.{GivesBack, IsGiven, IsOpenOn, SiteStands, S
 use Rattle.mt_steps.specs.declared.log.OpenWay.{OpenWay}
 use Rattle.mt_steps.specs.declared.step.Step.{Step}
 use Rattle.mt_steps.specs.Entries.{recorded_of, step_entries}
-use Rattle.mt_steps.specs.Plans.{last_step, number}
+use Rattle.mt_steps.specs.Plans.{number}
 use Rattle.mt_steps.specs.Steps.{IsUndone, SidesState}
 use Rattle.mt_steps.specs.Streams.{other_name}
 use Rattle.mt_steps.specs.Undo.{UndoState}
@@ -84,7 +84,10 @@ module _ (p : Plain) (scopes : List Scope) (s : SiteState) (stands : SiteStands 
     way_now = ap (λ (x : WorkflowState). x.way) is.workflow
 
     one_less : next_step (fewer way) ≡ last_step way
-    one_less = let ne : way.done ≢ 0 = eqb-false way.done 0 some in omega (arith, ne)
+    one_less =
+        let ne : way.done ≢ 0 = eqb-false way.done 0 some in
+        let e : first_step way + (way.done - 1) ≡ next_place way - 1 = omega (arith, ne) in
+        ap (step_at_place way) e
 
     -- a step that still stands done is not the one undone
     not_this : (n : ℕ) → stands_done (fewer way) n ≡ true → eqb (number this) n ≡ false
@@ -122,7 +125,7 @@ module _ (p : Plain) (scopes : List Scope) (s : SiteState) (stands : SiteStands 
           stood : option_map (stream_of live) (slot_before_way live (other_name way)) ≡ option_map (stream_of v) (slot_before_way v (other_name way))
           stood =
               ap (λ (x : Live). option_map (stream_of x) (slot_before_way x (other_name way)))
-              (is_undone ∙ ap (λ b. cond b (record v { way = None }) (record v { way = Some (fewer way) })) goes)
+              (is_undone ∙ ap (λ b. record v { way = cond b None (Some (fewer way)) }) goes)
               ∙ saved_stays v way (fewer way) v.switched v.fresh_at (other_name way) v_opens refl
 
       open_now : (live : Live) → live ≡ live_undone v way → IsOpenOn sides.journal live now (fewer way) u

@@ -151,7 +151,7 @@ module _ (live : Live) (w : WorkflowState) (slots : StreamName → Option Slot) 
 -- a way of which no step stands done leaves the slots as they were at rest
 module _ (live : Live) (rests : live.way ≡ None) (backward : Bool) (after : TypeSet) (name : StreamName) where
   abbrev way : Way
-  way = record { back = backward; before = live.switched; after = after; done = 0; undoing = false }
+  way = record { back = backward; shards = 1; before = live.switched; after = after; done = 0; undoing = false }
 
   abbrev begun : Live
   begun = record live { way = Some way }

@@ -1,15 +1,14 @@
 -- What a step and an undo write in the topology leads to one that stands for the next state.
-use Rattle.std.proofs.Common.{◌≡◌, ℕ, ◌<◌, ◌≤◌, Bool, true, false, cond, eqb, leb, ltb, List, Option, None, Some, refl, sym, ap, ◌∙◌, subst, arith, eqb-true, ltb-true}
-use Rattle.std.proofs.lemmas.Bool.{and_parts, false_from_ne_true, leb-true}
+use Rattle.std.proofs.Common.{◌≡◌, ℕ, ◌<◌, ◌≤◌, Bool, true, false, cond, eqb, List, Option, None, Some, refl, sym, ap, ◌∙◌, subst, eqb-true}
+use Rattle.mt_laws.proofs.StepUndoneLemmas.{nothing_done}
 use Rattle.std.specs.Option.{option_map_or}
 use Rattle.mt_model.specs.declared.entries.EntryKey.{EntryKey}
 use Rattle.mt_model.specs.Part.{with_entries}
 use Rattle.mt_model.specs.Topology.{TopologyState, value_of}
 use Rattle.mt_plain.specs.Events.{Way}
-use Rattle.mt_plain.specs.Plain.{Live, Plain, behind_last, first_step, has_part, live_at, next_step, part_owner, stands_done}
+use Rattle.mt_plain.specs.Plain.{Live, Plain, behind_last, has_part, last_step, live_at, next_step, part_owner, stands_done}
 use Rattle.mt_plain.specs.Serve.{serve, served_by, served_entry, step_of_entry, types_by}
 use Rattle.mt_laws.specs.Effects.{entry_undone}
-use Rattle.mt_laws.specs.Effects as effects
 use Rattle.mt_site_topology.proofs.PartLemmas.{part_entry}
 use Rattle.mt_site_topology.specs.Keys as live
 use Rattle.mt_site_topology.specs.Stands.{TopologyStands}
@@ -17,7 +16,7 @@ use Rattle.mt_site_state.specs.Core.{Workflows, workflow_at}
 use Rattle.mt_site_state.specs.Stands.{AreWorkflows, StandsFor, StandsForAny}
 use Rattle.mt_site_state.specs.Ways.{GivesBack}
 use Rattle.mt_steps.specs.Entries.{recorded_of, step_entries}
-use Rattle.mt_steps.specs.Plans.{last_step, number, step_at}
+use Rattle.mt_steps.specs.Plans.{number, step_at}
 use Rattle.mt_steps.specs.Undo.{UndoState}
 use Rattle.mt_workflow.specs.Workflows.{WorkflowState}
 use Rattle.mt_site_ways.proofs.EntryLemmas.{entries_joined, last_done, last_numbered, next_numbered}
@@ -51,20 +50,13 @@ module _ (p q : Plain) (t : TopologyState) (w : WorkflowState) (v : Live) (for :
       subst (λ es. TopologyStands q (with_entries t es))
       (sym (ap (step_entries w way.after) (next_numbered way within) ∙ entries_joined p w v for way.after (next_step way))) stands
 
-  pub undo_leaves : (log : UndoState) → GivesBack v w way log → eqb way.done 0 ≡ false → TopologyStands q (with_entries t (live.step_entries w.kept v way.before (effects.last_step way)))
+  pub undo_leaves : way.shards ≤ 1 → (log : UndoState) → GivesBack v w way log → eqb way.done 0 ≡ false → TopologyStands q (with_entries t (live.step_entries w.kept v way.before (last_step way)))
       → TopologyStands q (with_entries t (recorded_of w (number (step_at (last_step way))) log.entries))
-  undo_leaves log gives some stands =
+  undo_leaves one log gives some stands =
       subst (λ es. TopologyStands q (with_entries t es))
-      (sym (ap (λ n. recorded_of w n log.entries) (last_numbered way within) ∙ gives.entries (last_step way) (last_done way some) ∙ entries_joined p w v for way.before (last_step way))) stands
+      (sym (ap (λ n. recorded_of w n log.entries) (last_numbered way within) ∙ gives.entries (last_step way) (last_done way one some) ∙ entries_joined p w v for way.before (last_step way))) stands
 
 -- ---- a way of which no step stands done
-
-pub none_stands : (way : Way) (n : ℕ) → way.done ≡ 0 → stands_done way n ≡ false
-none_stands way n none = false_from_ne_true (stands_done way n) (λ t.
-    let r = and_parts (leb (first_step way) n) (ltb n (next_step way)) t in
-    let above : first_step way ≤ n = leb-true (first_step way) n r.0 in
-    let below = ltb-true n (next_step way) r.1 in
-    absurd (omega (arith, above, below, none)))
 
 pub closed_leaves : (p q : Plain) (t : TopologyState) (v : Live) (way : Way) → TopologyStands p t → ((key : EntryKey) → has_part v key ≡ true → part_owner p key ≡ Some v)
     → v.way ≡ Some way → eqb way.done 0 ≡ true
@@ -77,12 +69,12 @@ closed_leaves p q t v way stands owned opens none law key = stands.served.entrie
     types : types_by v n ≡ way.before
     types =
         ap (λ o. option_map_or (λ (x : Way). cond (stands_done x n) x.after x.before) o v.switched) opens
-        ∙ ap (λ b. cond b way.after way.before) (none_stands way n (eqb-true way.done 0 none))
+        ∙ ap (λ b. cond b way.after way.before) (nothing_done way n (eqb-true way.done 0 none))
 
     either : (b : Bool) → served_by p.topology v key ≡ cond b (serve p.topology v way.before key) (served_by p.topology v key)
     either true = ap (λ ts. serve p.topology v ts key) types
     either false = refl
 
     by : (h : Bool) → has_part v key ≡ h → served_entry p key ≡ cond h (entry_undone p.topology v way key) (served_entry p key)
-    by true h = part_entry p t v stands owned key h ∙ either (eqb (effects.last_step way) n)
+    by true h = part_entry p t v stands owned key h ∙ either (eqb (last_step way) n)
     by false h = refl

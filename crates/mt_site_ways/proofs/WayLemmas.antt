@@ -1,5 +1,7 @@
 -- What begins, steps and undos leave of the workflows.
-use Rattle.std.proofs.Common.{◌≡◌, ◌≢◌, ℕ, suc, ◌-◌, ◌<◌, ◌≤◌, Bool, true, false, cond, eqb, List, Option, None, Some, option_map, refl, sym, ap, ◌∙◌, subst, arith, eqb-true}
+use Rattle.std.proofs.Common.{◌≡◌, ◌≢◌, ℕ, suc, ◌-◌, ◌<◌, ◌≤◌, Bool, true, false, cond, eqb, List, Option, None, Some, option_map, refl, sym, ap, ◌∙◌, subst, arith}
+use Rattle.mt_site_ways.proofs.EntryLemmas.{none_last}
+use Rattle.mt_plain.proofs.PlaceLemmas.{one-last, one-next}
 use Rattle.std.specs.Map.{set_value}
 use Rattle.std.specs.Option.{option_map_or}
 use Rattle.std.specs.Prelude.{◌||◌}
@@ -7,7 +9,7 @@ use Rattle.mt_names.specs.declared.types.TypeSet.{TypeSet}
 use Rattle.mt_names.specs.Names.{same_text}
 use Rattle.mt_plain.specs.Events.{StreamName, forward, back, running, Way}
 use Rattle.mt_plain.specs.Next.{closes, live_stepped, live_undone, on_way_of, way_undone, with_step, with_undo, with_way, with_way_to}
-use Rattle.mt_plain.specs.Plain.{Live, Plain, behind_last, changes_primary, create_back, live_at, next_step, stands_done, stop_feeding, write_journal}
+use Rattle.mt_plain.specs.Plain.{Live, Plain, behind_last, changes_primary, create_back, last_step, live_at, next_step, stands_done, stop_feeding, write_journal}
 use Rattle.mt_plain.specs.Refuse.{new_owner}
 use Rattle.mt_plain.specs.Slots.{is_feeding, log_length, slot_before_way}
 use Rattle.mt_plain.specs.Slots as plain
@@ -16,7 +18,7 @@ use Rattle.mt_laws.specs.WayBack.{IsReached}
 use Rattle.mt_laws.proofs.ChangeLemmas.{sides-live_stepped, sides-on_way, sides-undone}
 use Rattle.mt_laws.proofs.CopyLemmas.{all_copied}
 use Rattle.mt_laws.proofs.StepCountLemmas.{few_done}
-use Rattle.mt_laws.proofs.WayStepLemmas.{done_by, fewer, first_step-le, more}
+use Rattle.mt_laws.proofs.WayStepLemmas.{done_by, fewer, more}
 use Rattle.mt_site_rows.specs.Rows.{stream_of}
 use Rattle.mt_site_state.specs.Core.{Workflows, workflow_at}
 use Rattle.mt_site_state.specs.Stands.{AreWorkflows, StandsFor}
@@ -25,7 +27,7 @@ use Rattle.mt_stream.specs.Streams.{StreamValue}
 use Rattle.mt_workflow.specs.Workflows.{WorkflowState, slot_of, with_slot}
 use Rattle.mt_steps.specs.declared.step.Step.{Step}
 use Rattle.mt_steps.specs.declared.step.Step.TheVariants.{SwitchReads, DenySource, RefreshSource, CatchUp, StopFeeding, CreateBack, Journal, AllowTarget, RefreshTarget, SwitchWriteRules, StartBack, FreezeOld}
-use Rattle.mt_steps.specs.Plans.{last_step, number, step_at}
+use Rattle.mt_steps.specs.Plans.{number, step_at}
 use Rattle.mt_steps.specs.Streams.{feeding_name, other_name, streams_undone, types_after, way_after, with_streams, workflow_stepped, workflow_undone}
 use Rattle.mt_site_ways.proofs.ChangedLemmas.{changed-workflows, stands_for, stream-slots, with_traffic}
 use Rattle.mt_site_ways.proofs.SlotLemmas.{begun-slot, either-same, number-step_at, stepped-slots, undone-slots}
@@ -84,7 +86,7 @@ module _ (p : Plain) (workflows : Workflows) (are : AreWorkflows p workflows) (n
         changed-workflows p (with_way p name backward change) name (with_way_to backward change) (λ v. record { name = refl; source = refl; target = refl; tables = refl }) refl refl elsewhere
         workflows are live w is_live found (with_way_to backward change live) refl (λ now. refl)
         (Some (way_to w backward (change w.switched))) w.switched w.forward w.back
-        (ap (λ (types : TypeSet). Some (record { back = backward; before = types; after = change types; done = 0; undoing = false })) for.switched) for.switched
+        (ap (λ (types : TypeSet). Some (record { back = backward; shards = 1; before = types; after = change types; done = 0; undoing = false })) for.switched) for.switched
         (for.forward ∙ ap (option_map (stream_of live)) (sym (begun-slot live rests backward (change live.switched) forward)))
         (for.back ∙ ap (option_map (stream_of live)) (sym (begun-slot live rests backward (change live.switched) back)))
 
@@ -131,7 +133,7 @@ module _ (p : Plain) (workflows : Workflows) (are : AreWorkflows p workflows) (n
           (sym (ap (λ (v : WorkflowState). record v { way = way_after way next_one; switched = types_after w.switched way next_one }) (streams-both w way next_one position))) stepped
 
     -- an undo, before the journal
-    module _ (before : stands_done way write_journal ≡ false) (elsewhere : (n : List ℕ) → name ≢ n → live_at (with_undo p name) n ≡ live_at p n)
+    module _ (one : way.shards ≤ 1) (before : stands_done way write_journal ≡ false) (elsewhere : (n : List ℕ) → name ≢ n → live_at (with_undo p name) n ≡ live_at p n)
         (copied : live_at (with_undo p name) name ≡ Some (live_undone live way) → (live_undone live way).copied ≡ live.copied)
         (slots : (stream : StreamName) → plain.slot_of (live_undone live way) stream ≡ slot_undone way stream (slot_before_way live stream) (plain.slot_of live stream)) where
       -- the workflow with the way that is left, and with streams
@@ -151,11 +153,14 @@ module _ (p : Plain) (workflows : Workflows) (are : AreWorkflows p workflows) (n
         few = few_done way before
 
         was_made : last_step way ≡ create_back → kept ≡ option_map (stream_of live) (slot_before_way live (other_name way))
-        was_made is = gives_back (done_by way create_back 6 (omega (arith, is)) (omega arith) (omega arith))
+        was_made is =
+            let next = one-next way one in
+            let last = one-last way one in
+            gives_back (done_by way create_back 6 (omega (arith, is, next, last)) (omega arith) (omega arith))
 
         stream_undone : (stream : StreamName) → slot_of (streams_undone w way last_one kept) stream ≡ option_map (stream_of live) (plain.slot_of (live_undone live way) stream)
         stream_undone stream =
-            undone-slots live w (plain.slot_of live) (stream-slots p live w for) way kept (slot_before_way live) (last_step way) (omega (arith, few)) was_made stream
+            undone-slots live w (plain.slot_of live) (stream-slots p live w for) way kept (slot_before_way live) (last_step way) (let next = one-next way one in let last = one-last way one in omega (arith, few, next, last)) was_made stream
             ∙ ap (option_map (stream_of live)) (sym (slots stream))
 
         pub undone-workflows : AreWorkflows (with_undo p name) (set_value (same_text w.name) workflows (workflow_undone w way last_one kept))
@@ -168,7 +173,7 @@ module _ (p : Plain) (workflows : Workflows) (are : AreWorkflows p workflows) (n
       -- where no step stands done
       module _ (none : way.done ≡ 0) where
         no_step : last_step way ≡ 0
-        no_step = let first = first_step-le way in omega (arith, first, none)
+        no_step = none_last way none
 
         same_slot : (stream : StreamName) → plain.slot_of (live_undone live way) stream ≡ plain.slot_of live stream
         same_slot stream =

@@ -1,16 +1,16 @@
 -- What comes of an undo, if each part of the controller stands for the next state.
-use Rattle.std.proofs.Common.{◌≡◌, Bool, true, false, eqb, List, None, is_some, refl, sym, ap, ◌∙◌, subst}
+use Rattle.std.proofs.Common.{◌≡◌, Bool, true, false, eqb, List, None, is_some, refl, sym, ap, ◌∙◌, subst, ◌≤◌}
 use Rattle.std.specs.Map.{set_value}
 use Rattle.mt_names.specs.Names.{same_text}
 use Rattle.mt_model.specs.declared.entries.Scope.{Scope}
 use Rattle.mt_model.specs.Part.{with_entries}
 use Rattle.mt_plain.specs.Events.{Way}
-use Rattle.mt_plain.specs.Plain.{Live, Plain, refresh_source, stands_done}
+use Rattle.mt_plain.specs.Plain.{Live, Plain, last_step, refresh_source, stands_done}
 use Rattle.mt_primary.specs.Primary.{empty_primary}
 use Rattle.mt_workflow.specs.Workflows.{WorkflowState}
 use Rattle.mt_steps.specs.declared.log.OpenWay.{OpenWay}
 use Rattle.mt_steps.specs.Entries.{recorded_of}
-use Rattle.mt_steps.specs.Plans.{last_step, number, step_at}
+use Rattle.mt_steps.specs.Plans.{number, step_at}
 use Rattle.mt_steps.specs.Steps.{IsUndone, SidesState}
 use Rattle.mt_steps.specs.Streams.{workflow_undone}
 use Rattle.mt_steps.specs.Undo.{UndoState}
@@ -27,8 +27,8 @@ use Rattle.mt_site_state.specs.Ways.{SiteState, SiteStands, WaysStand}
 use Rattle.mt_site_ways.proofs.WayStepLemmas.{primaries_with, sides_stand}
 
 -- an undone refresh stood done
-pub refresh_done : (way : Way) → eqb way.done 0 ≡ false → last_step way ≡ refresh_source → stands_done way refresh_source ≡ true
-refresh_done way some last = subst (λ n. stands_done way n ≡ true) last (last_done way some)
+pub refresh_done : (way : Way) → way.shards ≤ 1 → eqb way.done 0 ≡ false → last_step way ≡ refresh_source → stands_done way refresh_source ≡ true
+refresh_done way one some last = subst (λ n. stands_done way n ≡ true) last (last_done way one some)
 
 -- ---- what is undone
 

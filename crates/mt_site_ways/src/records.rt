@@ -8,7 +8,7 @@ ghost use Rattle.mt_names.specs.declared.types.TypeSet.{TypeSet};
 ghost use Rattle.mt_plain.specs.Answers.{Answers};
 ghost use Rattle.mt_plain.specs.Events.{Way, begin_reverse, begin_switch, done, step, undo};
 ghost use Rattle.mt_plain.specs.Next.{next, types_and, types_without};
-ghost use Rattle.mt_plain.specs.Plain.{Live, Plain, live_at, next_step};
+ghost use Rattle.mt_plain.specs.Plain.{Live, Plain, last_step, live_at, next_step};
 ghost use Rattle.mt_site_state.specs.Core.{workflow_at};
 ghost use Rattle.mt_site_state.specs.Stands.{StandsWith};
 ghost use Rattle.mt_site_state.specs.Switching.{sides_of, way_to, with_sides, with_way};
@@ -16,7 +16,7 @@ ghost use Rattle.mt_site_state.specs.Ways.{GivesBack, SiteState, SiteStands, Way
 ghost use Rattle.mt_site_topology.specs.Stands.{TopologyStands};
 ghost use Rattle.mt_steps.specs.declared.log.OpenWay.{OpenWay};
 ghost use Rattle.mt_steps.specs.Entries.{recorded_of, step_entries};
-ghost use Rattle.mt_steps.specs.Plans.{last_step, number, step_at};
+ghost use Rattle.mt_steps.specs.Plans.{number, step_at};
 ghost use Rattle.mt_steps.specs.Steps.{IsStepped, IsUndone, SidesState};
 ghost use Rattle.mt_steps.specs.Undo.{UndoState};
 ghost use Rattle.mt_workflow.specs.Workflows.{WorkflowState};

@@ -10,12 +10,12 @@ use Rattle.mt_model.specs.declared.entries.Scope.{Scope}
 use Rattle.mt_model.specs.Topology.{TopologyState}
 use Rattle.mt_journal.specs.declared.entry.JournalEntry.{JournalEntry}
 use Rattle.mt_plain.specs.Events.{Way}
-use Rattle.mt_plain.specs.Plain.{next_step}
+use Rattle.mt_plain.specs.Plain.{last_step, next_step}
 use Rattle.mt_primary.specs.Primary.{PrimaryState, empty_primary}
 use Rattle.mt_steps.specs.declared.fault.StepFault.{StepFault}
 use Rattle.mt_steps.specs.declared.log.OpenWay.{OpenWay}
 use Rattle.mt_steps.specs.declared.step.Step.{Step}
-use Rattle.mt_steps.specs.Plans.{last_step, step_at}
+use Rattle.mt_steps.specs.Plans.{step_at}
 use Rattle.mt_steps.specs.Steps.{IsUndone, SidesState, Steps, open_way}
 use Rattle.mt_steps.specs.Undo.{UndoState}
 use Rattle.mt_watch.specs.Asking.{Answering}
@@ -27,7 +27,7 @@ use Rattle.mt_site_workflows.proofs.PrimaryLemmas.{put-back, second-is}
 
 -- the way that is open
 pub way-is : (w : WorkflowState) (way : Way) → w.way ≡ Some way → open_way w ≡ way
-way-is w way has_way = ap (λ o. unwrap_or o (record { back = false; before = no_types; after = no_types; done = 0; undoing = false })) has_way
+way-is w way has_way = ap (λ o. unwrap_or o (record { back = false; shards = 1; before = no_types; after = no_types; done = 0; undoing = false })) has_way
 
 -- ---- where both primaries stay in their places
 

@@ -41,9 +41,7 @@ fn printed(answer: Result<(), TopologyFault>) -> &'static str {
 
 fn add_keyspace(topology: &mut Topology, name: &str) -> Result<&'static str, NameFault> {
     let name = KeyspaceName::parse(name)?;
-    Ok(printed(
-        topology.add_keyspace(&name, ShardList::unsharded()),
-    ))
+    Ok(printed(topology.add_keyspace(&name, ShardList::unsharded())))
 }
 
 fn add_table(

@@ -1,8 +1,11 @@
--- The twelve steps of a way, and which of them a way has.
-use Rattle.std.specs.Prelude.{ℕ, ◌-◌, ◌||◌, ◌+◌, List, [], ◌∷◌, ◌++◌, if◌then◌else◌, slice_index_or}
+-- The twelve steps of a way, and the places at which a way has them.
+use Rattle.std.specs.Prelude.{ℕ, ◌+◌, ◌-◌, ◌||◌, Bool, false, List, [], ◌∷◌, ◌++◌, map, if◌then◌else◌, slice_index_or}
+use Rattle.std.specs.List.{range_with_len}
 use Rattle.mt_names.specs.declared.types.TypeSet.{TypeSet}
+use Rattle.mt_names.specs.Types.{no_types}
 use Rattle.mt_plain.specs.Events.{Way}
-use Rattle.mt_plain.specs.Plain.{allow_target, catch_up, create_back, deny_source, first_step, freeze_old, refresh_source, refresh_target, start_back, stop_feeding, switch_reads, switch_write_rules, write_journal}
+use Rattle.mt_plain.specs.Plain.{allow_target, behind_last, catch_up, changes_primary, create_back, deny_source, first_step, freeze_old, refresh_source, refresh_target, shard_at_place, start_back, step_at_place, stop_feeding, switch_reads, switch_write_rules, write_journal}
+use Rattle.mt_steps.specs.declared.plan.Place.{Place}
 use Rattle.mt_steps.specs.declared.step.Step.{Step}
 use Rattle.mt_steps.specs.declared.step.Step.TheVariants.{SwitchReads, DenySource, RefreshSource, CatchUp, StopFeeding, CreateBack, Journal, AllowTarget, RefreshTarget, SwitchWriteRules, StartBack, FreezeOld}
 
@@ -39,6 +42,24 @@ steps_of types = (if types.replica || types.rdonly then SwitchReads ∷ [] else 
 abbrev pub step_at : ℕ → Step
 step_at n = slice_index_or all_steps n SwitchReads
 
--- the number of the step that was done last, where one stands done (this profile's own)
-abbrev pub last_step : Way → ℕ
-last_step way = first_step way + way.done - 1
+-- ---- plans
+
+-- how many shards a target has at most (this profile's own)
+abbrev pub most_shards : ℕ
+most_shards = 8
+
+-- a way in a direction that changes these types, with a target of so many shards
+abbrev pub way_of : (back : Bool) → TypeSet → (shards : ℕ) → Way
+way_of back types shards = record { back = back; shards = shards; before = no_types; after = types; done = 0; undoing = false }
+
+-- what is done at a place of a way's plan (this profile's own)
+abbrev pub place_at : Way → (place : ℕ) → Place
+place_at way place = record { step = step_at (step_at_place way place); shard = shard_at_place way place }
+
+-- how many places a plan has more than steps: one for each shard of the target but the first, where it switches writes
+abbrev pub later_shards : Way → ℕ
+later_shards way = if changes_primary way then way.shards - 1 else 0
+
+-- the places of the plan of a way, in their order (How traffic is switched)
+abbrev pub plan_of : Way → List Place
+plan_of way = map (place_at way) (range_with_len (first_step way) (behind_last way + later_shards way - first_step way))

@@ -32,7 +32,7 @@ pub record SidesState : Type 0 where
 
 -- the way that is open; where none is, one that changes nothing (MoveTables)
 abbrev pub open_way : WorkflowState → Way
-open_way w = unwrap_or w.way (record { back = false; before = no_types; after = no_types; done = 0; undoing = false })
+open_way w = unwrap_or w.way (record { back = false; shards = 1; before = no_types; after = no_types; done = 0; undoing = false })
 
 -- ---- what may be refused
 

@@ -1,5 +1,5 @@
 //! What follows from how steps are numbered, and from what is recorded of them.
-ghost use Rattle.std.specs.Prelude.{◌≡◌, ◌≢◌, ℕ, ◌+◌, List, Some, length, map, slice_get};
+ghost use Rattle.std.specs.Prelude.{◌≡◌, ◌≢◌, ◌<◌, ◌≤◌, ℕ, suc, ◌+◌, ◌-◌, List, Some, length, map, slice_get};
 ghost use Rattle.std.specs.List.{AllByRecursion};
 ghost use Rattle.mt_names.specs.declared.types.TypeSet.{TypeSet};
 ghost use Rattle.mt_model.specs.declared.entries.Entry.{Entry};
@@ -7,17 +7,22 @@ ghost use Rattle.mt_model.specs.declared.entries.EntryKey.{EntryKey};
 ghost use Rattle.mt_model.specs.Part.{with_entries};
 ghost use Rattle.mt_model.specs.Topology.{TopologyState, key_of, value_of};
 ghost use Rattle.mt_plain.specs.Events.{Way};
-ghost use Rattle.mt_plain.specs.Plain.{behind_last, changed_types, first_step, next_step};
+ghost use Rattle.mt_plain.specs.Plain.{behind_last, changed_types, first_step, last_place_of, next_place, next_step, place_of_refresh, repeated_step, shard_at_place};
 ghost use Rattle.mt_workflow.specs.Workflows.{WorkflowState, keys_of_part};
-ghost use Rattle.mt_steps.specs.declared.step.Step.{Step};
+ghost use Rattle.mt_steps.specs.declared.plan.Place.{Place};
 ghost use Rattle.mt_steps.specs.Entries.{HasPlaces, recorded, recorded_of, step_entries, step_keys};
-ghost use Rattle.mt_steps.specs.Plans.{number, steps_of};
+ghost use Rattle.mt_steps.specs.Plans.{number, place_at, plan_of, step_at, steps_of};
 ghost use Rattle.mt_steps.specs.Undo.{IsLogOf, UndoState, new_log};
 
-/// A plan has the steps of each way that changes its types, from the first to the last, each at the place of its number.
+/// The plan of a way has, behind those of its places that stand done, the step that is next, for the shard that is; its last place is that
+/// of the last step; a refresh is at the place of its shard, in their order; and with one shard the places are the steps, in their order.
 pub fn a_plan_is_that_of_its_way()
-    ensures next { (way : Way) (step : Step) → slice_get (steps_of (changed_types way)) way.done ≡ Some step → number step ≡ next_step way }
-    ensures last { (way : Way) → first_step way + length (steps_of (changed_types way)) ≡ behind_last way }
+    ensures next { (way : Way) (place : Place) → slice_get (plan_of way) way.done ≡ Some place
+        → (number place.step ≡ next_step way) × (place.shard ≡ shard_at_place way (next_place way)) }
+    ensures last { (way : Way) → first_step way + length (plan_of way) ≡ suc (last_place_of way (behind_last way - 1)) }
+    ensures refreshes { (way : Way) (shard : ℕ) → shard < way.shards
+        → place_at way (place_of_refresh way (repeated_step way) shard) ≡ record { step = step_at (repeated_step way); shard = shard } }
+    ensures one { (way : Way) → way.shards ≤ 1 → map (λ place. place.step) (plan_of way) ≡ steps_of (changed_types way) }
 {}
 
 /// What is written back after a step, and whatever else was written in between, gives each entry that changes with the step what it

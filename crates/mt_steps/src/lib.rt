@@ -18,7 +18,7 @@ pub use laws::{
     a_plan_is_that_of_its_way, a_record_stays_that_of_its_workflow, an_undo_gives_back_what_stood,
 };
 pub use log::{OpenWay, UndoLog};
-pub use plan::Plan;
+pub use plan::{MAX_PLACES, Place, Plan};
 pub use sides::{Sides, do_step, undo_last};
 pub use step::Step;
 pub use streams::{last_step, next_step};

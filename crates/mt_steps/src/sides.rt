@@ -2,11 +2,11 @@
 ghost use Rattle.std.specs.Prelude.{◌≡◌, ◌<◌, true, All, List, [], None, is_some};
 ghost use Rattle.mt_model.specs.Part.{with_entries};
 ghost use Rattle.mt_model.specs.Topology.{has_place, key_of};
-ghost use Rattle.mt_plain.specs.Plain.{next_step, write_journal};
+ghost use Rattle.mt_plain.specs.Plain.{last_step, next_step, write_journal};
 ghost use Rattle.mt_workflow.specs.Workflows.{way_from};
 ghost use Rattle.mt_journal.specs.Journal.{entry_of};
 ghost use Rattle.mt_steps.specs.Entries.{HasPlaces, recorded, recorded_of, step_entries};
-ghost use Rattle.mt_steps.specs.Plans.{last_step, number, step_at};
+ghost use Rattle.mt_steps.specs.Plans.{number, step_at};
 ghost use Rattle.mt_steps.specs.Steps.{IsGivenBack, IsUndone, Steps, left_slot, open_way};
 ghost use Rattle.mt_steps.specs.Streams.{KeepsToTest, put_away, workflow_stepped, workflow_undone};
 ghost use Rattle.mt_steps.specs.Undo.{IsLogOf};

@@ -2,10 +2,10 @@
 ghost use Rattle.std.specs.Prelude.{◌≡◌, ◌<◌, ◌≤◌, false, Some, option_copied};
 ghost use Rattle.std.specs.Option.{option_map_or};
 ghost use Rattle.mt_plain.specs.Next.{way_undone};
-ghost use Rattle.mt_plain.specs.Plain.{next_step, write_journal};
+ghost use Rattle.mt_plain.specs.Plain.{last_step, next_step, write_journal};
 ghost use Rattle.mt_stream.specs.Streams.{StreamValue, is_level};
 ghost use Rattle.mt_workflow.specs.Workflows.{slot_of, stream_name, way_from, with_slot};
-ghost use Rattle.mt_steps.specs.Plans.{last_step, number, step_at};
+ghost use Rattle.mt_steps.specs.Plans.{number, step_at};
 ghost use Rattle.mt_steps.specs.Streams.{KeepsToFeed, feeding_name, is_fed, is_last, log_end, other_name, put_away, serves_other_side, stopped_stream, streams_undone, types_after, way_after, with_streams};
 
 use crate::step::Step;

@@ -1,10 +1,10 @@
 //! Workflows between two primaries, and their steps.
 ghost use Rattle.std.specs.Prelude.{◌≡◌, ◌<◌, ◌≤◌, length, true, Some, option_copied};
 ghost use Rattle.mt_names.specs.Tables.{most_tables};
-ghost use Rattle.mt_plain.specs.Plain.{next_step, write_journal};
+ghost use Rattle.mt_plain.specs.Plain.{last_step, next_step, write_journal};
 ghost use Rattle.mt_workflow.specs.Workflows.{way_from};
 ghost use Rattle.mt_steps.specs.Entries.{HasPlaces};
-ghost use Rattle.mt_steps.specs.Plans.{last_step, number};
+ghost use Rattle.mt_steps.specs.Plans.{number};
 ghost use Rattle.mt_steps.specs.Streams.{KeepsToFeed};
 ghost use Rattle.mt_stream.specs.Streams.{StreamValue};
 

@@ -46,7 +46,7 @@ stream_name slot.Back = back
 
 -- the way that is open, in the words of the definitions (MoveTables: SwitchTraffic, ReverseTraffic)
 abbrev pub way_from : code_way.Way → Way
-way_from way = record { back = way.back; before = way.before; after = way.after; done = way.done; undoing = way.undoing }
+way_from way = record { back = way.back; shards = 1; before = way.before; after = way.after; done = way.done; undoing = way.undoing }
 
 -- ---- the workflow as the definitions know it
 

@@ -1,7 +1,6 @@
 use Rattle.std.proofs.Common.{sym, ◌∙◌}
 use Rattle.mt_plain.specs.Events.{done, step, undo}
-use Rattle.mt_plain.specs.Plain.{next_step}
-use Rattle.mt_laws.specs.Effects.{last_step}
+use Rattle.mt_plain.specs.Plain.{last_step, next_step}
 use Rattle.mt_site_topology.specs.Keys.{step_entries}
 use Rattle.mt_site_topology.proofs.PartLemmas.{step_written}
 use Rattle.mt_site_topology.proofs.StandLemmas.{Laws, writes}

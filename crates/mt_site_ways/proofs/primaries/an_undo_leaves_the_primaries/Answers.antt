@@ -1,11 +1,12 @@
 -- An undone refresh gives a list without the tables back, and no other undo changes a primary.
-use Rattle.std.proofs.Common.{◌≡◌, ℕ, List, Some, refl}
+use Rattle.std.proofs.Common.{◌≡◌, ℕ, List, Some, refl, ap, ◌∙◌, cond}
+use Rattle.mt_plain.specs.Serve.{refuses}
+use Rattle.mt_site_ways.proofs.EntryLemmas.{one_shard}
 use Rattle.mt_model.specs.declared.entries.Scope.{Scope}
 use Rattle.mt_plain.specs.Answers.{Answers}
 use Rattle.mt_plain.specs.Events.{undo, done, Way}
 use Rattle.mt_plain.specs.Next.{live_undone, next, on_way_of}
-use Rattle.mt_plain.specs.Plain.{Live, Plain, live_at}
-use Rattle.mt_laws.specs.Effects.{list_undone}
+use Rattle.mt_plain.specs.Plain.{Live, Plain, live_at, last_step, moves}
 use Rattle.mt_workflow.specs.Workflows.{WorkflowState}
 use Rattle.mt_site_rows.specs.Rows.{RowsStand}
 use Rattle.mt_site_rows.proofs.KeepLemmas.{undone_sides}
@@ -14,7 +15,7 @@ use Rattle.mt_site_state.specs.Stands.{StandsWith}
 use Rattle.mt_site_ways.proofs.DenialLemmas.{Known}
 use Rattle.mt_site_ways.proofs.ListLemmas.{IsNext}
 use Rattle.mt_site_ways.proofs.PrimaryNextLemmas.{on_way, stood, tables_stay}
-use Rattle.mt_site_ways.proofs.ChangeLemmas.{IsAt}
+use Rattle.mt_site_ways.proofs.ChangeLemmas.{IsAt, list_changed, undone_by_number}
 use Rattle.mt_site_ways.proofs.PrimaryUndoLemmas.{before_journal, none_stands, undo_stands}
 use Rattle.mt_site_ways.proofs.primaries.an_undo_leaves_the_primaries.Goals as goal
 
@@ -37,12 +38,14 @@ returns c =
     (c.live_workflows_stand_in_place.ensures.placed p stands.reached name live is_live)
     (c.a_live_workflow_is_found_by_its_part.ensures.owner p stands.reached name live is_live) in
     let is_next : (p : Plain) (scopes : List Scope) (core : CoreState) → StandsWith p scopes core → (name : List ℕ) (live : Live) (way : Way) (at : ℕ) → live_at p name ≡ Some live → live.way ≡ Some way
-    → Answers p (undo name at) done → IsNext p (next p (undo name at) done) live (list_undone live way)
+    → Answers p (undo name at) done → IsNext p (next p (undo name at) done) live (list_changed live (last_step way) way.before)
     = λ p scopes core stands name live way at is_live opens given.
     record {
       topology = refl;
       tables = tables_stay p name (λ v. on_way_of (live_undone v) v) undone_sides;
-      refused = c.steps_and_undos_change_the_state_by_their_numbers.ensures.undo_lists p stands.reached name live way is_live opens at given;
+      refused = λ keyspace table.
+          c.steps_and_undos_change_the_state_by_their_numbers.ensures.undo_lists p stands.reached name live way is_live opens at given keyspace table
+          ∙ ap (λ b. cond (moves live table) b (refuses p keyspace table)) (undone_by_number live way (one_shard p stands.reached name live is_live way opens) keyspace);
       moved = c.a_live_workflow_is_found_by_its_part.ensures.mover p stands.reached name live is_live;
     } in
     let rows : (p : Plain) (scopes : List Scope) (core : CoreState) → StandsWith p scopes core → (name : List ℕ) (at : ℕ) → Answers p (undo name at) done

@@ -2,10 +2,10 @@
 use Rattle.std.proofs.Common.{true, false, refl, sym, ap, ◌∙◌}
 use Rattle.mt_plain.specs.Events.{begin_reverse, begin_switch, done, step, undo}
 use Rattle.mt_plain.specs.Next.{next, types_and, types_without}
-use Rattle.mt_plain.specs.Plain.{next_step}
+use Rattle.mt_plain.specs.Plain.{last_step, next_step}
 use Rattle.mt_plain.specs.Refuse.{begin_reverse_refusal, begin_switch_refusal, in_workflow}
 use Rattle.mt_site_topology.proofs.BeginLemmas.{at_rest-none}
-use Rattle.mt_steps.specs.Plans.{last_step, step_at}
+use Rattle.mt_steps.specs.Plans.{step_at}
 use Rattle.mt_site_ways.proofs.RecordBeginLemmas.{begin_stays}
 use Rattle.mt_site_ways.proofs.EntryLemmas.{last_numbered, next_numbered}
 use Rattle.mt_site_ways.proofs.RecordStepLemmas.{step_stays}

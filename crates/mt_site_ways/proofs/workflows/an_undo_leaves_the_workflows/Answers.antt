@@ -1,5 +1,6 @@
 -- What the undo makes of the slots is what it makes of the streams.
 use Rattle.std.proofs.Common.{◌≡◌, ℕ, false, List, Some, sym, ap, ◌∙◌, eqb-true}
+use Rattle.mt_site_ways.proofs.EntryLemmas.{one_shard}
 use Rattle.mt_plain.specs.Answers.{Answers}
 use Rattle.mt_plain.specs.Events.{StreamName, Way, done, undo}
 use Rattle.mt_plain.specs.Next.{live_undone}
@@ -32,7 +33,7 @@ returns c =
       last = λ p reached workflows are name live w way at kept is_live found is_open given some gives_back.
           let opens : live.way ≡ Some way = sym (stands_for p workflows are name live w is_live found).way ∙ is_open in
           let before = not_journaled p name live way at is_live opens given in
-          undone-workflows p workflows are name live w is_live found way opens before
+          undone-workflows p workflows are name live w is_live found way opens (one_shard p reached name live is_live way opens) before
           (λ n other. c.only_named_events_change_a_workflow.ensures.elsewhere p (undo name at) done n other)
           (λ now. c.only_named_events_change_a_workflow.ensures.copied p (undo name at) done name live (live_undone live way) is_live now (λ h. h))
           (slots p reached name live way is_live opens before) kept gives_back;
@@ -40,7 +41,7 @@ returns c =
           let (live, is_live, for) = live_found p (live_at p name) (workflow_at workflows name) w found (are.each name) in
           let opens : live.way ≡ Some way = sym for.way ∙ is_open in
           let before = not_journaled p name live way at is_live opens given in
-          closed-workflows p workflows are name live w is_live found way opens before
+          closed-workflows p workflows are name live w is_live found way opens (one_shard p reached name live is_live way opens) before
           (λ n other. c.only_named_events_change_a_workflow.ensures.elsewhere p (undo name at) done n other)
           (λ now. c.only_named_events_change_a_workflow.ensures.copied p (undo name at) done name live (live_undone live way) is_live now (λ h. h))
           (slots p reached name live way is_live opens before) (eqb-true way.done 0 none);
