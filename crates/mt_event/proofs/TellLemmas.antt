@@ -1,5 +1,6 @@
 -- Events and answers are found again from what the definitions know of them.
-use Rattle.std.proofs.Common.{◌≡◌, Option, None, Some, option_map, Result, Ok, Err, refl, sym, ap, ◌∙◌}
+use Rattle.std.proofs.Common.{◌≡◌, false, List, [], ◌∷◌, Option, None, Some, option_map, Result, Ok, Err, refl, sym, ap, ◌∙◌}
+use Rattle.mt_names.specs.Shards.{whole}
 use Rattle.mt_plain.specs.Events as plain
 use Rattle.mt_stream.specs.declared.stream.StreamState.{StreamState}
 use Rattle.mt_stream.specs.declared.stream.StreamState.TheVariants as state
@@ -33,11 +34,11 @@ back_slot plain.back = slot.Back
 abbrev back_event : plain.Event → Event
 back_event (plain.write keyspace table op) = event.Write keyspace table op
 back_event (plain.read keyspace table key type_of) = event.Read keyspace table key type_of
-back_event (plain.add_keyspace keyspace) = event.AddKeyspace keyspace
+back_event (plain.add_keyspace keyspace cuts) = event.AddKeyspace keyspace
 back_event (plain.add_table keyspace table) = event.AddTable keyspace table
 back_event (plain.edit_rule key target) = event.EditRule key target
 back_event (plain.create workflow source target tables) = event.Create workflow source target (record { items = tables })
-back_event (plain.advance workflow stream at max) = event.Advance workflow (back_slot stream) at max
+back_event (plain.advance workflow stream shard at max) = event.Advance workflow (back_slot stream) at max
 back_event (plain.begin_switch workflow types) = event.BeginSwitch workflow types
 back_event (plain.begin_reverse workflow types) = event.BeginReverse workflow types
 back_event (plain.step workflow at) = event.Step workflow at
@@ -100,6 +101,8 @@ back_refusal plain.full = refusal.Other reason.Full
 back_refusal plain.undoing = refusal.Other reason.Undoing
 back_refusal plain.too_long = refusal.Other reason.TooLong
 back_refusal plain.exists = refusal.Other reason.Exists
+-- the two that no code tells yet
+back_refusal other = refusal.Other reason.Memory
 
 refusal-returns : (r : Refusal) → back_refusal (refusal_from r) ≡ r
 refusal-returns (refusal.Other reason.Memory) = refl
@@ -157,6 +160,11 @@ option-returns : {A B : Type 0} (tell : A → B) (back : B → A) → ((a : A) �
 option-returns tell back returns None = refl
 option-returns tell back returns (Some a) = ap Some (returns a)
 
+-- the one lane that is told
+abbrev first_lane : List plain.ShownLane → plain.ShownLane
+first_lane (lane ∷ lanes) = lane
+first_lane [] = record { range = whole; forward = record { state = plain.frozen; position = 0 }; copied = false; back = None }
+
 abbrev back_shown : plain.Shown → Shown
 back_shown s = record {
   workflow = s.workflow;
@@ -165,9 +173,9 @@ back_shown s = record {
   tables = record { items = s.tables };
   switched = s.switched;
   way = option_map back_way s.way;
-  forward = back_stream s.forward;
-  copied = s.copied;
-  back = option_map back_stream s.back;
+  forward = back_stream (first_lane s.lanes).forward;
+  copied = (first_lane s.lanes).copied;
+  back = option_map back_stream (first_lane s.lanes).back;
 }
 
 shown-returns : (s : Shown) → back_shown (shown_from s) ≡ s

@@ -1,5 +1,6 @@
 -- What is asked of the controller and what it answers, in the words of the definitions.
-use Rattle.std.specs.Prelude.{⊤, option_map, Result, Ok, Err}
+use Rattle.std.specs.Prelude.{⊤, Bool, [], ◌∷◌, Option, option_map, Result, Ok, Err}
+use Rattle.mt_names.specs.Shards.{whole}
 use Rattle.mt_event.specs.declared.event.Event.{Event}
 use Rattle.mt_event.specs.declared.event.Event.TheVariants as event
 use Rattle.mt_event.specs.declared.refusal.Refusal.{Refusal}
@@ -18,11 +19,11 @@ use Rattle.mt_workflow.specs.Workflows.{stream_name, way_from}
 abbrev pub event_of : Event → plain.Event
 event_of (event.Write keyspace table op) = plain.write keyspace table op
 event_of (event.Read keyspace table key type_of) = plain.read keyspace table key type_of
-event_of (event.AddKeyspace keyspace) = plain.add_keyspace keyspace
+event_of (event.AddKeyspace keyspace) = plain.add_keyspace keyspace []
 event_of (event.AddTable keyspace table) = plain.add_table keyspace table
 event_of (event.EditRule key target) = plain.edit_rule key target
 event_of (event.Create workflow source target tables) = plain.create workflow source target tables.items
-event_of (event.Advance workflow stream at max) = plain.advance workflow (stream_name stream) at max
+event_of (event.Advance workflow stream at max) = plain.advance workflow (stream_name stream) 0 at max
 event_of (event.BeginSwitch workflow types) = plain.begin_switch workflow types
 event_of (event.BeginReverse workflow types) = plain.begin_reverse workflow types
 event_of (event.Step workflow at) = plain.step workflow at
@@ -41,6 +42,11 @@ refusal_from (refusal.Other reason) = reason_from reason
 abbrev pub shown_stream_from : ShownStream → plain.Slot
 shown_stream_from stream = record { state = state_from stream.state; position = stream.position }
 
+-- the one lane of a workflow, whose shard has all keys (MoveTables: Show)
+abbrev pub lane_from : (forward : ShownStream) → (copied : Bool) → (back : Option ShownStream) → plain.ShownLane
+lane_from forward copied back =
+    record { range = whole; forward = shown_stream_from forward; copied = copied; back = option_map shown_stream_from back }
+
 -- what Show tells of a workflow (MoveTables: Show)
 abbrev pub shown_from : Shown → plain.Shown
 shown_from shown = record {
@@ -50,9 +56,7 @@ shown_from shown = record {
   tables = shown.tables.items;
   switched = shown.switched;
   way = option_map way_from shown.way;
-  forward = shown_stream_from shown.forward;
-  copied = shown.copied;
-  back = option_map shown_stream_from shown.back;
+  lanes = lane_from shown.forward shown.copied shown.back ∷ [];
 }
 
 -- the same, where names and tables are lent
@@ -64,9 +68,7 @@ lent_shown shown = record {
   tables = shown.tables;
   switched = shown.switched;
   way = option_map way_from shown.way;
-  forward = shown_stream_from shown.forward;
-  copied = shown.copied;
-  back = option_map shown_stream_from shown.back;
+  lanes = lane_from shown.forward shown.copied shown.back ∷ [];
 }
 
 -- the answer to an event that is taken (this profile's own)

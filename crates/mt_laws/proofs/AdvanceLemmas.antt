@@ -1,19 +1,20 @@
 -- What an advance leaves as it was, and where it writes.
-use Rattle.std.proofs.Common.{◌≡◌, ◌≢◌, ℕ, Bool, true, false, cond, eqb, List, [], ◌∷◌, ◌++◌, map, filter, find, Option, None, Some, option_map, unwrap_or, refl, sym, ap, ◌∙◌, append-nil}
+use Rattle.std.proofs.Common.{◌≡◌, ℕ, Bool, true, false, cond, eqb, List, [], ◌∷◌, ◌++◌, map, filter, find, Option, None, Some, option_map, unwrap_or, refl, sym, ap, ◌∙◌, append-nil, eqb-true}
 use Rattle.std.proofs.lemmas.List.Elements.{filter-append}
 use Rattle.std.specs.List.{AllByRecursion, list_any}
 use Rattle.std.specs.Map.{lookup}
 use Rattle.std.specs.Option.{option_map_or}
 use Rattle.std.specs.Prelude.{◌&&◌, ◌||◌, take}
+use Rattle.std.proofs.lemmas.Bool.{and_from, and_parts, eq-eqb, false_from_ne_true}
 use Rattle.mt_names.specs.Names.{same_text}
 use Rattle.mt_names.specs.Same.{same_target}
 use Rattle.mt_names.proofs.SameLemmas.{same_text_decides}
 use Rattle.mt_model.specs.Topology.{is_present}
 use Rattle.mt_plain.specs.Events.{Event, advance, StreamName, Answer, advanced}
 use Rattle.mt_plain.specs.Next.{next, with_advance}
-use Rattle.mt_plain.specs.Plain.{Live, LogEntry, Plain, Write, has_part, in_keyspace, is_side, live_at, mover, moves, number_of}
+use Rattle.mt_plain.specs.Plain.{Lane, lane_at, Live, LogEntry, Plain, Write, has_part, in_keyspace, is_side, live_at, mover, moves, number_of}
 use Rattle.mt_plain.specs.Serve.{has_table}
-use Rattle.mt_plain.specs.Slots.{applies, entry_of_row, live_advanced, log_of, logged, past, to_copy, written_side}
+use Rattle.mt_plain.specs.Slots.{applies, entry_of_row, is_entry_at, live_advanced, log_advanced, log_of, logged, past, to_copy, written_shard, written_side}
 use Rattle.mt_plain.specs.Writes.{client_number, client_row, is_write_to, row_after_writes, writes_to}
 use Rattle.mt_laws.specs.Advances.{IsAfterAdvance, advanced_live, entries_written}
 use Rattle.mt_laws.specs.Changes.{HasSides}
@@ -21,7 +22,7 @@ use Rattle.mt_laws.proofs.AllWritesLemmas.{any_same, filter_same}
 use Rattle.mt_laws.proofs.ChangeLemmas.{lives-advance, sides-advanced}
 use Rattle.mt_laws.proofs.EntriesLemmas.{same_entries}
 use Rattle.mt_laws.proofs.ListLemmas.{append-all, cond-either, each-mapped}
-use Rattle.mt_laws.proofs.LiveLemmas.{find-map, sides_same, text_differs}
+use Rattle.mt_laws.proofs.LiveLemmas.{find-map, sides_same}
 use Rattle.mt_laws.proofs.PlainWords.{refuses_moved}
 use Rattle.mt_laws.proofs.UntouchedLemmas.{same_made, same_numbers, same_topology, same_writes, traffic-advanced}
 use Rattle.mt_laws.proofs.WayBackLemmas.{has_part-same}
@@ -41,20 +42,20 @@ filter-gone test [] all = refl
 filter-gone test (x ∷ xs) all = rw all.0 (filter-gone test xs all.1)
 
 -- what is written is written at one side
-written-all : (P : LogEntry → Type 0) (w : Live) (stream : StreamName) (entries : List LogEntry) (rows : List (List ℕ × ℕ)) → ((row : List ℕ × ℕ) → P (entry_of_row (written_side w stream) row)) → AllByRecursion P (logged w stream entries rows)
-written-all P w stream entries rows each =
-    append-all P (map (λ e. entry_of_row (written_side w stream) (e.table, e.key)) (filter (applies w) entries)) (map (entry_of_row (written_side w stream)) rows)
-    (each-mapped P (λ e. entry_of_row (written_side w stream) (e.table, e.key)) (filter (applies w) entries) (λ e. each (e.table, e.key)))
-    (each-mapped P (entry_of_row (written_side w stream)) rows each)
+written-all : (P : LogEntry → Type 0) (w : Live) (lane : Lane) (stream : StreamName) (entries : List LogEntry) (rows : List (List ℕ × ℕ)) → ((row : List ℕ × ℕ) → P (entry_of_row (written_side w stream) (written_shard lane stream) row)) → AllByRecursion P (logged w lane stream entries rows)
+written-all P w lane stream entries rows each =
+    append-all P (map (λ e. entry_of_row (written_side w stream) (written_shard lane stream) (e.table, e.key)) (filter (applies w lane) entries)) (map (entry_of_row (written_side w stream) (written_shard lane stream)) rows)
+    (each-mapped P (λ e. entry_of_row (written_side w stream) (written_shard lane stream) (e.table, e.key)) (filter (applies w lane) entries) (λ e. each (e.table, e.key)))
+    (each-mapped P (entry_of_row (written_side w stream) (written_shard lane stream)) rows each)
 
 -- ---- what is refused, by sides and traffic
 
-refused-same : (v w : Live) → HasSides v w → v.switched ≡ w.switched → v.way ≡ w.way → (keyspace : List ℕ) → refuses_moved (Some v) keyspace ≡ refuses_moved (Some w) keyspace
-refused-same v w same switched way keyspace = rw (same.source, same.target, switched, way) refl
+refused-same : (v w : Live) → HasSides v w → v.switched ≡ w.switched → v.way ≡ w.way → (keyspace : List ℕ) (shard : ℕ) → refuses_moved (Some v) keyspace shard ≡ refuses_moved (Some w) keyspace shard
+refused-same v w same switched way keyspace shard = rw (same.source, same.target, switched, way) refl
 
-module _ (p : Plain) (workflow : List ℕ) (w : Live) (live : live_at p workflow ≡ Some w) (stream : StreamName) (at at_most events rows : ℕ) where
+module _ (p : Plain) (workflow : List ℕ) (w : Live) (live : live_at p workflow ≡ Some w) (lane : Lane) (stream : StreamName) (shard at at_most events rows : ℕ) (here : lane_at w shard ≡ Some lane) where
   abbrev event : Event
-  event = advance workflow stream at at_most
+  event = advance workflow stream shard at at_most
 
   abbrev answer : Answer
   answer = advanced events rows
@@ -63,23 +64,23 @@ module _ (p : Plain) (workflow : List ℕ) (w : Live) (live : live_at p workflow
   q = next p event answer
 
   abbrev change : Live → Live
-  change v = advanced_live p workflow stream at at_most events rows v
+  change v = advanced_live p workflow stream shard at at_most events rows v
 
   lives : q.lives ≡ map change p.lives
-  lives = lives-advance p workflow stream at at_most events rows (live_at p workflow) refl
+  lives = lives-advance p workflow stream shard at at_most events rows (live_at p workflow) refl
 
   sides : (v : Live) → HasSides v (change v)
-  sides v = cond-either (HasSides v) (same_text v.name workflow) (live_advanced p v stream at at_most events rows) v (sides-advanced p v stream at at_most events rows) (sides_same v)
+  sides v = cond-either (HasSides v) (same_text v.name workflow) (live_advanced p v stream shard at at_most events rows) v (sides-advanced p v stream shard at at_most events rows) (sides_same v)
 
   switched : (v : Live) → (change v).switched ≡ v.switched
   switched v =
-      cond-either (λ u. u.switched ≡ v.switched) (same_text v.name workflow) (live_advanced p v stream at at_most events rows) v
-      (ap (λ t. t.0) (traffic-advanced p v stream at at_most events rows)) refl
+      cond-either (λ u. u.switched ≡ v.switched) (same_text v.name workflow) (live_advanced p v stream shard at at_most events rows) v
+      (ap (λ t. t.0) (traffic-advanced p v stream shard at at_most events rows)) refl
 
   way : (v : Live) → (change v).way ≡ v.way
   way v =
-      cond-either (λ u. u.way ≡ v.way) (same_text v.name workflow) (live_advanced p v stream at at_most events rows) v
-      (ap (λ t. t.1) (traffic-advanced p v stream at at_most events rows)) refl
+      cond-either (λ u. u.way ≡ v.way) (same_text v.name workflow) (live_advanced p v stream shard at at_most events rows) v
+      (ap (λ t. t.1) (traffic-advanced p v stream shard at at_most events rows)) refl
 
   numbers : q.numbers ≡ p.numbers
   numbers = same_numbers p event answer (λ h. h)
@@ -108,9 +109,9 @@ module _ (p : Plain) (workflow : List ℕ) (w : Live) (live : live_at p workflow
       test : Live → Bool
       test v = moves v table && same_text v.target keyspace
 
-  refused-by : (o : Option Live) (keyspace : List ℕ) → refuses_moved (option_map change o) keyspace ≡ refuses_moved o keyspace
-  refused-by None keyspace = refl
-  refused-by (Some v) keyspace = sym (refused-same v (change v) (sides v) (sym (switched v)) (sym (way v)) keyspace)
+  refused-by : (o : Option Live) (keyspace : List ℕ) (at_shard : ℕ) → refuses_moved (option_map change o) keyspace at_shard ≡ refuses_moved o keyspace at_shard
+  refused-by None keyspace at_shard = refl
+  refused-by (Some v) keyspace at_shard = sym (refused-same v (change v) (sides v) (sym (switched v)) (sym (way v)) keyspace at_shard)
 
   -- numbers, writes and rows
   number : (keyspace table : List ℕ) → number_of q keyspace table ≡ number_of p keyspace table
@@ -142,28 +143,32 @@ module _ (p : Plain) (workflow : List ℕ) (w : Live) (live : live_at p workflow
 
   -- logs
   abbrev more : List LogEntry
-  more = entries_written p w stream at events rows
+  more = entries_written p w lane stream at events rows
 
   logs : q.log ≡ p.log ++ more
-  logs = ap (λ o. (with_advance p stream at at_most events rows o).log) live
+  logs =
+      ap (λ o. (with_advance p stream shard at at_most events rows o).log) live
+      ∙ ap (λ o. option_map_or (λ l. log_advanced p w l stream at events rows) o p.log) here
 
-  log_of-more : (keyspace : List ℕ) → log_of q keyspace ≡ log_of p keyspace ++ filter (λ e. same_text e.keyspace keyspace) more
-  log_of-more keyspace = ap (filter (λ e. same_text e.keyspace keyspace)) logs ∙ filter-append (λ e. same_text e.keyspace keyspace) p.log more
+  log_of-more : (keyspace : List ℕ) (at_shard : ℕ) → log_of q keyspace at_shard ≡ log_of p keyspace at_shard ++ filter (is_entry_at keyspace at_shard) more
+  log_of-more keyspace at_shard = ap (filter (is_entry_at keyspace at_shard)) logs ∙ filter-append (is_entry_at keyspace at_shard) p.log more
 
-  abbrev of_side : Bool → List ℕ → Type 0
-  of_side t keyspace = AllByRecursion (λ e. same_text e.keyspace keyspace ≡ t) more
+  abbrev of_side : Bool → List ℕ → ℕ → Type 0
+  of_side t keyspace at_shard = AllByRecursion (λ e. is_entry_at keyspace at_shard e ≡ t) more
 
-  written_here : of_side true (written_side w stream)
+  written_here : of_side true (written_side w stream) (written_shard lane stream)
   written_here =
-      written-all (λ e. same_text e.keyspace (written_side w stream) ≡ true) w stream (take events (past p w stream at)) (take rows (to_copy p w (past p w stream at)))
-      (λ row. (same_text_decides (written_side w stream) (written_side w stream)).1 refl)
+      written-all (λ e. is_entry_at (written_side w stream) (written_shard lane stream) e ≡ true) w lane stream (take events (past p w lane stream at)) (take rows (to_copy p w lane (past p w lane stream at)))
+      (λ row. and_from _ _ ((same_text_decides (written_side w stream) (written_side w stream)).1 refl) (eq-eqb (written_shard lane stream) (written_shard lane stream) refl))
 
-  written_not : (keyspace : List ℕ) → written_side w stream ≢ keyspace → of_side false keyspace
-  written_not keyspace other =
-      written-all (λ e. same_text e.keyspace keyspace ≡ false) w stream (take events (past p w stream at)) (take rows (to_copy p w (past p w stream at)))
-      (λ row. text_differs (written_side w stream) keyspace other)
+  written_not : (keyspace : List ℕ) (at_shard : ℕ) → (written_side w stream ≡ keyspace → written_shard lane stream ≡ at_shard → ⊥) → of_side false keyspace at_shard
+  written_not keyspace at_shard other =
+      written-all (λ e. is_entry_at keyspace at_shard e ≡ false) w lane stream (take events (past p w lane stream at)) (take rows (to_copy p w lane (past p w lane stream at)))
+      (λ row. false_from_ne_true (is_entry_at keyspace at_shard (entry_of_row (written_side w stream) (written_shard lane stream) row))
+      (λ t. let r = and_parts (same_text (written_side w stream) keyspace) (eqb (written_shard lane stream) at_shard) t in
+      other ((same_text_decides (written_side w stream) keyspace).0 r.0) (eqb-true (written_shard lane stream) at_shard r.1)))
 
-  pub after_advance : IsAfterAdvance p q workflow w stream at at_most events rows
+  pub after_advance : IsAfterAdvance p q workflow w lane stream shard at at_most events rows
   after_advance = record {
     topology = same_topology p event answer (λ h. h);
     numbers = numbers;
@@ -176,14 +181,14 @@ module _ (p : Plain) (workflow : List ℕ) (w : Live) (live : live_at p workflow
     switched = switched;
     way = way;
     present = present;
-    refused = λ keyspace table. ap (λ o. refuses_moved o keyspace) (movers table) ∙ refused-by (mover p table) keyspace;
+    refused = λ keyspace at_shard table. ap (λ o. refuses_moved o keyspace at_shard) (movers table) ∙ refused-by (mover p table) keyspace at_shard;
     served = same_entries p event answer tt;
     clients = clients;
     client_rows = rows-same;
     all_writes = all_writes;
     log =
-        log_of-more (written_side w stream)
-        ∙ ap (λ l. log_of p (written_side w stream) ++ l) (filter-kept (λ e. same_text e.keyspace (written_side w stream)) more written_here);
-    other_logs = λ keyspace other.
-        log_of-more keyspace ∙ ap (λ l. log_of p keyspace ++ l) (filter-gone (λ e. same_text e.keyspace keyspace) more (written_not keyspace other)) ∙ append-nil (log_of p keyspace);
+        log_of-more (written_side w stream) (written_shard lane stream)
+        ∙ ap (λ l. log_of p (written_side w stream) (written_shard lane stream) ++ l) (filter-kept (is_entry_at (written_side w stream) (written_shard lane stream)) more written_here);
+    other_logs = λ keyspace at_shard other.
+        log_of-more keyspace at_shard ∙ ap (λ l. log_of p keyspace at_shard ++ l) (filter-gone (is_entry_at keyspace at_shard) more (written_not keyspace at_shard other)) ∙ append-nil (log_of p keyspace at_shard);
   }

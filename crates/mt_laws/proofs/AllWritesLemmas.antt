@@ -18,7 +18,7 @@ use Rattle.mt_model.specs.Topology.{is_present}
 use Rattle.mt_plain.specs.Answers.{Answers, Run, after}
 use Rattle.mt_plain.specs.Events.{Event, write, add_table, complete, Answer, done, row, advanced, shown, refused, denied, full, no_keyspace, no_table}
 use Rattle.mt_plain.specs.Next.{next, row_left, with_completed}
-use Rattle.mt_plain.specs.Plain.{Live, Plain, Write, has_keyspace, in_keyspace, is_side, live_at, mover, moves, number_of, opening}
+use Rattle.mt_plain.specs.Plain.{Live, Plain, Write, has_keyspace, in_keyspace, is_side, live_at, mover, moves, number_of, opening, shard_at}
 use Rattle.mt_plain.specs.Refuse.{or_else, refusal_of, refuse_if, row_refusal, unknown_table}
 use Rattle.mt_plain.specs.Serve.{has_table, refuses}
 use Rattle.mt_plain.specs.Slots.{log_length}
@@ -89,8 +89,8 @@ any_some {X} test (x ∷ xs) e = by (any_some test xs) (test x) refl
 
 pub write_there : (p : Plain) (k t : List ℕ) (op : Op) → refusal_of p (write k t op) ≡ None → has_table p k t ≡ true
 write_there p k t op none =
-    let by_row = or_else (row_refusal (op_row op (client_row p k t (op_key op)))) (refuse_if (nat_le longest_log (log_length p k)) full) in
-    let by_list = refuse_if (refuses p k t) denied in
+    let by_row = or_else (row_refusal (op_row op (client_row p k t (op_key op)))) (refuse_if (nat_le longest_log (log_length p k (shard_at p k (op_key op)))) full) in
+    let by_list = refuse_if (refuses p k (shard_at p k (op_key op)) t) denied in
     let r = or_else-none (unknown_table p k t) (or_else by_list by_row) none in
     let s = or_else-none (refuse_if (not (has_keyspace p k)) no_keyspace) (refuse_if (not (has_table p k t)) no_table) r.0 in
     not-false (has_table p k t) (refuse_if-none (not (has_table p k t)) no_table s.1)

@@ -2,20 +2,20 @@
 use Rattle.std.proofs.Common.{◌≡◌, ◌⊎◌, inl, inr, ℕ, Bool, true, false, not, cond, eqb, List, [], ◌∷◌, Option, None, Some, Result, Ok, Err, refl, sym, ap, ◌∙◌, subst}
 use Rattle.std.specs.List.{list_any}
 use Rattle.std.specs.Prelude.{⊤, ◌&&◌, ◌||◌, leb, fold, map, option_map}
+use Rattle.std.specs.Option.{option_map_or}
 use Rattle.mt_names.specs.declared.keys.RuleKey.{RuleKey}
 use Rattle.mt_names.specs.declared.keys.RuleTarget.{RuleTarget}
-use Rattle.std.specs.Option.{option_map_or}
 use Rattle.mt_names.specs.declared.types.TabletType.{TabletType}
 use Rattle.mt_names.specs.declared.types.TabletType.TheVariants.{Primary, Replica, Rdonly}
 use Rattle.mt_names.specs.declared.types.TypeSet.{TypeSet}
-use Rattle.mt_plain.specs.Slots.{running_at, slot_of}
 use Rattle.mt_model.specs.declared.faults.PrimaryFault.{PrimaryFault}
 use Rattle.mt_model.specs.declared.faults.PrimaryFault.TheVariants as primary
 use Rattle.mt_model.specs.Rows.{Row}
-use Rattle.mt_plain.specs.Events.{Event, write, read, add_keyspace, add_table, edit_rule, create, advance, begin_switch, begin_reverse, step, undo, cancel, complete, show, StreamName, Refusal, memory, no_keyspace, no_table, denied, workflow_exists, table_in_workflow, rule_conflict, target_has_table, same_keyspace, no_tables, under_way, nothing_under_way, nothing_to_switch, nothing_to_reverse, copying, not_level, past_journal, traffic_switched, not_all_switched, rule_owned, watcher_refused, no_watcher, stale, full, undoing, exists, Way, Answer, done, row, advanced, shown, refused}
-use Rattle.mt_plain.specs.Answers.{Answers, IsFree, Refuses, advanced_of, answer_of, answer_or, reply_of, show_of}
-use Rattle.mt_plain.specs.Plain.{Live, Plain, catch_up, each_once, live_at, next_step, refresh_source, refresh_target, switch_reads, write_journal}
-use Rattle.mt_plain.specs.Refuse.{advance_at, advance_refusal, at_rest, begin_reverse_refusal, begin_switch_refusal, cancel_refusal, complete_refusal, create_refusal, in_workflow, is_behind, is_of_primary, most_journal_entries, moved_table_refusal, new_owner, old_owner, or_else, own_refusal, refusal_of, refuse_if, row_refusal, rule_refusal, denied_read, step_refusal, undo_refusal, unknown_table, will_read_other_side}
+use Rattle.mt_plain.specs.Slots.{running_at, slot_of}
+use Rattle.mt_plain.specs.Events.{Event, write, read, add_keyspace, add_table, edit_rule, create, advance, begin_switch, begin_reverse, step, undo, cancel, complete, show, StreamName, Refusal, memory, no_keyspace, no_table, denied, workflow_exists, table_in_workflow, rule_conflict, target_has_table, same_keyspace, no_tables, under_way, nothing_under_way, nothing_to_switch, nothing_to_reverse, copying, not_level, past_journal, traffic_switched, not_all_switched, rule_owned, watcher_refused, no_watcher, stale, full, undoing, exists, Way, Answer, done, row, advanced, shown, refused, sharded_source}
+use Rattle.mt_plain.specs.Answers.{Answers, IsFree, Refuses, advanced_of, answer_of, answer_or, reply_of, show_of, lane_advanced_of}
+use Rattle.mt_plain.specs.Plain.{Live, Plain, catch_up, each_once, has_keyspace, is_sharded, live_at, next_step, refresh_source, refresh_target, switch_reads, write_journal, Lane, lane_at}
+use Rattle.mt_plain.specs.Refuse.{advance_at, advance_refusal, at_rest, begin_reverse_refusal, begin_switch_refusal, cancel_refusal, complete_refusal, create_is_full, create_refusal, in_workflow, is_behind, is_of_primary, most_journal_entries, moved_table_refusal, new_owner, old_owner, or_else, own_refusal, refusal_of, refuse_if, row_refusal, rule_refusal, denied_read, step_refusal, undo_refusal, unknown_table, will_read_other_side, in_lane_at}
 
 -- ---- one answer at most
 
@@ -74,10 +74,10 @@ row_refusal-own (Err other) = record { is = tt }
 unknown_table-own : (p : Plain) (keyspace table : List ℕ) → OwnOrNone (unknown_table p keyspace table)
 unknown_table-own p keyspace table = or_else-own _ _ (refuse_if-own _ no_keyspace tt) (refuse_if-own _ no_table tt)
 
-denied_read-own : (p : Plain) (keyspace table : List ℕ) (tablet_type : TabletType) → OwnOrNone (denied_read p keyspace table tablet_type)
-denied_read-own p keyspace table Primary = refuse_if-own _ denied tt
-denied_read-own p keyspace table Replica = none-own
-denied_read-own p keyspace table Rdonly = none-own
+denied_read-own : (p : Plain) (keyspace table : List ℕ) (key : ℕ) (tablet_type : TabletType) → OwnOrNone (denied_read p keyspace table key tablet_type)
+denied_read-own p keyspace table key Primary = refuse_if-own _ denied tt
+denied_read-own p keyspace table key Replica = none-own
+denied_read-own p keyspace table key Rdonly = none-own
 
 rule_refusal-own : (p : Plain) (key : RuleKey) (target : Option RuleTarget) → OwnOrNone (rule_refusal p key target)
 rule_refusal-own p key None = none-own
@@ -108,9 +108,13 @@ on_way-own : (o : Option Way) (refusal : Way → Option Refusal) → ((way : Way
 on_way-own None refusal each = record { is = tt }
 on_way-own (Some way) refusal each = each way
 
-advance_at-own : (p : Plain) (w : Live) (name : StreamName) (at at_most : ℕ) (o : Option ℕ) → OwnOrNone (advance_at p w name at at_most o)
-advance_at-own p w name at at_most None = record { is = tt }
-advance_at-own p w name at at_most (Some position) = or_else-own _ _ (refuse_if-own _ (stale position) tt) (refuse_if-own _ full tt)
+advance_at-own : (p : Plain) (w : Live) (lane : Lane) (name : StreamName) (at at_most : ℕ) (o : Option ℕ) → OwnOrNone (advance_at p w lane name at at_most o)
+advance_at-own p w lane name at at_most None = record { is = tt }
+advance_at-own p w lane name at at_most (Some position) = or_else-own _ _ (refuse_if-own _ (stale position) tt) (refuse_if-own _ full tt)
+
+in_lane-own : (o : Option Lane) (refusal : Lane → Option Refusal) → ((lane : Lane) → OwnOrNone (refusal lane)) → OwnOrNone (in_lane_at o refusal)
+in_lane-own None refusal each = record { is = tt }
+in_lane-own (Some lane) refusal each = each lane
 
 begin_switch-own : (p : Plain) (types : TypeSet) (w : Live) → OwnOrNone (begin_switch_refusal p types w)
 begin_switch-own p types w =
@@ -144,19 +148,19 @@ complete-own w = at_rest-own w _ (refuse_if-own (not (w.switched.primary && w.sw
 create-own : (p : Plain) (workflow source target : List ℕ) (tables : List (List ℕ)) → OwnOrNone (create_refusal p workflow source target tables)
 create-own p workflow source target tables =
     or_else-own _ _ (refuse_if-own _ workflow_exists tt) (or_else-own _ _ (refuse_if-own _ no_tables tt) (or_else-own _ _ (refuse_if-own _ same_keyspace tt)
-    (or_else-own _ _ (refuse_if-own _ no_keyspace tt) (or_else-own _ _ (refuse_if-own _ no_keyspace tt) (or_else-own _ _ (moved_tables-own p source target tables None none-own)
-    (or_else-own _ _ (refuse_if-own _ no_watcher tt) (refuse_if-own _ full tt)))))))
+    (or_else-own _ _ (refuse_if-own (not (has_keyspace p source)) no_keyspace tt) (or_else-own _ _ (refuse_if-own (not (has_keyspace p target)) no_keyspace tt) (or_else-own _ _ (refuse_if-own (is_sharded p source) sharded_source tt) (or_else-own _ _ (moved_tables-own p source target tables None none-own)
+    (or_else-own _ _ (refuse_if-own (not (list_any (is_of_primary target) p.scopes)) no_watcher tt) (refuse_if-own (create_is_full p source target tables) full tt))))))))
 
 refusal_of-own : (p : Plain) (event : Event) → OwnOrNone (refusal_of p event)
 refusal_of-own p (write keyspace table op) =
     or_else-own _ _ (unknown_table-own p keyspace table) (or_else-own _ _ (refuse_if-own _ denied tt) (or_else-own _ _ (row_refusal-own _) (refuse_if-own _ full tt)))
-refusal_of-own p (read keyspace table key tablet_type) = or_else-own _ _ (unknown_table-own p keyspace table) (denied_read-own p keyspace table tablet_type)
-refusal_of-own p (add_keyspace keyspace) = or_else-own _ _ (refuse_if-own _ exists tt) (refuse_if-own _ full tt)
+refusal_of-own p (read keyspace table key tablet_type) = or_else-own _ _ (unknown_table-own p keyspace table) (denied_read-own p keyspace table key tablet_type)
+refusal_of-own p (add_keyspace keyspace cuts) = or_else-own _ _ (refuse_if-own _ exists tt) (refuse_if-own _ full tt)
 refusal_of-own p (add_table keyspace table) =
     or_else-own _ _ (refuse_if-own _ no_keyspace tt) (or_else-own _ _ (refuse_if-own _ exists tt) (refuse_if-own _ full tt))
 refusal_of-own p (edit_rule key target) = or_else-own _ _ (refuse_if-own _ rule_owned tt) (rule_refusal-own p key target)
 refusal_of-own p (create workflow source target tables) = create-own p workflow source target (each_once tables)
-refusal_of-own p (advance workflow name at at_most) = in_workflow-own (live_at p workflow) (advance_refusal p name at at_most) (λ w. advance_at-own p w name at at_most (running_at (slot_of w name)))
+refusal_of-own p (advance workflow name shard at at_most) = in_workflow-own (live_at p workflow) (advance_refusal p name shard at at_most) (λ w. in_lane-own (lane_at w shard) _ (λ lane. advance_at-own p w lane name at at_most (running_at (slot_of w lane name))))
 refusal_of-own p (begin_switch workflow types) = in_workflow-own (live_at p workflow) (begin_switch_refusal p types) (begin_switch-own p types)
 refusal_of-own p (begin_reverse workflow types) = in_workflow-own (live_at p workflow) (begin_reverse_refusal p types) (begin_reverse-own p types)
 refusal_of-own p (step workflow at) = in_workflow-own (live_at p workflow) (step_refusal p at) (step-own p at)
@@ -170,9 +174,13 @@ abbrev IsTaken : Answer → Type 0
 IsTaken (refused refusal) = ⊥
 IsTaken other = ⊤
 
-advanced_of-taken : (p : Plain) (name : StreamName) (at at_most : ℕ) (o : Option Live) → IsTaken (advanced_of p name at at_most o)
-advanced_of-taken p name at at_most None = tt
-advanced_of-taken p name at at_most (Some w) = tt
+lane_advanced_of-taken : (p : Plain) (name : StreamName) (at at_most : ℕ) (w : Live) (o : Option Lane) → IsTaken (lane_advanced_of p name at at_most w o)
+lane_advanced_of-taken p name at at_most w None = tt
+lane_advanced_of-taken p name at at_most w (Some lane) = tt
+
+advanced_of-taken : (p : Plain) (name : StreamName) (shard at at_most : ℕ) (o : Option Live) → IsTaken (advanced_of p name shard at at_most o)
+advanced_of-taken p name shard at at_most None = tt
+advanced_of-taken p name shard at at_most (Some w) = lane_advanced_of-taken p name at at_most w (lane_at w shard)
 
 show_of-taken : (o : Option Live) → IsTaken (show_of o)
 show_of-taken None = tt
@@ -180,7 +188,7 @@ show_of-taken (Some w) = tt
 
 reply_of-taken : (p : Plain) (event : Event) → IsTaken (reply_of p event)
 reply_of-taken p (read keyspace table key tablet_type) = tt
-reply_of-taken p (advance workflow name at at_most) = advanced_of-taken p name at at_most (live_at p workflow)
+reply_of-taken p (advance workflow name shard at at_most) = advanced_of-taken p name shard at at_most (live_at p workflow)
 reply_of-taken p (show workflow) = show_of-taken (live_at p workflow)
 reply_of-taken p other = tt
 

@@ -1,13 +1,12 @@
 -- What an event makes of the live workflows, and what it leaves as it was.
-use Rattle.std.proofs.Common.{◌≡◌, ◌⊎◌, inl, inr, ℕ, ◌+◌, Bool, true, false, not, List, [], ◌∷◌, ◌++◌, map, find, length, Option, None, Some, option_map, refl, sym, ap, ◌∙◌, map-id}
+use Rattle.std.proofs.Common.{◌≡◌, ◌⊎◌, inl, inr, ℕ, Bool, true, false, not, List, [], ◌∷◌, ◌++◌, map, find, Option, None, Some, option_map, refl, sym, ap, ◌∙◌, map-id}
 use Rattle.std.specs.Option.{option_map_or}
 use Rattle.mt_names.specs.Names.{same_text}
 use Rattle.mt_names.proofs.SameLemmas.{same_text_decides}
-use Rattle.mt_plain.specs.Events.{Event, create, advance, begin_switch, begin_reverse, step, undo, cancel, complete, StreamName, forward, back, Answer, done, row, advanced, shown, refused, Way}
-use Rattle.mt_plain.specs.Next.{created, live_stepped, live_undone, next, next_taken, on_way_of, types_and, types_without, with_advance, with_completed, with_live, with_way_to, without_live}
-use Rattle.mt_plain.specs.Plain.{Live, Plain, each_once, live_at}
-use Rattle.mt_plain.specs.Slots.{is_fresh, live_advanced, log_length, with_position}
-use Rattle.mt_plain.specs.Writes.{writes_to}
+use Rattle.mt_plain.specs.Events.{Event, create, advance, begin_switch, begin_reverse, step, undo, cancel, complete, StreamName, Answer, done, row, advanced, shown, refused, Way}
+use Rattle.mt_plain.specs.Next.{all_fed, created, live_stepped, live_undone, next, next_taken, on_way_of, types_and, types_without, with_advance, with_completed, with_live, with_way_to, without_live}
+use Rattle.mt_plain.specs.Plain.{Live, Plain, cuts_of, each_once, live_at}
+use Rattle.mt_plain.specs.Slots.{live_advanced, log_length}
 use Rattle.mt_laws.specs.Changes.{HasSides}
 use Rattle.mt_laws.proofs.LiveLemmas.{IsIn, changed, find-filter_gone, find-filter_kept, find-map, find-push_some, find_none, find_some, sides_changed, sides_same}
 
@@ -23,36 +22,29 @@ live_taken p other w = w
 abbrev pub live_next : Plain → Event → Answer → Live → Live
 live_next p event done w = live_taken p event w
 live_next p event (row r) w = live_taken p event w
-live_next p (advance workflow name at at_most) (advanced events rows) w = changed (λ v. live_advanced p v name at at_most events rows) workflow w
+live_next p (advance workflow name shard at at_most) (advanced events rows) w = changed (λ v. live_advanced p v name shard at at_most events rows) workflow w
 live_next p event other w = w
 
 -- ---- it keeps its name, sides and tables
 
-sides-position : (w : Live) (name : StreamName) (t : Bool) (position : ℕ) → HasSides w (with_position w name t position)
-sides-position w name true position = record { name = refl; source = refl; target = refl; tables = refl }
-sides-position w forward false position = record { name = refl; source = refl; target = refl; tables = refl }
-sides-position w back false position = record { name = refl; source = refl; target = refl; tables = refl }
-
 pub sides-live_stepped : (p : Plain) (w : Live) (way : Way) → HasSides w (live_stepped p w way)
-sides-live_stepped p w way = record { name = refl; source = refl; target = refl; tables = refl }
+sides-live_stepped p w way = record { name = refl; source = refl; target = refl; tables = refl; cuts = refl }
 
 pub sides-undone : (w : Live) (way : Way) → HasSides w (live_undone w way)
-sides-undone w way = record { name = refl; source = refl; target = refl; tables = refl }
+sides-undone w way = record { name = refl; source = refl; target = refl; tables = refl; cuts = refl }
 
 pub sides-on_way : (w : Live) (change : Way → Live) → ((way : Way) → HasSides w (change way)) → (o : Option Way) → HasSides w (option_map_or change o w)
 sides-on_way w change each None = sides_same w
 sides-on_way w change each (Some way) = each way
 
-pub sides-advanced : (p : Plain) (w : Live) (name : StreamName) (at at_most events rows : ℕ) → HasSides w (live_advanced p w name at at_most events rows)
-sides-advanced p w name at at_most events rows =
-    let same = sides-position w name (is_fresh w.way name) (at + events) in
-    record { name = same.name; source = same.source; target = same.target; tables = same.tables }
+pub sides-advanced : (p : Plain) (w : Live) (name : StreamName) (shard at at_most events rows : ℕ) → HasSides w (live_advanced p w name shard at at_most events rows)
+sides-advanced p w name shard at at_most events rows = record { name = refl; source = refl; target = refl; tables = refl; cuts = refl }
 
 sides-taken : (p : Plain) (event : Event) (w : Live) → HasSides w (live_taken p event w)
 sides-taken p (begin_switch workflow types) w =
-    sides_changed (with_way_to false (λ switched. types_and switched types)) workflow w (record { name = refl; source = refl; target = refl; tables = refl })
+    sides_changed (with_way_to false (λ switched. types_and switched types)) workflow w (record { name = refl; source = refl; target = refl; tables = refl; cuts = refl })
 sides-taken p (begin_reverse workflow types) w =
-    sides_changed (with_way_to true (λ switched. types_without switched types)) workflow w (record { name = refl; source = refl; target = refl; tables = refl })
+    sides_changed (with_way_to true (λ switched. types_without switched types)) workflow w (record { name = refl; source = refl; target = refl; tables = refl; cuts = refl })
 sides-taken p (step workflow at) w = sides_changed (λ v. on_way_of (live_stepped p v) v) workflow w (sides-on_way w (live_stepped p w) (sides-live_stepped p w) w.way)
 sides-taken p (undo workflow at) w = sides_changed (λ v. on_way_of (live_undone v) v) workflow w (sides-on_way w (live_undone w) (sides-undone w) w.way)
 sides-taken p other w = sides_same w
@@ -60,15 +52,14 @@ sides-taken p other w = sides_same w
 pub sides-next : (p : Plain) (event : Event) (answer : Answer) (w : Live) → HasSides w (live_next p event answer w)
 sides-next p event done w = sides-taken p event w
 sides-next p event (row r) w = sides-taken p event w
-sides-next p (advance workflow name at at_most) (advanced events rows) w =
-    sides_changed (λ v. live_advanced p v name at at_most events rows) workflow w (sides-advanced p w name at at_most events rows)
+sides-next p (advance workflow name shard at at_most) (advanced events rows) w =
+    sides_changed (λ v. live_advanced p v name shard at at_most events rows) workflow w (sides-advanced p w name shard at at_most events rows)
 sides-next p event other w = sides_same w
 
 -- ---- the live workflows after an event: each changed, one more, or one gone
 
 abbrev pub made_live : Plain → (name source target : List ℕ) → List (List ℕ) → Live
-made_live p name source target tables =
-    let w = created name source target tables (log_length p source) in record w { fed = length (writes_to p w) }
+made_live p name source target tables = all_fed p (created name source target tables (cuts_of p target) (log_length p source 0))
 
 pub data LivesAfter (p q : Plain) (event : Event) (answer : Answer) : Type 0 where
   mapped : q.lives ≡ map (live_next p event answer) p.lives → LivesAfter p q event answer
@@ -85,13 +76,13 @@ map-nowhere : (change : Live → Live) (name : List ℕ) (xs : List Live) → ((
 map-nowhere change name [] each = refl
 map-nowhere change name (x ∷ xs) each = rw (each x (inl refl)) (ap (λ l. x ∷ l) (map-nowhere change name xs (λ w is. each w (inr is))))
 
-pub lives-advance : (p : Plain) (workflow : List ℕ) (name : StreamName) (at at_most events rows : ℕ) (o : Option Live) → live_at p workflow ≡ o
-    → (with_advance p name at at_most events rows o).lives ≡ map (changed (λ v. live_advanced p v name at at_most events rows) workflow) p.lives
-lives-advance p workflow name at at_most events rows None none =
-    map-nowhere (λ v. live_advanced p v name at at_most events rows) workflow p.lives (find_none (λ w. same_text w.name workflow) p.lives none)
-lives-advance p workflow name at at_most events rows (Some w) some =
+pub lives-advance : (p : Plain) (workflow : List ℕ) (name : StreamName) (shard at at_most events rows : ℕ) (o : Option Live) → live_at p workflow ≡ o
+    → (with_advance p name shard at at_most events rows o).lives ≡ map (changed (λ v. live_advanced p v name shard at at_most events rows) workflow) p.lives
+lives-advance p workflow name shard at at_most events rows None none =
+    map-nowhere (λ v. live_advanced p v name shard at at_most events rows) workflow p.lives (find_none (λ w. same_text w.name workflow) p.lives none)
+lives-advance p workflow name shard at at_most events rows (Some w) some =
     let is = (find_some (λ v. same_text v.name workflow) p.lives w some).1 in
-    ap (λ n. with_live (λ v. live_advanced p v name at at_most events rows) n p.lives) ((same_text_decides w.name workflow).0 is)
+    ap (λ n. with_live (λ v. live_advanced p v name shard at at_most events rows) n p.lives) ((same_text_decides w.name workflow).0 is)
 
 filter-everywhere : (name : List ℕ) (xs : List Live) → ((w : Live) → IsIn w xs → same_text w.name name ≡ false) → xs ≡ without_live name xs
 filter-everywhere name [] each = refl
@@ -116,7 +107,7 @@ lives-taken p other answer each same = mapped (same_lives p ∙ ap (λ f. map f 
 pub lives_after : (p : Plain) (event : Event) (answer : Answer) → LivesAfter p (next p event answer) event answer
 lives_after p event done = lives-taken p event done (λ w. refl) refl
 lives_after p event (row r) = lives-taken p event (row r) (λ w. refl) refl
-lives_after p (advance workflow name at at_most) (advanced events rows) = mapped (lives-advance p workflow name at at_most events rows (live_at p workflow) refl)
+lives_after p (advance workflow name shard at at_most) (advanced events rows) = mapped (lives-advance p workflow name shard at at_most events rows (live_at p workflow) refl)
 lives_after p event (advanced events rows) = mapped (same_lives p)
 lives_after p event (shown s) = mapped (same_lives p)
 lives_after p event (refused refusal) = mapped (same_lives p)

@@ -74,27 +74,27 @@ module _ (p : Plain) (reached : IsReached p) (name : List ℕ) (w : Live) (live 
           ∙ ap (λ v. served_by p.topology v key) (elsewhere x r.0 (λ v. has_part v key) r.1 t)
           ∙ sym (ap (λ b. cond b (served_by p.topology (f w) key) (served_entry p key)) t ∙ ap (λ y. option_map_or (λ v. served_by p.topology v key) y (value_of p.topology key)) is)
 
-  pub refuses-changed : (keyspace table : List ℕ) → refuses q keyspace table ≡ cond (moves w table) (refuses_by (f w) keyspace) (refuses p keyspace table)
-  refuses-changed keyspace table =
-      ap (λ o. option_map_or (λ v. refuses_by v keyspace) o false)
+  pub refuses-changed : (keyspace : List ℕ) (shard : ℕ) (table : List ℕ) → refuses q keyspace shard table ≡ cond (moves w table) (refuses_by (f w) keyspace shard) (refuses p keyspace shard table)
+  refuses-changed keyspace shard table =
+      ap (λ o. option_map_or (λ v. refuses_by v keyspace shard) o false)
       (finds (λ v. moves v table) (λ v. ap (list_any (λ t. same_text t table)) (sym (sides_changed f name v (keeps v)).tables)))
       ∙ by (moves w table) refl (mover p table) refl
     where
       by : (t : Bool) → moves w table ≡ t → (o : Option Live) → mover p table ≡ o
-          → option_map_or (λ v. refuses_by v keyspace) (option_map (changed f name) (mover p table)) false
-          ≡ cond (moves w table) (refuses_by (f w) keyspace) (refuses p keyspace table)
+          → option_map_or (λ v. refuses_by v keyspace shard) (option_map (changed f name) (mover p table)) false
+          ≡ cond (moves w table) (refuses_by (f w) keyspace shard) (refuses p keyspace shard table)
       by true t o is =
-          ap (λ x. option_map_or (λ v. refuses_by v keyspace) (option_map (changed f name) x) false) (found p reached w in_w.0 table t)
-          ∙ ap (λ v. refuses_by v keyspace) here
-          ∙ sym (ap (λ b. cond b (refuses_by (f w) keyspace) (refuses p keyspace table)) t)
+          ap (λ x. option_map_or (λ v. refuses_by v keyspace shard) (option_map (changed f name) x) false) (found p reached w in_w.0 table t)
+          ∙ ap (λ v. refuses_by v keyspace shard) here
+          ∙ sym (ap (λ b. cond b (refuses_by (f w) keyspace shard) (refuses p keyspace shard table)) t)
       by false t None is =
-          ap (λ x. option_map_or (λ v. refuses_by v keyspace) (option_map (changed f name) x) false) is
-          ∙ sym (ap (λ b. cond b (refuses_by (f w) keyspace) (refuses p keyspace table)) t ∙ ap (λ x. option_map_or (λ v. refuses_by v keyspace) x false) is)
+          ap (λ x. option_map_or (λ v. refuses_by v keyspace shard) (option_map (changed f name) x) false) is
+          ∙ sym (ap (λ b. cond b (refuses_by (f w) keyspace shard) (refuses p keyspace shard table)) t ∙ ap (λ x. option_map_or (λ v. refuses_by v keyspace shard) x false) is)
       by false t (Some x) is =
           let r = find_some (λ v. moves v table) p.lives x is in
-          ap (λ y. option_map_or (λ v. refuses_by v keyspace) (option_map (changed f name) y) false) is
-          ∙ ap (λ v. refuses_by v keyspace) (elsewhere x r.0 (λ v. moves v table) r.1 t)
-          ∙ sym (ap (λ b. cond b (refuses_by (f w) keyspace) (refuses p keyspace table)) t ∙ ap (λ y. option_map_or (λ v. refuses_by v keyspace) y false) is)
+          ap (λ y. option_map_or (λ v. refuses_by v keyspace shard) (option_map (changed f name) y) false) is
+          ∙ ap (λ v. refuses_by v keyspace shard) (elsewhere x r.0 (λ v. moves v table) r.1 t)
+          ∙ sym (ap (λ b. cond b (refuses_by (f w) keyspace shard) (refuses p keyspace shard table)) t ∙ ap (λ y. option_map_or (λ v. refuses_by v keyspace shard) y false) is)
 
 -- ---- a step and an undo of a whole state
 
@@ -122,10 +122,10 @@ module _ (p : Plain) (reached : IsReached p) (name : List ℕ) (w : Live) (way :
       served-changed p reached name w live on_step step_keeps key
       ∙ ap (λ e. cond (has_part w key) e (served_entry p key)) (ap (λ v. served_by p.topology v key) is_stepped ∙ served-stepped p w way opens p.topology key)
 
-  pub lists-stepped : (keyspace table : List ℕ) → refuses (next p (step name at) done) keyspace table ≡ cond (moves w table) (list_stepped w way keyspace) (refuses p keyspace table)
-  lists-stepped keyspace table =
-      refuses-changed p reached name w live on_step step_keeps keyspace table
-      ∙ ap (λ b. cond (moves w table) b (refuses p keyspace table)) (ap (λ v. refuses_by v keyspace) is_stepped ∙ refused-stepped p w way opens keyspace)
+  pub lists-stepped : (keyspace : List ℕ) (shard : ℕ) (table : List ℕ) → refuses (next p (step name at) done) keyspace shard table ≡ cond (moves w table) (list_stepped w way keyspace shard) (refuses p keyspace shard table)
+  lists-stepped keyspace shard table =
+      refuses-changed p reached name w live on_step step_keeps keyspace shard table
+      ∙ ap (λ b. cond (moves w table) b (refuses p keyspace shard table)) (ap (λ v. refuses_by v keyspace shard) is_stepped ∙ refused-stepped p w way opens keyspace shard)
 
   module _ (given : Answers p (undo name at) done) where
     settled : w.switched ≡ way.before
@@ -138,7 +138,7 @@ module _ (p : Plain) (reached : IsReached p) (name : List ℕ) (w : Live) (way :
         served-changed p reached name w live on_undo undo_keeps key
         ∙ ap (λ e. cond (has_part w key) e (served_entry p key)) (ap (λ v. served_by p.topology v key) is_undone ∙ served-undone w way opens settled p.topology key)
 
-    pub lists-undone : (keyspace table : List ℕ) → refuses (next p (undo name at) done) keyspace table ≡ cond (moves w table) (list_undone w way keyspace) (refuses p keyspace table)
-    lists-undone keyspace table =
-        refuses-changed p reached name w live on_undo undo_keeps keyspace table
-        ∙ ap (λ b. cond (moves w table) b (refuses p keyspace table)) (ap (λ v. refuses_by v keyspace) is_undone ∙ refused-undone w way opens settled keyspace)
+    pub lists-undone : (keyspace : List ℕ) (shard : ℕ) (table : List ℕ) → refuses (next p (undo name at) done) keyspace shard table ≡ cond (moves w table) (list_undone w way keyspace shard) (refuses p keyspace shard table)
+    lists-undone keyspace shard table =
+        refuses-changed p reached name w live on_undo undo_keeps keyspace shard table
+        ∙ ap (λ b. cond (moves w table) b (refuses p keyspace shard table)) (ap (λ v. refuses_by v keyspace shard) is_undone ∙ refused-undone w way opens settled keyspace shard)

@@ -22,11 +22,11 @@ use Rattle.mt_model.specs.Part.{keys_of_name}
 use Rattle.mt_model.specs.Rows.{Row, RowValue, op_key, op_row}
 use Rattle.mt_model.specs.Topology.{KeyspaceState, Keyspaces, Marks, Rules, TopologyState, keyspace_at, new_keyspace, rule_at, with_keyspace_state, with_mark_place, with_new_table, with_rule, with_rule_place}
 use Rattle.mt_plain.specs.Events.{Event, write, read, add_keyspace, add_table, edit_rule, create, advance, begin_switch, begin_reverse, step, undo, cancel, complete, show, StreamName, Answer, done, row, advanced, shown, refused}
-use Rattle.mt_plain.specs.Next.{after_advance, completed, created, live_stepped, live_undone, next, next_taken, on_way_of, row_left, with_advance, with_completed, with_live, with_tables, with_way_to, without_live, without_tables, types_and, types_without}
-use Rattle.mt_plain.specs.Plain.{Live, Plain, Write, each_once, in_keyspace, is_side, live_at, mover, number_of, opening, owner, rule_keys, twelve_keys}
+use Rattle.mt_plain.specs.Next.{after_advance, all_fed, completed, created, live_stepped, live_undone, next, next_taken, on_way_of, row_left, with_advance, with_completed, with_live, with_tables, with_way_to, without_live, without_tables, types_and, types_without}
+use Rattle.mt_plain.specs.Plain.{Lane, Live, Plain, Write, cuts_of, each_once, in_lane, lane_of, in_keyspace, is_side, live_at, mover, number_of, opening, owner, rule_keys, twelve_keys}
 use Rattle.mt_plain.specs.Serve.{denials_over, mark_in, rule_in, rule_step, rules_over, serve_plain, serve_rule, types_by, served, served_by, with_part_at, with_workflow}
 use Rattle.mt_plain.specs.Slots.{live_advanced, log_length}
-use Rattle.mt_plain.specs.Writes.{client_number, client_row, is_copied, is_write_to, other_row, row_by_mover, writes_to, row_after_write, row_after_writes, row_of}
+use Rattle.mt_plain.specs.Writes.{client_number, client_row, in_range, is_write_to, lane_row, lane_writes, other_row, row_by_mover, writes_to, row_after_write, row_after_writes, row_of}
 use Rattle.mt_laws.specs.Changes.{HasSides}
 use Rattle.mt_laws.proofs.ListLemmas.{OfSome, append-all, cond-either, each-mapped, each_once-all, filter-all, find-of, flat_map-all, fold-holds, lookup-of, map-all, option_map_or-of, remove_entry-all, set_value-all, take-all}
 use Rattle.mt_laws.proofs.TextLemmas.{NoFeed, no_feed-append}
@@ -67,6 +67,7 @@ pub record CleanLive (w : Live) : Type 0 where
   pub source : NoFeed w.source
   pub target : NoFeed w.target
   pub tables : AllByRecursion NoFeed w.tables
+  pub cuts : AllByRecursion NoFeed w.cuts
 
 abbrev pub CleanValue : RowValue → Type 0
 CleanValue value = NoFeed value.items
@@ -95,7 +96,7 @@ CleanOp (Delete key) = ⊤
 
 abbrev pub CleanEvent : Event → Type 0
 CleanEvent (write keyspace table op) = CleanOp op
-CleanEvent (add_keyspace keyspace) = NoFeed keyspace
+CleanEvent (add_keyspace keyspace cuts) = NoFeed keyspace × AllByRecursion NoFeed cuts
 CleanEvent (add_table keyspace table) = NoFeed table
 CleanEvent (edit_rule key target) = CleanKey key × OfSome CleanTarget target
 CleanEvent (create workflow source target tables) = NoFeed workflow × NoFeed source × NoFeed target × AllByRecursion NoFeed tables
@@ -120,10 +121,15 @@ row_after_writes-clean writes number key all =
     fold-holds CleanWrite CleanRow (row_after_write number key) None writes
     (λ before w had is. cond-either CleanRow ((eqb w.table number) && (eqb w.key key)) w.after before is had) tt all
 
+lane_row-clean : (p : Plain) (w : Live) (o : Option Lane) (table : List ℕ) (key : ℕ) → IsClean p → CleanRow (option_map_or (λ lane. lane_row p w lane table key) o None)
+lane_row-clean p w None table key clean = tt
+lane_row-clean p w (Some lane) table key clean =
+    cond-either CleanRow (in_range w.tables lane.copied table key) (row_after_writes (take lane.fed (lane_writes p w lane)) (number_of p w.source table) key) None
+    (row_after_writes-clean (take lane.fed (lane_writes p w lane)) (number_of p w.source table) key
+    (take-all CleanWrite lane.fed (lane_writes p w lane) (filter-all CleanWrite (λ x. in_lane w lane x.key) (writes_to p w) (filter-all CleanWrite (is_write_to p w) p.writes clean.writes)))) tt
+
 other_row-clean : (p : Plain) (w : Live) (table : List ℕ) (key : ℕ) → IsClean p → CleanRow (other_row p w table key)
-other_row-clean p w table key clean =
-    cond-either CleanRow (is_copied w table key) (row_after_writes (take w.fed (writes_to p w)) (number_of p w.source table) key) None
-    (row_after_writes-clean (take w.fed (writes_to p w)) (number_of p w.source table) key (take-all CleanWrite w.fed (writes_to p w) (filter-all CleanWrite (is_write_to p w) p.writes clean.writes))) tt
+other_row-clean p w table key clean = lane_row-clean p w (lane_of w key) table key clean
 
 pub row_of-clean : (p : Plain) (keyspace table : List ℕ) (key : ℕ) → IsClean p → CleanRow (row_of p keyspace table key)
 row_of-clean p keyspace table key clean = by (mover p table)
@@ -266,6 +272,7 @@ keeps-clean w v keeps live = record {
   source = subst NoFeed keeps.source live.source;
   target = subst NoFeed keeps.target live.target;
   tables = subst (AllByRecursion NoFeed) keeps.tables live.tables;
+  cuts = subst (AllByRecursion NoFeed) keeps.cuts live.cuts;
 }
 
 with_live-clean : (change : Live → Live) (name : List ℕ) (lives : List Live) → ((w : Live) → HasSides w (change w)) → AllByRecursion CleanLive lives → AllByRecursion CleanLive (with_live change name lives)
@@ -275,6 +282,11 @@ with_live-clean change name lives keeps all =
 
 pub live_at-clean : (p : Plain) (name : List ℕ) → IsClean p → OfSome CleanLive (live_at p name)
 live_at-clean p name clean = find-of CleanLive (λ w. same_text w.name name) p.lives clean.lives
+
+cuts_of-clean : (p : Plain) (keyspace : List ℕ) → IsClean p → AllByRecursion NoFeed (cuts_of p keyspace)
+cuts_of-clean p keyspace clean =
+    option_map_or-of CleanState (AllByRecursion NoFeed) (λ state. state.cuts) (keyspace_at p.topology.keyspaces keyspace) [] (λ state is. is.cuts) tt
+    (lookup-of CleanKeyspace (same_text keyspace) CleanState p.topology.keyspaces (λ e is. is.state) clean.topology.keyspaces)
 
 -- ---- the next state
 
@@ -286,16 +298,16 @@ with_completed-clean p (Some w) clean live = record {
   writes = clean.writes;
 }
 
-with_advance-clean : (p : Plain) (name : StreamName) (position at_most events rows : ℕ) (o : Option Live) → IsClean p → IsClean (with_advance p name position at_most events rows o)
-with_advance-clean p name position at_most events rows None clean = clean
-with_advance-clean p name position at_most events rows (Some w) clean = record {
+with_advance-clean : (p : Plain) (name : StreamName) (shard position at_most events rows : ℕ) (o : Option Live) → IsClean p → IsClean (with_advance p name shard position at_most events rows o)
+with_advance-clean p name shard position at_most events rows None clean = clean
+with_advance-clean p name shard position at_most events rows (Some w) clean = record {
   topology = clean.topology;
-  lives = with_live-clean (λ v. live_advanced p v name position at_most events rows) w.name p.lives (λ v. sides-advanced p v name position at_most events rows) clean.lives;
+  lives = with_live-clean (λ v. live_advanced p v name shard position at_most events rows) w.name p.lives (λ v. sides-advanced p v name shard position at_most events rows) clean.lives;
   writes = clean.writes;
 }
 
 after_advance-clean : (p : Plain) (event : Event) (events rows : ℕ) → IsClean p → IsClean (after_advance p event events rows)
-after_advance-clean p (advance workflow name at at_most) events rows clean = with_advance-clean p name at at_most events rows (live_at p workflow) clean
+after_advance-clean p (advance workflow name shard at at_most) events rows clean = with_advance-clean p name shard at at_most events rows (live_at p workflow) clean
 after_advance-clean p other events rows clean = clean
 
 with_lives-clean : (p : Plain) (lives : List Live) → IsClean p → AllByRecursion CleanLive lives → IsClean (record p { lives = lives })
@@ -311,10 +323,10 @@ next_taken-clean p (write keyspace table op) clean is = record {
       (op_row-clean op (client_row p keyspace table (op_key op)) is (row_after_writes-clean p.writes (client_number p keyspace table) (op_key op) clean.writes), tt);
 }
 next_taken-clean p (read keyspace table key tablet_type) clean is = clean
-next_taken-clean p (add_keyspace keyspace) clean is = record {
+next_taken-clean p (add_keyspace keyspace cuts) clean is = record {
   topology = record {
     rules = clean.topology.rules;
-    keyspaces = append-all CleanKeyspace p.topology.keyspaces ((keyspace, new_keyspace []) ∷ []) clean.topology.keyspaces (record { name = is; state = record { tables = tt; denied = tt; cuts = tt } }, tt);
+    keyspaces = append-all CleanKeyspace p.topology.keyspaces ((keyspace, new_keyspace cuts) ∷ []) clean.topology.keyspaces (record { name = is.0; state = record { tables = tt; denied = tt; cuts = is.1 } }, tt);
   };
   lives = clean.lives;
   writes = clean.writes;
@@ -333,18 +345,18 @@ next_taken-clean p (edit_rule key target) clean is = record {
   writes = clean.writes;
 }
 next_taken-clean p (create workflow source target tables) clean is =
-    let w = created workflow source target (each_once tables) (log_length p source) in
-    let live : CleanLive (record w { fed = length (writes_to p w) }) = record { name = is.0; source = is.1; target = is.2; tables = each_once-all NoFeed tables is.3 } in
-    with_lives-clean p (p.lives ++ (record w { fed = length (writes_to p w) }) ∷ []) clean (append-all CleanLive p.lives ((record w { fed = length (writes_to p w) }) ∷ []) clean.lives (live, tt))
-next_taken-clean p (advance workflow name at at_most) clean is = clean
+    let w = all_fed p (created workflow source target (each_once tables) (cuts_of p target) (log_length p source 0)) in
+    let live : CleanLive w = record { name = is.0; source = is.1; target = is.2; tables = each_once-all NoFeed tables is.3; cuts = cuts_of-clean p target clean } in
+    with_lives-clean p (p.lives ++ w ∷ []) clean (append-all CleanLive p.lives (w ∷ []) clean.lives (live, tt))
+next_taken-clean p (advance workflow name shard at at_most) clean is = clean
 next_taken-clean p (begin_switch workflow types) clean is = record {
   topology = clean.topology;
-  lives = with_live-clean (with_way_to false (λ switched. types_and switched types)) workflow p.lives (λ w. record { name = refl; source = refl; target = refl; tables = refl }) clean.lives;
+  lives = with_live-clean (with_way_to false (λ switched. types_and switched types)) workflow p.lives (λ w. record { name = refl; source = refl; target = refl; tables = refl; cuts = refl }) clean.lives;
   writes = clean.writes;
 }
 next_taken-clean p (begin_reverse workflow types) clean is = record {
   topology = clean.topology;
-  lives = with_live-clean (with_way_to true (λ switched. types_without switched types)) workflow p.lives (λ w. record { name = refl; source = refl; target = refl; tables = refl }) clean.lives;
+  lives = with_live-clean (with_way_to true (λ switched. types_without switched types)) workflow p.lives (λ w. record { name = refl; source = refl; target = refl; tables = refl; cuts = refl }) clean.lives;
   writes = clean.writes;
 }
 next_taken-clean p (step workflow at) clean is = record {

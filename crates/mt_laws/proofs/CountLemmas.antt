@@ -6,9 +6,10 @@ use Rattle.std.specs.List.{count_by, flat_map, fold, sum_by}
 use Rattle.std.specs.Map.{lookup, remove_entry, set_value}
 use Rattle.std.specs.Option.{option_map_or}
 use Rattle.mt_names.specs.Names.{same_text}
+use Rattle.mt_names.specs.Shards.{Cuts}
 use Rattle.mt_names.proofs.EntryLemmas.{lookup-push_new, lookup-push_stood, same_or_other}
 use Rattle.mt_names.proofs.SameLemmas.{same_text_decides}
-use Rattle.mt_model.specs.Topology.{KeyspaceState, Keyspaces, Marks, keyspace_at, new_keyspace, with_keyspace_state, with_mark_place, with_new_table}
+use Rattle.mt_model.specs.Topology.{new_keyspace, KeyspaceState, Keyspaces, Marks, keyspace_at, with_keyspace_state, with_mark_place, with_new_table}
 use Rattle.mt_model.proofs.TopologyLemmas.{keyspace_at-changed_elsewhere, keyspace_at-changed_here}
 use Rattle.mt_plain.specs.Next.{with_tables, without_tables}
 use Rattle.mt_laws.proofs.LiveLemmas.{IsIn}
@@ -177,20 +178,17 @@ tables-kept change keyspaces name other each = by (same_or_other same_text same_
         (let a = tables-changed change keyspaces name 0 each in omega arith)
     by (inr differ) = let a = tables-elsewhere change keyspaces name other differ in omega arith
 
-pub tables-pushed : (keyspaces : Keyspaces) (name other : List ℕ) → tables_in (keyspace_at (keyspaces ++ (name, new_keyspace []) ∷ []) other) ≡ tables_in (keyspace_at keyspaces other)
-tables-pushed keyspaces name other = by (keyspace_at keyspaces other) refl
+pub tables-pushed : (keyspaces : Keyspaces) (name : List ℕ) (cuts : Cuts) (other : List ℕ) → tables_in (keyspace_at (keyspaces ++ (name, new_keyspace cuts) ∷ []) other) ≡ tables_in (keyspace_at keyspaces other)
+tables-pushed keyspaces name cuts other = by (keyspace_at keyspaces other) refl
   where
-    empty : KeyspaceState
-    empty = new_keyspace []
-
-    none_in : (t : Bool) → tables_in (cond t (Some (new_keyspace [])) None) ≡ 0
+    none_in : (t : Bool) → tables_in (cond t (Some (new_keyspace cuts)) None) ≡ 0
     none_in true = refl
     none_in false = refl
 
-    by : (o : Option KeyspaceState) → keyspace_at keyspaces other ≡ o → tables_in (keyspace_at (keyspaces ++ (name, new_keyspace []) ∷ []) other) ≡ tables_in (keyspace_at keyspaces other)
+    by : (o : Option KeyspaceState) → keyspace_at keyspaces other ≡ o → tables_in (keyspace_at (keyspaces ++ (name, new_keyspace cuts) ∷ []) other) ≡ tables_in (keyspace_at keyspaces other)
     by None none =
-        ap tables_in (lookup-push_new same_text keyspaces (name, new_keyspace []) other none) ∙ none_in (same_text other name) ∙ sym (ap tables_in none)
-    by (Some state) some = ap tables_in (lookup-push_stood same_text keyspaces (name, new_keyspace []) other state some) ∙ sym (ap tables_in some)
+        ap tables_in (lookup-push_new same_text keyspaces (name, new_keyspace cuts) other none) ∙ none_in (same_text other name) ∙ sym (ap tables_in none)
+    by (Some state) some = ap tables_in (lookup-push_stood same_text keyspaces (name, new_keyspace cuts) other state some) ∙ sym (ap tables_in some)
 
 pub length-changed : (change : KeyspaceState → KeyspaceState) (keyspaces : Keyspaces) (name : List ℕ) → length (with_keyspace_state change keyspaces name) ≡ length keyspaces
 length-changed change keyspaces name = by (keyspace_at keyspaces name)

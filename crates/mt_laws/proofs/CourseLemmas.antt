@@ -9,7 +9,7 @@ use Rattle.mt_laws.specs.Reached.{HandsOver, IsOnCourse}
 use Rattle.mt_laws.specs.WayBack.{IsReached}
 use Rattle.mt_laws.proofs.InPlaceLemmas.{live_in}
 use Rattle.mt_laws.proofs.LiveLemmas.{IsIn}
-use Rattle.mt_laws.proofs.OpenWayLemmas.{reached_has_step, reached_one_shard}
+use Rattle.mt_laws.proofs.OpenWayLemmas.{reached_has_step, reached_shards}
 use Rattle.mt_laws.proofs.OwnerLemmas.{reached_journaled}
 use Rattle.mt_laws.proofs.PlainWords.{side_by}
 use Rattle.mt_laws.proofs.ReachLemmas.{reached_has_parts}
@@ -37,7 +37,7 @@ module _ (p : Plain) (reached : IsReached p) (name : List ℕ) (w : Live) (live 
 
   pub on_course : IsOnCourse w way
   on_course = record {
-    shards = reached_one_shard p reached w is_in way opens;
+    shards = reached_shards p reached w is_in way opens;
     within = within;
     before = (reached_has_parts p reached).settled w is_in way opens;
     after = reached_journaled p reached w is_in way opens;

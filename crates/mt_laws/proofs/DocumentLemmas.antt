@@ -1,26 +1,27 @@
 -- No text that the core tells of a state has a line feed: documents, and answers.
-use Rattle.std.proofs.Common.{ℕ, cond, List, [], ◌∷◌, ◌++◌, codes, Option, None, Some, refl, subst, sym}
-use Rattle.std.specs.List.{AllByRecursion, flat_map}
-use Rattle.std.specs.Prelude.{⊤, map}
+use Rattle.std.proofs.Common.{ℕ, cond, List, [], ◌∷◌, ◌++◌, codes, Option, None, Some, refl, subst, sym, unwrap_or, zero, suc}
+use Rattle.std.specs.List.{AllByRecursion, flat_map, join_with_byte, slice_get}
+use Rattle.std.specs.Prelude.{⊤, flat_map, map}
+use Rattle.std.specs.Option.{option_map_or}
+use Rattle.mt_names.specs.Names.{dash}
+use Rattle.mt_names.specs.Shards.{Cuts, KeyRange, range_text, ranges_from, ranges_of, whole}
 use Rattle.mt_names.specs.declared.keys.RuleKey.{RuleKey}
 use Rattle.mt_names.specs.declared.keys.RuleTarget.{RuleTarget}
 use Rattle.mt_names.specs.declared.types.TabletType.{TabletType}
 use Rattle.mt_names.specs.declared.types.TabletType.TheVariants.{Primary, Replica, Rdonly}
 use Rattle.mt_names.specs.declared.types.TypeSet.{TypeSet}
 use Rattle.mt_names.specs.Keys.{at_sign, dot, key_text, qualifier_text, suffix_text, target_text}
-use Rattle.mt_names.specs.Names.{dash}
-use Rattle.mt_names.specs.Shards.{Cuts, range_text, ranges_from}
 use Rattle.mt_names.specs.Tables.{table_list_text}
 use Rattle.mt_names.specs.Types.{comma, members, type_set_text, type_text, written}
 use Rattle.mt_model.specs.Documents.{array, denied_text, denied_texts, dump_text, entries_of, keyspace_text, marked, member, quoted, rule_text, rules_array, rules_text, shard_texts, sorted_by_text, sorted_texts}
 use Rattle.mt_model.specs.Topology.{KeyspaceState, Marks, Rules, TopologyState}
-use Rattle.mt_plain.specs.Answers.{Answers, advanced_of, reply_of, show_of}
-use Rattle.mt_plain.specs.Events.{Event, read, advance, show, StreamName, Refusal, memory, no_keyspace, no_table, denied, row_exists, no_row, workflow_exists, no_workflow, table_in_workflow, rule_conflict, target_has_table, same_keyspace, no_tables, under_way, nothing_under_way, nothing_to_switch, nothing_to_reverse, copying, not_level, past_journal, traffic_switched, not_all_switched, rule_owned, watcher_refused, no_watcher, stale, stream_stopped, full, undoing, too_long, exists, refusal_text, Way, StreamState, running, stopped, frozen, Slot, Shown, Answer, done, row, advanced, shown, refused}
+use Rattle.mt_plain.specs.Events.{ShownLane, Event, read, advance, show, StreamName, Refusal, memory, no_shard, sharded_source, no_keyspace, no_table, denied, row_exists, no_row, workflow_exists, no_workflow, table_in_workflow, rule_conflict, target_has_table, same_keyspace, no_tables, under_way, nothing_under_way, nothing_to_switch, nothing_to_reverse, copying, not_level, past_journal, traffic_switched, not_all_switched, rule_owned, watcher_refused, no_watcher, stale, stream_stopped, full, undoing, too_long, exists, refusal_text, Way, StreamState, running, stopped, frozen, Slot, Shown, Answer, done, row, advanced, shown, refused}
+use Rattle.mt_plain.specs.Output.{backs_text, copied_text, forward_text, forwards_text, lane_back_texts, none_or, answer_text, back_text, shown_text, slot_text, spaced, state_text, way_text}
+use Rattle.mt_plain.specs.Answers.{lane_advanced_of, lane_shown, Answers, advanced_of, reply_of, show_of}
 use Rattle.mt_plain.specs.Numbers.{number_text}
-use Rattle.mt_plain.specs.Output.{answer_text, back_text, shown_text, slot_text, spaced, state_text, way_text}
-use Rattle.mt_plain.specs.Plain.{Live, Plain, changed_types, live_at}
+use Rattle.mt_plain.specs.Plain.{Lane, Live, Plain, changed_types, lane_at, live_at}
+use Rattle.mt_laws.proofs.ListLemmas.{each-mapped, flat_map-all, map-all, OfSome, cond-either, sorted_by_text-all}
 use Rattle.mt_laws.proofs.CleanLemmas.{CleanKey, CleanKeyspace, CleanLive, CleanMark, CleanRow, CleanRule, CleanTarget, CleanTopology, IsClean, live_at-clean, row_of-clean}
-use Rattle.mt_laws.proofs.ListLemmas.{OfSome, cond-either, each-mapped, flat_map-all, map-all, sorted_by_text-all}
 use Rattle.mt_laws.proofs.TextLemmas.{NoFeed, no_feed-append, no_feed-array, no_feed-cons, no_feed-join, no_feed-member, no_feed-nil, no_feed-number, no_feed-object, no_feed-quoted}
 
 -- ---- keys and targets
@@ -130,6 +131,8 @@ dump_text-no_feed t clean =
 
 pub refusal-no_feed : (refusal : Refusal) → NoFeed (refusal_text refusal)
 refusal-no_feed memory = record { all = refl }
+refusal-no_feed no_shard = record { all = refl }
+refusal-no_feed sharded_source = record { all = refl }
 refusal-no_feed no_keyspace = record { all = refl }
 refusal-no_feed no_table = record { all = refl }
 refusal-no_feed denied = record { all = refl }
@@ -199,21 +202,67 @@ table_list-no_feed : (tables : List (List ℕ)) → AllByRecursion NoFeed tables
 table_list-no_feed [] all = record { all = refl }
 table_list-no_feed (name ∷ names) all = no_feed-join comma (name ∷ names) refl all
 
+pub record CleanRangeOf (range : KeyRange) : Type 0 where
+  pub start : NoFeed range.start
+  pub end : NoFeed range.end
+
+-- what is shown of a lane
+pub record CleanShownLane (lane : ShownLane) : Type 0 where
+  pub start : NoFeed lane.range.start
+  pub end : NoFeed lane.range.end
+
 -- what is shown of a workflow
 pub record CleanShown (s : Shown) : Type 0 where
   pub workflow : NoFeed s.workflow
   pub source : NoFeed s.source
   pub target : NoFeed s.target
   pub tables : AllByRecursion NoFeed s.tables
+  pub lanes : AllByRecursion CleanShownLane s.lanes
+
+joined-no_feed : (texts : List (List ℕ)) → AllByRecursion NoFeed texts → NoFeed (join_with_byte 32 texts)
+joined-no_feed [] all = no_feed-nil
+joined-no_feed (t ∷ []) all = all.0
+joined-no_feed (t ∷ u ∷ texts) all = no_feed-append t (32 ∷ join_with_byte 32 (u ∷ texts)) all.0 (no_feed-append (32 ∷ []) (join_with_byte 32 (u ∷ texts)) (record { all = refl }) (joined-no_feed (u ∷ texts) all.1))
+
+range-no_feed : (lane : ShownLane) → CleanShownLane lane → NoFeed (range_text lane.range)
+range-no_feed lane is = no_feed-append lane.range.start (dash ∷ lane.range.end) is.start (no_feed-append (dash ∷ []) lane.range.end (record { all = refl }) is.end)
+
+forward-no_feed : (lane : ShownLane) → NoFeed (forward_text lane)
+forward-no_feed lane =
+    spaced-no_feed (slot_text lane.forward) (copied_text lane.copied) (slot_text-no_feed lane.forward)
+    (cond-either NoFeed lane.copied (codes "copied") (codes "copying") (record { all = refl }) (record { all = refl }))
+
+forwards-no_feed : (lanes : List ShownLane) → AllByRecursion CleanShownLane lanes → NoFeed (forwards_text lanes)
+forwards-no_feed [] all = no_feed-nil
+forwards-no_feed (lane ∷ []) all = forward-no_feed lane
+forwards-no_feed (lane ∷ other ∷ lanes) all =
+    joined-no_feed (map (λ l. spaced (range_text l.range) (forward_text l)) (lane ∷ other ∷ lanes))
+    (map-all CleanShownLane NoFeed (λ l. spaced (range_text l.range) (forward_text l)) (lane ∷ other ∷ lanes) (λ l is. spaced-no_feed (range_text l.range) (forward_text l) (range-no_feed l is) (forward-no_feed l)) all)
+
+back_texts-no_feed : (lane : ShownLane) → CleanShownLane lane → AllByRecursion NoFeed (lane_back_texts lane)
+back_texts-no_feed lane is = by lane.back
+  where
+    by : (o : Option Slot) → AllByRecursion NoFeed (option_map_or (λ slot. spaced (range_text lane.range) (slot_text slot) ∷ []) o [])
+    by None = tt
+    by (Some slot) = (spaced-no_feed (range_text lane.range) (slot_text slot) (range-no_feed lane is) (slot_text-no_feed slot), tt)
+
+none_or-no_feed : (texts : List (List ℕ)) → AllByRecursion NoFeed texts → NoFeed (none_or texts)
+none_or-no_feed [] all = record { all = refl }
+none_or-no_feed (t ∷ texts) all = joined-no_feed (t ∷ texts) all
+
+backs-no_feed : (lanes : List ShownLane) → AllByRecursion CleanShownLane lanes → NoFeed (backs_text lanes)
+backs-no_feed [] all = record { all = refl }
+backs-no_feed (lane ∷ []) all = back_text-no_feed lane.back
+backs-no_feed (lane ∷ other ∷ lanes) all =
+    none_or-no_feed (flat_map lane_back_texts (lane ∷ other ∷ lanes)) (flat_map-all CleanShownLane NoFeed lane_back_texts (lane ∷ other ∷ lanes) (λ l is. back_texts-no_feed l is) all)
 
 shown_text-no_feed : (s : Shown) → CleanShown s → NoFeed (shown_text s)
 shown_text-no_feed s is =
     spaced-no_feed s.workflow _ is.workflow (spaced-no_feed s.source _ is.source (spaced-no_feed s.target _ is.target (spaced-no_feed (table_list_text s.tables) _ (table_list-no_feed s.tables is.tables)
     (spaced-no_feed (codes "switched") _ (record { all = refl }) (spaced-no_feed (type_set_text s.switched) _ (type_set-no_feed s.switched)
     (spaced-no_feed (codes "way") _ (record { all = refl }) (spaced-no_feed (way_text s.way) _ (way_text-no_feed s.way)
-    (spaced-no_feed (codes "forward") _ (record { all = refl }) (spaced-no_feed (slot_text s.forward) _ (slot_text-no_feed s.forward)
-    (spaced-no_feed (cond s.copied (codes "copied") (codes "copying")) _ (cond-either NoFeed s.copied (codes "copied") (codes "copying") (record { all = refl }) (record { all = refl }))
-    (spaced-no_feed (codes "back") (back_text s.back) (record { all = refl }) (back_text-no_feed s.back))))))))))))
+    (spaced-no_feed (codes "forward") _ (record { all = refl }) (spaced-no_feed (forwards_text s.lanes) _ (forwards-no_feed s.lanes is.lanes)
+    (spaced-no_feed (codes "back") (backs_text s.lanes) (record { all = refl }) (backs-no_feed s.lanes is.lanes)))))))))))
 
 abbrev CleanAnswer : Answer → Type 0
 CleanAnswer (row r) = CleanRow r
@@ -230,17 +279,35 @@ answer_text-no_feed (advanced events rows) is =
 answer_text-no_feed (shown s) is = shown_text-no_feed s is
 answer_text-no_feed (refused refusal) is = no_feed-append (codes "refused ") (refusal_text refusal) (record { all = refl }) (refusal-no_feed refusal)
 
-advanced_of-clean : (p : Plain) (name : StreamName) (at at_most : ℕ) (o : Option Live) → CleanAnswer (advanced_of p name at at_most o)
-advanced_of-clean p name at at_most None = tt
-advanced_of-clean p name at at_most (Some w) = tt
+advanced_of-clean : (p : Plain) (name : StreamName) (shard at at_most : ℕ) (o : Option Live) → CleanAnswer (advanced_of p name shard at at_most o)
+advanced_of-clean p name shard at at_most None = tt
+advanced_of-clean p name shard at at_most (Some w) = by (lane_at w shard)
+  where
+    by : (o : Option Lane) → CleanAnswer (lane_advanced_of p name at at_most w o)
+    by None = tt
+    by (Some lane) = tt
+
+ranges-clean : (cuts : Cuts) (start : List ℕ) → NoFeed start → AllByRecursion NoFeed cuts → AllByRecursion CleanRangeOf (ranges_from start cuts)
+ranges-clean [] start first all = (record { start = first; end = no_feed-nil }, tt)
+ranges-clean (cut ∷ cuts) start first all = (record { start = first; end = all.0 }, ranges-clean cuts cut all.0 all.1)
+
+range_or-clean : (ranges : List KeyRange) (n : ℕ) → AllByRecursion CleanRangeOf ranges → CleanRangeOf (unwrap_or (slice_get ranges n) whole)
+range_or-clean [] n all = record { start = no_feed-nil; end = no_feed-nil }
+range_or-clean (range ∷ ranges) zero all = all.0
+range_or-clean (range ∷ ranges) (suc n) all = range_or-clean ranges n all.1
+
+lanes-clean : (w : Live) → CleanLive w → AllByRecursion CleanShownLane (map (lane_shown w) w.lanes)
+lanes-clean w live =
+    each-mapped CleanShownLane (lane_shown w) w.lanes
+    (λ lane. let is = range_or-clean (ranges_of w.cuts) lane.shard (ranges-clean w.cuts [] no_feed-nil live.cuts) in record { start = is.start; end = is.end })
 
 show_of-clean : (o : Option Live) → OfSome CleanLive o → CleanAnswer (show_of o)
 show_of-clean None live = tt
-show_of-clean (Some w) live = record { workflow = live.name; source = live.source; target = live.target; tables = live.tables }
+show_of-clean (Some w) live = record { workflow = live.name; source = live.source; target = live.target; tables = live.tables; lanes = lanes-clean w live }
 
 reply_of-clean : (p : Plain) (event : Event) → IsClean p → CleanAnswer (reply_of p event)
 reply_of-clean p (read keyspace table key tablet_type) clean = row_of-clean p keyspace table key clean
-reply_of-clean p (advance workflow name at at_most) clean = advanced_of-clean p name at at_most (live_at p workflow)
+reply_of-clean p (advance workflow name shard at at_most) clean = advanced_of-clean p name shard at at_most (live_at p workflow)
 reply_of-clean p (show workflow) clean = show_of-clean (live_at p workflow) (live_at-clean p workflow clean)
 reply_of-clean p other clean = tt
 

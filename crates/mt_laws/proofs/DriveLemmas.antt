@@ -1,22 +1,23 @@
 -- Each drive ends within its turns, however its events are answered.
-use Rattle.std.proofs.Common.{◌≡◌, ◌≢◌, ◌⊎◌, inl, inr, ℕ, zero, suc, ◌+◌, ◌-◌, ◌<◌, ◌≤◌, Bool, true, false, not, cond, eqb, leb, List, ◌++◌, codes, Option, None, Some, Result, Ok, Err, refl, sym, ap, ◌∙◌, subst, arith}
-use Rattle.mt_plain.proofs.PlaceLemmas.{one-next}
-use Rattle.mt_laws.proofs.WayStepLemmas.{at_first, fewer-le}
-use Rattle.std.proofs.lemmas.Bool.{true≢false, eqb-true, eq-eqb}
+use Rattle.std.proofs.Common.{◌≡◌, ◌≢◌, ◌⊎◌, inl, inr, ℕ, zero, suc, ◌+◌, ◌-◌, ◌<◌, ◌≤◌, Bool, true, false, not, cond, eqb, leb, List, ◌++◌, codes, Option, None, Some, Result, Ok, Err, refl, sym, ap, ◌∙◌, subst, arith, ltb, ltb-true}
+use Rattle.std.proofs.lemmas.Bool.{true≢false, eqb-true, eq-eqb, leb-false, leb-true}
 use Rattle.std.specs.List.{list_any}
 use Rattle.std.specs.Option.{option_map_or}
-use Rattle.std.specs.Prelude.{⊤, ◌&&◌, option_and_then}
+use Rattle.std.specs.Prelude.{⊤, ◌&&◌, ◌||◌, option_and_then}
+use Rattle.mt_names.specs.Shards.{Cuts, shard_count}
 use Rattle.mt_names.specs.declared.types.TypeSet.{TypeSet}
+use Rattle.mt_plain.specs.Plain.{differ, next_place, repeated_step, Live, Plain, behind_last, catch_up, first_step, live_at, next_step, refresh_source, refresh_target, stands_done, switch_reads, write_journal}
 use Rattle.mt_plain.specs.Answers.{AnswerRule, Answers, Refuses}
 use Rattle.mt_plain.specs.Numbers.{number_text}
-use Rattle.mt_plain.specs.Drive.{Driven, abandoned, stopped, Drives, Driving, EndRule, GoesOn, begins, steps, feeds, gives_up, Heard, goes_on, ends, event_of, fails, feeding_stream, heard, most_at_once, most_tries, position_of, refused_step, steps_done, unless_closed, way_of}
+use Rattle.mt_plain.specs.Drive.{Driven, abandoned, stopped, Drives, Driving, EndRule, GoesOn, begins, steps, feeds, gives_up, Heard, goes_on, ends, event_of, fails, feeding_stream, heard, lanes_of, most_at_once, most_tries, position_of, refused_step, steps_done, unless_closed, way_of}
 use Rattle.mt_plain.specs.Drive as drive
 use Rattle.mt_plain.specs.Events.{Event, begin_switch, begin_reverse, step, undo, Refusal, memory, nothing_under_way, not_level, past_journal, watcher_refused, no_watcher, stale, full, undoing, refusal_text, Way, Answer, done, row, advanced, shown, refused}
 use Rattle.mt_plain.specs.Next.{next, with_step, with_undo, with_way_to, types_and, types_without}
 use Rattle.mt_plain.specs.Output.{ended_text}
-use Rattle.mt_plain.specs.Plain.{Live, Plain, behind_last, catch_up, first_step, live_at, next_step, refresh_source, refresh_target, stands_done, switch_reads, write_journal}
 use Rattle.mt_plain.specs.Refuse.{begin_reverse_refusal, begin_switch_refusal, in_workflow, is_behind, is_of_primary, most_journal_entries, new_owner, old_owner, or_else, own_refusal, refusal_of, refuse_if, step_refusal, undo_refusal, will_read_other_side}
+use Rattle.mt_plain.proofs.PlaceLemmas.{step-behind, step-first}
 use Rattle.mt_laws.specs.Turns.{Enough, at_reads, before_level, at_level, behind_level, Goes, Undoes, Fits, FitsHeard}
+use Rattle.mt_laws.proofs.WayStepLemmas.{OneOn, at_first, fewer-le, more, next_on}
 use Rattle.mt_laws.proofs.DocumentLemmas.{refusal-no_feed}
 use Rattle.mt_laws.proofs.ListLemmas.{cond-either, cond-holds}
 use Rattle.mt_laws.proofs.TextLemmas.{NoFeed, no_feed-append, no_feed-number}
@@ -26,52 +27,89 @@ use Rattle.mt_laws.proofs.RefusalLemmas.{in_workflow-none, reverse-none, switch-
 
 -- ---- how many turns are enough
 
--- a step is done: the next one has all its tries
-enough-step : (turns tries n m : ℕ) → 0 < tries → m ≡ suc n → Enough (suc turns) tries n → Enough turns most_tries m
-enough-step turns tries n m some is (at_reads at few) = before_level (omega arith) (omega arith) (omega arith)
-enough-step turns tries n m some is (before_level past at few) = by n past at few is
-  where
-    by : (n : ℕ) → 0 < n → n < 3 → 148 ≤ suc turns + n → m ≡ suc n → Enough turns most_tries m
-    by zero past at few is = absurd (omega arith)
-    by (suc zero) past at few is = before_level (omega arith) (omega arith) (omega arith)
-    by (suc (suc zero)) past at few is = at_level (omega arith) (omega arith)
-    by (suc (suc (suc n))) past at few is = absurd (omega arith)
-enough-step turns tries n m some is (at_level at few) = behind_level (omega arith) (omega arith)
-enough-step turns tries n m some is (behind_level past few) = behind_level (omega arith) (omega arith)
+-- the number of the step at the next place
+abbrev OnTo : (m n : ℕ) → Type 0
+OnTo m n = (m ≡ suc n) ⊎ ((m ≡ n) × ((n ≡ 2) ⊎ (n ≡ 8)))
 
--- a step is tried again, behind an advance
-enough-again : (turns left n : ℕ) → (n ≡ 0) ⊎ (n ≡ 3) → Enough (suc turns) (suc (suc left)) n → (t : ℕ) × (turns ≡ suc t) × Enough t (suc left) n
-enough-again zero left n at (at_reads is few) = absurd (omega arith)
-enough-again (suc t) left n at (at_reads is few) = (t, refl, at_reads is (omega arith))
-enough-again turns left n (inl at) (before_level past before few) = absurd (omega arith)
-enough-again turns left n (inr at) (before_level past before few) = absurd (omega arith)
-enough-again zero left n at (at_level is few) = absurd (omega arith)
-enough-again (suc t) left n at (at_level is few) = (t, refl, at_level is (omega arith))
-enough-again turns left n (inl at) (behind_level past few) = absurd (omega arith)
-enough-again turns left n (inr at) (behind_level past few) = absurd (omega arith)
+-- a step is done: the next one has all its tries
+enough-step : (turns tries n m place : ℕ) → 0 < tries → OnTo m n → n ≤ place → place ≤ n + 7 → Enough (suc turns) tries n place → Enough turns most_tries m (suc place)
+enough-step turns tries n m place some (inl is) low high (at_reads at first few) = before_level (omega arith) (omega arith) (omega arith)
+enough-step turns tries n m place some (inr (same, inl two)) low high (at_reads at first few) = absurd (omega arith)
+enough-step turns tries n m place some (inr (same, inr eight)) low high (at_reads at first few) = absurd (omega arith)
+enough-step turns tries n m place some (inr (same, at)) low high (before_level past before few) = before_level (omega arith) (omega arith) (omega arith)
+enough-step turns tries n m place some (inl is) low high (before_level past before few) = by n past before few is low high
+  where
+    by : (n : ℕ) → 0 < n → n < 3 → 601 ≤ suc turns + place → m ≡ suc n → n ≤ place → place ≤ n + 7 → Enough turns most_tries m (suc place)
+    by zero past before few is low high = absurd (omega arith)
+    by (suc zero) past before few is low high = before_level (omega arith) (omega arith) (omega arith)
+    by (suc (suc zero)) past before few is low high = at_level (omega arith) (omega arith)
+    by (suc (suc (suc n))) past before few is low high = absurd (omega arith)
+enough-step turns tries n m place some (inl is) low high (at_level at few) = behind_level (omega arith) (omega arith)
+enough-step turns tries n m place some (inr (same, inl two)) low high (at_level at few) = absurd (omega arith)
+enough-step turns tries n m place some (inr (same, inr eight)) low high (at_level at few) = absurd (omega arith)
+enough-step turns tries n m place some (inl is) low high (behind_level past few) = behind_level (omega arith) (omega arith)
+enough-step turns tries n m place some (inr (same, at)) low high (behind_level past few) = behind_level (omega arith) (omega arith)
+
+-- a step is tried again, behind an advance of each stream
+enough-again : (turns left n place : ℕ) → (n ≡ 0) ⊎ (n ≡ 3) → Enough (suc turns) (suc (suc left)) n place → (t : ℕ) × (t + 8 ≡ turns + 0) × Enough t (suc left) n place
+enough-again turns left n place at (at_reads is first few) = (turns - 8, omega arith, at_reads is first (omega arith))
+enough-again turns left n place (inl at) (before_level past before few) = absurd (omega arith)
+enough-again turns left n place (inr at) (before_level past before few) = absurd (omega arith)
+enough-again turns left n place at (at_level is few) = (turns - 8, omega arith, at_level is (omega arith))
+enough-again turns left n place (inl at) (behind_level past few) = absurd (omega arith)
+enough-again turns left n place (inr at) (behind_level past few) = absurd (omega arith)
 
 -- an undo has its turns
-enough-undo : (turns tries n : ℕ) → n ≤ 6 → Enough (suc turns) tries n → 6 ≤ turns
-enough-undo turns tries n few (at_reads is enough) = omega arith
-enough-undo turns tries n few (before_level past before enough) = omega arith
-enough-undo turns tries n few (at_level is enough) = omega arith
-enough-undo turns tries n few (behind_level past enough) = omega arith
+enough-undo : (turns tries n place : ℕ) → place ≤ 13 → n ≤ place → Enough (suc turns) tries n place → 13 ≤ turns
+enough-undo turns tries n place few low (at_reads is first enough) = omega arith
+enough-undo turns tries n place few low (before_level past before enough) = omega arith
+enough-undo turns tries n place few low (at_level is enough) = omega arith
+enough-undo turns tries n place few low (behind_level past enough) = omega arith
 
-enough-fewer : (turns tries n : ℕ) → Enough turns tries n → Enough (suc turns) tries n
-enough-fewer turns tries n (at_reads is enough) = at_reads is (omega arith)
-enough-fewer turns tries n (before_level past before enough) = before_level past before (omega arith)
-enough-fewer turns tries n (at_level is enough) = at_level is (omega arith)
-enough-fewer turns tries n (behind_level past enough) = behind_level past (omega arith)
+enough-more : (turns many tries n place : ℕ) → turns ≤ many → Enough turns tries n place → Enough many tries n place
+enough-more turns many tries n place le (at_reads is first enough) = at_reads is first (omega arith)
+enough-more turns many tries n place le (before_level past before enough) = before_level past before (omega arith)
+enough-more turns many tries n place le (at_level is enough) = at_level is (omega arith)
+enough-more turns many tries n place le (behind_level past enough) = behind_level past (omega arith)
 
-enough-some : (turns tries n : ℕ) → n < 12 → Enough turns tries n → 0 < turns
-enough-some turns tries n below (at_reads is enough) = omega arith
-enough-some turns tries n below (before_level past before enough) = omega arith
-enough-some turns tries n below (at_level is enough) = omega arith
-enough-some turns tries n below (behind_level past enough) = omega arith
+enough-some : (turns tries n place : ℕ) → n < 12 → place ≤ n + 7 → Enough turns tries n place → 0 < turns
+enough-some turns tries n place below high (at_reads is first enough) = omega arith
+enough-some turns tries n place below high (before_level past before enough) = omega arith
+enough-some turns tries n place below high (at_level is enough) = omega arith
+enough-some turns tries n place below high (behind_level past enough) = omega arith
 
-enough-begun : (reads : Bool) (turns : ℕ) → 300 ≤ turns → Enough turns most_tries (cond {A = ℕ} reads 0 1 + 0)
-enough-begun true turns many = at_reads (omega arith) (omega arith)
+enough-begun : (reads : Bool) (turns : ℕ) → 1200 ≤ turns → Enough turns most_tries (cond {A = ℕ} reads 0 1) (cond {A = ℕ} reads 0 1 + 0)
+enough-begun true turns many = at_reads (omega arith) (omega arith) (omega arith)
 enough-begun false turns many = before_level (omega arith) (omega arith) (omega arith)
+
+-- the next place is one of the next step's
+place_low : (way : Way) → next_step way ≤ next_place way
+place_low way = by (leb (next_place way) (repeated_step way)) refl
+  where
+    by : (t : Bool) → leb (next_place way) (repeated_step way) ≡ t → next_step way ≤ next_place way
+    by true t = let here = leb-true (next_place way) (repeated_step way) t in let is = step-first way (next_place way) here in omega arith
+    by false t = let behind = leb-false (next_place way) (repeated_step way) t in let is = step-behind way (next_place way) (omega arith) in omega arith
+
+place_high : (way : Way) → way.shards ≤ 8 → next_place way ≤ next_step way + 7
+place_high way few = by (leb (next_place way) (repeated_step way)) refl
+  where
+    by : (t : Bool) → leb (next_place way) (repeated_step way) ≡ t → next_place way ≤ next_step way + 7
+    by true t = let here = leb-true (next_place way) (repeated_step way) t in let is = step-first way (next_place way) here in omega arith
+    by false t = let behind = leb-false (next_place way) (repeated_step way) t in let is = step-behind way (next_place way) (omega arith) in omega arith
+
+on_to : (way : Way) → OnTo (next_step (more way)) (next_step way)
+on_to way = by (next_on way)
+  where
+    number : repeated_step way ≡ 2 ⊎ repeated_step way ≡ 8
+    number = cond-either (λ n. (n ≡ 2) ⊎ (n ≡ 8)) way.back 2 8 (inl refl) (inr refl)
+
+    by : OneOn (next_step (more way)) (next_step way) (repeated_step way) → OnTo (next_step (more way)) (next_step way)
+    by (inl e) = inl e
+    by (inr e) = inr (e.0, at number)
+      where
+        at : repeated_step way ≡ 2 ⊎ repeated_step way ≡ 8 → (next_step way ≡ 2) ⊎ (next_step way ≡ 8)
+        at (inl n) = inl (e.1 ∙ n)
+        at (inr n) = inr (e.1 ∙ n)
 
 few_steps : (way : Way) → behind_last way ≤ 12
 few_steps way = cond-either (λ n. n ≤ 12) _ 12 1 (omega arith) (omega arith)
@@ -89,10 +127,11 @@ fails-fits turns tries p workflow refusal goes = subst (λ o. FitsHeard turns p 
         cond-holds (FitsHeard turns p) (stands_done goes.way write_journal) (ends (Ok (stopped refusal done))) (goes_on (gives_up workflow refusal)) (λ past. tt)
         (λ before.
         let few : next_step goes.way ≤ 6 = few_done goes.way before in
-        let many : 6 ≤ turns = enough-undo turns tries (next_step goes.way) few goes.enough in
-        let by_place = one-next goes.way goes.few in
-        let of_way : goes.way.done ≤ next_step goes.way = omega arith in
-        record { way = goes.way; is = goes.is; no_journal = before; enough = omega (arith, few, many, of_way); some = omega (arith, many) })
+        let low = place_low goes.way in
+        let high = place_high goes.way goes.few in
+        let many : 13 ≤ turns = enough-undo turns tries (next_step goes.way) (next_place goes.way) (omega arith) low goes.enough in
+        let of_way : goes.way.done ≤ next_place goes.way = omega arith in
+        record { way = goes.way; is = goes.is; no_journal = before; enough = omega arith; some = omega (arith, many) })
 
 -- ---- a step
 
@@ -139,8 +178,8 @@ step-level p workflow at way has = subst (λ o. LevelAt (next_step way) (in_work
 refused_step-fits : (turns tries : ℕ) (p : Plain) (workflow : List ℕ) (refusal : Refusal) → Goes (suc turns) tries p workflow → Refuses p (step workflow (steps_done p workflow)) refusal → FitsHeard turns p (refused_step p workflow tries refusal)
 refused_step-fits turns (suc (suc left)) p workflow not_level goes a =
     let at = step-level p workflow (steps_done p workflow) goes.way (has_way p workflow goes.way goes.is) a in
-    let (t, is, enough) = enough-again turns left (next_step goes.way) at goes.enough in
-    (t, is, record { way = goes.way; is = goes.is; few = goes.few; left = goes.left; tried = omega arith; enough = enough })
+    let (t, is, enough) = enough-again turns left (next_step goes.way) (next_place goes.way) at goes.enough in
+    (t, is, omega arith, record { way = goes.way; is = goes.is; few = goes.few; left = goes.left; tried = omega arith; enough = enough })
 refused_step-fits turns tries p workflow other goes a = fails-fits turns tries p workflow other goes
 
 stepped-fits : (turns tries : ℕ) (p : Plain) (workflow : List ℕ) → Goes (suc turns) tries p workflow → FitsHeard turns (with_step p workflow) (unless_closed (way_of (with_step p workflow) workflow) drive.done (steps workflow most_tries))
@@ -155,8 +194,9 @@ stepped-fits turns tries p workflow goes = by (eqb (suc (next_step way)) (behind
     is : way_of q workflow ≡ cond (eqb (suc (next_step way)) (behind_last way)) None (Some (record way { done = suc way.done }))
     is = way_of-step p workflow way (has_way p workflow way goes.is)
 
-    on : next_step (record way { done = suc way.done }) ≡ suc (next_step way)
-    on = let now = one-next way goes.few in let then = one-next (record way { done = suc way.done }) goes.few in omega arith
+    left_on : OnTo (next_step (record way { done = suc way.done })) (next_step way) → next_step way < behind_last way → suc (next_step way) ≢ behind_last way → next_step (record way { done = suc way.done }) < behind_last way
+    left_on (inl e) left apart = omega (arith, e, left, apart)
+    left_on (inr e) left apart = let f = e.0 in omega (arith, f, left)
 
     by : (t : Bool) → eqb (suc (next_step way)) (behind_last way) ≡ t → FitsHeard turns q (unless_closed (way_of q workflow) drive.done (steps workflow most_tries))
     by true t = subst (λ o. FitsHeard turns q (unless_closed o drive.done (steps workflow most_tries))) (sym (is ∙ ap (λ b. cond b None (Some (record way { done = suc way.done }))) t)) tt
@@ -167,9 +207,12 @@ stepped-fits turns tries p workflow goes = by (eqb (suc (next_step way)) (behind
           way = record way { done = suc way.done };
           is = next;
           few = goes.few;
-          left = let one = on in omega (arith, more, goes.left);
+          left = left_on (on_to way) goes.left more;
           tried = omega arith;
-          enough = enough-step turns tries (next_step way) (next_step (record way { done = suc way.done })) goes.tried on goes.enough;
+          enough =
+              let e : suc (next_place way) ≡ first_step way + suc way.done = omega arith in
+              subst (Enough turns most_tries (next_step (record way { done = suc way.done }))) e
+              (enough-step turns tries (next_step way) (next_step (record way { done = suc way.done })) (next_place way) goes.tried (on_to way) (place_low way) (place_high way goes.few) goes.enough);
         } in
         subst (λ o. FitsHeard turns q (unless_closed o drive.done (steps workflow most_tries))) (sym next) goes_next
 
@@ -214,7 +257,7 @@ undone-fits turns p workflow refusal undoes = by (eqb (way.done - 1) 0) refl
         let undoes_next : Undoes turns q workflow = record {
           way = record way { done = way.done - 1; undoing = true };
           is = next;
-          no_journal = few_undone (record way { done = way.done - 1; undoing = true }) (let le = fewer-le way in omega (arith, few, le));
+          no_journal = let le = fewer-le way in few_undone (record way { done = way.done - 1; undoing = true }) (omega (arith, few, le));
           enough = omega (arith, undoes.enough, more);
           some = omega (arith, undoes.enough, more);
         } in
@@ -222,33 +265,44 @@ undone-fits turns p workflow refusal undoes = by (eqb (way.done - 1) 0) refl
 
 -- ---- the beginning
 
-begun-fits : (turns : ℕ) (p : Plain) (workflow : List ℕ) (backward : Bool) (change : TypeSet → TypeSet) (w : Live) → 300 ≤ turns → live_at p workflow ≡ Some w → (way : Way) → (with_way_to backward change w).way ≡ Some way → way.shards ≤ 1 → way.done ≡ 0 → first_step way + 0 < behind_last way → (q : Plain) → way_of q workflow ≡ (with_way_to backward change w).way → Goes turns most_tries q workflow
-begun-fits turns p workflow backward change w many found way is few none left q next = record {
+begun-fits : (turns : ℕ) (p : Plain) (workflow : List ℕ) (backward : Bool) (change : TypeSet → TypeSet) (w : Live) → 1200 ≤ turns → live_at p workflow ≡ Some w
+    → (way : Way) → (with_way_to backward change w).way ≡ Some way → way.done ≡ 0 → way.shards ≡ shard_count w.cuts → first_step way < behind_last way → (q : Plain) → way_of q workflow ≡ (with_way_to backward change w).way → Goes turns most_tries q workflow
+begun-fits turns p workflow backward change w many found way is none shards left q after_it = record {
   way = way;
-  is = next ∙ is;
-  few = few;
-  left = let at = at_first way none in omega (arith, at, left);
+  is = after_it ∙ is;
+  few = eight w.cuts shards;
+  left = let e = at_first way none in omega arith;
   tried = omega arith;
-  enough = let at : next_step way ≡ first_step way + 0 = let e = at_first way none in omega arith in subst (Enough turns most_tries) (sym at) (enough-begun (changes_reads way) turns many);
+  enough =
+      subst (λ n. Enough turns most_tries n (next_place way)) (sym (at_first way none))
+      (subst (λ n. Enough turns most_tries (first_step way) (first_step way + n)) (sym none) (enough-begun (changes_reads way) turns many));
 }
+  where
+    eight : (cuts : Cuts) → way.shards ≡ shard_count cuts → way.shards ≤ 8
+    eight cuts e = omega arith
 
-begun_switch-fits : (turns : ℕ) (p : Plain) (workflow : List ℕ) (types : TypeSet) → 300 ≤ turns → refusal_of p (begin_switch workflow types) ≡ None → Goes turns most_tries (next p (begin_switch workflow types) done) workflow
+least : {n m : ℕ} → suc (n + 0) ≤ m → n < m
+least le = omega arith
+
+begun_switch-fits : (turns : ℕ) (p : Plain) (workflow : List ℕ) (types : TypeSet) → 1200 ≤ turns → refusal_of p (begin_switch workflow types) ≡ None → Goes turns most_tries (next p (begin_switch workflow types) done) workflow
 begun_switch-fits turns p workflow types many none =
     let t = in_workflow-none (live_at p workflow) (begin_switch_refusal p types) none in
     let change : TypeSet → TypeSet = λ switched. types_and switched types in
-    begun-fits turns p workflow false change t.0 many t.1 _ refl (omega arith) refl (has_steps _ _ _ (forward_has_steps t.0.switched types (switch-none p types t.0 t.2).1))
+    begun-fits turns p workflow false change t.0 many t.1 (record { back = false; shards = shard_count t.0.cuts; before = t.0.switched; after = types_and t.0.switched types; done = 0; undoing = false }) refl refl refl
+    (least (has_steps (differ t.0.switched.primary (t.0.switched.primary || types.primary)) (differ t.0.switched.replica (t.0.switched.replica || types.replica)) (differ t.0.switched.rdonly (t.0.switched.rdonly || types.rdonly)) (forward_has_steps t.0.switched types (switch-none p types t.0 t.2).1)))
     (next p (begin_switch workflow types) done) (way_of-begun p workflow false change t.0 t.1)
 
-begun_reverse-fits : (turns : ℕ) (p : Plain) (workflow : List ℕ) (types : TypeSet) → 300 ≤ turns → refusal_of p (begin_reverse workflow types) ≡ None → Goes turns most_tries (next p (begin_reverse workflow types) done) workflow
+begun_reverse-fits : (turns : ℕ) (p : Plain) (workflow : List ℕ) (types : TypeSet) → 1200 ≤ turns → refusal_of p (begin_reverse workflow types) ≡ None → Goes turns most_tries (next p (begin_reverse workflow types) done) workflow
 begun_reverse-fits turns p workflow types many none =
     let t = in_workflow-none (live_at p workflow) (begin_reverse_refusal p types) none in
     let change : TypeSet → TypeSet = λ switched. types_without switched types in
-    begun-fits turns p workflow true change t.0 many t.1 _ refl (omega arith) refl (has_steps _ _ _ (backward_has_steps t.0.switched types (reverse-none p types t.0 t.2).1))
+    begun-fits turns p workflow true change t.0 many t.1 (record { back = true; shards = shard_count t.0.cuts; before = t.0.switched; after = types_without t.0.switched types; done = 0; undoing = false }) refl refl refl
+    (least (has_steps (differ t.0.switched.primary (t.0.switched.primary && not types.primary)) (differ t.0.switched.replica (t.0.switched.replica && not types.replica)) (differ t.0.switched.rdonly (t.0.switched.rdonly && not types.rdonly)) (backward_has_steps t.0.switched types (reverse-none p types t.0 t.2).1)))
     (next p (begin_reverse workflow types) done) (way_of-begun p workflow true change t.0 t.1)
 
 -- ---- each event of a drive
 
-begins-fits : (turns : ℕ) (p : Plain) (workflow : List ℕ) (types : TypeSet) (backward : Bool) (answer : Answer) → 300 ≤ turns → Answers p (event_of p (begins workflow types backward)) answer → FitsHeard turns (next p (event_of p (begins workflow types backward)) answer) (heard (next p (event_of p (begins workflow types backward)) answer) (begins workflow types backward) answer)
+begins-fits : (turns : ℕ) (p : Plain) (workflow : List ℕ) (types : TypeSet) (backward : Bool) (answer : Answer) → 1200 ≤ turns → Answers p (event_of p (begins workflow types backward)) answer → FitsHeard turns (next p (event_of p (begins workflow types backward)) answer) (heard (next p (event_of p (begins workflow types backward)) answer) (begins workflow types backward) answer)
 begins-fits turns p workflow types backward (refused refusal) many a = tt
 begins-fits turns p workflow types true done many a = begun_reverse-fits turns p workflow types many a.0
 begins-fits turns p workflow types false done many a = begun_switch-fits turns p workflow types many a.0
@@ -269,16 +323,32 @@ steps-fits turns p workflow tries (advanced events rows) goes (none, inl is) = a
 steps-fits turns p workflow tries (advanced events rows) goes (none, inr cut) = absurd cut
 steps-fits turns p workflow tries (shown s) goes a = absurd (let h = a.1 in cc)
 
-feeds-fits : (turns : ℕ) (p : Plain) (workflow : List ℕ) (tries : ℕ) (answer : Answer) → Goes turns tries p workflow → Answers p (event_of p (feeds workflow tries)) answer → FitsHeard turns (next p (event_of p (feeds workflow tries)) answer) (heard (next p (event_of p (feeds workflow tries)) answer) (feeds workflow tries) answer)
-feeds-fits turns p workflow tries (refused refusal) goes a =
-    fails-fits turns tries p workflow refusal (record { way = goes.way; is = goes.is; few = goes.few; left = goes.left; tried = goes.tried; enough = enough-fewer turns tries (next_step goes.way) goes.enough })
-feeds-fits turns p workflow tries done goes a = goes
-feeds-fits turns p workflow tries (row r) goes a = goes
-feeds-fits turns p workflow tries (shown s) goes a = goes
-feeds-fits turns p workflow tries (advanced events rows) goes a =
+goes-more : (turns many tries : ℕ) (p : Plain) (workflow : List ℕ) → turns ≤ many → Goes turns tries p workflow → Goes many tries p workflow
+goes-more turns many tries p workflow le goes =
+    record { way = goes.way; is = goes.is; few = goes.few; left = goes.left; tried = goes.tried; enough = enough-more turns many tries (next_step goes.way) (next_place goes.way) le goes.enough }
+
+-- the next shard, or the step again
+fed-on : (turns t shard tries : ℕ) (p : Plain) (workflow : List ℕ) → t + 8 ≡ suc turns + shard → shard < 8 → Goes t tries p workflow
+    → FitsHeard turns p (cond (ltb (suc shard) (lanes_of p workflow)) (goes_on (feeds workflow (suc shard) tries)) (goes_on (steps workflow tries)))
+fed-on turns t shard tries p workflow is below goes =
+    cond-holds (FitsHeard turns p) (ltb (suc shard) (lanes_of p workflow)) (goes_on (feeds workflow (suc shard) tries)) (goes_on (steps workflow tries))
+    (λ on. (t, omega arith, few (live_at p workflow) (ltb-true (suc shard) (lanes_of p workflow) on), goes))
+    (λ last. goes-more t turns tries p workflow (omega arith) goes)
+  where
+    few : (o : Option Live) → suc shard < option_map_or (λ w. shard_count w.cuts) o 0 → suc shard < 8
+    few None lt = absurd (omega arith)
+    few (Some w) lt = omega arith
+
+feeds-fits : (turns : ℕ) (p : Plain) (workflow : List ℕ) (shard tries : ℕ) (answer : Answer) → Fits (suc turns) p (feeds workflow shard tries) → Answers p (event_of p (feeds workflow shard tries)) answer → FitsHeard turns (next p (event_of p (feeds workflow shard tries)) answer) (heard (next p (event_of p (feeds workflow shard tries)) answer) (feeds workflow shard tries) answer)
+feeds-fits turns p workflow shard tries (refused refusal) (t, is, below, goes) a = fails-fits turns tries p workflow refusal (goes-more t (suc turns) tries p workflow (omega arith) goes)
+feeds-fits turns p workflow shard tries done (t, is, below, goes) a = fed-on turns t shard tries p workflow is below goes
+feeds-fits turns p workflow shard tries (row r) (t, is, below, goes) a = fed-on turns t shard tries p workflow is below goes
+feeds-fits turns p workflow shard tries (shown s) (t, is, below, goes) a = fed-on turns t shard tries p workflow is below goes
+feeds-fits turns p workflow shard tries (advanced events rows) (t, is, below, goes) a =
     let name = feeding_stream p workflow in
-    let same = way_of-advance p workflow name (position_of p workflow name) most_at_once events rows (live_at p workflow) in
-    record { way = goes.way; is = same ∙ goes.is; few = goes.few; left = goes.left; tried = goes.tried; enough = goes.enough }
+    let same = way_of-advance p workflow name shard (position_of p workflow name shard) most_at_once events rows (live_at p workflow) in
+    fed-on turns t shard tries (next p (event_of p (feeds workflow shard tries)) (advanced events rows)) workflow is below
+    (record { way = goes.way; is = same ∙ goes.is; few = goes.few; left = goes.left; tried = goes.tried; enough = goes.enough })
 
 gives_up-fits : (turns : ℕ) (p : Plain) (workflow : List ℕ) (refusal : Refusal) (answer : Answer) → Undoes (suc turns) p workflow → Answers p (event_of p (gives_up workflow refusal)) answer → FitsHeard turns (next p (event_of p (gives_up workflow refusal)) answer) (heard (next p (event_of p (gives_up workflow refusal)) answer) (gives_up workflow refusal) answer)
 gives_up-fits turns p workflow refusal (refused other) undoes a =
@@ -292,15 +362,15 @@ gives_up-fits turns p workflow refusal (shown s) undoes a = absurd (let h = a.1 
 pub heard-fits : (turns : ℕ) (p : Plain) (d : Driving) (answer : Answer) → Fits (suc turns) p d → Answers p (event_of p d) answer → FitsHeard turns (next p (event_of p d) answer) (heard (next p (event_of p d) answer) d answer)
 heard-fits turns p (begins workflow types backward) answer fits a = begins-fits turns p workflow types backward answer (omega (arith, fits)) a
 heard-fits turns p (steps workflow tries) answer fits a = steps-fits turns p workflow tries answer fits a
-heard-fits turns p (feeds workflow tries) answer (t, is, goes) a = feeds-fits turns p workflow tries answer (subst (λ n. Goes n tries p workflow) (omega (arith, is)) goes) a
+heard-fits turns p (feeds workflow shard tries) answer fits a = feeds-fits turns p workflow shard tries answer fits a
 heard-fits turns p (gives_up workflow refusal) answer fits a = gives_up-fits turns p workflow refusal answer fits a
 
 -- turns are left, as long as a drive goes on
 pub fits-turns : (p : Plain) (d : Driving) → ¬ (Fits 0 p d)
 fits-turns p (begins workflow types backward) fits = absurd (omega arith)
 fits-turns p (steps workflow tries) fits =
-    let some = enough-some 0 tries (next_step fits.way) (omega (arith, fits.left, few_steps fits.way)) fits.enough in absurd (omega (arith, some))
-fits-turns p (feeds workflow tries) (t, is, goes) = absurd (omega (arith, is))
+    let some = enough-some 0 tries (next_step fits.way) (next_place fits.way) (omega (arith, fits.left, few_steps fits.way)) (place_high fits.way fits.few) fits.enough in absurd (omega (arith, some))
+fits-turns p (feeds workflow shard tries) (t, is, below, goes) = absurd (omega (arith, is, below))
 fits-turns p (gives_up workflow refusal) fits = absurd (omega (arith, fits.some))
 
 -- ---- the end

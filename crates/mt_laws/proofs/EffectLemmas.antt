@@ -1,7 +1,7 @@
 -- What a step and an undo change at an entry of the part, and on the primaries' own lists.
-use Rattle.std.proofs.Common.{◌≡◌, ◌≢◌, ℕ, suc, ◌+◌, ◌-◌, ◌<◌, ◌≤◌, Bool, true, false, not, cond, eqb, ltb, leb, List, Option, None, Some, refl, sym, ap, ◌∙◌, subst, arith, eqb-true, ltb-true, lt-ltb, le-leb, ◌⊎◌, inl, inr, zero}
+use Rattle.std.proofs.Common.{◌≡◌, ◌≢◌, ◌⊎◌, inl, inr, min, ℕ, zero, suc, ◌+◌, ◌-◌, ◌<◌, ◌≤◌, Bool, true, false, not, cond, eqb, ltb, leb, List, Option, None, Some, refl, sym, ap, ◌∙◌, subst, arith, eqb-true, ltb-true, lt-ltb, le-leb}
+use Rattle.std.proofs.lemmas.Bool.{true≢false, and_from, and_parts, eq-eqb, false_from_ne_true, leb-false, leb-true}
 use Rattle.std.specs.Cmp.{both_ways}
-use Rattle.std.proofs.lemmas.Bool.{true≢false, and_from, and_parts, eq-eqb, false_from_ne_true, leb-true}
 use Rattle.std.specs.Option.{option_map_or}
 use Rattle.std.specs.Prelude.{◌&&◌, ◌||◌}
 use Rattle.mt_names.specs.declared.keys.RuleKey.{RuleKey}
@@ -13,18 +13,18 @@ use Rattle.mt_model.specs.declared.entries.Entry.TheVariants as entry
 use Rattle.mt_model.specs.declared.entries.EntryKey.{EntryKey}
 use Rattle.mt_model.specs.declared.entries.EntryKey.TheVariants as about
 use Rattle.mt_model.specs.Topology.{TopologyState, rule_at}
-use Rattle.mt_plain.specs.Events.{Way}
 use Rattle.mt_plain.specs.Next.{closes, live_stepped, live_undone}
-use Rattle.mt_plain.specs.Plain.{Live, Plain, allow_target, behind_last, before_way, changes_primary, deny_source, differ, first_step, in_keyspace, next_step, owner_by, refresh_source, refresh_target, stands_done, write_journal, last_step, last_place_of, next_place, repeated_step, step_at_place}
-use Rattle.mt_plain.specs.Serve.{is_denied_at, is_listed_at, refuses_by, rule_step, serve, serve_plain, serve_rule, served_by, step_of_entry, step_of_list, types_by}
-use Rattle.mt_plain.proofs.PlaceLemmas.{step-first}
+use Rattle.mt_plain.specs.Events.{Way}
+use Rattle.mt_plain.specs.Plain.{Live, Plain, allow_target, behind_last, before_way, changes_primary, deny_source, differ, first_step, in_keyspace, next_place, next_step, owner_by, place_of_refresh, refresh_source, refresh_target, repeated_step, stands_done, stands_done_at, step_at_place, write_journal, last_step}
+use Rattle.mt_plain.specs.Serve.{is_denied_at, is_listed_at, list_types, refuses_by, rule_step, serve, serve_plain, serve_rule, served_by, step_of_entry, step_of_list, types_by}
+use Rattle.mt_plain.proofs.PlaceLemmas.{step-behind, step-first}
 use Rattle.mt_laws.specs.Changes.{HasSides}
 use Rattle.mt_laws.specs.Effects.{entry_stepped, entry_undone, list_stepped, list_undone}
 use Rattle.mt_laws.proofs.ChangeLemmas.{sides-live_stepped, sides-undone}
 use Rattle.mt_laws.proofs.ListLemmas.{cond-ap, cond-either}
-use Rattle.mt_laws.proofs.PlainWords.{changes_reads, types_by_way}
+use Rattle.mt_laws.proofs.PlainWords.{changes_reads, list_types_by_way, types_by_way}
 use Rattle.mt_laws.proofs.TrafficLemmas.{serve-same}
-use Rattle.mt_laws.proofs.WayStepLemmas.{fewer, first_step-le, more, same_done, was_done, way-stepped, way-undone, OneOn, at_first, done_at, done_by, last-ge, now_done-in, one_on, repeated-ge}
+use Rattle.mt_laws.proofs.WayStepLemmas.{OneOn, at_first, fewer, first_step-le, more, now_done-in, one_on, repeated-ge, same_done, was_done, way-stepped, way-undone}
 
 -- ---- sets of types that are alike as far as a step is concerned
 
@@ -275,7 +275,7 @@ listed-same w v same types keyspace = rw (← same.source, ← same.target) refl
 -- ---- a step
 
 switched-closed : (p : Plain) (w : Live) (way : Way) → closes way ≡ true → (live_stepped p w way).switched ≡ way.after
-switched-closed p w way t = ap (λ b. cond (b || eqb (next_step way) write_journal) way.after w.switched) t
+switched-closed p w way t = ap (λ l. cond (l || eqb (next_step way) write_journal) way.after w.switched) t
 
 -- no entry changes with a refresh
 entry-once : (way : Way) (w : Live) (key : EntryKey) → step_of_entry w key ≢ repeated_step way
@@ -299,20 +299,55 @@ entry-once way w key = cond-either (λ n. step_of_entry w key ≢ n) way.back re
     )
     no_refresh (about.Present keyspace table) = (λ e. absurd (omega arith), λ e. absurd (omega arith))
 
--- ---- the refreshes
+-- ---- the refreshes of shards
 
-step_of_list-in : (w : Live) (keyspace : List ℕ) → (2 ≤ step_of_list w keyspace) × (step_of_list w keyspace ≤ 8)
-step_of_list-in w keyspace = cond-either (λ n. (2 ≤ n) × (n ≤ 8)) (same_text (owner_by w (before_way w)) keyspace) refresh_source refresh_target (omega arith, omega arith) (omega arith, omega arith)
-
--- where the way closes they stand done, or it changes no writes
-closing-lists : (way : Way) (step : ℕ) → 1 ≤ step → step ≤ 8 → closes way ≡ true → (stands_done way step ≡ true) ⊎ (changes_primary way ≡ false)
-closing-lists way step some le closing = by (changes_primary way) refl (eqb-true (suc (next_step way)) (behind_last way) closing)
+-- where the way closes they all stand done, or it changes no writes
+closing-lists : (way : Way) (step shard : ℕ) → step ≤ 8 → closes way ≡ true → (stands_done_at way step shard ≡ true) ⊎ (changes_primary way ≡ false)
+closing-lists way step shard le closing = by (changes_primary way) refl (eqb-true (suc (next_step way)) (behind_last way) closing)
   where
-    by : (t : Bool) → changes_primary way ≡ t → suc (next_step way) ≡ behind_last way → (stands_done way step ≡ true) ⊎ (changes_primary way ≡ false)
+    most : (a b : Bool) → cond a step (step + (way.shards - 1)) + cond b (min shard (way.shards - 1)) 0 ≤ 8 + (way.shards - 1) + (way.shards - 1)
+    most true true = omega (arith, le)
+    most true false = omega (arith, le)
+    most false true = omega (arith, le)
+    most false false = omega (arith, le)
+
+    -- the first refresh that is repeated is none that comes behind
+    less : (a b : Bool) → leb step (repeated_step way) ≡ a → eqb step (repeated_step way) ≡ b → cond a step (step + (way.shards - 1)) + cond b (min shard (way.shards - 1)) 0 ≤ 8 + (way.shards - 1)
+    less true true e f = omega (arith, le)
+    less true false e f = omega (arith, le)
+    less false true e f = let same = eqb-true step (repeated_step way) f in let high = leb-false step (repeated_step way) e in absurd (omega arith)
+    less false false e f = omega (arith, le)
+
+    small : repeated_step way ≤ 8
+    small = cond-either (λ n. n ≤ 8) way.back refresh_source refresh_target (omega arith) (omega arith)
+
+    far : (t : Bool) → leb (next_place way) (repeated_step way) ≡ t → next_step way ≡ 11 → 11 + (way.shards - 1) ≤ next_place way
+    far true t at = let here = leb-true (next_place way) (repeated_step way) t in let is = step-first way (next_place way) here in let few = small in absurd (omega arith)
+    far false t at =
+        let behind = leb-false (next_place way) (repeated_step way) t in
+        let is = step-behind way (next_place way) (omega arith) in let few = small in
+        omega arith
+
+    by : (t : Bool) → changes_primary way ≡ t → suc (next_step way) ≡ behind_last way → (stands_done_at way step shard ≡ true) ⊎ (changes_primary way ≡ false)
     by false t last = inr t
     by true t last =
         let at : next_step way ≡ 11 = omega (arith, last ∙ ap (λ b. cond {A = ℕ} b 12 1) t) in
-        inl (done_by way step 11 at some (omega (arith, le)))
+        let place = less (leb step (repeated_step way)) (eqb step (repeated_step way)) refl refl in
+        let there = far (leb (next_place way) (repeated_step way)) refl at in
+        inl (lt-ltb (place_of_refresh way step shard) (next_place way) (omega arith))
+
+-- none comes before the place of number 2
+pub place-ge : (way : Way) (step shard : ℕ) → 2 ≤ step → 2 ≤ place_of_refresh way step shard
+place-ge way step shard le = by (leb step (repeated_step way)) (eqb step (repeated_step way))
+  where
+    by : (a b : Bool) → 2 ≤ cond a step (step + (way.shards - 1)) + cond b (min shard (way.shards - 1)) 0
+    by true true = omega (arith, le)
+    by true false = omega (arith, le)
+    by false true = omega (arith, le)
+    by false false = omega (arith, le)
+
+pub step_of_list-in : (w : Live) (keyspace : List ℕ) → (2 ≤ step_of_list w keyspace) × (step_of_list w keyspace ≤ 8)
+step_of_list-in w keyspace = cond-either (λ n. (2 ≤ n) × (n ≤ 8)) (same_text (owner_by w (before_way w)) keyspace) refresh_source refresh_target (omega arith, omega arith) (omega arith, omega arith)
 
 before_opens : (w : Live) (way : Way) → w.way ≡ Some way → before_way w ≡ way.before
 before_opens w way opens = ap (λ o. option_map_or (λ (x : Way). x.before) o w.switched) opens
@@ -335,64 +370,59 @@ module _ (p : Plain) (w : Live) (way : Way) (opens : w.way ≡ Some way) where
       ∙ serve-alike u w at _ key alike
       ∙ cond-ap (λ types. serve u w types key) (eqb (next_step way) n) way.after (types_by w n)
 
-  pub refused-stepped : (keyspace : List ℕ) → refuses_by stepped keyspace ≡ list_stepped w way keyspace
-  refused-stepped keyspace = listed-same w stepped (sides-live_stepped p w way) (types_by stepped m) keyspace ∙ by (closes way) refl
+  pub refused-stepped : (keyspace : List ℕ) (shard : ℕ) → refuses_by stepped keyspace shard ≡ list_stepped w way keyspace shard
+  refused-stepped keyspace shard = listed-same w stepped (sides-live_stepped p w way) (list_types stepped keyspace shard) keyspace ∙ by (closes way) refl
     where
       n : ℕ
       n = step_of_list w keyspace
 
-      m : ℕ
-      m = step_of_list stepped keyspace
-
       place : ℕ
-      place = last_place_of way n
+      place = place_of_refresh way n shard
 
-      some : 1 ≤ n
-      some = let low = (step_of_list-in w keyspace).0 in omega (arith, low)
-
-      was : types_by w n ≡ at_way way (stands_done way n)
-      was = ap (λ o. types_by_way w.switched o n) opens
+      was : list_types w keyspace shard ≡ at_way way (stands_done_at way n shard)
+      was = ap (λ o. list_types_by_way w.switched o n shard) opens
 
       -- what the law says, by its test
-      said : (b : Bool) → eqb (next_place way) place ≡ b → (x : TypeSet) → (b ≡ true → x ≡ way.after) → (b ≡ false → is_listed_at w x keyspace ≡ refuses_by w keyspace) → is_listed_at w x keyspace ≡ list_stepped w way keyspace
-      said true b x here there = ap (λ y. is_listed_at w y keyspace) (here refl) ∙ sym (ap (λ y. cond y (is_listed_at w way.after keyspace) (refuses_by w keyspace)) b)
-      said false b x here there = there refl ∙ sym (ap (λ y. cond y (is_listed_at w way.after keyspace) (refuses_by w keyspace)) b)
+      said : (b : Bool) → eqb (next_place way) place ≡ b → (x : TypeSet) → (b ≡ true → x ≡ way.after) → (b ≡ false → is_listed_at w x keyspace ≡ refuses_by w keyspace shard) → is_listed_at w x keyspace ≡ list_stepped w way keyspace shard
+      said true b x here there = ap (λ y. is_listed_at w y keyspace) (here refl) ∙ sym (ap (λ y. cond y (is_listed_at w way.after keyspace) (refuses_by w keyspace shard)) b)
+      said false b x here there = there refl ∙ sym (ap (λ y. cond y (is_listed_at w way.after keyspace) (refuses_by w keyspace shard)) b)
 
-      by : (t : Bool) → closes way ≡ t → is_listed_at w (types_by stepped m) keyspace ≡ list_stepped w way keyspace
+      by : (t : Bool) → closes way ≡ t → is_listed_at w (list_types stepped keyspace shard) keyspace ≡ list_stepped w way keyspace shard
       by true t =
-          let now : types_by stepped m ≡ way.after = ap (λ o. types_by_way stepped.switched o m) (ap (λ b. cond b None (Some (more way))) t) ∙ switched-closed p w way t in
+          let now : list_types stepped keyspace shard ≡ way.after =
+          ap (λ o. list_types_by_way stepped.switched o (step_of_list stepped keyspace) shard) (ap (λ b. cond b None (Some (more way))) t) ∙ switched-closed p w way t in
           ap (λ y. is_listed_at w y keyspace) now
-          ∙ said (eqb (next_place way) place) refl way.after (λ e. refl) (λ e. last (closing-lists way n some (step_of_list-in w keyspace).1 t))
+          ∙ said (eqb (next_place way) place) refl way.after (λ e. refl) (λ e. last (closing-lists way n shard (step_of_list-in w keyspace).1 t))
         where
-          last : (stands_done way n ≡ true) ⊎ (changes_primary way ≡ false) → is_listed_at w way.after keyspace ≡ refuses_by w keyspace
+          last : (stands_done_at way n shard ≡ true) ⊎ (changes_primary way ≡ false) → is_listed_at w way.after keyspace ≡ refuses_by w keyspace shard
           last (inl done) = ap (λ y. is_listed_at w y keyspace) (sym (was ∙ ap (at_way way) done))
           last (inr none) =
-              ap (λ d. (same_text w.source keyspace || same_text w.target keyspace) && d) (denied-alike w way.after (types_by w n) keyspace (sym (ap (λ (y : TypeSet). y.primary) was ∙ primaries (stands_done way n))))
+              ap (λ d. (same_text w.source keyspace || same_text w.target keyspace) && d) (denied-alike w way.after (list_types w keyspace shard) keyspace (sym (ap (λ (y : TypeSet). y.primary) was ∙ primaries (stands_done_at way n shard))))
             where
               primaries : (b : Bool) → (at_way way b).primary ≡ way.after.primary
               primaries true = refl
               primaries false = sym (differ-false way.before.primary way.after.primary none)
       by false t =
           let going : stepped.way ≡ Some (more way) = ap (λ b. cond b None (Some (more way))) t in
-          let now : types_by stepped m ≡ at_way way (stands_done (more way) n) =
-          ap (types_by stepped) (list_step-same stepped w (sides-live_stepped p w way) (before-stepped t) keyspace)
-          ∙ ap (λ o. types_by_way stepped.switched o n) going in
+          let now : list_types stepped keyspace shard ≡ at_way way (stands_done_at (more way) n shard) =
+          ap (λ m. list_types_by_way stepped.switched stepped.way m shard) (list_step-same stepped w (sides-live_stepped p w way) (before-stepped t) keyspace)
+          ∙ ap (λ o. list_types_by_way stepped.switched o n shard) going in
           ap (λ y. is_listed_at w y keyspace) now
-          ∙ said (eqb (next_place way) place) refl (at_way way (stands_done (more way) n))
-          (λ e. let here = eqb-true (next_place way) place e in ap (at_way way) (done_at (more way) n some ∙ lt-ltb place (next_place (more way)) (omega arith)))
+          ∙ said (eqb (next_place way) place) refl (at_way way (stands_done_at (more way) n shard))
+          (λ e. let here = eqb-true (next_place way) place e in ap (at_way way) (lt-ltb place (next_place (more way)) (omega arith)))
           (λ e. ap (λ y. is_listed_at w y keyspace) (ap (at_way way) (same e) ∙ sym was))
         where
-          same : eqb (next_place way) place ≡ false → stands_done (more way) n ≡ stands_done way n
-          same other =
-              done_at (more way) n some
-              ∙ both_ways (ltb place (next_place (more way))) (ltb place (next_place way))
+          same : eqb (next_place way) place ≡ false → stands_done_at (more way) n shard ≡ stands_done_at way n shard
+          same other = both_ways (stands_done_at (more way) n shard) (stands_done_at way n shard)
               (λ h. let lt = ltb-true place (next_place (more way)) h in
               let ne : next_place way ≢ place = λ is. true≢false (sym (eq-eqb (next_place way) place is) ∙ other) in
               lt-ltb place (next_place way) (omega arith))
               (λ h. let lt = ltb-true place (next_place way) h in lt-ltb place (next_place (more way)) (omega arith))
-              ∙ sym (done_at way n some)
 
 -- ---- an undo
+
+pub switched-undone : (w : Live) (way : Way) → (live_undone w way).switched ≡ w.switched
+switched-undone w way = refl
 
 module _ (w : Live) (way : Way) (opens : w.way ≡ Some way) (settled : w.switched ≡ way.before) where
   abbrev undone : Live
@@ -419,63 +449,53 @@ module _ (w : Live) (way : Way) (opens : w.way ≡ Some way) (settled : w.switch
       ∙ ap (λ types. serve u w types key) (types-undone n)
       ∙ cond-ap (λ types. serve u w types key) (eqb (last_step way) n) way.before (types_by w n)
 
-  pub refused-undone : (keyspace : List ℕ) → refuses_by undone keyspace ≡ list_undone w way keyspace
-  refused-undone keyspace =
-      listed-same w undone (sides-undone w way) (types_by undone (step_of_list undone keyspace)) keyspace
-      ∙ ap (λ m. is_listed_at w (types_by undone m) keyspace) (list_step-same undone w (sides-undone w way) before-undone keyspace)
+  pub refused-undone : (keyspace : List ℕ) (shard : ℕ) → refuses_by undone keyspace shard ≡ list_undone w way keyspace shard
+  refused-undone keyspace shard =
+      listed-same w undone (sides-undone w way) (list_types undone keyspace shard) keyspace
+      ∙ ap (λ m. is_listed_at w (list_types_by_way undone.switched undone.way m shard) keyspace) (list_step-same undone w (sides-undone w way) before-undone keyspace)
       ∙ ap (λ y. is_listed_at w y keyspace) (by (eqb (way.done - 1) 0) refl)
-      ∙ cond-ap (λ y. is_listed_at w y keyspace) (eqb (next_place way) (suc place)) way.before (types_by w n)
+      ∙ cond-ap (λ y. is_listed_at w y keyspace) (eqb (next_place way) (suc place)) way.before (list_types w keyspace shard)
     where
       n : ℕ
       n = step_of_list w keyspace
 
       place : ℕ
-      place = last_place_of way n
+      place = place_of_refresh way n shard
 
-      some : 1 ≤ n
-      some = let low = (step_of_list-in w keyspace).0 in omega (arith, low)
+      was : list_types w keyspace shard ≡ at_way way (stands_done_at way n shard)
+      was = ap (λ o. list_types_by_way w.switched o n shard) opens
 
-      was : types_by w n ≡ at_way way (stands_done way n)
-      was = ap (λ o. types_by_way w.switched o n) opens
+      said : (b : Bool) → eqb (next_place way) (suc place) ≡ b → (x : TypeSet) → (b ≡ true → x ≡ way.before) → (b ≡ false → x ≡ list_types w keyspace shard) → x ≡ cond (eqb (next_place way) (suc place)) way.before (list_types w keyspace shard)
+      said true b x here there = here refl ∙ sym (ap (λ y. cond y way.before (list_types w keyspace shard)) b)
+      said false b x here there = there refl ∙ sym (ap (λ y. cond y way.before (list_types w keyspace shard)) b)
 
-      said : (b : Bool) → eqb (next_place way) (suc place) ≡ b → (x : TypeSet) → (b ≡ true → x ≡ way.before) → (b ≡ false → x ≡ types_by w n) → x ≡ cond (eqb (next_place way) (suc place)) way.before (types_by w n)
-      said true b x here there = here refl ∙ sym (ap (λ y. cond y way.before (types_by w n)) b)
-      said false b x here there = there refl ∙ sym (ap (λ y. cond y way.before (types_by w n)) b)
-
-      by : (t : Bool) → eqb (way.done - 1) 0 ≡ t → types_by undone n ≡ cond (eqb (next_place way) (suc place)) way.before (types_by w n)
+      by : (t : Bool) → eqb (way.done - 1) 0 ≡ t → list_types_by_way undone.switched undone.way n shard ≡ cond (eqb (next_place way) (suc place)) way.before (list_types w keyspace shard)
       by true t =
-          ap (λ o. types_by_way undone.switched o n) (ap (λ b. cond b None (Some (fewer way))) t) ∙ settled
+          ap (λ o. list_types_by_way undone.switched o n shard) (ap (λ b. cond b None (Some (fewer way))) t) ∙ settled
           ∙ said (eqb (next_place way) (suc place)) refl way.before (λ e. refl) (λ e. sym (was ∙ ap (at_way way) none))
         where
-          none : stands_done way n ≡ false
-          none =
-              done_at way n some
-              ∙ false_from_ne_true (ltb place (next_place way)) (λ h.
+          none : stands_done_at way n shard ≡ false
+          none = false_from_ne_true (stands_done_at way n shard) (λ h.
               let lt = ltb-true place (next_place way) h in
               let few = eqb-true (way.done - 1) 0 t in
               let low = first_step-le way in
-              let ge = last-ge way n in
-              let two = (step_of_list-in w keyspace).0 in
+              let ge = place-ge way n shard (step_of_list-in w keyspace).0 in
               absurd (omega arith))
       by false t =
-          ap (λ o. types_by_way undone.switched o n) (ap (λ b. cond b None (Some (fewer way))) t)
-          ∙ said (eqb (next_place way) (suc place)) refl (at_way way (stands_done (fewer way) n)) (λ e. ap (at_way way) (gone e)) (λ e. ap (at_way way) (same e) ∙ sym was)
+          ap (λ o. list_types_by_way undone.switched o n shard) (ap (λ b. cond b None (Some (fewer way))) t)
+          ∙ said (eqb (next_place way) (suc place)) refl (at_way way (stands_done_at (fewer way) n shard)) (λ e. ap (at_way way) (gone e)) (λ e. ap (at_way way) (same e) ∙ sym was)
         where
-          gone : eqb (next_place way) (suc place) ≡ true → stands_done (fewer way) n ≡ false
+          gone : eqb (next_place way) (suc place) ≡ true → stands_done_at (fewer way) n shard ≡ false
           gone e = let is = eqb-true (next_place way) (suc place) e in
-              done_at (fewer way) n some
-              ∙ false_from_ne_true (ltb place (next_place (fewer way))) (λ h. let lt = ltb-true place (next_place (fewer way)) h in let left = some_left way.done refl in absurd (omega arith))
+              false_from_ne_true (stands_done_at (fewer way) n shard) (λ h. let lt = ltb-true place (next_place (fewer way)) h in let left = some way.done refl in absurd (omega arith))
             where
-              some_left : (d : ℕ) → way.done ≡ d → 1 ≤ way.done
-              some_left zero e = absurd (true≢false (sym (ap (λ d. eqb (d - 1) 0) e) ∙ t))
-              some_left (suc d) e = omega arith
+              some : (d : ℕ) → way.done ≡ d → 1 ≤ way.done
+              some zero e = absurd (true≢false (sym (ap (λ d. eqb (d - 1) 0) e) ∙ t))
+              some (suc d) e = omega arith
 
-          same : eqb (next_place way) (suc place) ≡ false → stands_done (fewer way) n ≡ stands_done way n
-          same other =
-              done_at (fewer way) n some
-              ∙ both_ways (ltb place (next_place (fewer way))) (ltb place (next_place way))
+          same : eqb (next_place way) (suc place) ≡ false → stands_done_at (fewer way) n shard ≡ stands_done_at way n shard
+          same other = both_ways (stands_done_at (fewer way) n shard) (stands_done_at way n shard)
               (λ h. let lt = ltb-true place (next_place (fewer way)) h in lt-ltb place (next_place way) (omega arith))
               (λ h. let lt = ltb-true place (next_place way) h in
               let ne : next_place way ≢ suc place = λ is. true≢false (sym (eq-eqb (next_place way) (suc place) is) ∙ other) in
               lt-ltb place (next_place (fewer way)) (omega arith))
-              ∙ sym (done_at way n some)

@@ -42,7 +42,7 @@ served-map u key f d each (Some w) = each w
 rows_only : (event : Event) → IsOfRows event → (¬ (ChangesTopology event)) × (¬ (ChangesWay event)) × (¬ (ChangesLives event))
 rows_only (write keyspace table op) is = (λ h. h, λ h. h, λ h. h)
 rows_only (read keyspace table key tablet_type) is = (λ h. h, λ h. h, λ h. h)
-rows_only (advance workflow name at at_most) is = (λ h. h, λ h. h, λ h. h)
+rows_only (advance workflow name shard at at_most) is = (λ h. h, λ h. h, λ h. h)
 rows_only (show workflow) is = (λ h. h, λ h. h, λ h. h)
 rows_only event is = absurd is
 

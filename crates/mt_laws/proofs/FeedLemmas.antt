@@ -19,7 +19,7 @@ event_of-clean : (p : Plain) (d : Driving) → CleanEvent (event_of p d)
 event_of-clean p (begins workflow types true) = tt
 event_of-clean p (begins workflow types false) = tt
 event_of-clean p (steps workflow tries) = tt
-event_of-clean p (feeds workflow tries) = tt
+event_of-clean p (feeds workflow shard tries) = tt
 event_of-clean p (gives_up workflow refusal) = tt
 
 module _ (Then : Rest) (n : ℕ) (again : (q : Plain) (rest : List ℕ) → IsClean q → Then q rest → line_feeds rest ≡ n) where

@@ -16,7 +16,7 @@ use Rattle.mt_laws.specs.WayBack.{EndsNoWay, IsReached, NoWayBetween, SinceCreat
 use Rattle.mt_laws.proofs.AllWritesLemmas.{reached_next}
 use Rattle.mt_laws.proofs.CopyLemmas.{is_answer, nothing_lost}
 use Rattle.mt_laws.proofs.GoesOnLemmas.{completed-row}
-use Rattle.mt_laws.proofs.LevelLemmas.{fed_up_to_position, rows_at_the_journal}
+use Rattle.mt_laws.proofs.LevelLemmas.{of_number, fed_up_to_position, rows_at_the_journal}
 use Rattle.mt_laws.proofs.ReachLemmas.{run_keeps}
 use Rattle.mt_laws.proofs.ReadLemmas.{primary_reads, writes_at_the_owner}
 use Rattle.mt_laws.proofs.ReverseLemmas.{both_ways}
@@ -24,7 +24,7 @@ use Rattle.mt_laws.proofs.RunLemmas.{row-run}
 use Rattle.mt_laws.proofs.StreamLemmas.{runs_at_the_owner}
 use Rattle.mt_laws.proofs.TrafficLemmas.{abandon_back}
 use Rattle.mt_laws.proofs.WayBackLemmas.{cancel_back, cancel_touches_no_other}
-use Rattle.mt_laws.proofs.WritableLemmas.{never_writable_in_two, writable_at_the_owner}
+use Rattle.mt_laws.proofs.WritableLemmas.{never_writable_in_two, open_at_the_owner, writable_at_the_owner}
 
 -- ---- a line
 
@@ -253,12 +253,13 @@ module _ (p : Plain) (events : List Event) (answers : List Answer) (reached : Is
         abandon_back name begin at (at_line i) (at_line (suc j)) (reached_at i) is (way_from name begin (undo name at) i j way);
     never_writable_in_two = λ i table w found. never_writable_in_two (at_line i) (reached_at i) table w found;
     writable_at_rest = λ i table w found rests keyspace side. writable_at_the_owner (at_line i) (reached_at i) table w found rests keyspace side;
+    open_at_rest = λ i table w found rests shard. open_at_the_owner (at_line i) (reached_at i) table w found rests shard;
     writes_at_the_owner = λ i keyspace table op w is found side. writes_at_the_owner (at_line i) (reached_at i) table w found keyspace side op (here i (write keyspace table op) done is).0;
     others_answer_what_was_fed = λ i keyspace table key tablet_type r w is found side other.
         is_answer (at_line i) table w found keyspace side other key tablet_type r (here i (read keyspace table key tablet_type) (row r) is).0;
-    no_write_is_skipped = λ i name w stream at live runs. (
-      runs_at_the_owner (at_line i) (reached_at i) name w live stream at runs,
-      fed_up_to_position (at_line i) (reached_at i) name w live stream at runs,
+    no_write_is_skipped = λ i name w shard lane stream at live there runs. (
+      runs_at_the_owner (at_line i) (reached_at i) name w live lane stream at runs,
+      fed_up_to_position (at_line i) (reached_at i) name w live lane (of_number (at_line i) (reached_at i) name w live shard lane there) stream at runs,
     );
     no_row_is_lost = λ i name at w way is live opens here_or_there. kept_rows i name at w way is live opens here_or_there;
     completion_keeps_the_rows = λ i name w is live table moved key.

@@ -9,7 +9,7 @@ use Rattle.mt_plain.specs.Next.{live_stepped, live_undone, on_way_of, types_and,
 use Rattle.mt_plain.specs.Plain.{Live, Plain, live_at}
 use Rattle.mt_plain.specs.Refuse.{advance_refusal, begin_reverse_refusal, begin_switch_refusal, in_workflow, refusal_of, step_refusal, undo_refusal}
 use Rattle.mt_plain.specs.Slots.{live_advanced}
-use Rattle.mt_laws.specs.Changes.{BeginsWay, IsStep}
+use Rattle.mt_laws.specs.Changes.{BeginsWay, IsAdvance, IsStep}
 use Rattle.mt_laws.specs.Copies.{Undoes}
 use Rattle.mt_laws.proofs.ChangeLemmas.{live_next, live_taken}
 use Rattle.mt_laws.proofs.LiveLemmas.{changed}
@@ -21,8 +21,8 @@ pub record Keeps (P : Live → Type 0) (p : Plain) (event : Event) (w : Live) : 
   pub reverse : (types : TypeSet) → BeginsWay event → begin_reverse_refusal p types w ≡ None → P (with_way_to true (λ switched. types_without switched types) w)
   pub steps : (at : ℕ) (way : Way) → IsStep event → w.way ≡ Some way → step_refusal p at w ≡ None → P (live_stepped p w way)
   pub undoes : (at : ℕ) (way : Way) → Undoes event → w.way ≡ Some way → undo_refusal at w ≡ None → P (live_undone w way)
-  pub advances : (workflow : List ℕ) (stream : StreamName) (at at_most events rows : ℕ) → live_at p workflow ≡ Some w → advance_refusal p stream at at_most w ≡ None
-      → Answers p (advance workflow stream at at_most) (advanced events rows) → P (live_advanced p w stream at at_most events rows)
+  pub advances : IsAdvance event → (workflow : List ℕ) (stream : StreamName) (shard at at_most events rows : ℕ) → live_at p workflow ≡ Some w → advance_refusal p stream shard at at_most w ≡ None
+      → Answers p (advance workflow stream shard at at_most) (advanced events rows) → P (live_advanced p w stream shard at at_most events rows)
 
 pub changed_has : (P : Live → Type 0) (change : Live → Live) (name : List ℕ) (w : Live) → P w → (same_text w.name name ≡ true → P (change w)) → P (changed change name w)
 changed_has P change name w holds here = by (same_text w.name name) refl
@@ -58,9 +58,9 @@ module _ (P : Live → Type 0) (p : Plain) (w : Live) (live : (name : List ℕ) 
   pub next_has : (event : Event) (answer : Answer) → Keeps P p event w → Answers p event answer → P (live_next p event answer w)
   next_has event done keeps given = taken_has event keeps given.0
   next_has event (row r) keeps given = taken_has event keeps given.0
-  next_has (advance workflow stream at at_most) (advanced events rows) keeps given =
-      changed_has P (λ v. live_advanced p v stream at at_most events rows) workflow w keeps.same
-      (λ here. keeps.advances workflow stream at at_most events rows (live workflow here) (at_it p workflow w (advance_refusal p stream at at_most) (live workflow here) given.0) given)
+  next_has (advance workflow stream shard at at_most) (advanced events rows) keeps given =
+      changed_has P (λ v. live_advanced p v stream shard at at_most events rows) workflow w keeps.same
+      (λ here. keeps.advances tt workflow stream shard at at_most events rows (live workflow here) (at_it p workflow w (advance_refusal p stream shard at at_most) (live workflow here) given.0) given)
   next_has event (advanced events rows) keeps given = keeps.same
   next_has event (shown s) keeps given = keeps.same
   next_has event (refused refusal) keeps given = keeps.same

@@ -8,6 +8,7 @@ pub mod CompleteLemmas
 pub mod CopyLemmas
 pub mod CountLemmas
 pub mod CourseLemmas
+pub mod CutLemmas
 pub mod DocumentLemmas
 pub mod DriveLemmas
 pub mod EffectLemmas
@@ -24,6 +25,7 @@ pub mod IdleLemmas
 pub mod InUseLemmas
 pub mod InPlaceLemmas
 pub mod KeepLemmas
+pub mod LaneLemmas
 pub mod LevelLemmas
 pub mod LimitLemmas
 pub mod LineLemmas
@@ -49,6 +51,7 @@ pub mod PendingRowLemmas
 pub mod PlacedLemmas
 pub mod PlainWords
 pub mod PositionLemmas
+pub mod RaisedLemmas
 pub mod ReachLemmas
 pub mod ReachedLemmas
 pub mod ReadLemmas

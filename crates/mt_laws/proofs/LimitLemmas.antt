@@ -9,9 +9,9 @@ use Rattle.std.specs.Prelude.{◌||◌}
 use Rattle.mt_names.specs.Names.{same_text}
 use Rattle.mt_names.proofs.EntryLemmas.{same_or_other}
 use Rattle.mt_names.proofs.SameLemmas.{same_text_decides}
+use Rattle.mt_model.specs.Topology.{new_keyspace, Keyspaces, TopologyState, keyspace_at, with_keyspace_state, with_new_table}
 use Rattle.mt_model.specs.declared.entries.Scope.{Scope}
 use Rattle.mt_model.specs.Limits.{most_keyspaces, most_rules, most_tables_in_keyspace}
-use Rattle.mt_model.specs.Topology.{Keyspaces, TopologyState, keyspace_at, new_keyspace, with_keyspace_state, with_new_table}
 use Rattle.mt_plain.specs.Answers.{Answers}
 use Rattle.mt_plain.specs.Events.{Event, add_keyspace, add_table, create, advance, begin_switch, begin_reverse, step, undo, cancel, complete, StreamName, Answer, done, row, advanced, shown, refused, exists, full, no_keyspace, stale, undoing, Way}
 use Rattle.mt_plain.specs.Next.{completed, journal_after, next, next_taken, with_advance, with_completed, with_tables, without_live, without_tables}
@@ -31,13 +31,13 @@ use Rattle.mt_laws.proofs.RefusalLemmas.{at_rest-none, in_workflow-none, on_way-
 
 module _ (Q : Plain → Type 0) (first : (scopes : List Scope) → Q (opening scopes))
     (taken : (p : Plain) (event : Event) → HasParts p → refusal_of p event ≡ None → Q p → Q (next_taken p event))
-    (advances : (p : Plain) (workflow : List ℕ) (stream : StreamName) (at at_most events rows : ℕ) (o : Option Live) → live_at p workflow ≡ o → Q p → Q (with_advance p stream at at_most events rows o)) where
+    (advances : (p : Plain) (workflow : List ℕ) (stream : StreamName) (shard at at_most events rows : ℕ) (o : Option Live) → live_at p workflow ≡ o → Q p → Q (with_advance p stream shard at at_most events rows o)) where
   keeps : (p : Plain) (event : Event) (answer : Answer) → HasParts p → Answers p event answer → Q p → Q (next p event answer)
   keeps p event done has given holds = taken p event has given.0 holds
   keeps p event (row r) has given holds = taken p event has given.0 holds
   keeps p event (shown s) has given holds = holds
   keeps p event (refused refusal) has given holds = holds
-  keeps p (advance workflow stream at at_most) (advanced events rows) has given holds = advances p workflow stream at at_most events rows (live_at p workflow) refl holds
+  keeps p (advance workflow stream shard at at_most) (advanced events rows) has given holds = advances p workflow stream shard at at_most events rows (live_at p workflow) refl holds
   keeps p event (advanced events rows) has given holds = holds
 
   pub reached_taken : (p : Plain) → IsReached p → Q p
@@ -59,11 +59,11 @@ length-completed u w =
     length-changed (with_tables w.tables) (with_keyspace_state (without_tables w.tables) u.keyspaces w.source) w.target ∙ length-changed (without_tables w.tables) u.keyspaces w.source
 
 keyspaces-taken : (p : Plain) (event : Event) → HasParts p → refusal_of p event ≡ None → KeyspacesFit p → KeyspacesFit (next_taken p event)
-keyspaces-taken p (add_keyspace name) has none fits =
+keyspaces-taken p (add_keyspace name cuts) has none fits =
     let limit = refuse_if (leb most_keyspaces (length p.topology.keyspaces)) full in
     let test = refuse_if-none (leb most_keyspaces (length p.topology.keyspaces)) full (or_else-none (refuse_if (has_keyspace p name) exists) limit none).1 in
     let below = leb-false most_keyspaces (length p.topology.keyspaces) test in
-    let longer = length-append p.topology.keyspaces ((name, new_keyspace []) ∷ []) in
+    let longer = length-append p.topology.keyspaces ((name, new_keyspace cuts) ∷ []) in
     omega arith
 keyspaces-taken p (add_table k t) has none fits = subst (λ n. n ≤ most_keyspaces) (sym (length-changed (with_new_table t) p.topology.keyspaces k)) fits
 keyspaces-taken p (complete workflow) has none fits = by (live_at p workflow)
@@ -73,9 +73,9 @@ keyspaces-taken p (complete workflow) has none fits = by (live_at p workflow)
     by (Some w) = subst (λ n. n ≤ most_keyspaces) (sym (length-completed p.topology w)) fits
 keyspaces-taken p event has none fits = fits
 
-keyspaces-advance : (p : Plain) (workflow : List ℕ) (stream : StreamName) (at at_most events rows : ℕ) (o : Option Live) → live_at p workflow ≡ o → KeyspacesFit p → KeyspacesFit (with_advance p stream at at_most events rows o)
-keyspaces-advance p workflow stream at at_most events rows None live fits = fits
-keyspaces-advance p workflow stream at at_most events rows (Some w) live fits = fits
+keyspaces-advance : (p : Plain) (workflow : List ℕ) (stream : StreamName) (shard at at_most events rows : ℕ) (o : Option Live) → live_at p workflow ≡ o → KeyspacesFit p → KeyspacesFit (with_advance p stream shard at at_most events rows o)
+keyspaces-advance p workflow stream shard at at_most events rows None live fits = fits
+keyspaces-advance p workflow stream shard at at_most events rows (Some w) live fits = fits
 
 pub keyspaces_fit : (p : Plain) → IsReached p → KeyspacesFit p
 keyspaces_fit = reached_taken KeyspacesFit (λ scopes. omega arith) keyspaces-taken keyspaces-advance
@@ -108,9 +108,9 @@ workflows-taken p (complete workflow) has none fits = by (live_at p workflow)
     by (Some w) = workflows-without w.name p.lives fits
 workflows-taken p event has none fits = fits
 
-workflows-advance : (p : Plain) (workflow : List ℕ) (stream : StreamName) (at at_most events rows : ℕ) (o : Option Live) → live_at p workflow ≡ o → WorkflowsFit p → WorkflowsFit (with_advance p stream at at_most events rows o)
-workflows-advance p workflow stream at at_most events rows None live fits = fits
-workflows-advance p workflow stream at at_most events rows (Some w) live fits = workflows-mapped _ p.lives fits
+workflows-advance : (p : Plain) (workflow : List ℕ) (stream : StreamName) (shard at at_most events rows : ℕ) (o : Option Live) → live_at p workflow ≡ o → WorkflowsFit p → WorkflowsFit (with_advance p stream shard at at_most events rows o)
+workflows-advance p workflow stream shard at at_most events rows None live fits = fits
+workflows-advance p workflow stream shard at at_most events rows (Some w) live fits = workflows-mapped _ p.lives fits
 
 pub workflows_fit : (p : Plain) → IsReached p → WorkflowsFit p
 workflows_fit = reached_taken WorkflowsFit (λ scopes. omega arith) workflows-taken workflows-advance
@@ -137,9 +137,9 @@ ways-taken p (complete workflow) has none fits = by (live_at p workflow)
     by (Some w) = fits
 ways-taken p event has none fits = fits
 
-ways-advance : (p : Plain) (workflow : List ℕ) (stream : StreamName) (at at_most events rows : ℕ) (o : Option Live) → live_at p workflow ≡ o → WaysFit p → WaysFit (with_advance p stream at at_most events rows o)
-ways-advance p workflow stream at at_most events rows None live fits = fits
-ways-advance p workflow stream at at_most events rows (Some w) live fits = fits
+ways-advance : (p : Plain) (workflow : List ℕ) (stream : StreamName) (shard at at_most events rows : ℕ) (o : Option Live) → live_at p workflow ≡ o → WaysFit p → WaysFit (with_advance p stream shard at at_most events rows o)
+ways-advance p workflow stream shard at at_most events rows None live fits = fits
+ways-advance p workflow stream shard at at_most events rows (Some w) live fits = fits
 
 pub ways_fit : (p : Plain) → IsReached p → WaysFit p
 ways_fit = reached_taken WaysFit (λ scopes. omega arith) ways-taken ways-advance
@@ -177,9 +177,9 @@ journal-taken p (complete workflow) has none fits = by (live_at p workflow)
     by (Some w) = fits
 journal-taken p event has none fits = fits
 
-journal-advance : (p : Plain) (workflow : List ℕ) (stream : StreamName) (at at_most events rows : ℕ) (o : Option Live) → live_at p workflow ≡ o → JournalFits p → JournalFits (with_advance p stream at at_most events rows o)
-journal-advance p workflow stream at at_most events rows None live fits = fits
-journal-advance p workflow stream at at_most events rows (Some w) live fits = fits
+journal-advance : (p : Plain) (workflow : List ℕ) (stream : StreamName) (shard at at_most events rows : ℕ) (o : Option Live) → live_at p workflow ≡ o → JournalFits p → JournalFits (with_advance p stream shard at at_most events rows o)
+journal-advance p workflow stream shard at at_most events rows None live fits = fits
+journal-advance p workflow stream shard at at_most events rows (Some w) live fits = fits
 
 pub journal_fits : (p : Plain) → IsReached p → JournalFits p
 journal_fits = reached_taken JournalFits (λ scopes. omega arith) journal-taken journal-advance
@@ -287,7 +287,7 @@ module _ (p : Plain) (w : Live) (in_it : IsIn w p.lives) (apart : w.source ≢ w
           omega arith
 
 tables-taken : (p : Plain) (event : Event) → HasParts p → refusal_of p event ≡ None → TablesFit p → TablesFit (next_taken p event)
-tables-taken p (add_keyspace name) has none fits = λ keyspace. let a = tables-pushed p.topology.keyspaces name keyspace in let b = fits keyspace in omega arith
+tables-taken p (add_keyspace name cuts) has none fits = λ keyspace. let a = tables-pushed p.topology.keyspaces name cuts keyspace in let b = fits keyspace in omega arith
 tables-taken p (add_table k t) has none fits = new_table-fits p k t none fits
 tables-taken p (create name source target tables) has none fits = created-fits p name source target tables _ refl refl none fits
 tables-taken p (begin_switch workflow types) has none fits = tables-mapped p (live_taken p (begin_switch workflow types)) (sides-next p (begin_switch workflow types) done) fits
@@ -302,11 +302,11 @@ tables-taken p (complete workflow) has none fits = by (live_at p workflow) refl
     by (Some w) live = let is = (find_some (λ v. same_text v.name workflow) p.lives w live).0 in completed-fits p w is (has.placed w is).sides fits
 tables-taken p event has none fits = fits
 
-tables-advance : (p : Plain) (workflow : List ℕ) (stream : StreamName) (at at_most events rows : ℕ) (o : Option Live) → live_at p workflow ≡ o → TablesFit p → TablesFit (with_advance p stream at at_most events rows o)
-tables-advance p workflow stream at at_most events rows None live fits = fits
-tables-advance p workflow stream at at_most events rows (Some w) live fits = λ keyspace.
-    subst (λ l. count_in p.topology.keyspaces l keyspace ≤ 256) (sym (lives-advance p workflow stream at at_most events rows (Some w) live))
-    (tables-mapped p (live_next p (advance workflow stream at at_most) (advanced events rows)) (sides-next p (advance workflow stream at at_most) (advanced events rows)) fits keyspace)
+tables-advance : (p : Plain) (workflow : List ℕ) (stream : StreamName) (shard at at_most events rows : ℕ) (o : Option Live) → live_at p workflow ≡ o → TablesFit p → TablesFit (with_advance p stream shard at at_most events rows o)
+tables-advance p workflow stream shard at at_most events rows None live fits = fits
+tables-advance p workflow stream shard at at_most events rows (Some w) live fits = λ keyspace.
+    subst (λ l. count_in p.topology.keyspaces l keyspace ≤ 256) (sym (lives-advance p workflow stream shard at at_most events rows (Some w) live))
+    (tables-mapped p (live_next p (advance workflow stream shard at at_most) (advanced events rows)) (sides-next p (advance workflow stream shard at at_most) (advanced events rows)) fits keyspace)
 
 pub tables_fit : (p : Plain) → IsReached p → (keyspace : List ℕ) → table_count p keyspace ≤ most_tables_in_keyspace
 tables_fit p reached keyspace =

@@ -143,7 +143,7 @@ CleanRequest (write_through key op) = CleanOp op
 CleanRequest other = ⊤
 
 request_of-clean : (c : Command) → CleanCommand c → OfOk CleanRequest (request_of c)
-request_of-clean (keyspace n) is = then-of NoFeed CleanRequest (read_keyspace n) (λ k. Ok (event (core.add_keyspace k))) (read_name-of PlainBytes n is) (λ k none. none)
+request_of-clean (keyspace n) is = then-of NoFeed CleanRequest (read_keyspace n) (λ k. Ok (event (core.add_keyspace k []))) (read_name-of PlainBytes n is) (λ k none. (none, tt))
 request_of-clean (table n n') is =
     then-each CleanRequest (read_keyspace n) (λ k. read_table n' >>= λ t. Ok (event (core.add_table k t)))
     (λ k. then-of NoFeed CleanRequest (read_table n') (λ t. Ok (event (core.add_table k t))) (read_name-of WithDollar n' is.0) (λ t none. none))
@@ -160,7 +160,7 @@ request_of-clean (create workflow source target tables) is =
     (λ s s_is. then-of NoFeed CleanRequest (read_keyspace target) (λ g. read_table_list tables >>= λ ts. Ok (event (core.create w s g ts))) (read_name-of PlainBytes target is.2)
     (λ g g_is. then-of (AllByRecursion NoFeed) CleanRequest (read_table_list tables) (λ ts. Ok (event (core.create w s g ts))) (read_table_list-of tables is.3)
     (λ ts ts_are. (w_is, s_is, g_is, ts_are)))))
-request_of-clean (advance workflow stream at most) is = then-each CleanRequest (read_workflow workflow) (λ w. Ok (event (core.advance w stream at most))) (λ w. tt)
+request_of-clean (advance workflow stream at most) is = then-each CleanRequest (read_workflow workflow) (λ w. Ok (event (core.advance w stream 0 at most))) (λ w. tt)
 request_of-clean (begin_switch workflow types) is =
     then-each CleanRequest (read_workflow workflow) (λ w. read_type_set types >>= λ t. Ok (event (core.begin_switch w t))) (λ w. then-each CleanRequest (read_type_set types) (λ t. Ok (event (core.begin_switch w t))) (λ t. tt))
 request_of-clean (begin_reverse workflow types) is =

@@ -1,10 +1,10 @@
 -- Lists of live workflows, of which no two share a name or a table.
 use Rattle.std.proofs.Common.{◌≡◌, ◌≢◌, ◌⊎◌, inl, inr, ℕ, Bool, true, false, cond, List, [], ◌∷◌, ◌++◌, map, filter, find, Option, None, Some, option_map, refl, sym, ap, ◌∙◌, subst}
-use Rattle.mt_names.proofs.EntryLemmas.{apart, other_from}
 use Rattle.std.proofs.lemmas.Bool.{true≢false}
 use Rattle.std.specs.List.{AllByRecursion, list_any}
 use Rattle.std.specs.Prelude.{⊤, ◌||◌}
 use Rattle.mt_names.specs.Names.{same_text}
+use Rattle.mt_names.proofs.EntryLemmas.{apart, other_from}
 use Rattle.mt_names.proofs.SameLemmas.{same_text_decides}
 use Rattle.mt_plain.specs.Plain.{Live, moves}
 use Rattle.mt_laws.specs.Changes.{HasSides}
@@ -200,7 +200,7 @@ abbrev pub changed : (Live → Live) → (name : List ℕ) → Live → Live
 changed change name w = cond (same_text w.name name) (change w) w
 
 pub sides_same : (w : Live) → HasSides w w
-sides_same w = record { name = refl; source = refl; target = refl; tables = refl }
+sides_same w = record { name = refl; source = refl; target = refl; tables = refl; cuts = refl }
 
 pub sides_changed : (change : Live → Live) (name : List ℕ) (w : Live) → HasSides w (change w) → HasSides w (changed change name w)
 sides_changed change name w same = by (same_text w.name name)
@@ -210,10 +210,10 @@ sides_changed change name w same = by (same_text w.name name)
     by false = sides_same w
 
 pub sides_joined : (u v w : Live) → HasSides u v → HasSides v w → HasSides u w
-sides_joined u v w a b = record { name = a.name ∙ b.name; source = a.source ∙ b.source; target = a.target ∙ b.target; tables = a.tables ∙ b.tables }
+sides_joined u v w a b = record { name = a.name ∙ b.name; source = a.source ∙ b.source; target = a.target ∙ b.target; tables = a.tables ∙ b.tables; cuts = a.cuts ∙ b.cuts }
 
 pub sides_back : (v w : Live) → HasSides v w → HasSides w v
-sides_back v w a = record { name = sym a.name; source = sym a.source; target = sym a.target; tables = sym a.tables }
+sides_back v w a = record { name = sym a.name; source = sym a.source; target = sym a.target; tables = sym a.tables; cuts = sym a.cuts }
 
 -- a name is told from another
 pub text_apart : (a b : List ℕ) → same_text a b ≡ false → a ≢ b

@@ -89,7 +89,7 @@ record HasNames (p : Plain) : Type 0 where
   lives : (w : Live) → IsIn w p.lives → IsNamedLive w
 
 rules-taken : (p : Plain) (event : Event) → BringsNames event → HasNames p → AreNamed (next_taken p event).topology.rules
-rules-taken p (add_keyspace keyspace) brings has = has.rules
+rules-taken p (add_keyspace keyspace cuts) brings has = has.rules
 rules-taken p (add_table keyspace table) brings has = has.rules
 rules-taken p (edit_rule key target) brings has = named-with_rule p.topology.rules key target brings has.rules
 rules-taken p (complete workflow) brings has = by (live_at p workflow)
@@ -104,8 +104,8 @@ rules-next p event done brings has = rules-taken p event brings has
 rules-next p event (row r) brings has = rules-taken p event brings has
 rules-next p event (shown s) brings has = has.rules
 rules-next p event (refused refusal) brings has = has.rules
-rules-next p (advance workflow name at at_most) (advanced events rows) brings has =
-    subst (λ u. AreNamed u.rules) (sym (same_topology p (advance workflow name at at_most) (advanced events rows) (λ h. h))) has.rules
+rules-next p (advance workflow name shard at at_most) (advanced events rows) brings has =
+    subst (λ u. AreNamed u.rules) (sym (same_topology p (advance workflow name shard at at_most) (advanced events rows) (λ h. h))) has.rules
 rules-next p event (advanced events rows) brings has = has.rules
 
 names-next : (p : Plain) (event : Event) (answer : Answer) → BringsNames event → HasNames p → HasNames (next p event answer)

@@ -6,10 +6,10 @@ use Rattle.std.specs.Prelude.{◌&&◌, option_and_then}
 use Rattle.mt_names.specs.Names.{same_text}
 use Rattle.mt_names.proofs.EntryLemmas.{some_from}
 use Rattle.mt_names.proofs.SameLemmas.{same_text_decides}
+use Rattle.mt_plain.specs.Next.{closes, journal_after, live_stepped, next}
 use Rattle.mt_plain.specs.Answers.{Answers, Run, after}
 use Rattle.mt_plain.specs.Drive.{way_of}
 use Rattle.mt_plain.specs.Events.{Event, step, undo, Answer, done, row, advanced, shown, refused, Way}
-use Rattle.mt_plain.specs.Next.{closes, journal_after, live_stepped, next}
 use Rattle.mt_plain.specs.Plain.{Live, Plain, live_at, next_step, stands_done, write_journal}
 use Rattle.mt_plain.specs.Refuse.{undo_refusal}
 use Rattle.mt_laws.specs.Changes.{IsOf}
@@ -25,7 +25,7 @@ use Rattle.mt_laws.proofs.StepUndoneLemmas.{at_way_stepped, one_more}
 use Rattle.mt_laws.proofs.TrafficLemmas.{begin_ends_nothing, begin_rests, not_ended_open, open_now, way_at}
 use Rattle.mt_laws.proofs.UntouchedLemmas.{same_journal, traffic-advanced}
 use Rattle.mt_laws.proofs.WayBackLemmas.{one_event}
-use Rattle.mt_laws.proofs.WayLemmas.{undo_before_journal, journal_once}
+use Rattle.mt_laws.proofs.WayLemmas.{journal_once, undo_before_journal}
 use Rattle.mt_laws.proofs.WayStepLemmas.{more, no_way, now_done, still_done, way-stepped, way_holds, way_holds-by}
 
 -- ---- behind the journal a way stays behind it as long as it is open
@@ -44,8 +44,8 @@ past_kept p event w open_way opens past = record {
   steps = λ at way steps is none.
       way_holds-by PastWay (live_stepped p w way) (closes way) (more way) (way-stepped p w way) (λ goes_on. still_done way write_journal (past way is));
   undoes = λ at way undoes is none. absurd (true≢false (sym (past way is) ∙ undo_before_journal at w way is none));
-  advances = λ workflow stream at at_most events rows live none given way is.
-      past way (sym (ap (λ t. t.1) (traffic-advanced p w stream at at_most events rows)) ∙ is);
+  advances = λ adv workflow stream shard at at_most events rows live none given way is.
+      past way (sym (ap (λ t. t.1) (traffic-advanced p w stream shard at at_most events rows)) ∙ is);
 }
 
 module _ (p : Plain) (event : Event) (answer : Answer) (name : List ℕ) (w : Live) (way : Way) (has : HasParts p) (live : live_at p name ≡ Some w) (opens : w.way ≡ Some way)

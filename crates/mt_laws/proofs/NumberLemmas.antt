@@ -76,12 +76,12 @@ completed-has_numbers : (p : Plain) (o : Option Live) → HasNumbers p → HasNu
 completed-has_numbers p None has = has
 completed-has_numbers p (Some w) has = record { below = below-moved w p.made p.numbers has.below; distinct = distinct-moved w p.numbers has.distinct }
 
-advanced-has_numbers : (p : Plain) (name : StreamName) (position at_most events rows : ℕ) (o : Option Live) → HasNumbers p → HasNumbers (with_advance p name position at_most events rows o)
-advanced-has_numbers p name position at_most events rows None has = has
-advanced-has_numbers p name position at_most events rows (Some w) has = record { below = has.below; distinct = has.distinct }
+advanced-has_numbers : (p : Plain) (name : StreamName) (shard position at_most events rows : ℕ) (o : Option Live) → HasNumbers p → HasNumbers (with_advance p name shard position at_most events rows o)
+advanced-has_numbers p name shard position at_most events rows None has = has
+advanced-has_numbers p name shard position at_most events rows (Some w) has = record { below = has.below; distinct = has.distinct }
 
 after_advance-has_numbers : (p : Plain) (event : Event) (events rows : ℕ) → HasNumbers p → HasNumbers (after_advance p event events rows)
-after_advance-has_numbers p (advance workflow name at at_most) events rows has = advanced-has_numbers p name at at_most events rows (live_at p workflow) has
+after_advance-has_numbers p (advance workflow name shard at at_most) events rows has = advanced-has_numbers p name shard at at_most events rows (live_at p workflow) has
 after_advance-has_numbers p other events rows has = has
 
 taken-has_numbers : (p : Plain) (event : Event) → HasNumbers p → HasNumbers (next_taken p event)

@@ -5,6 +5,7 @@ use Rattle.std.specs.List.{list_any}
 use Rattle.std.specs.Prelude.{◌&&◌, nat_le}
 use Rattle.mt_names.specs.Names.{same_text}
 use Rattle.mt_names.specs.Same.{same_target}
+use Rattle.mt_names.specs.Shards.{Cuts}
 use Rattle.mt_names.proofs.EntryLemmas.{lookup-push_stood, none_from, same_or_other}
 use Rattle.mt_names.proofs.SameLemmas.{same_target_decides, same_text_decides}
 use Rattle.mt_model.specs.declared.entries.EntryKey.TheVariants as about
@@ -65,12 +66,12 @@ record Tables (u : TopologyState) (numbers : Numbers) : Type 0 where
 tables_of : (p : Plain) → IsNumbered p → Tables p.topology p.numbers
 tables_of p is = record { places = is.places; numbered = is.numbered; present = is.present }
 
-keyspace-tables : (p : Plain) (name : List ℕ) → IsNumbered p → refusal_of p (add_keyspace name) ≡ None → Tables (with_keyspace p.topology name []) p.numbers
-keyspace-tables p name is none = record {
-  places = distinct-with_keyspace p.topology name [] (none_from (keyspace_at p.topology.keyspaces name) (refuse_if-none (has_keyspace p name) exists (or_else-none (refuse_if (has_keyspace p name) exists) (refuse_if (nat_le most_keyspaces (length p.topology.keyspaces)) full) none).0)) is.places;
-  numbered = λ keyspace table has. is.numbered keyspace table (is_present-with_keyspace p.topology name [] keyspace table has);
+keyspace-tables : (p : Plain) (name : List ℕ) (cuts : Cuts) → IsNumbered p → refusal_of p (add_keyspace name cuts) ≡ None → Tables (with_keyspace p.topology name cuts) p.numbers
+keyspace-tables p name cuts is none = record {
+  places = distinct-with_keyspace p.topology name cuts (none_from (keyspace_at p.topology.keyspaces name) (refuse_if-none (has_keyspace p name) exists (or_else-none (refuse_if (has_keyspace p name) exists) (refuse_if (nat_le most_keyspaces (length p.topology.keyspaces)) full) none).0)) is.places;
+  numbered = λ keyspace table has. is.numbered keyspace table (is_present-with_keyspace p.topology name cuts keyspace table has);
   present = λ keyspace table n e.
-      present_from_value (with_keyspace p.topology name []) p.topology keyspace table (value_of-with_keyspace p.topology name [] (about.Present keyspace table)) ∙ is.present keyspace table n e;
+      present_from_value (with_keyspace p.topology name cuts) p.topology keyspace table (value_of-with_keyspace p.topology name cuts (about.Present keyspace table)) ∙ is.present keyspace table n e;
 }
 
 table_there : (p : Plain) (keyspace table : List ℕ) → refusal_of p (add_table keyspace table) ≡ None → has_keyspace p keyspace ≡ true
@@ -165,7 +166,7 @@ same-tables : (u v : TopologyState) (first more : Numbers) → v ≡ u → more 
 same-tables u v first more same_u same_n t = subst (λ x. Tables x more) (sym same_u) (subst (Tables u) (sym same_n) t)
 
 taken-tables : (p : Plain) (event : Event) → refusal_of p event ≡ None → HasParts p → IsNumbered p → Tables (next_taken p event).topology (next_taken p event).numbers
-taken-tables p (add_keyspace name) none has is = keyspace-tables p name is none
+taken-tables p (add_keyspace name cuts) none has is = keyspace-tables p name cuts is none
 taken-tables p (add_table k t) none has is = made-tables p k t is none
 taken-tables p (edit_rule key target) none has is = record {
   places = distinct-rules p.topology (with_rule p.topology.rules key target) (distinct-with_rule p.topology.rules key target is.places.rules) is.places;
@@ -181,9 +182,9 @@ next-tables p event done given has is = taken-tables p event given.0 has is
 next-tables p event (row r) given has is = taken-tables p event given.0 has is
 next-tables p event (shown s) given has is = tables_of p is
 next-tables p event (refused refusal) given has is = tables_of p is
-next-tables p (advance workflow name at at_most) (advanced events rows) given has is =
-    same-tables p.topology (next p (advance workflow name at at_most) (advanced events rows)).topology p.numbers (next p (advance workflow name at at_most) (advanced events rows)).numbers
-    (same_topology p (advance workflow name at at_most) (advanced events rows) (λ h. h)) (same_numbers p (advance workflow name at at_most) (advanced events rows) (λ h. h)) (tables_of p is)
+next-tables p (advance workflow name shard at at_most) (advanced events rows) given has is =
+    same-tables p.topology (next p (advance workflow name shard at at_most) (advanced events rows)).topology p.numbers (next p (advance workflow name shard at at_most) (advanced events rows)).numbers
+    (same_topology p (advance workflow name shard at at_most) (advanced events rows) (λ h. h)) (same_numbers p (advance workflow name shard at at_most) (advanced events rows) (λ h. h)) (tables_of p is)
 next-tables p event (advanced events rows) given has is = tables_of p is
 
 -- ---- the target has none of the tables that are moved to it

@@ -28,7 +28,7 @@ IsBegun other = ⊥
 pub begins-fits_turns : (p : Plain) (d : Driving) → IsBegun d → Fits most_turns p d
 begins-fits_turns p (begins workflow types backward) is = omega arith
 begins-fits_turns p (steps workflow tries) is = absurd is
-begins-fits_turns p (feeds workflow tries) is = absurd is
+begins-fits_turns p (feeds workflow shard tries) is = absurd is
 begins-fits_turns p (gives_up workflow refusal) is = absurd is
 
 abbrev pub BeginsIfDrives : Told → Type 0

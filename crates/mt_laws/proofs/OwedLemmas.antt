@@ -1,23 +1,24 @@
 -- What is owed to the live workflows: an undo and a Cancel take from it, and no event adds more than one.
 use Rattle.std.proofs.Common.{◌≡◌, ◌≢◌, inl, inr, ℕ, suc, ◌+◌, ◌-◌, ◌*◌, ◌≤◌, max, Bool, true, false, not, cond, eqb, leb, ltb, fold, length, List, [], ◌∷◌, map, filter, Option, None, Some, refl, sym, ap, ◌∙◌, subst, arith, length-append}
-use Rattle.mt_plain.proofs.PlaceLemmas.{one-next}
-use Rattle.mt_laws.proofs.OpenWayLemmas.{reached_one_shard}
-use Rattle.mt_laws.proofs.StepCountLemmas.{few_done}
-use Rattle.std.proofs.lemmas.Bool.{true≢false, leb-false}
+use Rattle.std.proofs.lemmas.Bool.{true≢false, leb-false, leb-true}
 use Rattle.std.proofs.lemmas.List.{length-map}
 use Rattle.std.proofs.lemmas.List.Sums.{sum_by-cons, sum_by_push}
 use Rattle.std.specs.Option.{option_map_or}
 use Rattle.std.specs.Prelude.{◌⊎◌, ◌||◌, sum_by}
 use Rattle.mt_names.specs.Names.{same_text}
+use Rattle.mt_names.specs.Shards.{Cuts, shard_count}
 use Rattle.mt_names.proofs.SameLemmas.{same_text_decides}
 use Rattle.mt_model.specs.Limits.{most_rules, most_tables_in_keyspace}
+use Rattle.mt_plain.specs.Next.{closes, live_stepped, live_undone, next, types_and, types_without, with_way_to}
 use Rattle.mt_plain.specs.Answers.{Answers}
 use Rattle.mt_plain.specs.Events.{Event, create, begin_switch, begin_reverse, step, undo, cancel, Answer, done, Way}
-use Rattle.mt_plain.specs.Next.{closes, live_stepped, live_undone, next, types_and, types_without, with_way_to}
-use Rattle.mt_plain.specs.Plain.{Live, Plain, each_once, live_at, stands_done, twelve_keys, write_journal}
+use Rattle.mt_plain.specs.Plain.{Live, Plain, each_once, live_at, stands_done, twelve_keys, write_journal, next_place, repeated_step}
 use Rattle.mt_plain.specs.Refuse.{cancel_refusal, keys_without_rule, most_workflows, owed, owed_by, refusal_of, rule_count, table_count, undo_refusal}
+use Rattle.mt_plain.proofs.PlaceLemmas.{step-behind, step-first}
 use Rattle.mt_laws.specs.Changes.{ChangesWay, IsOf}
 use Rattle.mt_laws.specs.WayBack.{IsReached}
+use Rattle.mt_laws.proofs.OpenWayLemmas.{HasShards, reached_shards}
+use Rattle.mt_laws.proofs.StepCountLemmas.{few_done}
 use Rattle.mt_laws.proofs.ChangeLemmas.{LivesAfter, ended, live_next, lives_after, made, made_live, mapped}
 use Rattle.mt_laws.proofs.KeepLemmas.{Keeps, next_has}
 use Rattle.mt_laws.proofs.LiveLemmas.{Apart, IsApart, IsIn, find_none, find_some, in_all}
@@ -143,8 +144,8 @@ owed_kept p event w = record {
       undone (owed_by w) (owed_by (live_undone w way)) (owed_way (Some way)) (owed_way (cond (eqb (way.done - 1) 0) None (Some (fewer way)))) (owed_of_way w (Some way) opens)
       (owed_of_way (live_undone w way) (cond (eqb (way.done - 1) 0) None (Some (fewer way))) (way-undone w way))
       (one_less_owed way (undo_before_journal at w way opens none) (eqb (way.done - 1) 0) refl);
-  advances = λ workflow stream at at_most events rows live none given.
-      subst (λ n. n ≤ owed_by w + 1) (sym (ap (λ t. 1 + owed_way t.1) (traffic-advanced p w stream at at_most events rows))) (grows (owed_by w));
+  advances = λ adv workflow stream shard at at_most events rows live none given.
+      subst (λ n. n ≤ owed_by w + 1) (sym (ap (λ t. 1 + owed_way t.1) (traffic-advanced p w stream shard at at_most events rows))) (grows (owed_by w));
 }
   where
     grows : (n : ℕ) → n ≤ n + 1
@@ -235,21 +236,37 @@ owed_by_cancel p reached name given =
 
 -- ---- how much is owed at most
 
-most_owed : (w : Live) → ((way : Way) → w.way ≡ Some way → way.shards ≡ 1) → owed_by w ≤ 7
+-- six steps come before the journal, and as many refreshes more as there are shards more
+few_places : (way : Way) → stands_done way write_journal ≡ false → way.done ≤ 6 + (way.shards - 1)
+few_places way none = by (leb (next_place way) (repeated_step way)) refl
+  where
+    low : repeated_step way ≤ 8
+    low = cond-either (λ n. n ≤ 8) way.back 2 8 (omega arith) (omega arith)
+
+    by : (t : Bool) → leb (next_place way) (repeated_step way) ≡ t → way.done ≤ 6 + (way.shards - 1)
+    by true t =
+        let here = leb-true (next_place way) (repeated_step way) t in let is = step-first way (next_place way) here in let few = few_done way none in omega arith
+    by false t =
+        let behind = leb-false (next_place way) (repeated_step way) t in let is = step-behind way (next_place way) (omega arith) in let few = few_done way none in omega arith
+
+most_owed : (w : Live) → HasShards w → owed_by w ≤ 14
 most_owed w has = by w.way refl
   where
-    open_most : (way : Way) → way.shards ≡ 1 → (t : Bool) → stands_done way write_journal ≡ t → 1 + cond t 0 (max 1 way.done) ≤ 7
-    open_most way one true e = omega arith
-    open_most way one false e = let few = few_done way e in let is = one-next way (omega arith) in by_size way.done (omega arith)
+    open_most : (way : Way) → way.shards ≤ 8 → (t : Bool) → stands_done way write_journal ≡ t → 1 + cond t 0 (max 1 way.done) ≤ 14
+    open_most way most true e = omega arith
+    open_most way most false e = let few = few_places way e in by_size way.done (omega arith)
       where
-        by_size : (n : ℕ) → n ≤ 6 → 1 + max 1 n ≤ 7
+        by_size : (n : ℕ) → n ≤ 13 → 1 + max 1 n ≤ 14
         by_size n few = omega arith
 
-    by : (o : Option Way) → w.way ≡ o → 1 + owed_way o ≤ 7
-    by None e = omega arith
-    by (Some way) e = open_most way (has way e) (stands_done way write_journal) refl
+    eight : (cuts : Cuts) → shard_count cuts ≤ 8
+    eight cuts = omega arith
 
-sum_most : (f : Live → ℕ) (xs : List Live) → ((w : Live) → IsIn w xs → f w ≤ 7) → sum_by f xs ≤ 7 * length xs
+    by : (o : Option Way) → w.way ≡ o → 1 + owed_way o ≤ 14
+    by None e = omega arith
+    by (Some way) e = let is = has way e in let most = eight w.cuts in open_most way (omega arith) (stands_done way write_journal) refl
+
+sum_most : (f : Live → ℕ) (xs : List Live) → ((w : Live) → IsIn w xs → f w ≤ 14) → sum_by f xs ≤ 14 * length xs
 sum_most f [] each = omega arith
 sum_most f (x ∷ xs) each = let a = sum_by-cons f x xs in let b = sum_most f xs (λ w is. each w (inr is)) in let c = each x (inl refl) in omega (arith, a, b, c)
 
@@ -298,13 +315,13 @@ few_next p event answer given few = by_taken (taken_or_same p event answer given
     by_taken (inl none) = by none (lives_after p event answer)
     by_taken (inr same) = subst AreFew (sym same) few
 
-pub owed_bounded : (p : Plain) → IsReached p → owed p ≤ 7 * most_workflows
+pub owed_bounded : (p : Plain) → IsReached p → owed p ≤ 14 * most_workflows
 owed_bounded p reached =
     bound (length p.lives) (sum_by owed_by p.lives)
-    (reached_holds AreFew few_next (λ scopes. none_live) p reached) (sum_most owed_by p.lives (λ w is. most_owed w (reached_one_shard p reached w is)))
+    (reached_holds AreFew few_next (λ scopes. none_live) p reached) (sum_most owed_by p.lives (λ w is. most_owed w (reached_shards p reached w is)))
   where
     none_live : 0 ≤ 16
     none_live = omega arith
 
-    bound : (n s : ℕ) → n ≤ 16 → s ≤ 7 * n → s ≤ 112
+    bound : (n s : ℕ) → n ≤ 16 → s ≤ 14 * n → s ≤ 224
     bound n s few le = omega (arith, few, le)

@@ -1,25 +1,26 @@
 -- A side whose primary doesn't refuse a moved table is the owner.
 use Rattle.std.proofs.Common.{◌≡◌, ◌⊎◌, inl, inr, ℕ, ◌-◌, Bool, true, false, not, cond, eqb, List, Option, None, Some, refl, sym, ap, ◌∙◌, arith}
-use Rattle.std.specs.Prelude.{◌||◌}
 use Rattle.std.proofs.lemmas.Bool.{true≢false, not-false, or_cases}
+use Rattle.std.specs.Prelude.{◌||◌}
+use Rattle.mt_names.specs.Shards.{shard_count}
 use Rattle.mt_names.specs.declared.types.TypeSet.{TypeSet}
 use Rattle.mt_names.specs.Names.{same_text}
 use Rattle.mt_names.proofs.SameLemmas.{same_text_decides}
 use Rattle.mt_plain.specs.Events.{Event, Way}
-use Rattle.mt_plain.specs.Next.{closes, live_stepped, live_undone, types_and, types_without, with_way_to}
-use Rattle.mt_plain.specs.Plain.{Live, Plain, changes_primary, differ, is_side, mover, moves, next_step, owner, refresh_source, refresh_target, stands_done, write_journal}
+use Rattle.mt_plain.specs.Next.{live_stepped, live_undone, types_and, types_without, closes, with_way_to}
+use Rattle.mt_plain.specs.Plain.{Live, Plain, changes_primary, differ, is_side, mover, moves, next_step, owner, refresh_source, refresh_target, stands_done, stands_done_at, write_journal}
 use Rattle.mt_plain.specs.Serve.{refuses}
 use Rattle.mt_plain.specs.Slots.{live_advanced}
 use Rattle.mt_laws.specs.WayBack.{IsReached}
 use Rattle.mt_laws.proofs.ChangeLemmas.{made_live}
 use Rattle.mt_laws.proofs.LiveLemmas.{IsIn, find_some}
 use Rattle.mt_laws.proofs.PartLemmas.{HasParts, IsSettled}
-use Rattle.mt_laws.proofs.PlainWords.{types_by_way}
+use Rattle.mt_laws.proofs.PlainWords.{list_types_by_way}
 use Rattle.mt_laws.proofs.KeepLemmas.{Keeps}
 use Rattle.mt_laws.proofs.ReachLemmas.{reached_have}
 use Rattle.mt_laws.proofs.UntouchedLemmas.{traffic-advanced}
 use Rattle.mt_laws.proofs.WayLemmas.{undo_before_journal}
-use Rattle.mt_laws.proofs.WayStepLemmas.{before_then, done_in_order, fewer, more, no_way_holds, none_done, was_done, way_holds, way_holds-by}
+use Rattle.mt_laws.proofs.WayStepLemmas.{before_then, done_at_all, done_at_some, done_in_order, fewer, more, no_way_holds, none_done, was_done, way_holds, way_holds-by}
 use Rattle.mt_laws.proofs.WritableLemmas.{before_by, owner-if, primary-step, refused-source, refused-target, step_by}
 
 -- ---- behind the journal the switched types are those from after the way
@@ -56,7 +57,7 @@ begin_journaled backward change w =
     way_holds (Journaled w) (with_way_to backward change w) way refl (λ e. absurd (true≢false (sym e ∙ none_done way 5 refl)))
   where
     way : Way
-    way = record { back = backward; shards = 1; before = w.switched; after = change w.switched; done = 0; undoing = false }
+    way = record { back = backward; shards = shard_count w.cuts; before = w.switched; after = change w.switched; done = 0; undoing = false }
 
 journaled_kept : (p : Plain) (event : Event) (w : Live) → IsJournaled w → Keeps IsJournaled p event w
 journaled_kept p event w holds = record {
@@ -65,9 +66,9 @@ journaled_kept p event w holds = record {
   reverse = λ types begins none. begin_journaled true (λ switched. types_without switched types) w;
   steps = λ at way steps opens none. step_journaled p w way opens holds;
   undoes = λ at way undoes opens none. undo_journaled w way (undo_before_journal at w way opens none);
-  advances = λ workflow stream at at_most events rows live none given.
-      let same = traffic-advanced p w stream at at_most events rows in
-      journaled_same w (live_advanced p w stream at at_most events rows) (ap (λ t. t.1) same) (ap (λ t. t.0) same) holds;
+  advances = λ adv workflow stream shard at at_most events rows live none given.
+      let same = traffic-advanced p w stream shard at at_most events rows in
+      journaled_same w (live_advanced p w stream shard at at_most events rows) (ap (λ t. t.1) same) (ap (λ t. t.0) same) holds;
 }
 
 pub reached_journaled : (p : Plain) → IsReached p → (w : Live) → IsIn w p.lives → IsJournaled w
@@ -91,63 +92,69 @@ target_owns true a s r true d settled leads order later e =
 target_owns false a s r j true settled leads order later e = leads (later refl) ∙ not-false a e
 target_owns false a s r j false settled leads order later e = absurd (true≢false e)
 
-module _ (w : Live) (settled : IsSettled w) (journaled : IsJournaled w) where
-  allowed_at_source : (o : Option Way) → w.way ≡ o → (types_by_way w.switched o (step_by (not (before_by w.switched o).primary))).primary ≡ false → w.switched.primary ≡ false
+module _ (w : Live) (settled : IsSettled w) (journaled : IsJournaled w) (shard : ℕ) where
+  -- the journal stands between the refreshes, for each shard
+  refreshed_before : (way : Way) → stands_done way write_journal ≡ true → stands_done_at way refresh_source shard ≡ true
+  refreshed_before way t = done_at_all way refresh_source shard (done_in_order way 1 write_journal (omega arith) t)
+
+  journaled_before : (way : Way) → stands_done_at way refresh_target shard ≡ true → stands_done way write_journal ≡ true
+  journaled_before way t = done_at_some way refresh_target shard 5 t (omega arith)
+
+  allowed_at_source : (o : Option Way) → w.way ≡ o → (list_types_by_way w.switched o (step_by (not (before_by w.switched o).primary)) shard).primary ≡ false → w.switched.primary ≡ false
   allowed_at_source None rests e = e
   allowed_at_source (Some way) opens e =
-      source_owns way.before.primary way.after.primary w.switched.primary (stands_done way refresh_source) (stands_done way write_journal) (stands_done way refresh_target)
+      source_owns way.before.primary way.after.primary w.switched.primary (stands_done_at way refresh_source shard) (stands_done way write_journal) (stands_done_at way refresh_target shard)
       (λ f. ap (λ s. s.primary) (settled way opens f)) (λ t. ap (λ s. s.primary) (journaled way opens t))
-      (done_in_order way 1 write_journal (omega arith)) (done_in_order way 5 refresh_target (omega arith)) (sym (primary-step way (not way.before.primary)) ∙ e)
+      (refreshed_before way) (journaled_before way) (sym (primary-step way (not way.before.primary) shard) ∙ e)
 
-  allowed_at_target : (o : Option Way) → w.way ≡ o → not (types_by_way w.switched o (step_by (before_by w.switched o).primary)).primary ≡ false → w.switched.primary ≡ true
+  allowed_at_target : (o : Option Way) → w.way ≡ o → not (list_types_by_way w.switched o (step_by (before_by w.switched o).primary) shard).primary ≡ false → w.switched.primary ≡ true
   allowed_at_target None rests e = not-false w.switched.primary e
   allowed_at_target (Some way) opens e =
-      target_owns way.before.primary way.after.primary w.switched.primary (stands_done way refresh_source) (stands_done way write_journal) (stands_done way refresh_target)
+      target_owns way.before.primary way.after.primary w.switched.primary (stands_done_at way refresh_source shard) (stands_done way write_journal) (stands_done_at way refresh_target shard)
       (λ f. ap (λ s. s.primary) (settled way opens f)) (λ t. ap (λ s. s.primary) (journaled way opens t))
-      (done_in_order way 1 write_journal (omega arith)) (done_in_order way 5 refresh_target (omega arith)) (ap not (sym (primary-step way way.before.primary)) ∙ e)
+      (refreshed_before way) (journaled_before way) (ap not (sym (primary-step way way.before.primary shard)) ∙ e)
 
--- in each state that a run reaches, a side that doesn't refuse a moved table is the owner
-module _ (p : Plain) (reached : IsReached p) (has : HasParts p) (table : List ℕ) (w : Live) (found : mover p table ≡ Some w) where
+-- in each state that a run reaches, a side of which some primary doesn't refuse a moved table is the owner
+module _ (p : Plain) (reached : IsReached p) (has : HasParts p) (table : List ℕ) (w : Live) (found : mover p table ≡ Some w) (shard : ℕ) where
   is_live : IsIn w p.lives
   is_live = (find_some (λ v. moves v table) p.lives w found).0
 
-  at_side : (keyspace : List ℕ) → (same_text w.source keyspace ≡ true) ⊎ (same_text w.target keyspace ≡ true) → refuses p keyspace table ≡ false → keyspace ≡ owner w
+  at_side : (keyspace : List ℕ) → (same_text w.source keyspace ≡ true) ⊎ (same_text w.target keyspace ≡ true) → refuses p keyspace shard table ≡ false → keyspace ≡ owner w
   at_side keyspace (inl e) allows =
       let is = (same_text_decides w.source keyspace).0 e in
-      let here = sym (refused-source p w table has found) ∙ ap (λ k. refuses p k table) is ∙ allows in
-      sym is ∙ sym (owner-if w false (allowed_at_source w (has.settled w is_live) (reached_journaled p reached w is_live) w.way refl here))
+      let here = sym (refused-source p w table has found shard) ∙ ap (λ k. refuses p k shard table) is ∙ allows in
+      sym is ∙ sym (owner-if w false (allowed_at_source w (has.settled w is_live) (reached_journaled p reached w is_live) shard w.way refl here))
   at_side keyspace (inr e) allows =
       let is = (same_text_decides w.target keyspace).0 e in
-      let here = sym (refused-target p w table has found) ∙ ap (λ k. refuses p k table) is ∙ allows in
-      sym is ∙ sym (owner-if w true (allowed_at_target w (has.settled w is_live) (reached_journaled p reached w is_live) w.way refl here))
+      let here = sym (refused-target p w table has found shard) ∙ ap (λ k. refuses p k shard table) is ∙ allows in
+      sym is ∙ sym (owner-if w true (allowed_at_target w (has.settled w is_live) (reached_journaled p reached w is_live) shard w.way refl here))
 
-  pub allowed_at_the_owner : (keyspace : List ℕ) → is_side w keyspace ≡ true → refuses p keyspace table ≡ false → keyspace ≡ owner w
+  pub allowed_at_the_owner : (keyspace : List ℕ) → is_side w keyspace ≡ true → refuses p keyspace shard table ≡ false → keyspace ≡ owner w
   allowed_at_the_owner keyspace side allows = at_side keyspace (or_cases (same_text w.source keyspace) (same_text w.target keyspace) side) allows
 
 -- ---- between the refreshes neither side serves
 
--- by whether primary was switched before the way, and is after it
-window_source : (before after refreshed allowed : Bool) → differ before after ≡ true → refreshed ≡ true → allowed ≡ false → cond (cond (not before) refreshed allowed) after before ≡ true
-window_source true a r d changes refreshed allowed = ap (λ t. cond t a true) allowed
+-- by whether primary was switched before the way, and is after it; the refresh of the new owner is still to come for the shard that is asked
+window_source : (before after refreshed allowed : Bool) → differ before after ≡ true → refreshed ≡ true → (before ≡ true → allowed ≡ false) → cond (cond (not before) refreshed allowed) after before ≡ true
+window_source true a r d changes refreshed allowed = ap (λ t. cond t a true) (allowed refl)
 window_source false true r d changes refreshed allowed = ap (λ t. cond t true false) refreshed
 window_source false false r d changes refreshed allowed = absurd (true≢false (sym changes))
 
-window_target : (before after refreshed allowed : Bool) → differ before after ≡ true → refreshed ≡ true → allowed ≡ false → not (cond (cond before refreshed allowed) after before) ≡ true
+window_target : (before after refreshed allowed : Bool) → differ before after ≡ true → refreshed ≡ true → (before ≡ false → allowed ≡ false) → not (cond (cond before refreshed allowed) after before) ≡ true
 window_target true true r d changes refreshed allowed = absurd (true≢false (sym changes))
 window_target true false r d changes refreshed allowed = ap (λ t. not (cond t false true)) refreshed
-window_target false a r d changes refreshed allowed = ap (λ t. not (cond t a false)) allowed
+window_target false a r d changes refreshed allowed = ap (λ t. not (cond t a false)) (allowed refl)
 
 module _ (p : Plain) (has : HasParts p) (table : List ℕ) (w : Live) (way : Way) (found : mover p table ≡ Some w) (opens : w.way ≡ Some way)
-    (changes : changes_primary way ≡ true) (refreshed : stands_done way refresh_source ≡ true) (waits : stands_done way refresh_target ≡ false) where
-  refused_at : (keyspace : List ℕ) → (same_text w.source keyspace ≡ true) ⊎ (same_text w.target keyspace ≡ true) → refuses p keyspace table ≡ true
-  refused_at keyspace (inl e) =
-      ap (λ k. refuses p k table) (sym ((same_text_decides w.source keyspace).0 e)) ∙ refused-source p w table has found
-      ∙ ap (λ o. (types_by_way w.switched o (step_by (not (before_by w.switched o).primary))).primary) opens ∙ primary-step way (not way.before.primary)
-      ∙ window_source way.before.primary way.after.primary (stands_done way refresh_source) (stands_done way refresh_target) changes refreshed waits
-  refused_at keyspace (inr e) =
-      ap (λ k. refuses p k table) (sym ((same_text_decides w.target keyspace).0 e)) ∙ refused-target p w table has found
-      ∙ ap (λ o. not (types_by_way w.switched o (step_by (before_by w.switched o).primary)).primary) opens ∙ ap not (primary-step way way.before.primary)
-      ∙ window_target way.before.primary way.after.primary (stands_done way refresh_source) (stands_done way refresh_target) changes refreshed waits
+    (changes : changes_primary way ≡ true) (refreshed : stands_done way refresh_source ≡ true) (shard : ℕ) where
+  pub refused_at_source : (way.before.primary ≡ true → stands_done_at way refresh_target shard ≡ false) → refuses p w.source shard table ≡ true
+  refused_at_source waits =
+      refused-source p w table has found shard
+      ∙ ap (λ o. (list_types_by_way w.switched o (step_by (not (before_by w.switched o).primary)) shard).primary) opens ∙ primary-step way (not way.before.primary) shard
+      ∙ window_source way.before.primary way.after.primary (stands_done_at way refresh_source shard) (stands_done_at way refresh_target shard) changes (done_at_all way refresh_source shard refreshed) waits
 
-  pub neither_serves : (keyspace : List ℕ) → is_side w keyspace ≡ true → refuses p keyspace table ≡ true
-  neither_serves keyspace side = refused_at keyspace (or_cases (same_text w.source keyspace) (same_text w.target keyspace) side)
+  pub refused_at_target : (way.before.primary ≡ false → stands_done_at way refresh_target shard ≡ false) → refuses p w.target shard table ≡ true
+  refused_at_target waits =
+      refused-target p w table has found shard
+      ∙ ap (λ o. not (list_types_by_way w.switched o (step_by (before_by w.switched o).primary) shard).primary) opens ∙ ap not (primary-step way way.before.primary shard)
+      ∙ window_target way.before.primary way.after.primary (stands_done_at way refresh_source shard) (stands_done_at way refresh_target shard) changes (done_at_all way refresh_source shard refreshed) waits

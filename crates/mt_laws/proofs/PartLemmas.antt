@@ -1,12 +1,12 @@
 -- What holds of the live workflows and their parts in each state that a run reaches.
-use Rattle.std.proofs.Common.{◌≡◌, ◌≢◌, ◌⊎◌, inl, inr, ℕ, Bool, true, false, not, cond, List, [], Option, None, Some, is_some, refl, sym, ap, ◌∙◌, subst}
-use Rattle.mt_names.proofs.EntryLemmas.{none_from}
+use Rattle.std.proofs.Common.{◌≡◌, ◌≢◌, ◌⊎◌, inl, inr, ℕ, Bool, true, false, not, cond, List, Option, None, Some, is_some, refl, sym, ap, ◌∙◌, subst}
 use Rattle.std.proofs.lemmas.Bool.{true≢false, and_from, and_parts, or_cases, or_right}
 use Rattle.std.specs.List.{list_any}
 use Rattle.std.specs.Prelude.{◌&&◌, nat_le}
 use Rattle.mt_names.specs.declared.keys.RuleKey.{RuleKey}
 use Rattle.mt_names.specs.declared.keys.RuleTarget.{RuleTarget}
 use Rattle.mt_names.specs.Names.{same_text}
+use Rattle.mt_names.proofs.EntryLemmas.{none_from}
 use Rattle.mt_names.proofs.SameLemmas.{same_text_decides}
 use Rattle.mt_model.specs.declared.entries.EntryKey.{EntryKey}
 use Rattle.mt_model.specs.declared.entries.EntryKey.TheVariants as about
@@ -145,15 +145,15 @@ module _ (p : Plain) (w : Live) (has : HasParts p) (is : IsIn w p.lives) (key : 
   pub value-kept : (event : Event) (answer : Answer) → Answers p event answer → ends_workflow w.name event answer ≡ false → value_of (next p event answer).topology key ≡ value_of p.topology key
   value-kept event (refused refusal) given lives = refl
   value-kept event (shown s) given lives = refl
-  value-kept (add_keyspace keyspace) done given lives = value_of-with_keyspace p.topology keyspace [] key
+  value-kept (add_keyspace keyspace cuts) done given lives = value_of-with_keyspace p.topology keyspace cuts key
   value-kept (add_table keyspace table) done given lives = table-kept keyspace table given.0
   value-kept (edit_rule rule target) done given lives = rule-kept rule target given.0
   value-kept (complete workflow) done given lives = complete-kept p w key workflow (live_at p workflow) refl has is kept lives
-  value-kept (add_keyspace keyspace) (row r) given lives = value_of-with_keyspace p.topology keyspace [] key
+  value-kept (add_keyspace keyspace cuts) (row r) given lives = value_of-with_keyspace p.topology keyspace cuts key
   value-kept (add_table keyspace table) (row r) given lives = table-kept keyspace table given.0
   value-kept (edit_rule rule target) (row r) given lives = rule-kept rule target given.0
   value-kept (complete workflow) (row r) given lives = let h : row r ≡ done = given.1 in absurd cc
-  value-kept (add_keyspace keyspace) (advanced events rows) given lives = refl
+  value-kept (add_keyspace keyspace cuts) (advanced events rows) given lives = refl
   value-kept (add_table keyspace table) (advanced events rows) given lives = refl
   value-kept (edit_rule rule target) (advanced events rows) given lives = refl
   value-kept (complete workflow) (advanced events rows) given lives = refl

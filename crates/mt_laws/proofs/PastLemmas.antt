@@ -4,13 +4,14 @@ use Rattle.std.proofs.lemmas.Bool.{and_parts}
 use Rattle.std.proofs.lemmas.List.{drop_all}
 use Rattle.std.proofs.lemmas.List.Sums.{sum_by-append}
 use Rattle.std.specs.List.{AllByRecursion, count_by}
-use Rattle.std.specs.Prelude.{zero}
+use Rattle.std.specs.Prelude.{zero, ◌&&◌}
 use Rattle.mt_model.specs.declared.rows.Op.{Op}
+use Rattle.mt_model.specs.Rows.{op_key}
 use Rattle.mt_plain.specs.Answers.{Answers}
 use Rattle.mt_plain.specs.Events.{Event, write, advance, StreamName, done}
-use Rattle.mt_plain.specs.Plain.{Live, LogEntry, Plain, is_side, live_at, moves}
-use Rattle.mt_plain.specs.Slots.{applies, entry_of_row, keys_of_rows, logged, to_copy, uncopied, written_side}
-use Rattle.mt_plain.specs.Writes.{is_copied}
+use Rattle.mt_plain.specs.Plain.{Lane, Live, LogEntry, Plain, in_lane, is_side, live_at, moves}
+use Rattle.mt_plain.specs.Slots.{applies, entry_of_row, keys_of_rows, logged, to_copy, uncopied, written_shard, written_side}
+use Rattle.mt_plain.specs.Writes.{in_range, is_applied}
 use Rattle.mt_laws.proofs.EntryValueLemmas.{in_moved}
 use Rattle.mt_laws.proofs.ListLemmas.{append-all, each-mapped, flat_map-all, map-all}
 use Rattle.mt_laws.proofs.LiveLemmas.{all_from_in}
@@ -44,30 +45,36 @@ drop_twice (suc n) m (x ∷ xs) = drop_twice n m xs ∙ (let e : suc (n + m) ≡
 -- ---- what an advance writes
 
 -- it is of the tables of its workflow
-pub all_of_moved : (u : Live) (name : StreamName) (entries : List LogEntry) (rows : List (List ℕ × ℕ)) → AllByRecursion (λ r. moves u r.0 ≡ true) rows → AllByRecursion (λ e. moves u e.table ≡ true) (logged u name entries rows)
-all_of_moved u name entries rows all =
-    append-all (λ e. moves u e.table ≡ true) (map (λ e. entry_of_row (written_side u name) (e.table, e.key)) (filter (applies u) entries)) (map (entry_of_row (written_side u name)) rows)
-    (map-all (λ e. moves u e.table ≡ true) (λ e. moves u e.table ≡ true) (λ e. entry_of_row (written_side u name) (e.table, e.key)) (filter (applies u) entries) (λ e is. is)
-    (all_filter (λ e. moves u e.table ≡ true) (applies u) entries (λ e is. (and_parts (moves u e.table) (is_copied u e.table e.key) is).0)))
-    (map-all (λ r. moves u r.0 ≡ true) (λ e. moves u e.table ≡ true) (entry_of_row (written_side u name)) rows (λ r is. is) all)
+pub all_of_moved : (u : Live) (lane : Lane) (name : StreamName) (entries : List LogEntry) (rows : List (List ℕ × ℕ)) → AllByRecursion (λ r. moves u r.0 ≡ true) rows → AllByRecursion (λ e. moves u e.table ≡ true) (logged u lane name entries rows)
+all_of_moved u lane name entries rows all =
+    append-all (λ e. moves u e.table ≡ true) (map (λ e. written (e.table, e.key)) (filter (applies u lane) entries)) (map written rows)
+    (map-all (λ e. moves u e.table ≡ true) (λ e. moves u e.table ≡ true) (λ e. written (e.table, e.key)) (filter (applies u lane) entries) (λ e is. is)
+    (all_filter (λ e. moves u e.table ≡ true) (applies u lane) entries (λ e is. (and_parts (moves u e.table) (in_range u.tables lane.copied e.table e.key) (and_parts (in_lane u lane e.key) (is_applied u.tables lane.copied e.table e.key) is).1).0)))
+    (map-all (λ r. moves u r.0 ≡ true) (λ e. moves u e.table ≡ true) written rows (λ r is. is) all)
+  where
+    written : List ℕ × ℕ → LogEntry
+    written = entry_of_row (written_side u name) (written_shard lane name)
 
-all_uncopied : (p : Plain) (u : Live) → AllByRecursion (λ r. moves u r.0 ≡ true) (uncopied p u)
-all_uncopied p u =
+all_uncopied : (p : Plain) (u : Live) (lane : Lane) → AllByRecursion (λ r. moves u r.0 ≡ true) (uncopied p u lane)
+all_uncopied p u lane =
     flat_map-all (λ t. moves u t ≡ true) (λ r. moves u r.0 ≡ true)
-    (λ table. map (λ key. (table, key)) (filter (λ key. not (is_copied u table key)) (keys_of_rows p u table))) u.tables
-    (λ table moved. each-mapped (λ r. moves u r.0 ≡ true) (λ key. (table, key)) (filter (λ key. not (is_copied u table key)) (keys_of_rows p u table)) (λ key. moved))
+    (λ table. map (λ key. (table, key)) (filter (λ key. in_lane u lane key && not (in_range u.tables lane.copied table key)) (keys_of_rows p u table))) u.tables
+    (λ table moved. each-mapped (λ r. moves u r.0 ≡ true) (λ key. (table, key)) (filter (λ key. in_lane u lane key && not (in_range u.tables lane.copied table key)) (keys_of_rows p u table)) (λ key. moved))
     (all_from_in (λ t. moves u t ≡ true) u.tables (λ t is. in_moved u t is))
 
-pub all_to_copy : (p : Plain) (u : Live) (entries : List LogEntry) → AllByRecursion (λ r. moves u r.0 ≡ true) (to_copy p u entries)
-all_to_copy p u [] = all_uncopied p u
-all_to_copy p u (e ∷ es) = tt
+pub all_to_copy : (p : Plain) (u : Live) (lane : Lane) (entries : List LogEntry) → AllByRecursion (λ r. moves u r.0 ≡ true) (to_copy p u lane entries)
+all_to_copy p u lane [] = all_uncopied p u lane
+all_to_copy p u lane (e ∷ es) = tt
 
 -- and at the side that its stream writes
-pub all_at_side : (u : Live) (name : StreamName) (entries : List LogEntry) (rows : List (List ℕ × ℕ)) → AllByRecursion (λ e. e.keyspace ≡ written_side u name) (logged u name entries rows)
-all_at_side u name entries rows =
-    append-all (λ e. e.keyspace ≡ written_side u name) (map (λ e. entry_of_row (written_side u name) (e.table, e.key)) (filter (applies u) entries)) (map (entry_of_row (written_side u name)) rows)
-    (each-mapped (λ e. e.keyspace ≡ written_side u name) (λ e. entry_of_row (written_side u name) (e.table, e.key)) (filter (applies u) entries) (λ e. refl))
-    (each-mapped (λ e. e.keyspace ≡ written_side u name) (entry_of_row (written_side u name)) rows (λ r. refl))
+pub all_at_side : (u : Live) (lane : Lane) (name : StreamName) (entries : List LogEntry) (rows : List (List ℕ × ℕ)) → AllByRecursion (λ e. e.keyspace ≡ written_side u name) (logged u lane name entries rows)
+all_at_side u lane name entries rows =
+    append-all (λ e. e.keyspace ≡ written_side u name) (map (λ e. written (e.table, e.key)) (filter (applies u lane) entries)) (map written rows)
+    (each-mapped (λ e. e.keyspace ≡ written_side u name) (λ e. written (e.table, e.key)) (filter (applies u lane) entries) (λ e. refl))
+    (each-mapped (λ e. e.keyspace ≡ written_side u name) written rows (λ r. refl))
+  where
+    written : List ℕ × ℕ → LogEntry
+    written = entry_of_row (written_side u name) (written_shard lane name)
 
 pub all_map : {X : Type 0} (P Q : X → Type 0) (xs : List X) → ((x : X) → P x → Q x) → AllByRecursion P xs → AllByRecursion Q xs
 all_map P Q [] each all = tt
@@ -79,6 +86,10 @@ all_map P Q (x ∷ xs) each all = (each x all.0, all_map P Q xs each all.1)
 abbrev pub IsWrittenAt : Plain → Live → (keyspace : List ℕ) → Type 0
 IsWrittenAt p w keyspace = (k t : List ℕ) (op : Op) → Answers p (write k t op) done → moves w t ≡ true → is_side w k ≡ true → k ≡ keyspace
 
+-- the same of those with a key in the shard of a lane
+abbrev pub IsLaneWrittenAt : Plain → Live → Lane → (keyspace : List ℕ) → Type 0
+IsLaneWrittenAt p w lane keyspace = (k t : List ℕ) (op : Op) → Answers p (write k t op) done → in_lane w lane (op_key op) ≡ true → moves w t ≡ true → is_side w k ≡ true → k ≡ keyspace
+
 -- an event is no advance of a workflow with one of its tables
 abbrev pub IsOther : Plain → Live → Event → Type 0
-IsOther p w event = (workflow : List ℕ) (name : StreamName) (position at_most : ℕ) → event ≡ advance workflow name position at_most → (u : Live) → live_at p workflow ≡ Some u → (table : List ℕ) → moves u table ≡ true → moves w table ≡ false
+IsOther p w event = (workflow : List ℕ) (name : StreamName) (shard position at_most : ℕ) → event ≡ advance workflow name shard position at_most → (u : Live) → live_at p workflow ≡ Some u → (table : List ℕ) → moves u table ≡ true → moves w table ≡ false

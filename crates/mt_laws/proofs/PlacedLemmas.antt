@@ -101,7 +101,7 @@ completed-held t w held = record {
 -- ---- each event
 
 held-taken : (p : Plain) (event : Event) → AreHeld p.topology → AreHeld (next_taken p event).topology
-held-taken p (add_keyspace name) held = record {
+held-taken p (add_keyspace name cuts) held = record {
   rules = held.rules;
   keyspaces = append-all (λ keyspace. IsHeld keyspace.1) p.topology.keyspaces _ held.keyspaces (record { tables = tt; denied = refl }, tt);
 }
@@ -119,8 +119,8 @@ held-next p event done given held = held-taken p event held
 held-next p event (row r) given held = held-taken p event held
 held-next p event (shown s) given held = held
 held-next p event (refused refusal) given held = held
-held-next p (advance workflow name at at_most) (advanced events rows) given held =
-    subst AreHeld (sym (same_topology p (advance workflow name at at_most) (advanced events rows) (λ h. h))) held
+held-next p (advance workflow name shard at at_most) (advanced events rows) given held =
+    subst AreHeld (sym (same_topology p (advance workflow name shard at at_most) (advanced events rows) (λ h. h))) held
 held-next p event (advanced events rows) given held = held
 
 reached_held : (p : Plain) → IsReached p → AreHeld p.topology

@@ -4,8 +4,8 @@ use Rattle.std.specs.Option.{option_map_or}
 use Rattle.mt_names.specs.declared.types.TypeSet.{TypeSet}
 use Rattle.mt_plain.specs.Drive.{gives_up, stopped, Heard, goes_on, ends}
 use Rattle.mt_plain.specs.Events.{Refusal, Way}
-use Rattle.mt_plain.specs.Plain.{Live, changed_types, is_side, refresh_source, refresh_target, stands_done, write_journal}
-use Rattle.mt_plain.specs.Serve.{is_denied_at, owned_before, types_by}
+use Rattle.mt_plain.specs.Plain.{Live, changed_types, is_side, stands_done, stands_done_at, write_journal}
+use Rattle.mt_plain.specs.Serve.{is_denied_at, list_types}
 
 -- whether a way changes reads
 abbrev pub changes_reads : Way → Bool
@@ -15,14 +15,18 @@ changes_reads way = (changed_types way).replica || (changed_types way).rdonly
 abbrev pub side_by : Live → Bool → List ℕ
 side_by w is_target = if is_target then w.target else w.source
 
+-- the types at a refresh of a shard, by the way that is open
+abbrev pub list_types_by_way : TypeSet → Option Way → (step shard : ℕ) → TypeSet
+list_types_by_way switched o step shard = option_map_or (λ (way : Way). if stands_done_at way step shard then way.after else way.before) o switched
+
 -- the types at a step, by the way that is open
 abbrev pub types_by_way : TypeSet → Option Way → ℕ → TypeSet
 types_by_way switched o step = option_map_or (λ (way : Way). if stands_done way step then way.after else way.before) o switched
 
--- what the own list of a keyspace's primary refuses, by the workflow that moves a table
-abbrev pub refuses_moved : Option Live → (keyspace : List ℕ) → Bool
-refuses_moved o keyspace =
-    option_map_or (λ (w : Live). is_side w keyspace && is_denied_at w (types_by w (if owned_before w keyspace then refresh_source else refresh_target)) keyspace) o false
+-- what the own list of a shard's primary refuses, by the workflow that moves a table
+abbrev pub refuses_moved : Option Live → (keyspace : List ℕ) → (shard : ℕ) → Bool
+refuses_moved o keyspace shard =
+    option_map_or (λ (w : Live). is_side w keyspace && is_denied_at w (list_types w keyspace shard) keyspace) o false
 
 -- a drive that can't go on, by the way that is open
 abbrev pub gives_up_or_stops : (done : ℕ) → (workflow : List ℕ) → Refusal → Option Way → Heard

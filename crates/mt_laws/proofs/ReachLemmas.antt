@@ -1,20 +1,20 @@
 -- Each state that a run reaches has the parts of its live workflows apart.
 use Rattle.std.proofs.Common.{◌≡◌, ◌⊎◌, inl, inr, ℕ, Bool, true, false, not, cond, eqb, List, [], ◌∷◌, length, Option, None, Some, is_some, refl, sym, ap, ◌∙◌, subst}
-use Rattle.mt_names.proofs.EntryLemmas.{none_from}
 use Rattle.std.proofs.lemmas.Bool.{true≢false, and_from, not-false}
 use Rattle.std.specs.List.{list_any}
 use Rattle.std.specs.Prelude.{◌&&◌, ◌||◌}
 use Rattle.mt_names.specs.Names.{same_text}
+use Rattle.mt_names.proofs.EntryLemmas.{none_from}
 use Rattle.mt_names.proofs.SameLemmas.{same_text_decides}
 use Rattle.mt_model.specs.declared.entries.EntryKey.TheVariants as about
 use Rattle.mt_model.specs.Topology.{is_denied, is_present, keyspace_at, with_keyspace, with_keyspace_state, with_new_table, with_table}
+use Rattle.mt_model.specs.declared.entries.Scope.{Scope}
 use Rattle.mt_model.proofs.PlaceLemmas.{keyspace_at-stays, place-push}
 use Rattle.mt_model.proofs.TopologyLemmas.{value_of-with_keyspace, value_of-with_table_elsewhere}
-use Rattle.mt_model.specs.declared.entries.Scope.{Scope}
 use Rattle.mt_plain.specs.Answers.{Answers, Run, after}
-use Rattle.mt_plain.specs.Events.{Event, add_keyspace, add_table, edit_rule, create, advance, cancel, complete, Answer, done, row, advanced, shown, refused, full, no_keyspace, no_table, no_tables, same_keyspace, table_in_workflow, target_has_table, workflow_exists}
+use Rattle.mt_plain.specs.Events.{Event, add_keyspace, add_table, edit_rule, create, advance, cancel, complete, Answer, done, row, advanced, shown, refused, full, no_keyspace, no_table, no_tables, same_keyspace, table_in_workflow, target_has_table, workflow_exists, sharded_source}
 use Rattle.mt_plain.specs.Next.{next, next_taken, with_completed, with_tables, without_tables}
-use Rattle.mt_plain.specs.Plain.{Live, Plain, each_once, has_keyspace, live_at, mover, moves, opening, stands_done, write_journal}
+use Rattle.mt_plain.specs.Plain.{Live, Plain, each_once, has_keyspace, live_at, mover, moves, opening, stands_done, write_journal, is_sharded}
 use Rattle.mt_plain.specs.Refuse.{conflict_refusal, create_is_full, moved_table_refusal, moved_tables_refusal, or_else, refusal_of, refuse_if, watcher_refusal}
 use Rattle.mt_plain.specs.Serve.{has_table}
 use Rattle.mt_laws.specs.Changes.{ChangesTopology, HasSides}
@@ -37,6 +37,7 @@ pub record IsNew (p : Plain) (name source target : List ℕ) (tables : List (Lis
   pub source_there : has_keyspace p source ≡ true
   pub target_there : has_keyspace p target ≡ true
   -- and no limit is passed by it
+  pub unsharded : is_sharded p source ≡ false
   pub room : create_is_full p source target tables ≡ false
   pub each : (table : List ℕ) → IsIn table tables → (has_table p source table ≡ true) × (mover p table ≡ None) × (has_table p target table ≡ false)
 
@@ -57,7 +58,8 @@ create-none p name source target tables none =
     let h7 = refuse_if (create_is_full p source target once) full in
     let h6 = or_else (watcher_refusal p target) h7 in
     let h5 = or_else (moved_tables_refusal p source target once) h6 in
-    let h4 = or_else (refuse_if (not (has_keyspace p target)) no_keyspace) h5 in
+    let h5' = or_else (refuse_if (is_sharded p source) sharded_source) h5 in
+    let h4 = or_else (refuse_if (not (has_keyspace p target)) no_keyspace) h5' in
     let h3 = or_else (refuse_if (not (has_keyspace p source)) no_keyspace) h4 in
     let h2 = or_else (refuse_if (same_text source target) same_keyspace) h3 in
     let h1 = or_else (refuse_if (eqb (length once) 0) no_tables) h2 in
@@ -65,14 +67,16 @@ create-none p name source target tables none =
     let r1 = or_else-none (refuse_if (eqb (length once) 0) no_tables) h2 r0.1 in
     let r2 = or_else-none (refuse_if (same_text source target) same_keyspace) h3 r1.1 in
     let r3 = or_else-none (refuse_if (not (has_keyspace p source)) no_keyspace) h4 r2.1 in
-    let r4 = or_else-none (refuse_if (not (has_keyspace p target)) no_keyspace) h5 r3.1 in
-    let r5 = or_else-none (moved_tables_refusal p source target once) h6 r4.1 in
+    let r4 = or_else-none (refuse_if (not (has_keyspace p target)) no_keyspace) h5' r3.1 in
+    let r4' = or_else-none (refuse_if (is_sharded p source) sharded_source) h5 r4.1 in
+    let r5 = or_else-none (moved_tables_refusal p source target once) h6 r4'.1 in
     let r6 = or_else-none (watcher_refusal p target) h7 r5.1 in
     record {
       unnamed = none_from (live_at p name) (refuse_if-none (is_some (live_at p name)) workflow_exists r0.0);
       sides = refuse_if-none (same_text source target) same_keyspace r2.0;
       source_there = not-false (has_keyspace p source) (refuse_if-none (not (has_keyspace p source)) no_keyspace r3.0);
       target_there = not-false (has_keyspace p target) (refuse_if-none (not (has_keyspace p target)) no_keyspace r4.0);
+      unsharded = refuse_if-none (is_sharded p source) sharded_source r4'.0;
       room = refuse_if-none (create_is_full p source target once) full r6.1;
       each = λ table is. each_new p source target table ((fold_or_else-none (moved_table_refusal p source target) once None r5.0).1 table is);
     }
@@ -181,7 +185,7 @@ settled-change event w v (completed first steps was rests is) settled way now be
 settled-change event w v (abandoned first undoes was rests is journal) settled way now before = no_way v.way way rests now
 
 undenied-taken : (p : Plain) (event : Event) (keyspace table : List ℕ) → refusal_of p event ≡ None → is_denied (next_taken p event).topology.keyspaces keyspace table ≡ is_denied p.topology.keyspaces keyspace table
-undenied-taken p (add_keyspace name) keyspace table none = denied_from_value (with_keyspace p.topology name []) p.topology keyspace table (value_of-with_keyspace p.topology name [] (about.Denied keyspace table))
+undenied-taken p (add_keyspace name cuts) keyspace table none = denied_from_value (with_keyspace p.topology name cuts) p.topology keyspace table (value_of-with_keyspace p.topology name cuts (about.Denied keyspace table))
 undenied-taken p (add_table k t) keyspace table none =
     denied_from_value (with_table p.topology k t) p.topology keyspace table (value_of-with_table_elsewhere p.topology k t (about.Denied keyspace table) (λ e. absurd cc))
 undenied-taken p (edit_rule key target) keyspace table none = refl
@@ -197,13 +201,13 @@ undenied-next p event done keyspace table given = undenied-taken p event keyspac
 undenied-next p event (row r) keyspace table given = undenied-taken p event keyspace table given.0
 undenied-next p event (shown s) keyspace table given = refl
 undenied-next p event (refused refusal) keyspace table given = refl
-undenied-next p (advance workflow name at at_most) (advanced events rows) keyspace table given =
-    ap (λ u. is_denied u.keyspaces keyspace table) (same_topology p (advance workflow name at at_most) (advanced events rows) (λ h. h))
+undenied-next p (advance workflow name shard at at_most) (advanced events rows) keyspace table given =
+    ap (λ u. is_denied u.keyspaces keyspace table) (same_topology p (advance workflow name shard at at_most) (advanced events rows) (λ h. h))
 undenied-next p event (advanced events rows) keyspace table given = refl
 
 -- no keyspace is ever taken away
 keyspace-taken : (p : Plain) (event : Event) (k : List ℕ) → is_some (keyspace_at p.topology.keyspaces k) ≡ true → is_some (keyspace_at (next_taken p event).topology.keyspaces k) ≡ true
-keyspace-taken p (add_keyspace name) k has = place-push (same_text k) p.topology.keyspaces _ has
+keyspace-taken p (add_keyspace name cuts) k has = place-push (same_text k) p.topology.keyspaces _ has
 keyspace-taken p (add_table keyspace table) k has = keyspace_at-stays (with_new_table table) p.topology.keyspaces keyspace k ∙ has
 keyspace-taken p (edit_rule key target) k has = has
 keyspace-taken p (complete workflow) k has = by (live_at p workflow)
@@ -220,8 +224,8 @@ keyspace-next p event done k has = keyspace-taken p event k has
 keyspace-next p event (row r) k has = keyspace-taken p event k has
 keyspace-next p event (shown s) k has = has
 keyspace-next p event (refused refusal) k has = has
-keyspace-next p (advance workflow name at at_most) (advanced events rows) k has =
-    ap (λ u. is_some (keyspace_at u.keyspaces k)) (same_topology p (advance workflow name at at_most) (advanced events rows) (λ h. h)) ∙ has
+keyspace-next p (advance workflow name shard at at_most) (advanced events rows) k has =
+    ap (λ u. is_some (keyspace_at u.keyspaces k)) (same_topology p (advance workflow name shard at at_most) (advanced events rows) (λ h. h)) ∙ has
 keyspace-next p event (advanced events rows) k has = has
 
 -- an event that is not refused, or that changes nothing

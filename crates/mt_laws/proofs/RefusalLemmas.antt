@@ -1,12 +1,12 @@
 -- What stands where an event is not refused.
 use Rattle.std.proofs.Common.{◌≡◌, inl, inr, Bool, true, false, List, [], ◌∷◌, map, fold, Option, None, Some, is_some, refl, sym, ap, ◌∙◌, not, leb}
 use Rattle.std.proofs.lemmas.Bool.{not-false}
-use Rattle.mt_names.proofs.EntryLemmas.{none_from}
 use Rattle.std.specs.Option.{option_map_or}
 use Rattle.mt_names.specs.declared.types.TypeSet.{TypeSet}
+use Rattle.mt_names.proofs.EntryLemmas.{none_from}
 use Rattle.mt_plain.specs.Events.{Refusal, nothing_under_way, under_way, Way, copying, full, nothing_to_reverse, nothing_to_switch}
 use Rattle.mt_plain.specs.Plain.{Live, Plain}
-use Rattle.mt_plain.specs.Refuse.{at_rest, in_workflow, or_else, refuse_if, begin_reverse_refusal, begin_switch_refusal, has_more, is_still_copying, most_ways, share_type}
+use Rattle.mt_plain.specs.Refuse.{at_rest, in_workflow, or_else, refuse_if, begin_reverse_refusal, begin_switch_refusal, has_more, copies_still, most_ways, share_type}
 use Rattle.mt_laws.proofs.LiveLemmas.{IsIn}
 
 pub or_else-none : (o next : Option Refusal) → or_else o next ≡ None → (o ≡ None) × (next ≡ None)
@@ -31,15 +31,15 @@ at_rest-none w o e =
     (none_from w.way (refuse_if-none (is_some w.way) under_way r.0), r.1)
 
 -- a begin is taken of a workflow at rest, which has types to switch or to reverse
-pub switch-none : (p : Plain) (types : TypeSet) (w : Live) → begin_switch_refusal p types w ≡ None → (w.way ≡ None) × (has_more types w.switched ≡ true) × (is_still_copying w.copied ≡ false)
+pub switch-none : (p : Plain) (types : TypeSet) (w : Live) → begin_switch_refusal p types w ≡ None → (w.way ≡ None) × (has_more types w.switched ≡ true) × (copies_still w ≡ false)
 switch-none p types w none =
     let full_at = refuse_if (leb most_ways p.ways) full in
-    let copies = or_else (refuse_if (is_still_copying w.copied) copying) full_at in
+    let copies = or_else (refuse_if (copies_still w) copying) full_at in
     let r = at_rest-none w (or_else (refuse_if (not (has_more types w.switched)) nothing_to_switch) copies) none in
     let s = or_else-none (refuse_if (not (has_more types w.switched)) nothing_to_switch) copies r.1 in (
       r.0,
       not-false (has_more types w.switched) (refuse_if-none (not (has_more types w.switched)) nothing_to_switch s.0),
-      refuse_if-none (is_still_copying w.copied) copying (or_else-none (refuse_if (is_still_copying w.copied) copying) full_at s.1).0,
+      refuse_if-none (copies_still w) copying (or_else-none (refuse_if (copies_still w) copying) full_at s.1).0,
     )
 
 pub reverse-none : (p : Plain) (types : TypeSet) (w : Live) → begin_reverse_refusal p types w ≡ None → (w.way ≡ None) × (share_type types w.switched ≡ true)

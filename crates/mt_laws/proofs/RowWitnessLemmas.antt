@@ -1,5 +1,5 @@
 -- A move of a table with rows in a small setting: a switch is refused as not level, goes to its end once the rest is fed, and is completed.
-use Rattle.std.proofs.Common.{◌≡◌, ◌<◌, ℕ, true, false, List, [], ◌∷◌, ◌++◌, None, Some, length, refl, inl, arith}
+use Rattle.std.proofs.Common.{◌≡◌, ℕ, true, false, List, [], ◌∷◌, ◌++◌, None, Some, refl, inl, map}
 use Rattle.std.specs.Prelude.{codes}
 use Rattle.mt_names.specs.declared.types.TabletType.TheVariants.{Primary}
 use Rattle.mt_names.specs.declared.types.TypeSet.{TypeSet}
@@ -11,8 +11,8 @@ use Rattle.mt_model.specs.Rows.{RowValue}
 use Rattle.mt_plain.specs.Answers.{Answers, Run, after}
 use Rattle.mt_plain.specs.Events.{Event, write, read, add_keyspace, add_table, create, advance, forward, begin_switch, step, complete, Answer, done, row, advanced, refused, not_level, Way}
 use Rattle.mt_plain.specs.Next.{next}
+use Rattle.mt_plain.specs.Refuse.{is_behind}
 use Rattle.mt_plain.specs.Plain.{Live, Plain, ended, live_at, next_step, opening, write_journal}
-use Rattle.mt_plain.specs.Writes.{writes_to}
 use Rattle.mt_laws.specs.Copies.{tests_level}
 use Rattle.mt_laws.specs.WayBack.{IsReached}
 
@@ -34,8 +34,8 @@ all = record { primary = true; replica = true; rdonly = true }
 -- one row before Create, which is copied; one while the workflow is live, which is not fed when a switch begins
 abbrev events : List Event
 events =
-    add_keyspace (codes "a") ∷ add_keyspace (codes "b") ∷ add_table (codes "a") (codes "t") ∷ write (codes "a") (codes "t") (Insert 1 first) ∷ create name (codes "a") (codes "b") (codes "t" ∷ [])
-    ∷ advance name forward 1 5 ∷ write (codes "a") (codes "t") (Insert 2 second) ∷ begin_switch name all ∷ []
+    add_keyspace (codes "a") [] ∷ add_keyspace (codes "b") [] ∷ add_table (codes "a") (codes "t") ∷ write (codes "a") (codes "t") (Insert 1 first) ∷ create name (codes "a") (codes "b") (codes "t" ∷ [])
+    ∷ advance name forward 0 1 5 ∷ write (codes "a") (codes "t") (Insert 2 second) ∷ begin_switch name all ∷ []
 
 abbrev answers : List Answer
 answers = done ∷ done ∷ done ∷ done ∷ done ∷ advanced 0 1 ∷ done ∷ done ∷ []
@@ -53,15 +53,15 @@ abbrev way1 : Way
 way1 = record { back = false; shards = 1; before = no_types; after = all; done = 0; undoing = false }
 
 abbrev live1 : Live
-live1 = record { name = name; source = codes "a"; target = codes "b"; tables = codes "t" ∷ []; switched = no_types; way = Some way1; fed = 1; copied = ended; forward_at = 1; back_at = 0; fresh_at = 0 }
+live1 = record { name = name; source = codes "a"; target = codes "b"; tables = codes "t" ∷ []; cuts = []; switched = no_types; way = Some way1; lanes = record { shard = 0; fed = 1; copied = ended; forward_at = 1; back_at = 0; fresh_at = 0 } ∷ [] }
 
 pub a_refusal : (p : Plain) × (w : Live) × (way : Way) × IsReached p × (live_at p (codes "w") ≡ Some w) × (w.way ≡ Some way) × (way.undoing ≡ false) × (tests_level w way ≡ true)
-    × (w.fed < length (writes_to p w)) × Answers p (step (codes "w") way.done) (refused not_level)
-a_refusal = (p1, live1, way1, reached1, refl, refl, refl, refl, omega arith, refl)
+    × (is_behind p w ≡ true) × Answers p (step (codes "w") way.done) (refused not_level)
+a_refusal = (p1, live1, way1, reached1, refl, refl, refl, refl, refl, refl)
 
 -- the rest is fed, and the steps before the journal are taken
 abbrev events_on : List Event
-events_on = advance name forward 1 5 ∷ step name 0 ∷ step name 1 ∷ step name 2 ∷ step name 3 ∷ step name 4 ∷ step name 5 ∷ []
+events_on = advance name forward 0 1 5 ∷ step name 0 ∷ step name 1 ∷ step name 2 ∷ step name 3 ∷ step name 4 ∷ step name 5 ∷ []
 
 abbrev answers_on : List Answer
 answers_on = advanced 1 0 ∷ done ∷ done ∷ done ∷ done ∷ done ∷ done ∷ []
@@ -82,9 +82,9 @@ abbrev way2 : Way
 way2 = record way1 { done = 6 }
 
 abbrev live2 : Live
-live2 = record live1 { way = Some way2; fed = 2; forward_at = 2; fresh_at = 2 }
+live2 = record live1 { way = Some way2; lanes = record { shard = 0; fed = 2; copied = ended; forward_at = 2; back_at = 0; fresh_at = 2 } ∷ [] }
 
-pub a_journal : (p : Plain) × (w : Live) × (way : Way) × IsReached p × (live_at p (codes "w") ≡ Some w) × (w.way ≡ Some way) × (next_step way ≡ write_journal) × (w.fed ≡ 2)
+pub a_journal : (p : Plain) × (w : Live) × (way : Way) × IsReached p × (live_at p (codes "w") ≡ Some w) × (w.way ≡ Some way) × (next_step way ≡ write_journal) × (map (λ lane. lane.fed) w.lanes ≡ 2 ∷ [])
     × Answers p (step (codes "w") way.done) done
 a_journal = (p2, live2, way2, reached2, refl, refl, refl, refl, (refl, refl))
 
@@ -108,7 +108,7 @@ reached3 = record {
 }
 
 abbrev live3 : Live
-live3 = record live1 { switched = all; way = None; fed = 2; forward_at = 2; back_at = 2; fresh_at = 2 }
+live3 = record live1 { switched = all; way = None; lanes = record { shard = 0; fed = 2; copied = ended; forward_at = 2; back_at = 2; fresh_at = 2 } ∷ [] }
 
 pub a_completion : (p : Plain) × (w : Live) × IsReached p × (live_at p (codes "w") ≡ Some w) × Answers p (complete (codes "w")) done
     × Answers (next p (complete (codes "w")) done) (read w.target (codes "t") 1 Primary) (row (Some (record { items = codes "x" })))

@@ -181,11 +181,11 @@ rules-taken p (complete workflow) has none fits = by (live_at p workflow) refl
     by (Some w) live = completed-fits p has w (find_some (λ v. same_text v.name workflow) p.lives w live).0 fits
 rules-taken p event has none fits = fits
 
-rules-advance : (p : Plain) (workflow : List ℕ) (stream : StreamName) (at at_most events rows : ℕ) (o : Option Live) → live_at p workflow ≡ o → RulesFit p → RulesFit (with_advance p stream at at_most events rows o)
-rules-advance p workflow stream at at_most events rows None live fits = fits
-rules-advance p workflow stream at at_most events rows (Some w) live fits =
-    subst (λ l. entries_in p.topology.rules l ≤ 4096) (sym (lives-advance p workflow stream at at_most events rows (Some w) live))
-    (rules-mapped p.topology.rules (live_next p (advance workflow stream at at_most) (advanced events rows)) p.lives (sides-next p (advance workflow stream at at_most) (advanced events rows)) fits)
+rules-advance : (p : Plain) (workflow : List ℕ) (stream : StreamName) (shard at at_most events rows : ℕ) (o : Option Live) → live_at p workflow ≡ o → RulesFit p → RulesFit (with_advance p stream shard at at_most events rows o)
+rules-advance p workflow stream shard at at_most events rows None live fits = fits
+rules-advance p workflow stream shard at at_most events rows (Some w) live fits =
+    subst (λ l. entries_in p.topology.rules l ≤ 4096) (sym (lives-advance p workflow stream shard at at_most events rows (Some w) live))
+    (rules-mapped p.topology.rules (live_next p (advance workflow stream shard at at_most) (advanced events rows)) p.lives (sides-next p (advance workflow stream shard at at_most) (advanced events rows)) fits)
 
 pub rules_fit : (p : Plain) → IsReached p → rule_count p ≤ most_rules
 rules_fit p reached =

@@ -14,7 +14,7 @@ use Rattle.mt_model.specs.Rows.{Row, op_key, op_row}
 use Rattle.mt_plain.specs.Events.{Event, write, advance, complete, StreamName, Shown, Refusal, denied, full, Answer, done, row, advanced, shown, refused}
 use Rattle.mt_plain.specs.Answers.{Answers, Run, after, reply_of}
 use Rattle.mt_plain.specs.Next.{after_advance, next, next_taken, row_left, with_advance, with_completed}
-use Rattle.mt_plain.specs.Plain.{Live, Plain, Write, live_at, opening}
+use Rattle.mt_plain.specs.Plain.{Live, Plain, Write, live_at, opening, shard_at}
 use Rattle.mt_plain.specs.Refuse.{or_else, refusal_of, refuse_if, row_refusal, unknown_table}
 use Rattle.mt_plain.specs.Serve.{refuses}
 use Rattle.mt_plain.specs.Slots.{log_length}
@@ -26,8 +26,8 @@ use Rattle.mt_laws.proofs.RefusalLemmas.{or_else-none}
 pub row_is_left : (p : Plain) (keyspace table : List ℕ) (op : Op) → refusal_of p (write keyspace table op) ≡ None → row_refusal (op_row op (client_row p keyspace table (op_key op))) ≡ None
 row_is_left p keyspace table op none =
     let by_row = row_refusal (op_row op (client_row p keyspace table (op_key op))) in
-    let by_log = refuse_if (nat_le longest_log (log_length p keyspace)) full in
-    let by_list = refuse_if (refuses p keyspace table) denied in
+    let by_log = refuse_if (nat_le longest_log (log_length p keyspace (shard_at p keyspace (op_key op)))) full in
+    let by_list = refuse_if (refuses p keyspace (shard_at p keyspace (op_key op)) table) denied in
     let behind_table = (or_else-none (unknown_table p keyspace table) (or_else by_list (or_else by_row by_log)) none).1 in
     (or_else-none by_row by_log (or_else-none by_list (or_else by_row by_log) behind_table).1).0
 
@@ -74,12 +74,12 @@ completed-writes : (p : Plain) (o : Option Live) → (with_completed p o).writes
 completed-writes p None = refl
 completed-writes p (Some w) = refl
 
-with_advance-writes : (p : Plain) (name : StreamName) (position at_most events rows : ℕ) (o : Option Live) → (with_advance p name position at_most events rows o).writes ≡ p.writes
-with_advance-writes p name position at_most events rows None = refl
-with_advance-writes p name position at_most events rows (Some w) = refl
+with_advance-writes : (p : Plain) (name : StreamName) (shard position at_most events rows : ℕ) (o : Option Live) → (with_advance p name shard position at_most events rows o).writes ≡ p.writes
+with_advance-writes p name shard position at_most events rows None = refl
+with_advance-writes p name shard position at_most events rows (Some w) = refl
 
 after_advance-writes : (p : Plain) (event : Event) (events rows : ℕ) → (after_advance p event events rows).writes ≡ p.writes
-after_advance-writes p (advance workflow name at at_most) events rows = with_advance-writes p name at at_most events rows (live_at p workflow)
+after_advance-writes p (advance workflow name shard at at_most) events rows = with_advance-writes p name shard at at_most events rows (live_at p workflow)
 after_advance-writes p other events rows = refl
 
 -- the row after an event that adds no write

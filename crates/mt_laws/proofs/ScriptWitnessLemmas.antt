@@ -23,11 +23,11 @@ one event answer text = record { events = event ∷ []; answers = answer ∷ [];
 abbrev runs : List LineRun
 runs =
     record { events = []; answers = []; text = [] }
-    ∷ one (add_keyspace (codes "a")) done (codes "ok\n")
-    ∷ one (add_keyspace (codes "b")) done (codes "ok\n")
+    ∷ one (add_keyspace (codes "a") []) done (codes "ok\n")
+    ∷ one (add_keyspace (codes "b") []) done (codes "ok\n")
     ∷ one (add_table (codes "a") (codes "t")) done (codes "ok\n")
     ∷ one (create (codes "w") (codes "a") (codes "b") (codes "t" ∷ [])) done (codes "ok\n")
-    ∷ one (advance (codes "w") forward 0 100) (advanced 0 0) (codes "events 0 rows 0\n")
+    ∷ one (advance (codes "w") forward 0 0 100) (advanced 0 0) (codes "events 0 rows 0\n")
     ∷ record { events = begin_switch (codes "w") replica ∷ step (codes "w") 0 ∷ []; answers = done ∷ done ∷ []; text = codes "ok\n" }
     ∷ record { events = []; answers = []; text = codes "refused X1 BadLine\n" }
     ∷ []
@@ -57,7 +57,7 @@ each = (
 )
 
 pub small_script : IsScriptRun read_line p0 (lines (codes "# a move\nkeyspace a\nkeyspace b\ntable a t\ncreate w a b t\nadvance w forward 0 100\nswitch w replica\nswitch w\n"))
-    (add_keyspace (codes "a") ∷ add_keyspace (codes "b") ∷ add_table (codes "a") (codes "t") ∷ create (codes "w") (codes "a") (codes "b") (codes "t" ∷ []) ∷ advance (codes "w") forward 0 100 ∷ begin_switch (codes "w") replica ∷ step (codes "w") 0 ∷ [])
+    (add_keyspace (codes "a") [] ∷ add_keyspace (codes "b") [] ∷ add_table (codes "a") (codes "t") ∷ create (codes "w") (codes "a") (codes "b") (codes "t" ∷ []) ∷ advance (codes "w") forward 0 0 100 ∷ begin_switch (codes "w") replica ∷ step (codes "w") 0 ∷ [])
     (done ∷ done ∷ done ∷ done ∷ advanced 0 0 ∷ done ∷ done ∷ [])
     (codes "ok\nok\nok\nok\nevents 0 rows 0\nok\nrefused X1 BadLine\n")
 small_script = record { runs = runs; each = each; events_are = refl; answers_are = refl; out_is = refl }

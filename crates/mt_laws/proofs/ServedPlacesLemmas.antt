@@ -18,7 +18,7 @@ use Rattle.mt_names.proofs.SameLemmas.{same_key_decides, same_text_decides}
 use Rattle.mt_model.specs.declared.entries.EntryKey.{EntryKey}
 use Rattle.mt_model.specs.declared.entries.EntryKey.TheVariants as about
 use Rattle.mt_model.specs.Part.{part_keys, table_part_keys}
-use Rattle.mt_model.specs.Topology.{HasDistinctPlaces, KeyspaceState, Keyspaces, Marks, TopologyState, cuts_at, has_place, keyspace_at, with_keyspace_state}
+use Rattle.mt_model.specs.Topology.{HasDistinctPlaces, KeyspaceState, Keyspaces, Marks, TopologyState, has_place, keyspace_at, with_keyspace_state, cuts_at}
 use Rattle.mt_model.proofs.PartLemmas.{part_distinct}
 use Rattle.mt_model.proofs.PlaceLemmas.{keyspace_at-stays}
 use Rattle.mt_model.proofs.TopologyLemmas.{denied_distinct, keyspace_at-changed_elsewhere, read_at-unchanged, tables_distinct}
@@ -26,6 +26,7 @@ use Rattle.mt_plain.specs.Plain.{Live, Plain, among, moves, rule_keys, twelve_ke
 use Rattle.mt_plain.specs.Serve.{IsServed, denials_over, mark_in, rule_in, served, served_by, with_part_at, with_workflow}
 use Rattle.mt_laws.specs.WayBack.{IsReached}
 use Rattle.mt_laws.proofs.CompleteLemmas.{distinct-removed}
+use Rattle.mt_laws.proofs.CutLemmas.{cuts_changed}
 use Rattle.mt_laws.proofs.InPlaceLemmas.{tables_once}
 use Rattle.mt_laws.proofs.ListLemmas.{set_value-all}
 use Rattle.mt_laws.proofs.LiveLemmas.{Apart, IsApart, IsIn, all_from_in, in_all}
@@ -255,14 +256,14 @@ served_places p reached =
       allowed = λ keyspace table moved. denied_places p reached keyspace table;
     })
 
-cuts-over : (u : TopologyState) (w : Live) (name : List ℕ) → cuts_at (with_workflow u w).keyspaces name ≡ cuts_at u.keyspaces name
-cuts-over u w name =
-    read_at-unchanged (λ state. state.cuts) [] (target_changed u w) (with_keyspace_state (source_changed u w) u.keyspaces w.source) w.target name (λ state found is. refl)
-    ∙ read_at-unchanged (λ state. state.cuts) [] (source_changed u w) u.keyspaces w.source name (λ state found is. refl)
+cuts-over : (u : TopologyState) (w : Live) (k : List ℕ) → cuts_at (with_workflow u w).keyspaces k ≡ cuts_at u.keyspaces k
+cuts-over u w k =
+    cuts_changed (with_part_at u w w.target (map (λ table. (table, true)) w.tables)) (λ state. refl) (with_keyspace_state (with_part_at u w w.source []) u.keyspaces w.source) w.target k
+    ∙ cuts_changed (with_part_at u w w.source []) (λ state. refl) u.keyspaces w.source k
 
-fold-cuts : (ws : List Live) (u : TopologyState) (name : List ℕ) → cuts_at (fold with_workflow u ws).keyspaces name ≡ cuts_at u.keyspaces name
-fold-cuts [] u name = refl
-fold-cuts (w ∷ ws) u name = fold-cuts ws (with_workflow u w) name ∙ cuts-over u w name
+fold-cuts : (ws : List Live) (u : TopologyState) (k : List ℕ) → cuts_at (fold with_workflow u ws).keyspaces k ≡ cuts_at u.keyspaces k
+fold-cuts [] u k = refl
+fold-cuts (w ∷ ws) u k = fold-cuts ws (with_workflow u w) k ∙ cuts-over u w k
 
 pub is_served : (p : Plain) → IsReached p → IsServed p (served p)
 is_served p reached = record {

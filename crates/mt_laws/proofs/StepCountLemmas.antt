@@ -96,11 +96,11 @@ way_of-undo p workflow way has =
     way_of-changed p (λ w. on_way_of (live_undone w) w) workflow has.live (λ w. sym (sides-on_way w (live_undone w) (sides-undone w) w.way).name) has.found
     ∙ on_way_of-way (live_undone has.live) has.live way has.way_is ∙ way-undone has.live way
 
-pub way_of-advance : (p : Plain) (workflow : List ℕ) (name : StreamName) (position at_most events rows : ℕ) (o : Option Live) → way_of (with_advance p name position at_most events rows o) workflow ≡ way_of p workflow
-way_of-advance p workflow name position at_most events rows None = refl
-way_of-advance p workflow name position at_most events rows (Some w) =
-    way_in-kept (λ v. live_advanced p v name position at_most events rows) w.name workflow p.lives (λ v. sym (sides-advanced p v name position at_most events rows).name)
-    (λ v. ap (λ t. t.1) (traffic-advanced p v name position at_most events rows))
+pub way_of-advance : (p : Plain) (workflow : List ℕ) (name : StreamName) (shard position at_most events rows : ℕ) (o : Option Live) → way_of (with_advance p name shard position at_most events rows o) workflow ≡ way_of p workflow
+way_of-advance p workflow name shard position at_most events rows None = refl
+way_of-advance p workflow name shard position at_most events rows (Some w) =
+    way_in-kept (λ v. live_advanced p v name shard position at_most events rows) w.name workflow p.lives (λ v. sym (sides-advanced p v name shard position at_most events rows).name)
+    (λ v. ap (λ t. t.1) (traffic-advanced p v name shard position at_most events rows))
 
 -- a way that begins
 pub way_of-begun : (p : Plain) (workflow : List ℕ) (backward : Bool) (change : TypeSet → TypeSet) (w : Live) → live_at p workflow ≡ Some w → way_in workflow (with_live (with_way_to backward change) workflow p.lives) ≡ (with_way_to backward change w).way

@@ -1,35 +1,39 @@
 -- A step, and the undo that comes next of the workflow's commands, leave what is served and refused as it was.
-use Rattle.std.proofs.Common.{◌≡◌, ◌⊎◌, inl, inr, ℕ, suc, ◌+◌, ◌-◌, Bool, true, false, not, cond, eqb, leb, ltb, List, [], ◌∷◌, Option, None, Some, refl, sym, ap, ◌∙◌, subst, arith, eqb-true, ltb-true}
+use Rattle.std.proofs.Common.{◌≡◌, ◌⊎◌, inl, inr, ℕ, suc, ◌+◌, ◌-◌, ◌≤◌, Bool, true, false, not, cond, eqb, leb, ltb, List, [], ◌∷◌, Option, None, Some, refl, sym, ap, ◌∙◌, subst, arith, eqb-true, ltb-true, find, map}
 use Rattle.std.proofs.lemmas.Bool.{true≢false, and_parts, false_from_ne_true, leb-true}
-use Rattle.std.specs.List.{list_any}
+use Rattle.std.specs.List.{list_any, range_with_len}
 use Rattle.std.specs.Option.{option_map_or}
 use Rattle.std.specs.Prelude.{◌&&◌, ◌||◌, option_and_then, option_map}
 use Rattle.mt_names.specs.Names.{same_text}
+use Rattle.mt_names.specs.Shards.{shard_count}
 use Rattle.mt_names.proofs.SameLemmas.{same_text_decides}
 use Rattle.mt_model.specs.declared.entries.EntryKey.{EntryKey}
 use Rattle.mt_model.specs.declared.entries.EntryKey.TheVariants as about
 use Rattle.mt_model.specs.Topology.{TopologyState, value_of}
+use Rattle.mt_plain.specs.Next.{closes, after_advance, live_stepped, live_undone, next, on_way_of}
 use Rattle.mt_plain.specs.Answers.{Answers, Run, after, reply_of}
 use Rattle.mt_plain.specs.Events.{Event, begin_switch, begin_reverse, step, undo, cancel, complete, StreamName, forward, back, StreamState, running, stopped, Slot, Answer, done, row, advanced, shown, refused, Way, past_journal, stale, undoing}
-use Rattle.mt_plain.specs.Next.{after_advance, closes, live_stepped, live_undone, next, on_way_of}
-use Rattle.mt_plain.specs.Plain.{Live, Plain, allow_target, before_way, changes_primary, create_back, deny_source, first_step, has_part, is_side, live_at, mover, moves, next_step, owner_by, refresh_source, refresh_target, stands_done, start_back, stop_feeding, write_journal, step_at_place}
+use Rattle.mt_plain.specs.Plain.{Live, Plain, allow_target, before_way, changes_primary, create_back, deny_source, first_step, has_part, is_side, live_at, mover, moves, next_step, owner_by, refresh_source, refresh_target, stands_done, start_back, stop_feeding, write_journal, step_at_place, Lane, lane_at, next_place, place_of_refresh, stands_done_at}
 use Rattle.mt_plain.specs.Refuse.{or_else, own_refusal, refuse_if, step_refusal, undo_refusal}
-use Rattle.mt_plain.specs.Serve.{is_denied_at, owned_before, refuses, serve, served_by, served_entry, step_of_entry, types_by}
+use Rattle.mt_plain.specs.Serve.{is_denied_at, owned_before, refuses, serve, served_by, served_entry, step_of_entry, list_types, types_by}
 use Rattle.mt_plain.specs.Slots.{is_feeding, slot_at_rest, slot_before_way, slot_by_way, slot_of}
 use Rattle.mt_laws.specs.Changes.{HasSides, IsOf}
 use Rattle.mt_laws.specs.Steps.{IsLeftAlone, StepUndone, is_command, stream_state}
 use Rattle.mt_laws.specs.WayBack.{IsReached, ends_workflow, in_part}
+use Rattle.mt_laws.proofs.AllWritesLemmas.{reached_next}
+use Rattle.mt_laws.proofs.EffectLemmas.{place-ge, step_of_list-in}
+use Rattle.mt_laws.proofs.LaneLemmas.{reached_numbered}
 use Rattle.mt_laws.proofs.ChangeLemmas.{live_after, lives_after}
 use Rattle.mt_laws.proofs.LiveLemmas.{changed, find_some, find_the_one, sides_joined, sides_same}
 use Rattle.mt_laws.proofs.PartLemmas.{HasParts, IsSettled}
-use Rattle.mt_laws.proofs.PlainWords.{refuses_moved, types_by_way}
+use Rattle.mt_laws.proofs.PlainWords.{list_types_by_way, refuses_moved, types_by_way}
 use Rattle.mt_laws.proofs.ReachLemmas.{next_has_parts, reached_has_parts, run_has_parts}
 use Rattle.mt_laws.proofs.RefusalLemmas.{in_workflow-none, on_way-none}
 use Rattle.mt_laws.proofs.TrafficLemmas.{serve-same}
 use Rattle.mt_laws.proofs.UntouchedLemmas.{same_way, same_workflow}
 use Rattle.mt_laws.proofs.WayBackLemmas.{has_part-same, in_part-of, one_event, owner_of_part}
 use Rattle.mt_laws.proofs.WayLemmas.{undo_before_journal}
-use Rattle.mt_laws.proofs.WayStepLemmas.{fewer, more, no_way, one_way, way-stepped, at_first}
+use Rattle.mt_laws.proofs.WayStepLemmas.{at_first, fewer, first_step-le, more, no_way, one_way, way-stepped}
 use Rattle.mt_laws.proofs.WritableLemmas.{before_by}
 
 -- ---- what is served and refused follows from the types from before the way, and those at each step
@@ -41,7 +45,8 @@ state_of_slot o = option_map (λ s. s.state) o
 pub record SameTraffic (w v : Live) : Type 0 where
   pub before : before_way v ≡ before_way w
   pub types : (n : ℕ) → types_by v n ≡ types_by w n
-  pub streams : (stream : StreamName) → state_of_slot (slot_of v stream) ≡ state_of_slot (slot_of w stream)
+  pub lists : (n shard : ℕ) → 2 ≤ n → list_types_by_way v.switched v.way n shard ≡ list_types_by_way w.switched w.way n shard
+  pub streams : (one other : Lane) (stream : StreamName) → state_of_slot (slot_of v one stream) ≡ state_of_slot (slot_of w other stream)
 
 module _ (w v : Live) (sides : HasSides w v) (same : SameTraffic w v) where
   owner_before : owner_by v (before_way v) ≡ owner_by w (before_way w)
@@ -64,15 +69,15 @@ module _ (w v : Live) (sides : HasSides w v) (same : SameTraffic w v) where
   abbrev list_step : Live → List ℕ → ℕ
   list_step x keyspace = cond (owned_before x keyspace) refresh_source refresh_target
 
-  same_types : (keyspace : List ℕ) → types_by v (list_step v keyspace) ≡ types_by w (list_step w keyspace)
-  same_types keyspace =
-      ap (λ k. types_by v (cond (same_text k keyspace) refresh_source refresh_target)) owner_before ∙ same.types (list_step w keyspace)
+  same_types : (keyspace : List ℕ) (shard : ℕ) → list_types v keyspace shard ≡ list_types w keyspace shard
+  same_types keyspace shard =
+      ap (λ k. list_types_by_way v.switched v.way (cond (same_text k keyspace) refresh_source refresh_target) shard) owner_before ∙ same.lists (list_step w keyspace) shard (step_of_list-in w keyspace).0
 
-  pub refuses_same : (keyspace : List ℕ) → refuses_moved (Some v) keyspace ≡ refuses_moved (Some w) keyspace
-  refuses_same keyspace =
-      ap (λ types. is_side v keyspace && is_denied_at v types keyspace) (same_types keyspace)
-      ∙ ap (λ s. (same_text s keyspace || same_text v.target keyspace) && cond (same_text s keyspace) (types_by w (list_step w keyspace)).primary (not (types_by w (list_step w keyspace)).primary)) (sym sides.source)
-      ∙ ap (λ t. (same_text w.source keyspace || same_text t keyspace) && is_denied_at w (types_by w (list_step w keyspace)) keyspace) (sym sides.target)
+  pub refuses_same : (keyspace : List ℕ) (shard : ℕ) → refuses_moved (Some v) keyspace shard ≡ refuses_moved (Some w) keyspace shard
+  refuses_same keyspace shard =
+      ap (λ types. is_side v keyspace && is_denied_at v types keyspace) (same_types keyspace shard)
+      ∙ ap (λ s. (same_text s keyspace || same_text v.target keyspace) && cond (same_text s keyspace) (list_types w keyspace shard).primary (not (list_types w keyspace shard).primary)) (sym sides.source)
+      ∙ ap (λ t. (same_text w.source keyspace || same_text t keyspace) && is_denied_at w (list_types w keyspace shard) keyspace) (sym sides.target)
 
 -- ---- one step more, and one less
 
@@ -86,9 +91,20 @@ nothing_done way n none =
     let is = at_first way none in
     absurd (omega arith))
 
+none_refreshed : (way : Way) (n shard : ℕ) → way.done ≡ 0 → 2 ≤ n → stands_done_at way n shard ≡ false
+none_refreshed way n shard none le =
+    false_from_ne_true (stands_done_at way n shard)
+    (λ t. let lt = ltb-true (place_of_refresh way n shard) (next_place way) t in
+    let low = first_step-le way in
+    let ge = place-ge way n shard le in
+    absurd (omega arith))
+
 -- the same steps stand done
 same_steps : (way : Way) (n : ℕ) → stands_done (fewer (more way)) n ≡ stands_done way n
 same_steps way n = let e : suc way.done - 1 ≡ way.done = omega arith in ap (λ d. leb (first_step way) n && ltb n (step_at_place way (first_step way + d))) e
+
+same_refreshes : (way : Way) (n shard : ℕ) → stands_done_at (fewer (more way)) n shard ≡ stands_done_at way n shard
+same_refreshes way n shard = let e : suc way.done - 1 ≡ way.done = omega arith in ap (λ d. ltb (place_of_refresh way n shard) (first_step way + d)) e
 
 -- what a stream does on a way, by whether the way changes writes and feeds by it, and whether its feeding is stopped, a new one made, and
 -- that started
@@ -113,22 +129,22 @@ state_at_first true true None = refl
 state_at_first true true (Some s) = refl
 state_at_first true false o = refl
 
-state_at_rest : (v w : Live) (target_owns : Bool) (stream : StreamName) → state_of_slot (slot_at_rest v target_owns stream) ≡ state_of_slot (slot_at_rest w target_owns stream)
+state_at_rest : (v w : Lane) (target_owns : Bool) (stream : StreamName) → state_of_slot (slot_at_rest v target_owns stream) ≡ state_of_slot (slot_at_rest w target_owns stream)
 state_at_rest v w t forward = refl
 state_at_rest v w true back = refl
 state_at_rest v w false back = refl
 
-pub state_before : (v w : Live) (stream : StreamName) → before_way v ≡ before_way w → state_of_slot (slot_before_way v stream) ≡ state_of_slot (slot_before_way w stream)
-state_before v w stream same = state_at_rest v w (before_way v).primary stream ∙ ap (λ types. state_of_slot (slot_at_rest w types.primary stream)) same
+pub state_before : (v w : Live) (one other : Lane) (stream : StreamName) → before_way v ≡ before_way w → state_of_slot (slot_before_way v one stream) ≡ state_of_slot (slot_before_way w other stream)
+state_before v w one other stream same = state_at_rest one other (before_way v).primary stream ∙ ap (λ types. state_of_slot (slot_at_rest other types.primary stream)) same
 
 -- of a workflow with that way open
 abbrev pub state_of_way : Way → StreamName → Option StreamState → Option StreamState
 state_of_way way stream o = state_by (changes_primary way) (is_feeding way stream) (stands_done way stop_feeding) (stands_done way create_back) (stands_done way start_back) o
 
-pub state_of_open : (w : Live) (way : Way) (stream : StreamName) → w.way ≡ Some way → state_of_slot (slot_of w stream) ≡ state_of_way way stream (state_of_slot (slot_before_way w stream))
-state_of_open w way stream opens =
-    ap (λ o. state_of_slot (slot_by_way w o stream)) opens
-    ∙ state_on_way (changes_primary way) (is_feeding way stream) (stands_done way stop_feeding) (stands_done way create_back) (stands_done way start_back) (slot_before_way w stream) w.fresh_at
+pub state_of_open : (w : Live) (way : Way) (lane : Lane) (stream : StreamName) → w.way ≡ Some way → state_of_slot (slot_of w lane stream) ≡ state_of_way way stream (state_of_slot (slot_before_way w lane stream))
+state_of_open w way lane stream opens =
+    ap (λ o. state_of_slot (slot_by_way w lane o stream)) opens
+    ∙ state_on_way (changes_primary way) (is_feeding way stream) (stands_done way stop_feeding) (stands_done way create_back) (stands_done way start_back) (slot_before_way w lane stream) lane.fresh_at
 
 pub state_first : (way : Way) (stream : StreamName) (o : Option StreamState) → ((n : ℕ) → stands_done way n ≡ false) → state_of_way way stream o ≡ o
 state_first way stream o none =
@@ -161,9 +177,12 @@ undone_traffic w m way opens opened settled before = by (eqb ((more way).done - 
           types = λ n.
               settled (more way) opened before ∙ sym (ap (λ b. cond b way.after way.before) (nothing_done way n none))
               ∙ sym (ap (λ o. types_by_way w.switched o n) opens);
-          streams = λ stream.
-              state_before (record m { way = None }) w stream same
-              ∙ sym (state_of_open w way stream opens ∙ state_first way stream (state_of_slot (slot_before_way w stream)) (λ n. nothing_done way n none));
+          lists = λ n shard le.
+              settled (more way) opened before ∙ sym (ap (λ b. cond b way.after way.before) (none_refreshed way n shard none le))
+              ∙ sym (ap (λ o. list_types_by_way w.switched o n shard) opens);
+          streams = λ one other stream.
+              state_before (record m { way = None }) w one other stream same
+              ∙ sym (state_of_open w way other stream opens ∙ state_first way stream (state_of_slot (slot_before_way w other stream)) (λ n. nothing_done way n none));
         }
     by false e =
         let same : way.before ≡ before_way w = sym (ap (before_by w.switched) opens) in
@@ -171,11 +190,12 @@ undone_traffic w m way opens opened settled before = by (eqb ((more way).done - 
         record {
           before = same;
           types = λ n. ap (λ b. cond b way.after way.before) (same_steps way n) ∙ sym (ap (λ o. types_by_way w.switched o n) opens);
-          streams = λ stream.
-              state_of_open v (fewer (more way)) stream refl
-              ∙ state_again way stream (state_of_slot (slot_before_way v stream))
-              ∙ ap (state_of_way way stream) (state_before v w stream same)
-              ∙ sym (state_of_open w way stream opens);
+          lists = λ n shard le. ap (λ b. cond b way.after way.before) (same_refreshes way n shard) ∙ sym (ap (λ o. list_types_by_way w.switched o n shard) opens);
+          streams = λ one other stream.
+              state_of_open v (fewer (more way)) one stream refl
+              ∙ state_again way stream (state_of_slot (slot_before_way v one stream))
+              ∙ ap (state_of_way way stream) (state_before v w one other stream same)
+              ∙ sym (state_of_open w way other stream opens);
         }
 
 -- ---- an event that is no command of the workflow
@@ -282,6 +302,30 @@ mover_of : (p : Plain) (name : List ℕ) (w : Live) (table : List ℕ) → HasPa
 mover_of p name w table has live moved =
     find_the_one (λ v. moves v table) p.lives w has.apart (λ v a apart. apart.tables table a moved) (find_some (λ x. same_text x.name name) p.lives w live).0 moved
 
+-- runs go on
+run_reached : (events : List Event) (answers : List Answer) (p : Plain) → IsReached p → Run p events answers → IsReached (after p events answers)
+run_reached [] answers p reached run = reached
+run_reached (event ∷ events) [] p reached run = reached
+run_reached (event ∷ events) (answer ∷ answers) p reached run = run_reached events answers (next p event answer) (reached_next p event answer reached run.0) run.1
+
+-- what streams of the lane of a number do, where the lanes have the same numbers
+of_lanes : (shard : ℕ) (f g : Lane → Option Slot) → ((one other : Lane) → state_of_slot (f one) ≡ state_of_slot (g other)) → (xs ys : List Lane)
+    → map (λ lane. lane.shard) ys ≡ map (λ lane. lane.shard) xs
+    → state_of_slot (option_and_then f (find (λ lane. eqb lane.shard shard) xs)) ≡ state_of_slot (option_and_then g (find (λ lane. eqb lane.shard shard) ys))
+of_lanes shard f g same [] [] e = refl
+of_lanes shard f g same [] (y ∷ ys) e = absurd cc
+of_lanes shard f g same (x ∷ xs) [] e = absurd cc
+of_lanes shard f g same (x ∷ xs) (y ∷ ys) e =
+    let first : y.shard ≡ x.shard = cc in
+    let rest : map (λ lane. lane.shard) ys ≡ map (λ lane. lane.shard) xs = cc in
+    by (eqb x.shard shard) (of_lanes shard f g same xs ys rest)
+    ∙ sym (ap (λ n. state_of_slot (option_and_then g (cond (eqb n shard) (Some y) (find (λ lane. eqb lane.shard shard) ys)))) first)
+  where
+    by : (t : Bool) → state_of_slot (option_and_then f (find (λ lane. eqb lane.shard shard) xs)) ≡ state_of_slot (option_and_then g (find (λ lane. eqb lane.shard shard) ys))
+        → state_of_slot (option_and_then f (cond t (Some x) (find (λ lane. eqb lane.shard shard) xs))) ≡ state_of_slot (option_and_then g (cond t (Some y) (find (λ lane. eqb lane.shard shard) ys)))
+    by true rest = same x y
+    by false rest = rest
+
 pub record Undone (p q : Plain) (name : List ℕ) : Type 0 where
   pub first : Live
   pub live_first : live_at p name ≡ Some first
@@ -291,6 +335,7 @@ pub record Undone (p q : Plain) (name : List ℕ) : Type 0 where
   pub traffic : SameTraffic first final
   pub values : (key : EntryKey) → has_part first key ≡ true → value_of q.topology key ≡ value_of p.topology key
   pub parts : HasParts q
+  pub lanes : map (λ lane. lane.shard) first.lanes ≡ map (λ lane. lane.shard) final.lanes
 
 module _ (name : List ℕ) (at at_undo : ℕ) (p q : Plain) (reached : IsReached p) (u : StepUndone name at at_undo p q) where
   abbrev stepped_at : Plain
@@ -298,6 +343,10 @@ module _ (name : List ℕ) (at at_undo : ℕ) (p q : Plain) (reached : IsReached
 
   abbrev undone_at : Plain
   undone_at = after stepped_at u.events u.answers
+
+  reached_undone : IsReached (next undone_at (undo name at_undo) done)
+  reached_undone =
+      reached_next undone_at (undo name at_undo) done (run_reached u.events u.answers stepped_at (reached_next p (step name at) done reached u.stepped) u.run) u.undone
 
   pub undone : Undone p q name
   undone =
@@ -343,6 +392,10 @@ module _ (name : List ℕ) (at at_undo : ℕ) (p q : Plain) (reached : IsReached
             ∙ mid.values key (sym (has_part-same w one.later one.sides key) ∙ part)
             ∙ one.values key part;
         parts = subst HasParts u.is (next_has_parts undone_at (undo name at_undo) done has_undone u.undone);
+        lanes =
+            reached_numbered p reached w (find_some (λ x. same_text x.name name) p.lives w start.1).0
+            ∙ ap (λ cuts. range_with_len 0 (shard_count cuts)) (sides_joined w m two.later to_undo two.sides).cuts
+            ∙ sym (reached_numbered (next undone_at (undo name at_undo) done) reached_undone two.later (find_some (λ x. same_text x.name name) (next undone_at (undo name at_undo) done).lives two.later two.live).0);
       }
 
   pub undone_serves : (key : EntryKey) → in_part p name key ≡ true → served_entry q key ≡ served_entry p key
@@ -354,18 +407,19 @@ module _ (name : List ℕ) (at at_undo : ℕ) (p q : Plain) (reached : IsReached
       ∙ served_same undone.first undone.final undone.sides undone.traffic q.topology p.topology key (undone.values key mine)
       ∙ sym (owned_entry p name undone.first key has undone.live_first mine)
 
-  pub undone_refuses : (w : Live) (keyspace table : List ℕ) → live_at p name ≡ Some w → moves w table ≡ true → refuses q keyspace table ≡ refuses p keyspace table
-  undone_refuses w keyspace table live moved =
+  pub undone_refuses : (w : Live) (keyspace : List ℕ) (shard : ℕ) (table : List ℕ) → live_at p name ≡ Some w → moves w table ≡ true → refuses q keyspace shard table ≡ refuses p keyspace shard table
+  undone_refuses w keyspace shard table live moved =
       let has = reached_has_parts p reached in
       let found : Some w ≡ Some undone.first = sym live ∙ undone.live_first in
       let same : w ≡ undone.first = cc in
       let mine : moves undone.first table ≡ true = ap (λ x. moves x table) (sym same) ∙ moved in
-      ap (λ o. refuses_moved o keyspace) (mover_of q name undone.final table undone.parts undone.live_final (moves_same undone.first undone.final undone.sides table mine))
-      ∙ refuses_same undone.first undone.final undone.sides undone.traffic keyspace
-      ∙ sym (ap (λ o. refuses_moved o keyspace) (mover_of p name undone.first table has undone.live_first mine))
+      ap (λ o. refuses_moved o keyspace shard) (mover_of q name undone.final table undone.parts undone.live_final (moves_same undone.first undone.final undone.sides table mine))
+      ∙ refuses_same undone.first undone.final undone.sides undone.traffic keyspace shard
+      ∙ sym (ap (λ o. refuses_moved o keyspace shard) (mover_of p name undone.first table has undone.live_first mine))
 
-  pub undone_streams : (stream : StreamName) → stream_state q name stream ≡ stream_state p name stream
-  undone_streams stream =
-      ap (λ o. state_of_slot (option_and_then (λ w. slot_of w stream) o)) undone.live_final
-      ∙ undone.traffic.streams stream
-      ∙ sym (ap (λ o. state_of_slot (option_and_then (λ w. slot_of w stream) o)) undone.live_first)
+  pub undone_streams : (shard : ℕ) (stream : StreamName) → stream_state q name shard stream ≡ stream_state p name shard stream
+  undone_streams shard stream =
+      ap (λ o. state_of_slot (option_and_then (λ w. option_and_then (λ lane. slot_of w lane stream) (lane_at w shard)) o)) undone.live_final
+      ∙ of_lanes shard (λ lane. slot_of undone.final lane stream) (λ lane. slot_of undone.first lane stream) (λ one other. undone.traffic.streams one other stream)
+      undone.final.lanes undone.first.lanes undone.lanes
+      ∙ sym (ap (λ o. state_of_slot (option_and_then (λ w. option_and_then (λ lane. slot_of w lane stream) (lane_at w shard)) o)) undone.live_first)

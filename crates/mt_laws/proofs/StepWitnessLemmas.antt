@@ -24,7 +24,7 @@ all = record { primary = true; replica = true; rdonly = true }
 -- a switch whose first step stands done
 abbrev events : List Event
 events =
-    add_keyspace (codes "a") ∷ add_keyspace (codes "b") ∷ add_table (codes "a") (codes "t") ∷ create (codes "w") (codes "a") (codes "b") (codes "t" ∷ []) ∷ advance (codes "w") forward 0 1
+    add_keyspace (codes "a") [] ∷ add_keyspace (codes "b") [] ∷ add_table (codes "a") (codes "t") ∷ create (codes "w") (codes "a") (codes "b") (codes "t" ∷ []) ∷ advance (codes "w") forward 0 0 1
     ∷ begin_switch (codes "w") all ∷ step (codes "w") 0 ∷ []
 
 abbrev answers : List Answer
@@ -45,7 +45,7 @@ reached = record {
 -- a write to the moved table, which the workflow's own stream feeds, and another workflow of a new table
 abbrev between : List Event
 between =
-    write (codes "a") (codes "t") (Insert 1 (record { items = codes "x" })) ∷ advance (codes "w") forward 0 5 ∷ add_table (codes "a") (codes "u") ∷ create (codes "v") (codes "a") (codes "b") (codes "u" ∷ []) ∷ []
+    write (codes "a") (codes "t") (Insert 1 (record { items = codes "x" })) ∷ advance (codes "w") forward 0 0 5 ∷ add_table (codes "a") (codes "u") ∷ create (codes "v") (codes "a") (codes "b") (codes "u" ∷ []) ∷ []
 
 abbrev between_answers : List Answer
 between_answers = done ∷ advanced 1 0 ∷ done ∷ done ∷ []

@@ -1,21 +1,21 @@
 -- What a step and an undo change of a workflow's streams.
-use Rattle.std.proofs.Common.{◌≡◌, ◌≢◌, ℕ, suc, ◌-◌, ◌<◌, ◌≤◌, Bool, true, false, not, cond, eqb, Option, None, Some, option_map, refl, sym, ap, ◌∙◌, arith, eqb-true, inl, inr, subst, leb, ◌+◌, ltb, ltb-true, lt-ltb}
+use Rattle.std.proofs.Common.{◌≡◌, ◌≢◌, inl, inr, subst, leb, ltb, lt-ltb, ltb-true, ◌+◌, ℕ, suc, ◌-◌, ◌<◌, ◌≤◌, Bool, true, false, not, cond, eqb, Option, None, Some, option_map, refl, sym, ap, ◌∙◌, arith, eqb-true}
+use Rattle.std.proofs.lemmas.Bool.{and_from, and_parts, leb-false, leb-true, true≢false, eq-eqb, false_from_ne_true}
 use Rattle.std.specs.Cmp.{both_ways}
-use Rattle.mt_plain.proofs.PlaceLemmas.{step-behind, step-first}
-use Rattle.mt_laws.proofs.ListLemmas.{cond-either}
-use Rattle.std.proofs.lemmas.Bool.{true≢false, eq-eqb, false_from_ne_true, leb-true, leb-false, and_parts, and_from}
 use Rattle.std.specs.Option.{option_map_or}
 use Rattle.std.specs.Prelude.{◌&&◌, ◌||◌}
 use Rattle.mt_names.specs.declared.types.TypeSet.{TypeSet}
 use Rattle.mt_plain.specs.Events.{StreamName, forward, back, running, stopped, frozen, Slot, Way}
-use Rattle.mt_plain.specs.Next.{closes, live_stepped, live_undone}
-use Rattle.mt_plain.specs.Plain.{Live, Plain, before_way, behind_last, changes_primary, create_back, differ, freeze_old, next_step, stands_done, start_back, stop_feeding, write_journal, last_step, next_place, repeated_step, step_at_place, first_step}
+use Rattle.mt_plain.specs.Next.{closes, lane_stepped, live_stepped, live_undone}
+use Rattle.mt_plain.specs.Plain.{Lane, first_step, next_place, repeated_step, step_at_place, Live, Plain, before_way, behind_last, changes_primary, create_back, differ, freeze_old, next_step, stands_done, start_back, stop_feeding, write_journal, last_step}
 use Rattle.mt_plain.specs.Refuse.{new_owner}
 use Rattle.mt_plain.specs.Slots.{is_feeding, log_length, slot_before_way, slot_by_way, slot_of}
+use Rattle.mt_plain.proofs.PlaceLemmas.{step-behind, step-first}
 use Rattle.mt_laws.specs.Effects.{feeding_stepped, in_state, other_stepped, slot_stepped, slot_undone}
 use Rattle.mt_laws.proofs.EffectLemmas.{differ-false}
 use Rattle.mt_laws.proofs.StepCountLemmas.{few_done}
-use Rattle.mt_laws.proofs.WayStepLemmas.{done_by, fewer, first_step-le, more, same_done, undone_by, OneOn, fewer-le, next_on, one_on, repeated-ge, was_done}
+use Rattle.mt_laws.proofs.ListLemmas.{cond-either}
+use Rattle.mt_laws.proofs.WayStepLemmas.{OneOn, done_by, fewer, fewer-le, first_step-le, more, next_on, one_on, repeated-ge, same_done, undone_by, was_done}
 
 -- ---- a slot, by what it hangs on
 
@@ -31,22 +31,22 @@ way_slot changes feeds stops creates starts fresh_at slot =
     (cond feeds (option_map (λ (s : Slot). cond stops (record s { state = stopped }) s) slot)
     (cond creates (Some (record { state = cond starts running stopped; position = fresh_at })) slot))
 
-before-rest : (w : Live) (types_primary : Bool) (name : StreamName) → (before_way w).primary ≡ types_primary → slot_before_way w name ≡ rest_slot w.forward_at w.back_at types_primary name
-before-rest w t forward e = ap (λ b. Some (record { state = cond b frozen running; position = w.forward_at })) e
-before-rest w t back e = ap (λ b. cond b (Some (record { state = running; position = w.back_at })) None) e
+before-rest : (w : Live) (lane : Lane) (types_primary : Bool) (name : StreamName) → (before_way w).primary ≡ types_primary → slot_before_way w lane name ≡ rest_slot lane.forward_at lane.back_at types_primary name
+before-rest w lane t forward e = ap (λ b. Some (record { state = cond b frozen running; position = lane.forward_at })) e
+before-rest w lane t back e = ap (λ b. cond b (Some (record { state = running; position = lane.back_at })) None) e
 
-closed-slot : (v : Live) (name : StreamName) → v.way ≡ None → slot_of v name ≡ rest_slot v.forward_at v.back_at v.switched.primary name
-closed-slot v name none =
-    ap (λ o. slot_by_way v o name) none
-    ∙ before-rest v v.switched.primary name (ap (λ o. (option_map_or (λ (x : Way). x.before) o v.switched).primary) none)
+closed-slot : (v : Live) (lane : Lane) (name : StreamName) → v.way ≡ None → slot_of v lane name ≡ rest_slot lane.forward_at lane.back_at v.switched.primary name
+closed-slot v lane name none =
+    ap (λ o. slot_by_way v lane o name) none
+    ∙ before-rest v lane v.switched.primary name (ap (λ o. (option_map_or (λ (x : Way). x.before) o v.switched).primary) none)
 
-open-slot : (v : Live) (way : Way) (name : StreamName) → v.way ≡ Some way
-    → slot_of v name ≡ way_slot (changes_primary way) (is_feeding way name) (stands_done way stop_feeding) (stands_done way create_back) (stands_done way start_back) v.fresh_at
-    (rest_slot v.forward_at v.back_at way.before.primary name)
-open-slot v way name opens =
-    ap (λ o. slot_by_way v o name) opens
-    ∙ ap (way_slot (changes_primary way) (is_feeding way name) (stands_done way stop_feeding) (stands_done way create_back) (stands_done way start_back) v.fresh_at)
-    (before-rest v way.before.primary name (ap (λ o. (option_map_or (λ (x : Way). x.before) o v.switched).primary) opens))
+open-slot : (v : Live) (way : Way) (lane : Lane) (name : StreamName) → v.way ≡ Some way
+    → slot_of v lane name ≡ way_slot (changes_primary way) (is_feeding way name) (stands_done way stop_feeding) (stands_done way create_back) (stands_done way start_back) lane.fresh_at
+    (rest_slot lane.forward_at lane.back_at way.before.primary name)
+open-slot v way lane name opens =
+    ap (λ o. slot_by_way v lane o name) opens
+    ∙ ap (way_slot (changes_primary way) (is_feeding way name) (stands_done way stop_feeding) (stands_done way create_back) (stands_done way start_back) lane.fresh_at)
+    (before-rest v lane way.before.primary name (ap (λ o. (option_map_or (λ (x : Way). x.before) o v.switched).primary) opens))
 
 -- a slot that stays as it is
 same-state : (slot : Option Slot) → option_map (λ (s : Slot). s) slot ≡ slot
@@ -57,7 +57,12 @@ either-same : {A : Type 0} (t : Bool) (x : A) → cond t x x ≡ x
 either-same true x = refl
 either-same false x = refl
 
--- ---- a step
+-- ---- the lane behind a step, by the number of the step
+
+abbrev lane_at_step : Plain → Live → Way → Lane → (creates closing : Bool) → Lane
+lane_at_step p w way lane creates closing =
+    cond creates (record lane { fresh_at = log_length p (new_owner w) (cond (before_way w).primary 0 lane.shard) })
+    (cond (closing && changes_primary way) (cond way.back (record lane { forward_at = lane.fresh_at }) (record lane { back_at = lane.fresh_at })) lane)
 
 -- a slot behind a step of this number
 abbrev slot_at_step : Way → StreamName → (n log_end : ℕ) → Option Slot → Option Slot
@@ -72,33 +77,33 @@ differ-true true false e = refl
 differ-true false true e = refl
 differ-true false false e = absurd (true≢false (sym e))
 
-module _ (p : Plain) (w : Live) (way : Way) (name : StreamName) (opens : w.way ≡ Some way) (turned : changes_primary way ≡ true → way.before.primary ≡ way.back) (left : next_step way < behind_last way) where
+module _ (p : Plain) (w : Live) (way : Way) (lane : Lane) (name : StreamName) (opens : w.way ≡ Some way) (turned : changes_primary way ≡ true → way.before.primary ≡ way.back) (left : next_step way < behind_last way) where
   abbrev stepped : Live
   stepped = live_stepped p w way
 
   abbrev log_end : ℕ
-  log_end = log_length p (new_owner w)
+  log_end = log_length p (new_owner w) (cond (before_way w).primary 0 lane.shard)
+
+  abbrev later : Lane
+  later = lane_stepped p w way lane
 
   abbrev Stepped : Type 0
-  Stepped = slot_of stepped name ≡ slot_stepped way name log_end (slot_of w name)
+  Stepped = slot_of stepped later name ≡ slot_stepped way name log_end (slot_of w lane name)
 
   abbrev rests : Option Slot
-  rests = rest_slot w.forward_at w.back_at way.before.primary name
+  rests = rest_slot lane.forward_at lane.back_at way.before.primary name
 
-  -- the positions at rest, by whether the step closes the way, and whether that changes writes
-  abbrev rests_by : (closing changes : Bool) → (target_owns : Bool) → Option Slot
-  rests_by closing changes target_owns =
-      rest_slot (cond (closing && changes && way.back) w.fresh_at w.forward_at) (cond (closing && changes && not way.back) w.fresh_at w.back_at) target_owns name
+  at_lane : (a b : Bool) → eqb (next_step way) create_back ≡ a → closes way ≡ b → later ≡ lane_at_step p w way lane a b
+  at_lane a b e f = ap (λ t. lane_at_step p w way lane t (closes way)) e ∙ ap (lane_at_step p w way lane a) f
+
+  by_number : (n : ℕ) → next_step way ≡ n → slot_of stepped later name ≡ slot_at_step way name n log_end (slot_of w lane name) → Stepped
+  by_number n is e = e ∙ ap (λ m. slot_at_step way name m log_end (slot_of w lane name)) (sym is)
 
   -- behind the last step
-  at_close : closes way ≡ true → slot_of stepped name ≡ rests_by true (changes_primary way) way.after.primary
-  at_close c =
-      closed-slot stepped name (ap (λ b. cond b None (Some (more way))) c)
-      ∙ ap (λ l. rests_by (closes way) (changes_primary way) (cond (l || eqb (next_step way) write_journal) way.after w.switched).primary) c
-      ∙ ap (λ l. rests_by l (changes_primary way) way.after.primary) c
-
-  by_number : (n : ℕ) → next_step way ≡ n → slot_of stepped name ≡ slot_at_step way name n log_end (slot_of w name) → Stepped
-  by_number n is e = e ∙ ap (λ m. slot_at_step way name m log_end (slot_of w name)) (sym is)
+  at_close : closes way ≡ true → slot_of stepped later name ≡ rest_slot later.forward_at later.back_at way.after.primary name
+  at_close t =
+      closed-slot stepped later name (ap (λ b. cond b None (Some (more way))) t)
+      ∙ ap (λ b. rest_slot later.forward_at later.back_at (cond (b || eqb (next_step way) write_journal) way.after w.switched).primary name) t
 
   -- a way of reads
   of_reads : changes_primary way ≡ false → Stepped
@@ -113,15 +118,21 @@ module _ (p : Plain) (w : Live) (way : Way) (name : StreamName) (opens : w.way �
       closing : closes way ≡ true
       closing = eq-eqb (suc (next_step way)) (behind_last way) (omega (arith, first, last))
 
-      behind : slot_of stepped name ≡ rests
-      behind =
-          at_close closing ∙ ap (λ t. rests_by true t way.after.primary) none
-          ∙ ap (λ b. rest_slot w.forward_at w.back_at b name) (differ-false way.before.primary way.after.primary none)
+      same : later ≡ lane
+      same = at_lane false true (ap (λ n. eqb n create_back) first) closing ∙ ap (λ b. lane_by b) none
+        where
+          lane_by : Bool → Lane
+          lane_by b = cond b (cond way.back (record lane { forward_at = lane.fresh_at }) (record lane { back_at = lane.fresh_at })) lane
 
-      here : slot_at_step way name 0 log_end (slot_of w name) ≡ rests
+      behind : slot_of stepped later name ≡ rests
+      behind =
+          at_close closing ∙ ap (λ (l : Lane). rest_slot l.forward_at l.back_at way.after.primary name) same
+          ∙ ap (λ b. rest_slot lane.forward_at lane.back_at b name) (differ-false way.before.primary way.after.primary none)
+
+      here : slot_at_step way name 0 log_end (slot_of w lane name) ≡ rests
       here =
-          either-same (is_feeding way name) (slot_of w name) ∙ open-slot w way name opens
-          ∙ ap (λ c. way_slot c (is_feeding way name) (stands_done way stop_feeding) (stands_done way create_back) (stands_done way start_back) w.fresh_at rests) none
+          either-same (is_feeding way name) (slot_of w lane name) ∙ open-slot w way lane name opens
+          ∙ ap (λ c. way_slot c (is_feeding way name) (stands_done way stop_feeding) (stands_done way create_back) (stands_done way start_back) lane.fresh_at rests) none
 
   module _ (changes : changes_primary way ≡ true) where
     last : behind_last way ≡ 12
@@ -129,29 +140,36 @@ module _ (p : Plain) (w : Live) (way : Way) (name : StreamName) (opens : w.way �
 
     -- the slot before the step, by the steps that stand done
     was : (stops creates starts : Bool) → stands_done way stop_feeding ≡ stops → stands_done way create_back ≡ creates → stands_done way start_back ≡ starts
-        → slot_of w name ≡ way_slot true (is_feeding way name) stops creates starts w.fresh_at rests
+        → slot_of w lane name ≡ way_slot true (is_feeding way name) stops creates starts lane.fresh_at rests
     was stops creates starts a b c =
-        open-slot w way name opens
-        ∙ ap (λ x. way_slot x (is_feeding way name) (stands_done way stop_feeding) (stands_done way create_back) (stands_done way start_back) w.fresh_at rests) changes
-        ∙ ap (λ x. way_slot true (is_feeding way name) x (stands_done way create_back) (stands_done way start_back) w.fresh_at rests) a
-        ∙ ap (λ x. way_slot true (is_feeding way name) stops x (stands_done way start_back) w.fresh_at rests) b
-        ∙ ap (λ x. way_slot true (is_feeding way name) stops creates x w.fresh_at rests) c
+        open-slot w way lane name opens
+        ∙ ap (λ x. way_slot x (is_feeding way name) (stands_done way stop_feeding) (stands_done way create_back) (stands_done way start_back) lane.fresh_at rests) changes
+        ∙ ap (λ x. way_slot true (is_feeding way name) x (stands_done way create_back) (stands_done way start_back) lane.fresh_at rests) a
+        ∙ ap (λ x. way_slot true (is_feeding way name) stops x (stands_done way start_back) lane.fresh_at rests) b
+        ∙ ap (λ x. way_slot true (is_feeding way name) stops creates x lane.fresh_at rests) c
 
     -- and behind it, while the way is open
     now : (made : Bool) → eqb (next_step way) create_back ≡ made → closes way ≡ false
         → (stops creates starts : Bool) → stands_done (more way) stop_feeding ≡ stops → stands_done (more way) create_back ≡ creates → stands_done (more way) start_back ≡ starts
-        → slot_of stepped name ≡ way_slot true (is_feeding way name) stops creates starts (cond made log_end w.fresh_at) rests
-    now made e open_still stops creates starts a b c =
-        open-slot stepped (more way) name (ap (λ l. cond l None (Some (more way))) open_still)
-        ∙ ap (λ l. way_slot (changes_primary way) (is_feeding way name) (stands_done (more way) stop_feeding) (stands_done (more way) create_back) (stands_done (more way) start_back) stepped.fresh_at (rests_by l (changes_primary way) way.before.primary)) open_still
-        ∙ ap (λ m. way_slot (changes_primary way) (is_feeding way name) (stands_done (more way) stop_feeding) (stands_done (more way) create_back) (stands_done (more way) start_back) (cond m log_end w.fresh_at) rests) e
-        ∙ ap (λ x. way_slot x (is_feeding way name) (stands_done (more way) stop_feeding) (stands_done (more way) create_back) (stands_done (more way) start_back) (cond made log_end w.fresh_at) rests) changes
-        ∙ ap (λ x. way_slot true (is_feeding way name) x (stands_done (more way) create_back) (stands_done (more way) start_back) (cond made log_end w.fresh_at) rests) a
-        ∙ ap (λ x. way_slot true (is_feeding way name) stops x (stands_done (more way) start_back) (cond made log_end w.fresh_at) rests) b
-        ∙ ap (λ x. way_slot true (is_feeding way name) stops creates x (cond made log_end w.fresh_at) rests) c
+        → slot_of stepped later name ≡ way_slot true (is_feeding way name) stops creates starts (cond made log_end lane.fresh_at) rests
+    now made e f stops creates starts a b c =
+        ap (λ l. slot_of stepped l name) (at_lane made false e f)
+        ∙ open-slot stepped (more way) (lane_at_step p w way lane made false) name (ap (λ b. cond b None (Some (more way))) f)
+        ∙ ap (λ x. way_slot x (is_feeding way name) (stands_done (more way) stop_feeding) (stands_done (more way) create_back) (stands_done (more way) start_back) (made_lane made).fresh_at
+        (rest_slot (made_lane made).forward_at (made_lane made).back_at way.before.primary name)) changes
+        ∙ by made
+        ∙ ap (λ x. way_slot true (is_feeding way name) x (stands_done (more way) create_back) (stands_done (more way) start_back) (cond made log_end lane.fresh_at) rests) a
+        ∙ ap (λ x. way_slot true (is_feeding way name) stops x (stands_done (more way) start_back) (cond made log_end lane.fresh_at) rests) b
+        ∙ ap (λ x. way_slot true (is_feeding way name) stops creates x (cond made log_end lane.fresh_at) rests) c
+      where
+        made_lane : Bool → Lane
+        made_lane m = lane_at_step p w way lane m false
 
-    open_at : next_step way ≢ 11 → closes way ≡ false
-    open_at apart = false_from_ne_true (closes way) (λ t. let e = eqb-true (suc (next_step way)) (behind_last way) t in let f = last in absurd (apart (omega arith)))
+        by : (m : Bool) → way_slot true (is_feeding way name) (stands_done (more way) stop_feeding) (stands_done (more way) create_back) (stands_done (more way) start_back) (made_lane m).fresh_at
+            (rest_slot (made_lane m).forward_at (made_lane m).back_at way.before.primary name)
+            ≡ way_slot true (is_feeding way name) (stands_done (more way) stop_feeding) (stands_done (more way) create_back) (stands_done (more way) start_back) (cond m log_end lane.fresh_at) rests
+        by true = refl
+        by false = refl
 
     -- a step that is not repeated leads to the next number
     further : (n : ℕ) → n ≢ repeated_step way → next_step way ≡ n → next_step (more way) ≡ suc n
@@ -164,15 +182,18 @@ module _ (p : Plain) (w : Live) (way : Way) (name : StreamName) (opens : w.way �
     once : (n : ℕ) → n ≢ 2 → n ≢ 8 → n ≢ repeated_step way
     once n a b = cond-either (λ m. n ≢ m) way.back 2 8 a b
 
+    open_at : (n : ℕ) → next_step way ≡ n → n ≢ 11 → closes way ≡ false
+    open_at n is apart = false_from_ne_true (closes way) (λ t. let e = eqb-true (suc (next_step way)) (behind_last way) t in let f = last in absurd (apart (omega arith)))
+
     stops : next_step way ≡ 4 → Stepped
     stops is =
         let e = further 4 (once 4 (λ x. absurd (omega arith)) (λ x. absurd (omega arith))) is in
-        by_number 4 is (now false (ap (λ n. eqb n create_back) is) (open_at (λ x. absurd (omega arith))) true false false
+        by_number 4 is (now false (ap (λ n. eqb n create_back) is) (open_at 4 is (λ x. absurd (omega arith))) true false false
         (done_by (more way) stop_feeding 5 e (omega arith) (omega arith)) (undone_by (more way) create_back 5 e (omega arith)) (undone_by (more way) start_back 5 e (omega arith))
         ∙ by (is_feeding way name) rests
         ∙ ap (slot_at_step way name 4 log_end) (sym (was false false false (undone_by way stop_feeding 4 is (omega arith)) (undone_by way create_back 4 is (omega arith)) (undone_by way start_back 4 is (omega arith)))))
       where
-        by : (f : Bool) (slot : Option Slot) → way_slot true f true false false w.fresh_at slot ≡ cond f (feeding_stepped way.back 4 (way_slot true f false false false w.fresh_at slot)) (other_stepped 4 log_end (way_slot true f false false false w.fresh_at slot))
+        by : (f : Bool) (slot : Option Slot) → way_slot true f true false false lane.fresh_at slot ≡ cond f (feeding_stepped way.back 4 (way_slot true f false false false lane.fresh_at slot)) (other_stepped 4 log_end (way_slot true f false false false lane.fresh_at slot))
         by true None = refl
         by true (Some s) = refl
         by false slot = refl
@@ -180,24 +201,24 @@ module _ (p : Plain) (w : Live) (way : Way) (name : StreamName) (opens : w.way �
     creates : next_step way ≡ 5 → Stepped
     creates is =
         let e = further 5 (once 5 (λ x. absurd (omega arith)) (λ x. absurd (omega arith))) is in
-        by_number 5 is (now true (ap (λ n. eqb n create_back) is) (open_at (λ x. absurd (omega arith))) true true false
+        by_number 5 is (now true (ap (λ n. eqb n create_back) is) (open_at 5 is (λ x. absurd (omega arith))) true true false
         (done_by (more way) stop_feeding 6 e (omega arith) (omega arith)) (done_by (more way) create_back 6 e (omega arith) (omega arith)) (undone_by (more way) start_back 6 e (omega arith))
         ∙ by (is_feeding way name) rests
         ∙ ap (slot_at_step way name 5 log_end) (sym (was true false false (done_by way stop_feeding 5 is (omega arith) (omega arith)) (undone_by way create_back 5 is (omega arith)) (undone_by way start_back 5 is (omega arith)))))
       where
-        by : (f : Bool) (slot : Option Slot) → way_slot true f true true false log_end slot ≡ cond f (feeding_stepped way.back 5 (way_slot true f true false false w.fresh_at slot)) (other_stepped 5 log_end (way_slot true f true false false w.fresh_at slot))
+        by : (f : Bool) (slot : Option Slot) → way_slot true f true true false log_end slot ≡ cond f (feeding_stepped way.back 5 (way_slot true f true false false lane.fresh_at slot)) (other_stepped 5 log_end (way_slot true f true false false lane.fresh_at slot))
         by true slot = refl
         by false slot = refl
 
     starts : next_step way ≡ 10 → Stepped
     starts is =
         let e = further 10 (once 10 (λ x. absurd (omega arith)) (λ x. absurd (omega arith))) is in
-        by_number 10 is (now false (ap (λ n. eqb n create_back) is) (open_at (λ x. absurd (omega arith))) true true true
+        by_number 10 is (now false (ap (λ n. eqb n create_back) is) (open_at 10 is (λ x. absurd (omega arith))) true true true
         (done_by (more way) stop_feeding 11 e (omega arith) (omega arith)) (done_by (more way) create_back 11 e (omega arith) (omega arith)) (done_by (more way) start_back 11 e (omega arith) (omega arith))
         ∙ by (is_feeding way name) rests
         ∙ ap (slot_at_step way name 10 log_end) (sym (was true true false (done_by way stop_feeding 10 is (omega arith) (omega arith)) (done_by way create_back 10 is (omega arith) (omega arith)) (undone_by way start_back 10 is (omega arith)))))
       where
-        by : (f : Bool) (slot : Option Slot) → way_slot true f true true true w.fresh_at slot ≡ cond f (feeding_stepped way.back 10 (way_slot true f true true false w.fresh_at slot)) (other_stepped 10 log_end (way_slot true f true true false w.fresh_at slot))
+        by : (f : Bool) (slot : Option Slot) → way_slot true f true true true lane.fresh_at slot ≡ cond f (feeding_stepped way.back 10 (way_slot true f true true false lane.fresh_at slot)) (other_stepped 10 log_end (way_slot true f true true false lane.fresh_at slot))
         by true slot = refl
         by false slot = refl
 
@@ -208,24 +229,28 @@ module _ (p : Plain) (w : Live) (way : Way) (name : StreamName) (opens : w.way �
         closing = let f = last in eq-eqb (suc (next_step way)) (behind_last way) (omega arith)
 
         -- the stream that the way has made takes its place
-        behind : slot_of stepped name ≡ cond way.back (rest_slot w.fresh_at w.back_at false name) (rest_slot w.forward_at w.fresh_at true name)
+        taken : Bool → Lane
+        taken b = cond b (record lane { forward_at = lane.fresh_at }) (record lane { back_at = lane.fresh_at })
+
+        behind : slot_of stepped later name ≡ cond way.back (rest_slot lane.fresh_at lane.back_at false name) (rest_slot lane.forward_at lane.fresh_at true name)
         behind =
-            at_close closing ∙ ap (λ t. rests_by true t way.after.primary) changes
-            ∙ ap (rests_by true true) (differ-true way.before.primary way.after.primary changes ∙ ap not (turned changes)) ∙ shape way.back
+            at_close closing
+            ∙ ap (λ (l : Lane). rest_slot l.forward_at l.back_at way.after.primary name) (at_lane false true (ap (λ n. eqb n create_back) is) closing ∙ ap (λ b. cond b (taken way.back) lane) changes)
+            ∙ ap (λ b. rest_slot (taken way.back).forward_at (taken way.back).back_at b name) (differ-true way.before.primary way.after.primary changes ∙ ap not (turned changes))
+            ∙ shape way.back
           where
-            shape : (b : Bool) → rest_slot (cond b w.fresh_at w.forward_at) (cond (not b) w.fresh_at w.back_at) (not b) name
-                ≡ cond b (rest_slot w.fresh_at w.back_at false name) (rest_slot w.forward_at w.fresh_at true name)
+            shape : (b : Bool) → rest_slot (taken b).forward_at (taken b).back_at (not b) name ≡ cond b (rest_slot lane.fresh_at lane.back_at false name) (rest_slot lane.forward_at lane.fresh_at true name)
             shape true = refl
             shape false = refl
 
-        here : slot_of w name ≡ way_slot true (is_feeding way name) true true true w.fresh_at (rest_slot w.forward_at w.back_at way.back name)
+        here : slot_of w lane name ≡ way_slot true (is_feeding way name) true true true lane.fresh_at (rest_slot lane.forward_at lane.back_at way.back name)
         here =
             was true true true (done_by way stop_feeding 11 is (omega arith) (omega arith)) (done_by way create_back 11 is (omega arith) (omega arith)) (done_by way start_back 11 is (omega arith) (omega arith))
-            ∙ ap (λ t. way_slot true (is_feeding way name) true true true w.fresh_at (rest_slot w.forward_at w.back_at t name)) (turned changes)
+            ∙ ap (λ t. way_slot true (is_feeding way name) true true true lane.fresh_at (rest_slot lane.forward_at lane.back_at t name)) (turned changes)
 
-        by : (b : Bool) (n : StreamName) → cond b (rest_slot w.fresh_at w.back_at false n) (rest_slot w.forward_at w.fresh_at true n)
-            ≡ cond (feeds way b n) (feeding_stepped b 11 (way_slot true (feeds way b n) true true true w.fresh_at (rest_slot w.forward_at w.back_at b n)))
-            (other_stepped 11 log_end (way_slot true (feeds way b n) true true true w.fresh_at (rest_slot w.forward_at w.back_at b n)))
+        by : (b : Bool) (n : StreamName) → cond b (rest_slot lane.fresh_at lane.back_at false n) (rest_slot lane.forward_at lane.fresh_at true n)
+            ≡ cond (feeds way b n) (feeding_stepped b 11 (way_slot true (feeds way b n) true true true lane.fresh_at (rest_slot lane.forward_at lane.back_at b n)))
+            (other_stepped 11 log_end (way_slot true (feeds way b n) true true true lane.fresh_at (rest_slot lane.forward_at lane.back_at b n)))
         by true forward = refl
         by true back = refl
         by false forward = refl
@@ -235,7 +260,7 @@ module _ (p : Plain) (w : Live) (way : Way) (name : StreamName) (opens : w.way �
     module _ (not_stop : eqb (next_step way) 4 ≡ false) (not_create : eqb (next_step way) 5 ≡ false) (not_start : eqb (next_step way) 10 ≡ false) (not_last : eqb (next_step way) 11 ≡ false) where
       stays : Stepped
       stays =
-          now false not_create (open_at (λ at. true≢false (sym (eq-eqb (next_step way) 11 at) ∙ not_last)))
+          now false not_create (open_at (next_step way) refl (λ at. true≢false (sym (eq-eqb (next_step way) 11 at) ∙ not_last)))
           (stands_done way stop_feeding) (stands_done way create_back) (stands_done way start_back)
           (same_done way stop_feeding not_stop) (same_done way create_back not_create) (same_done way start_back not_start)
           ∙ sym (was (stands_done way stop_feeding) (stands_done way create_back) (stands_done way start_back) refl refl refl)
@@ -246,7 +271,7 @@ module _ (p : Plain) (w : Live) (way : Way) (name : StreamName) (opens : w.way �
           ∙ either-same (is_feeding way name) slot)
         where
           slot : Option Slot
-          slot = slot_of w name
+          slot = slot_of w lane name
 
     of_writes : Stepped
     of_writes = at_4 (eqb (next_step way) 4) refl
@@ -276,47 +301,47 @@ module _ (p : Plain) (w : Live) (way : Way) (name : StreamName) (opens : w.way �
 
 -- ---- an undo, before the journal
 
-module _ (w : Live) (way : Way) (name : StreamName) (opens : w.way ≡ Some way) (settled : w.switched ≡ way.before) (turned : changes_primary way ≡ true → way.before.primary ≡ way.back) (left : next_step way < behind_last way) (before : stands_done way write_journal ≡ false) where
+module _ (w : Live) (way : Way) (lane : Lane) (name : StreamName) (opens : w.way ≡ Some way) (settled : w.switched ≡ way.before) (turned : changes_primary way ≡ true → way.before.primary ≡ way.back) (left : next_step way < behind_last way) (before : stands_done way write_journal ≡ false) where
   abbrev undone : Live
   undone = live_undone w way
 
   abbrev saved : Option Slot
-  saved = slot_before_way w name
+  saved = slot_before_way w lane name
 
   abbrev Undone : Type 0
-  Undone = slot_of undone name ≡ slot_undone way name saved (slot_of w name)
+  Undone = slot_of undone lane name ≡ slot_undone way name saved (slot_of w lane name)
 
   abbrev stood : Option Slot
-  stood = rest_slot w.forward_at w.back_at way.before.primary name
+  stood = rest_slot lane.forward_at lane.back_at way.before.primary name
 
   few : next_step way ≤ 6
   few = few_done way before
 
   saved_is : saved ≡ stood
-  saved_is = before-rest w way.before.primary name (ap (λ o. (option_map_or (λ (x : Way). x.before) o w.switched).primary) opens)
+  saved_is = before-rest w lane way.before.primary name (ap (λ o. (option_map_or (λ (x : Way). x.before) o w.switched).primary) opens)
 
   none_started : stands_done way start_back ≡ false
   none_started = undone_by way start_back (next_step way) refl (omega (arith, few))
 
   stood_done : (stops creates : Bool) → stands_done way stop_feeding ≡ stops → stands_done way create_back ≡ creates
-      → slot_of w name ≡ way_slot (changes_primary way) (is_feeding way name) stops creates false w.fresh_at stood
+      → slot_of w lane name ≡ way_slot (changes_primary way) (is_feeding way name) stops creates false lane.fresh_at stood
   stood_done stops creates a b =
-      open-slot w way name opens
-      ∙ ap (λ x. way_slot (changes_primary way) (is_feeding way name) x (stands_done way create_back) (stands_done way start_back) w.fresh_at stood) a
-      ∙ ap (λ x. way_slot (changes_primary way) (is_feeding way name) stops x (stands_done way start_back) w.fresh_at stood) b
-      ∙ ap (λ x. way_slot (changes_primary way) (is_feeding way name) stops creates x w.fresh_at stood) none_started
+      open-slot w way lane name opens
+      ∙ ap (λ x. way_slot (changes_primary way) (is_feeding way name) x (stands_done way create_back) (stands_done way start_back) lane.fresh_at stood) a
+      ∙ ap (λ x. way_slot (changes_primary way) (is_feeding way name) stops x (stands_done way start_back) lane.fresh_at stood) b
+      ∙ ap (λ x. way_slot (changes_primary way) (is_feeding way name) stops creates x lane.fresh_at stood) none_started
 
   -- an undo of another step leaves the slot
-  other_step : eqb (last_step way) stop_feeding ≡ false → eqb (last_step way) create_back ≡ false → slot_undone way name saved (slot_of w name) ≡ slot_of w name
+  other_step : eqb (last_step way) stop_feeding ≡ false → eqb (last_step way) create_back ≡ false → slot_undone way name saved (slot_of w lane name) ≡ slot_of w lane name
   other_step a b =
-      ap (λ t. cond (is_feeding way name) (cond t (in_state running (slot_of w name)) (slot_of w name)) (cond (eqb (last_step way) create_back) saved (slot_of w name))) a
-      ∙ ap (λ t. cond (is_feeding way name) (slot_of w name) (cond t saved (slot_of w name))) b
-      ∙ either-same (is_feeding way name) (slot_of w name)
+      ap (λ t. cond (is_feeding way name) (cond t (in_state running (slot_of w lane name)) (slot_of w lane name)) (cond (eqb (last_step way) create_back) saved (slot_of w lane name))) a
+      ∙ ap (λ t. cond (is_feeding way name) (slot_of w lane name) (cond t saved (slot_of w lane name))) b
+      ∙ either-same (is_feeding way name) (slot_of w lane name)
 
   not_number : (n : ℕ) → last_step way ≢ n → eqb (last_step way) n ≡ false
   not_number n apart = false_from_ne_true (eqb (last_step way) n) (λ t. apart (eqb-true (last_step way) n t))
 
-  untouched : (c f : Bool) (slot : Option Slot) → way_slot c f false false false w.fresh_at slot ≡ slot
+  untouched : (c f : Bool) (slot : Option Slot) → way_slot c f false false false lane.fresh_at slot ≡ slot
   untouched true true slot = same-state slot
   untouched true false slot = refl
   untouched false f slot = refl
@@ -335,10 +360,10 @@ module _ (w : Live) (way : Way) (name : StreamName) (opens : w.way ≡ Some way)
           let first = first_step-le way in let few_left = eqb-true (way.done - 1) 0 t in let high = repeated-ge way in
           let is = step-first way (next_place way - 1) (omega arith) in omega arith
 
-      behind : slot_of undone name ≡ stood
-      behind = closed-slot undone name (ap (λ b. cond b None (Some (fewer way))) t) ∙ ap (λ (x : TypeSet). rest_slot w.forward_at w.back_at x.primary name) settled
+      behind : slot_of undone lane name ≡ stood
+      behind = closed-slot undone lane name (ap (λ b. cond b None (Some (fewer way))) t) ∙ ap (λ (x : TypeSet). rest_slot lane.forward_at lane.back_at x.primary name) settled
 
-      here : slot_of w name ≡ stood
+      here : slot_of w lane name ≡ stood
       here =
           stood_done false false (undone_by way stop_feeding (next_step way) refl (omega (arith, none))) (undone_by way create_back (next_step way) refl (omega (arith, none)))
           ∙ untouched (changes_primary way) (is_feeding way name) stood
@@ -367,17 +392,17 @@ module _ (w : Live) (way : Way) (name : StreamName) (opens : w.way ≡ Some way)
     fewer_started = let le = fewer-le way in undone_by (fewer way) start_back (next_step (fewer way)) refl (omega (arith, few, le))
 
     now_done : (stops creates : Bool) → stands_done (fewer way) stop_feeding ≡ stops → stands_done (fewer way) create_back ≡ creates
-        → slot_of undone name ≡ way_slot true (is_feeding way name) stops creates false w.fresh_at stood
+        → slot_of undone lane name ≡ way_slot true (is_feeding way name) stops creates false lane.fresh_at stood
     now_done stops creates a b =
-        open-slot undone (fewer way) name (ap (λ b. cond b None (Some (fewer way))) more_left)
-        ∙ ap (λ x. way_slot x (is_feeding way name) (stands_done (fewer way) stop_feeding) (stands_done (fewer way) create_back) (stands_done (fewer way) start_back) w.fresh_at stood) changes
-        ∙ ap (λ x. way_slot true (is_feeding way name) x (stands_done (fewer way) create_back) (stands_done (fewer way) start_back) w.fresh_at stood) a
-        ∙ ap (λ x. way_slot true (is_feeding way name) stops x (stands_done (fewer way) start_back) w.fresh_at stood) b
-        ∙ ap (λ x. way_slot true (is_feeding way name) stops creates x w.fresh_at stood) fewer_started
+        open-slot undone (fewer way) lane name (ap (λ b. cond b None (Some (fewer way))) more_left)
+        ∙ ap (λ x. way_slot x (is_feeding way name) (stands_done (fewer way) stop_feeding) (stands_done (fewer way) create_back) (stands_done (fewer way) start_back) lane.fresh_at stood) changes
+        ∙ ap (λ x. way_slot true (is_feeding way name) x (stands_done (fewer way) create_back) (stands_done (fewer way) start_back) lane.fresh_at stood) a
+        ∙ ap (λ x. way_slot true (is_feeding way name) stops x (stands_done (fewer way) start_back) lane.fresh_at stood) b
+        ∙ ap (λ x. way_slot true (is_feeding way name) stops creates x lane.fresh_at stood) fewer_started
 
     was_done_by : (stops creates : Bool) → stands_done way stop_feeding ≡ stops → stands_done way create_back ≡ creates
-        → slot_of w name ≡ way_slot true (is_feeding way name) stops creates false w.fresh_at stood
-    was_done_by stops creates a b = stood_done stops creates a b ∙ ap (λ c. way_slot c (is_feeding way name) stops creates false w.fresh_at stood) changes
+        → slot_of w lane name ≡ way_slot true (is_feeding way name) stops creates false lane.fresh_at stood
+    was_done_by stops creates a b = stood_done stops creates a b ∙ ap (λ c. way_slot c (is_feeding way name) stops creates false lane.fresh_at stood) changes
 
     -- the last step that stands done is the next one again
     next_again : next_step (fewer way) ≡ last_step way
@@ -424,8 +449,8 @@ module _ (w : Live) (way : Way) (name : StreamName) (opens : w.way ≡ Some way)
         now_done false false (undone_by (fewer way) stop_feeding 4 (one_less 4 five is) (omega arith)) (undone_by (fewer way) create_back 4 (one_less 4 five is) (omega arith))
         ∙ again
         ∙ sym (ap (λ s. cond (is_feeding way name) (in_state running s) s) here)
-        ∙ sym (ap (λ t. cond (is_feeding way name) (cond t (in_state running (slot_of w name)) (slot_of w name)) (cond (eqb (last_step way) create_back) saved (slot_of w name))) at_stop
-        ∙ ap (λ t. cond (is_feeding way name) (in_state running (slot_of w name)) (cond t saved (slot_of w name))) not_create)
+        ∙ sym (ap (λ t. cond (is_feeding way name) (cond t (in_state running (slot_of w lane name)) (slot_of w lane name)) (cond (eqb (last_step way) create_back) saved (slot_of w lane name))) at_stop
+        ∙ ap (λ t. cond (is_feeding way name) (in_state running (slot_of w lane name)) (cond t saved (slot_of w lane name))) not_create)
       where
         at_stop : eqb (last_step way) stop_feeding ≡ true
         at_stop = eq-eqb (last_step way) stop_feeding (last_by 4 five is)
@@ -433,24 +458,24 @@ module _ (w : Live) (way : Way) (name : StreamName) (opens : w.way ≡ Some way)
         not_create : eqb (last_step way) create_back ≡ false
         not_create = not_number 5 (λ e. let f = last_by 4 five is in absurd (omega arith))
 
-        here : slot_of w name ≡ way_slot true (is_feeding way name) true false false w.fresh_at (rest_slot w.forward_at w.back_at way.back name)
+        here : slot_of w lane name ≡ way_slot true (is_feeding way name) true false false lane.fresh_at (rest_slot lane.forward_at lane.back_at way.back name)
         here =
             was_done_by true false (done_by way stop_feeding 5 is (omega arith) (omega arith)) (undone_by way create_back 5 is (omega arith))
-            ∙ ap (λ t. way_slot true (is_feeding way name) true false false w.fresh_at (rest_slot w.forward_at w.back_at t name)) (turned changes)
+            ∙ ap (λ t. way_slot true (is_feeding way name) true false false lane.fresh_at (rest_slot lane.forward_at lane.back_at t name)) (turned changes)
 
-        ran : (b : Bool) (n : StreamName) → way_slot true (feeds way b n) false false false w.fresh_at (rest_slot w.forward_at w.back_at b n)
-            ≡ cond (feeds way b n) (in_state running (way_slot true (feeds way b n) true false false w.fresh_at (rest_slot w.forward_at w.back_at b n)))
-            (way_slot true (feeds way b n) true false false w.fresh_at (rest_slot w.forward_at w.back_at b n))
+        ran : (b : Bool) (n : StreamName) → way_slot true (feeds way b n) false false false lane.fresh_at (rest_slot lane.forward_at lane.back_at b n)
+            ≡ cond (feeds way b n) (in_state running (way_slot true (feeds way b n) true false false lane.fresh_at (rest_slot lane.forward_at lane.back_at b n)))
+            (way_slot true (feeds way b n) true false false lane.fresh_at (rest_slot lane.forward_at lane.back_at b n))
         ran true forward = refl
         ran true back = refl
         ran false forward = refl
         ran false back = refl
 
-        again : way_slot true (is_feeding way name) false false false w.fresh_at stood
-            ≡ cond (is_feeding way name) (in_state running (way_slot true (is_feeding way name) true false false w.fresh_at (rest_slot w.forward_at w.back_at way.back name)))
-            (way_slot true (is_feeding way name) true false false w.fresh_at (rest_slot w.forward_at w.back_at way.back name))
+        again : way_slot true (is_feeding way name) false false false lane.fresh_at stood
+            ≡ cond (is_feeding way name) (in_state running (way_slot true (is_feeding way name) true false false lane.fresh_at (rest_slot lane.forward_at lane.back_at way.back name)))
+            (way_slot true (is_feeding way name) true false false lane.fresh_at (rest_slot lane.forward_at lane.back_at way.back name))
         again =
-            ap (λ t. way_slot true (is_feeding way name) false false false w.fresh_at (rest_slot w.forward_at w.back_at t name)) (turned changes) ∙ ran way.back name
+            ap (λ t. way_slot true (is_feeding way name) false false false lane.fresh_at (rest_slot lane.forward_at lane.back_at t name)) (turned changes) ∙ ran way.back name
 
     -- what stood before the way stands in the place of the new stream again
     as_before : next_step way ≡ 6 → Undone
@@ -458,9 +483,9 @@ module _ (w : Live) (way : Way) (name : StreamName) (opens : w.way ≡ Some way)
         now_done true false (done_by (fewer way) stop_feeding 5 (one_less 5 six is) (omega arith) (omega arith)) (undone_by (fewer way) create_back 5 (one_less 5 six is) (omega arith))
         ∙ by (is_feeding way name)
         ∙ ap (λ s. cond (is_feeding way name) s stood) (sym here)
-        ∙ ap (λ s. cond (is_feeding way name) (slot_of w name) s) (sym saved_is)
-        ∙ sym (ap (λ t. cond (is_feeding way name) (cond t (in_state running (slot_of w name)) (slot_of w name)) (cond (eqb (last_step way) create_back) saved (slot_of w name))) not_stop
-        ∙ ap (λ t. cond (is_feeding way name) (slot_of w name) (cond t saved (slot_of w name))) at_create)
+        ∙ ap (λ s. cond (is_feeding way name) (slot_of w lane name) s) (sym saved_is)
+        ∙ sym (ap (λ t. cond (is_feeding way name) (cond t (in_state running (slot_of w lane name)) (slot_of w lane name)) (cond (eqb (last_step way) create_back) saved (slot_of w lane name))) not_stop
+        ∙ ap (λ t. cond (is_feeding way name) (slot_of w lane name) (cond t saved (slot_of w lane name))) at_create)
       where
         not_stop : eqb (last_step way) stop_feeding ≡ false
         not_stop = not_number 4 (λ e. let f = last_by 5 six is in absurd (omega arith))
@@ -468,10 +493,10 @@ module _ (w : Live) (way : Way) (name : StreamName) (opens : w.way ≡ Some way)
         at_create : eqb (last_step way) create_back ≡ true
         at_create = eq-eqb (last_step way) create_back (last_by 5 six is)
 
-        here : slot_of w name ≡ way_slot true (is_feeding way name) true true false w.fresh_at stood
+        here : slot_of w lane name ≡ way_slot true (is_feeding way name) true true false lane.fresh_at stood
         here = was_done_by true true (done_by way stop_feeding 6 is (omega arith) (omega arith)) (done_by way create_back 6 is (omega arith) (omega arith))
 
-        by : (f : Bool) → way_slot true f true false false w.fresh_at stood ≡ cond f (way_slot true f true true false w.fresh_at stood) stood
+        by : (f : Bool) → way_slot true f true false false lane.fresh_at stood ≡ cond f (way_slot true f true true false lane.fresh_at stood) stood
         by true = refl
         by false = refl
 

@@ -6,7 +6,7 @@ use Rattle.std.specs.Prelude.{◌&&◌, ◌||◌}
 use Rattle.mt_names.specs.Names.{same_text}
 use Rattle.mt_plain.specs.Events.{Event, StreamName, forward, back, Slot, running, stopped, Way}
 use Rattle.mt_plain.specs.Next.{closes, live_stepped, live_undone, types_and, types_without, with_way_to}
-use Rattle.mt_plain.specs.Plain.{Live, Plain, changes_primary, create_back, differ, live_at, owner, stands_done, start_back, stop_feeding, write_journal}
+use Rattle.mt_plain.specs.Plain.{Lane, Live, Plain, changes_primary, create_back, differ, live_at, owner, stands_done, start_back, stop_feeding, write_journal}
 use Rattle.mt_plain.specs.Slots.{feeding_slot, is_feeding, live_advanced, other_slot, read_side, running_at, slot_at_rest, slot_by_way, slot_of}
 use Rattle.mt_laws.specs.Copies.{frozen_at, runs_at}
 use Rattle.mt_laws.specs.WayBack.{IsReached}
@@ -52,8 +52,8 @@ turned_kept p event w holds = record {
   reverse = λ types begins none. way_holds Turned (with_way_to true (λ switched. types_without switched types) w) _ refl (λ changes. reverse_from w.switched.primary types.primary changes);
   steps = λ at way steps opens none. way_holds-by Turned (live_stepped p w way) (closes way) (more way) (way-stepped p w way) (λ goes_on. holds way opens);
   undoes = λ at way undoes opens none. way_holds-by Turned (live_undone w way) (eqb (way.done - 1) 0) (fewer way) (way-undone w way) (λ goes_on. holds way opens);
-  advances = λ workflow stream at at_most events rows live none given.
-      turned_same w (live_advanced p w stream at at_most events rows) (ap (λ t. t.1) (traffic-advanced p w stream at at_most events rows)) holds;
+  advances = λ adv workflow stream shard at at_most events rows live none given.
+      turned_same w (live_advanced p w stream shard at at_most events rows) (ap (λ t. t.1) (traffic-advanced p w stream shard at at_most events rows)) holds;
 }
 
 pub reached_turned : (p : Plain) → IsReached p → (w : Live) → IsIn w p.lives → IsTurned w
@@ -62,11 +62,11 @@ reached_turned = reached_have IsTurned (λ p name source target tables. turned_r
 -- ---- a stream that runs reads the owner's log
 
 -- at rest
-rest_runs : (w : Live) (t : Bool) (name : StreamName) (at : ℕ) → running_at (slot_at_rest w t name) ≡ Some at → read_side w name ≡ side_by w t
-rest_runs w true forward at e = absurd cc
-rest_runs w false forward at e = refl
-rest_runs w true back at e = refl
-rest_runs w false back at e = absurd cc
+rest_runs : (w : Live) (lane : Lane) (t : Bool) (name : StreamName) (at : ℕ) → running_at (slot_at_rest lane t name) ≡ Some at → read_side w name ≡ side_by w t
+rest_runs w lane true forward at e = absurd cc
+rest_runs w lane false forward at e = refl
+rest_runs w lane true back at e = refl
+rest_runs w lane false back at e = absurd cc
 
 -- a stream that feeds a way runs as it did before it, until it is stopped
 pub feeding_runs : (t : Bool) (o : Option Slot) (at : ℕ) → running_at (option_map (λ (s : Slot). cond t (record s { state = stopped }) s) o) ≡ Some at → (t ≡ false) × (running_at o ≡ Some at)
@@ -99,7 +99,7 @@ pub read_by_other : (w : Live) (way : Way) (name : StreamName) → is_feeding wa
 read_by_other w way forward other = ap (λ b. cond b w.target w.source) (sym other)
 read_by_other w way back other = ap (λ b. cond (not b) w.target w.source) (sym other)
 
-module _ (w : Live) (settled : IsSettled w) (journaled : IsJournaled w) (turned : IsTurned w) where
+module _ (w : Live) (settled : IsSettled w) (journaled : IsJournaled w) (turned : IsTurned w) (lane : Lane) where
   module _ (way : Way) (opens : w.way ≡ Some way) where
     abbrev owned : Bool
     owned = way.before.primary
@@ -126,42 +126,42 @@ module _ (w : Live) (settled : IsSettled w) (journaled : IsJournaled w) (turned 
         by false t = before_journal t
 
     abbrev before_slot : StreamName → Option Slot
-    before_slot name = slot_at_rest w owned name
+    before_slot name = slot_at_rest lane owned name
 
     runs_on_way : (name : StreamName) (at : ℕ) (changes feeds : Bool) → changes_primary way ≡ changes → is_feeding way name ≡ feeds
-        → running_at (cond (not changes) (before_slot name) (cond feeds (feeding_slot w way (before_slot name)) (other_slot w way (before_slot name)))) ≡ Some at
+        → running_at (cond (not changes) (before_slot name) (cond feeds (feeding_slot lane way (before_slot name)) (other_slot lane way (before_slot name)))) ≡ Some at
         → read_side w name ≡ owner w
-    runs_on_way name at false feeds c f e = rest_runs w owned name at e ∙ sym (same_owner c)
+    runs_on_way name at false feeds c f e = rest_runs w lane owned name at e ∙ sym (same_owner c)
     runs_on_way name at true true c f e =
         let r = feeding_runs (stands_done way stop_feeding) (before_slot name) at e in
-        rest_runs w owned name at r.1 ∙ sym (before_journal (not_yet stop_feeding (done_in_order way 3 write_journal (omega arith)) r.0))
+        rest_runs w lane owned name at r.1 ∙ sym (before_journal (not_yet stop_feeding (done_in_order way 3 write_journal (omega arith)) r.0))
     runs_on_way name at true false c f e = by (stands_done way create_back) refl
       where
         r : (stands_done way create_back ≡ true → stands_done way start_back ≡ true) × (stands_done way create_back ≡ false → running_at (before_slot name) ≡ Some at)
-        r = other_runs (stands_done way create_back) (stands_done way start_back) w.fresh_at (before_slot name) at e
+        r = other_runs (stands_done way create_back) (stands_done way start_back) lane.fresh_at (before_slot name) at e
 
         by : (t : Bool) → stands_done way create_back ≡ t → read_side w name ≡ owner w
         by true t =
             read_by_other w way name f ∙ ap (λ b. side_by w (not b)) (sym (turned way opens c)) ∙ ap (side_by w) (sym (differ_to owned way.after.primary c))
             ∙ sym (behind_journal (done_in_order way 5 start_back (omega arith) (r.0 t)))
-        by false t = rest_runs w owned name at (r.1 t) ∙ sym (before_journal (not_yet create_back (done_in_order way 4 write_journal (omega arith)) t))
+        by false t = rest_runs w lane owned name at (r.1 t) ∙ sym (before_journal (not_yet create_back (done_in_order way 4 write_journal (omega arith)) t))
 
-  pub runs_by_owner : (name : StreamName) (at : ℕ) (o : Option Way) → w.way ≡ o → running_at (slot_by_way w o name) ≡ Some at → read_side w name ≡ owner w
+  pub runs_by_owner : (name : StreamName) (at : ℕ) (o : Option Way) → w.way ≡ o → running_at (slot_by_way w lane o name) ≡ Some at → read_side w name ≡ owner w
   runs_by_owner name at None rests e =
-      rest_runs w w.switched.primary name at (sym (ap (λ o. running_at (slot_at_rest w (option_map_or (λ way. way.before) o w.switched).primary name)) rests) ∙ e)
+      rest_runs w lane w.switched.primary name at (sym (ap (λ o. running_at (slot_at_rest lane (option_map_or (λ way. way.before) o w.switched).primary name)) rests) ∙ e)
       ∙ sym (owner-if w w.switched.primary refl)
   runs_by_owner name at (Some way) opens e =
       runs_on_way way opens name at (changes_primary way) (is_feeding way name) refl refl (sym (ap (λ o. running_at (by_before (option_map_or (λ v. v.before) o w.switched).primary)) opens) ∙ e)
     where
       by_before : Bool → Option Slot
       by_before owned =
-          cond (not (changes_primary way)) (slot_at_rest w owned name)
-          (cond (is_feeding way name) (feeding_slot w way (slot_at_rest w owned name)) (other_slot w way (slot_at_rest w owned name)))
+          cond (not (changes_primary way)) (slot_at_rest lane owned name)
+          (cond (is_feeding way name) (feeding_slot lane way (slot_at_rest lane owned name)) (other_slot lane way (slot_at_rest lane owned name)))
 
-pub runs_at_the_owner : (p : Plain) → IsReached p → (workflow : List ℕ) (w : Live) → live_at p workflow ≡ Some w → (name : StreamName) (at : ℕ) → running_at (slot_of w name) ≡ Some at → read_side w name ≡ owner w
-runs_at_the_owner p reached workflow w found name at e =
+pub runs_at_the_owner : (p : Plain) → IsReached p → (workflow : List ℕ) (w : Live) → live_at p workflow ≡ Some w → (lane : Lane) (name : StreamName) (at : ℕ) → running_at (slot_of w lane name) ≡ Some at → read_side w name ≡ owner w
+runs_at_the_owner p reached workflow w found lane name at e =
     let is = (find_some (λ v. same_text v.name workflow) p.lives w found).0 in
-    runs_by_owner w ((reached_has_parts p reached).settled w is) (reached_journaled p reached w is) (reached_turned p reached w is) name at w.way refl e
+    runs_by_owner w ((reached_has_parts p reached).settled w is) (reached_journaled p reached w is) (reached_turned p reached w is) lane name at w.way refl e
 
 -- ---- at rest
 
@@ -169,12 +169,12 @@ module _ (p : Plain) (reached : IsReached p) (workflow : List ℕ) (w : Live) (f
   differ_sides : w.source ≡ w.target → ⊥
   differ_sides = ((reached_has_parts p reached).placed w (find_some (λ v. same_text v.name workflow) p.lives w found).0).sides
 
-  pub never_both_run : (a b : ℕ) → running_at (slot_of w forward) ≡ Some a → running_at (slot_of w back) ≡ Some b → ⊥
-  never_both_run a b e f = differ_sides (runs_at_the_owner p reached workflow w found forward a e ∙ sym (runs_at_the_owner p reached workflow w found back b f))
+  pub never_both_run : (one other : Lane) (a b : ℕ) → running_at (slot_of w one forward) ≡ Some a → running_at (slot_of w other back) ≡ Some b → ⊥
+  never_both_run one other a b e f = differ_sides (runs_at_the_owner p reached workflow w found one forward a e ∙ sym (runs_at_the_owner p reached workflow w found other back b f))
 
-  rest-slot : w.way ≡ None → (t : Bool) → w.switched.primary ≡ t → (name : StreamName) → slot_of w name ≡ slot_at_rest w t name
-  rest-slot rests t e name =
-      ap (λ o. slot_by_way w o name) rests ∙ ap (λ o. slot_at_rest w (option_map_or (λ way. way.before) o w.switched).primary name) rests ∙ ap (λ b. slot_at_rest w b name) e
+  rest-slot : (lane : Lane) → w.way ≡ None → (t : Bool) → w.switched.primary ≡ t → (name : StreamName) → slot_of w lane name ≡ slot_at_rest lane t name
+  rest-slot lane rests t e name =
+      ap (λ o. slot_by_way w lane o name) rests ∙ ap (λ o. slot_at_rest lane (option_map_or (λ way. way.before) o w.switched).primary name) rests ∙ ap (λ b. slot_at_rest lane b name) e
 
   owned_by_source : owner w ≡ w.source → w.switched.primary ≡ false
   owned_by_source is = by w.switched.primary refl
@@ -190,8 +190,8 @@ module _ (p : Plain) (reached : IsReached p) (workflow : List ℕ) (w : Live) (f
       by true t = t
       by false t = absurd (differ_sides (sym (owner-if w false t) ∙ is))
 
-  pub rest_of_source : w.way ≡ None → owner w ≡ w.source → (slot_of w forward ≡ runs_at w.forward_at) × (slot_of w back ≡ None)
-  rest_of_source rests is = let e = owned_by_source is in (rest-slot rests false e forward, rest-slot rests false e back)
+  pub rest_of_source : (lane : Lane) → w.way ≡ None → owner w ≡ w.source → (slot_of w lane forward ≡ runs_at lane.forward_at) × (slot_of w lane back ≡ None)
+  rest_of_source lane rests is = let e = owned_by_source is in (rest-slot lane rests false e forward, rest-slot lane rests false e back)
 
-  pub rest_of_target : w.way ≡ None → owner w ≡ w.target → (slot_of w forward ≡ frozen_at w.forward_at) × (slot_of w back ≡ runs_at w.back_at)
-  rest_of_target rests is = let e = owned_by_target is in (rest-slot rests true e forward, rest-slot rests true e back)
+  pub rest_of_target : (lane : Lane) → w.way ≡ None → owner w ≡ w.target → (slot_of w lane forward ≡ frozen_at lane.forward_at) × (slot_of w lane back ≡ runs_at lane.back_at)
+  rest_of_target lane rests is = let e = owned_by_target is in (rest-slot lane rests true e forward, rest-slot lane rests true e back)

@@ -121,9 +121,9 @@ write_has_numbers p keyspace table op reached none =
     let below : number_of p keyspace table < p.made = subst (λ n. n < p.made) (sym there.2) (reached.below (in_keyspace keyspace table) there.0 there.1) in
     record { numbered = reached.numbered; distinct = reached.distinct; below = reached.below; written = Below-push p.made p.writes _ reached.written below }
 
-keyspace_has_numbers : (p : Plain) (name : List ℕ) → HasNumbers p → HasNumbers (next_taken (calm p) (add_keyspace name))
-keyspace_has_numbers p name reached = record {
-  numbered = λ keyspace table has. reached.numbered keyspace table (is_present-with_keyspace p.topology name [] keyspace table has);
+keyspace_has_numbers : (p : Plain) (name : List ℕ) (cuts : Cuts) → HasNumbers p → HasNumbers (next_taken (calm p) (add_keyspace name cuts))
+keyspace_has_numbers p name cuts reached = record {
+  numbered = λ keyspace table has. reached.numbered keyspace table (is_present-with_keyspace p.topology name cuts keyspace table has);
   distinct = reached.distinct;
   below = reached.below;
   written = reached.written;
@@ -146,7 +146,7 @@ table_has_numbers p k name reached = record {
 taken_has_numbers : (p : Plain) (event : Event) → IsByHand event → HasNumbers p → refusal_of (calm p) event ≡ None → HasNumbers (next_taken (calm p) event)
 taken_has_numbers p (write keyspace table op) by_hand reached none = write_has_numbers p keyspace table op reached none
 taken_has_numbers p (read keyspace table key tablet_type) by_hand reached none = record { numbered = reached.numbered; distinct = reached.distinct; below = reached.below; written = reached.written }
-taken_has_numbers p (add_keyspace name) by_hand reached none = keyspace_has_numbers p name reached
+taken_has_numbers p (add_keyspace name cuts) by_hand reached none = keyspace_has_numbers p name cuts reached
 taken_has_numbers p (add_table k name) by_hand reached none = table_has_numbers p k name reached
 taken_has_numbers p (edit_rule key target) by_hand reached none = record { numbered = reached.numbered; distinct = reached.distinct; below = reached.below; written = reached.written }
 taken_has_numbers p other by_hand reached none = absurd by_hand
@@ -238,7 +238,7 @@ table_at p k t reached keyspace table key = by (number_at p.numbers (in_keyspace
 taken_at : (p : Plain) (event : Event) → IsByHand event → HasNumbers p → refusal_of (calm p) event ≡ None → (keyspace table : List ℕ) (key : ℕ) → row_of (next_taken (calm p) event) keyspace table key ≡ fold row_with_op (row_of (calm p) keyspace table key) (acknowledged_at keyspace table key event done)
 taken_at p (write k t op) by_hand reached none keyspace table key = write_at p k t op reached none keyspace table key
 taken_at p (read k t n tablet_type) by_hand reached none keyspace table key = refl
-taken_at p (add_keyspace name) by_hand reached none keyspace table key = refl
+taken_at p (add_keyspace name cuts) by_hand reached none keyspace table key = refl
 taken_at p (add_table k t) by_hand reached none keyspace table key = table_at p k t reached keyspace table key
 taken_at p (edit_rule rule target) by_hand reached none keyspace table key = refl
 taken_at p other by_hand reached none keyspace table key = absurd by_hand

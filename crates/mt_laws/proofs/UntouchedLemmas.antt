@@ -1,23 +1,24 @@
 -- What each event leaves as it was.
-use Rattle.std.proofs.Common.{◌≡◌, ◌⊎◌, inl, inr, ℕ, ◌+◌, Bool, true, false, not, cond, List, find, Option, None, Some, option_map, is_some, refl, sym, ap, ◌∙◌, subst}
+use Rattle.std.proofs.Common.{◌≡◌, ◌⊎◌, inl, inr, ℕ, Bool, true, false, not, cond, eqb, List, [], ◌∷◌, map, find, Option, None, Some, option_map, is_some, refl, sym, ap, ◌∙◌, subst}
+use Rattle.std.specs.Prelude.{◌&&◌}
 use Rattle.std.specs.Option.{option_map_or}
 use Rattle.mt_names.specs.declared.types.TypeSet.{TypeSet}
 use Rattle.mt_names.specs.Names.{same_text}
 use Rattle.mt_names.proofs.SameLemmas.{same_text_decides}
-use Rattle.mt_plain.specs.Events.{Event, write, read, add_keyspace, add_table, edit_rule, advance, begin_switch, begin_reverse, step, undo, cancel, complete, show, StreamName, forward, back, Answer, done, row, advanced, shown, refused, Way}
-use Rattle.mt_plain.specs.Next.{live_stepped, live_undone, next, next_taken, on_way_of, types_and, types_without, with_advance, with_completed, with_way_to}
-use Rattle.mt_plain.specs.Plain.{Copied, Live, Plain, live_at, LogEntry}
-use Rattle.mt_plain.specs.Slots.{is_fresh, live_advanced, with_position}
-use Rattle.mt_laws.specs.Changes.{BeginsWay, ChangesLives, ChangesLogs, ChangesNumbers, ChangesTopology, ChangesWay, ChangesWrites, HasSides, IsAdvance, IsOf, IsStep, MovesStream, OnlyTells}
+use Rattle.mt_plain.specs.Events.{Event, write, read, add_keyspace, add_table, edit_rule, advance, begin_switch, begin_reverse, step, undo, cancel, complete, show, StreamName, Answer, done, row, advanced, shown, refused, Way}
+use Rattle.mt_plain.specs.Next.{closes, lane_made, lane_stepped, live_stepped, live_undone, next, next_taken, on_way_of, types_and, types_without, with_advance, with_completed, with_way_to}
+use Rattle.mt_plain.specs.Plain.{Copied, Lane, Live, Plain, changes_primary, create_back, live_at, next_step, LogEntry}
+use Rattle.mt_plain.specs.Slots.{live_advanced}
+use Rattle.mt_laws.specs.Changes.{BeginsWay, ChangesLives, ChangesLogs, ChangesNumbers, ChangesTopology, ChangesWay, ChangesWrites, HasSides, IsAdvance, IsOf, IsStep, MovesStream, OnlyTells, fed_and_copied}
 use Rattle.mt_laws.proofs.ChangeLemmas.{LivesAfter, ended, live_after, live_next, live_taken, lives_after, made, mapped, sides-next}
 use Rattle.mt_laws.proofs.LiveLemmas.{changed, find-filter_kept, find-map, find-push_other, find_some, text_differs}
 
 -- ---- the state apart from its workflows
 
-advance_leaves : (p : Plain) (name : StreamName) (at at_most events rows : ℕ) (o : Option Live)
-    → with_advance p name at at_most events rows o ≡ record p { lives = (with_advance p name at at_most events rows o).lives; log = (with_advance p name at at_most events rows o).log }
-advance_leaves p name at at_most events rows None = refl
-advance_leaves p name at at_most events rows (Some w) = refl
+advance_leaves : (p : Plain) (name : StreamName) (shard at at_most events rows : ℕ) (o : Option Live)
+    → with_advance p name shard at at_most events rows o ≡ record p { lives = (with_advance p name shard at at_most events rows o).lives; log = (with_advance p name shard at at_most events rows o).log }
+advance_leaves p name shard at at_most events rows None = refl
+advance_leaves p name shard at at_most events rows (Some w) = refl
 
 complete_leaves : (p : Plain) (o : Option Live)
     → with_completed p o ≡ record p { topology = (with_completed p o).topology; numbers = (with_completed p o).numbers; lives = (with_completed p o).lives }
@@ -27,11 +28,11 @@ complete_leaves p (Some w) = refl
 module _ {A : Type 0} (field : Plain → A) where
   -- what holds after an event that is done, and after an advance, holds after each answer
   next_leaves : (p : Plain) (event : Event) (answer : Answer) → field (next_taken p event) ≡ field p
-      → ((workflow : List ℕ) (name : StreamName) (at at_most events rows : ℕ) (o : Option Live) → event ≡ advance workflow name at at_most → field (with_advance p name at at_most events rows o) ≡ field p)
+      → ((workflow : List ℕ) (name : StreamName) (shard at at_most events rows : ℕ) (o : Option Live) → event ≡ advance workflow name shard at at_most → field (with_advance p name shard at at_most events rows o) ≡ field p)
       → field (next p event answer) ≡ field p
   next_leaves p event done taken advancing = taken
   next_leaves p event (row r) taken advancing = taken
-  next_leaves p (advance workflow name at at_most) (advanced events rows) taken advancing = advancing workflow name at at_most events rows (live_at p workflow) refl
+  next_leaves p (advance workflow name shard at at_most) (advanced events rows) taken advancing = advancing workflow name shard at at_most events rows (live_at p workflow) refl
   next_leaves p event (advanced events rows) taken advancing = refl
   next_leaves p event (shown s) taken advancing = refl
   next_leaves p event (refused refusal) taken advancing = refl
@@ -40,10 +41,10 @@ module _ {A : Type 0} (field : Plain → A) where
   leaves : ((p : Plain) (lives : List Live) (log : List LogEntry) → field (record p { lives = lives; log = log }) ≡ field p) → (p : Plain) (event : Event) (answer : Answer) → field (next_taken p event) ≡ field p → field (next p event answer) ≡ field p
   leaves keeps p event answer taken =
       next_leaves p event answer taken
-      (λ workflow name at at_most events rows o is. let q = with_advance p name at at_most events rows o in ap field (advance_leaves p name at at_most events rows o) ∙ keeps p q.lives q.log)
+      (λ workflow name shard at at_most events rows o is. let q = with_advance p name shard at at_most events rows o in ap field (advance_leaves p name shard at at_most events rows o) ∙ keeps p q.lives q.log)
 
 taken-topology : (p : Plain) (event : Event) → ¬ (ChangesTopology event) → (next_taken p event).topology ≡ p.topology
-taken-topology p (add_keyspace keyspace) other = absurd (other tt)
+taken-topology p (add_keyspace keyspace cuts) other = absurd (other tt)
 taken-topology p (add_table keyspace table) other = absurd (other tt)
 taken-topology p (edit_rule key target) other = absurd (other tt)
 taken-topology p (complete workflow) other = absurd (other tt)
@@ -84,7 +85,7 @@ taken-logs p event other = refl
 pub same_logs : (p : Plain) (event : Event) (answer : Answer) → ¬ (ChangesLogs event) → (next p event answer).log ≡ p.log
 same_logs p event answer other =
     next_leaves (λ q. q.log) p event answer (taken-logs p event other)
-    (λ workflow name at at_most events rows o is. absurd (other (subst ChangesLogs (sym is) tt)))
+    (λ workflow name shard at at_most events rows o is. absurd (other (subst ChangesLogs (sym is) tt)))
 
 taken-ways : (p : Plain) (event : Event) → ¬ (BeginsWay event) → (next_taken p event).ways ≡ p.ways
 taken-ways p (begin_switch workflow types) other = absurd (other tt)
@@ -136,33 +137,22 @@ module _ {A : Type 0} (field : Live → A) where
   field-on_way w change each None = refl
   field-on_way w change each (Some way) = each way
 
--- the traffic, and the copy, of a workflow
+-- the traffic of a workflow
 abbrev pub traffic : Live → TypeSet × Option Way
 traffic w = (w.switched, w.way)
 
-abbrev pub copy : Live → ℕ × Copied
-copy w = (w.fed, w.copied)
-
-abbrev positions : Live → ℕ × ℕ × ℕ
-positions w = (w.forward_at, w.back_at, w.fresh_at)
-
-traffic-position : (w : Live) (name : StreamName) (t : Bool) (position : ℕ) → traffic (with_position w name t position) ≡ traffic w
-traffic-position w name true position = refl
-traffic-position w forward false position = refl
-traffic-position w back false position = refl
-
-pub traffic-advanced : (p : Plain) (w : Live) (name : StreamName) (at at_most events rows : ℕ) → traffic (live_advanced p w name at at_most events rows) ≡ traffic w
-traffic-advanced p w name at at_most events rows = traffic-position w name (is_fresh w.way name) (at + events)
+pub traffic-advanced : (p : Plain) (w : Live) (name : StreamName) (shard at at_most events rows : ℕ) → traffic (live_advanced p w name shard at at_most events rows) ≡ traffic w
+traffic-advanced p w name shard at at_most events rows = refl
 
 module _ {A : Type 0} (field : Live → A) where
   -- what an event that is done leaves, and what an advance leaves, each answer leaves
   live_leaves : (p : Plain) (event : Event) (answer : Answer) (w : Live) → field (live_taken p event w) ≡ field w
-      → ((workflow : List ℕ) (name : StreamName) (at at_most events rows : ℕ) → event ≡ advance workflow name at at_most → field (live_advanced p w name at at_most events rows) ≡ field w)
+      → ((workflow : List ℕ) (name : StreamName) (shard at at_most events rows : ℕ) → event ≡ advance workflow name shard at at_most → field (live_advanced p w name shard at at_most events rows) ≡ field w)
       → field (live_next p event answer w) ≡ field w
   live_leaves p event done w taken advancing = taken
   live_leaves p event (row r) w taken advancing = taken
-  live_leaves p (advance workflow name at at_most) (advanced events rows) w taken advancing =
-      field-changed field (λ v. live_advanced p v name at at_most events rows) workflow w (advancing workflow name at at_most events rows refl)
+  live_leaves p (advance workflow name shard at at_most) (advanced events rows) w taken advancing =
+      field-changed field (λ v. live_advanced p v name shard at at_most events rows) workflow w (advancing workflow name shard at at_most events rows refl)
   live_leaves p event (advanced events rows) w taken advancing = refl
   live_leaves p event (shown s) w taken advancing = refl
   live_leaves p event (refused refusal) w taken advancing = refl
@@ -182,20 +172,43 @@ taken-way p (step workflow at) w other = absurd (other tt)
 taken-way p (undo workflow at) w other = absurd (other tt)
 taken-way p event w other = refl
 
-taken-copy : (p : Plain) (event : Event) (w : Live) → copy (live_taken p event w) ≡ copy w
-taken-copy p (begin_switch workflow types) w = field-changed copy (with_way_to false (λ switched. types_and switched types)) workflow w refl
-taken-copy p (begin_reverse workflow types) w = field-changed copy (with_way_to true (λ switched. types_without switched types)) workflow w refl
-taken-copy p (step workflow at) w = field-changed copy (λ v. on_way_of (live_stepped p v) v) workflow w (field-on_way copy w (live_stepped p w) (λ way. refl) w.way)
-taken-copy p (undo workflow at) w = field-changed copy (λ v. on_way_of (live_undone v) v) workflow w (field-on_way copy w (live_undone w) (λ way. refl) w.way)
-taken-copy p event w = refl
+taken-lanes : (p : Plain) (event : Event) (w : Live) → ¬ (MovesStream event) → (live_taken p event w).lanes ≡ w.lanes
+taken-lanes p (begin_switch workflow types) w other = field-changed (λ v. v.lanes) (with_way_to false (λ switched. types_and switched types)) workflow w refl
+taken-lanes p (begin_reverse workflow types) w other = field-changed (λ v. v.lanes) (with_way_to true (λ switched. types_without switched types)) workflow w refl
+taken-lanes p (step workflow at) w other = absurd (other tt)
+taken-lanes p (undo workflow at) w other =
+    field-changed (λ v. v.lanes) (λ v. on_way_of (live_undone v) v) workflow w (field-on_way (λ v. v.lanes) w (live_undone w) (λ way. refl) w.way)
+taken-lanes p event w other = refl
 
-taken-positions : (p : Plain) (event : Event) (w : Live) → ¬ (MovesStream event) → positions (live_taken p event w) ≡ positions w
-taken-positions p (begin_switch workflow types) w other = field-changed positions (with_way_to false (λ switched. types_and switched types)) workflow w refl
-taken-positions p (begin_reverse workflow types) w other = field-changed positions (with_way_to true (λ switched. types_without switched types)) workflow w refl
-taken-positions p (step workflow at) w other = absurd (other tt)
-taken-positions p (undo workflow at) w other =
-    field-changed positions (λ v. on_way_of (live_undone v) v) workflow w (field-on_way positions w (live_undone w) (λ way. refl) w.way)
-taken-positions p event w other = refl
+-- what is fed and copied of each lane
+abbrev counts : Live → List (ℕ × Copied)
+counts v = map fed_and_copied v.lanes
+
+lane_counts : (p : Plain) (w : Live) (way : Way) (lane : Lane) → fed_and_copied (lane_stepped p w way lane) ≡ fed_and_copied lane
+lane_counts p w way lane = by (eqb (next_step way) create_back) (closes way && changes_primary way) way.back
+  where
+    shape : (a b c : Bool) → Lane
+    shape a b c = cond a (lane_made p w lane) (cond b (cond c (record lane { forward_at = lane.fresh_at }) (record lane { back_at = lane.fresh_at })) lane)
+
+    by : (a b c : Bool) → fed_and_copied (shape a b c) ≡ fed_and_copied lane
+    by true b c = refl
+    by false true true = refl
+    by false true false = refl
+    by false false c = refl
+
+all_counts : (p : Plain) (w : Live) (way : Way) (lanes : List Lane) → map fed_and_copied (map (lane_stepped p w way) lanes) ≡ map fed_and_copied lanes
+all_counts p w way [] = refl
+all_counts p w way (lane ∷ lanes) =
+    ap (λ y. y ∷ map fed_and_copied (map (lane_stepped p w way) lanes)) (lane_counts p w way lane) ∙ ap (λ ys. fed_and_copied lane ∷ ys) (all_counts p w way lanes)
+
+taken-counts : (p : Plain) (event : Event) (w : Live) → ¬ (IsAdvance event) → counts (live_taken p event w) ≡ counts w
+taken-counts p (begin_switch workflow types) w other = field-changed counts (with_way_to false (λ switched. types_and switched types)) workflow w refl
+taken-counts p (begin_reverse workflow types) w other = field-changed counts (with_way_to true (λ switched. types_without switched types)) workflow w refl
+taken-counts p (step workflow at) w other =
+    field-changed counts (λ v. on_way_of (live_stepped p v) v) workflow w (field-on_way counts w (live_stepped p w) (λ way. all_counts p w way w.lanes) w.way)
+taken-counts p (undo workflow at) w other =
+    field-changed counts (λ v. on_way_of (live_undone v) v) workflow w (field-on_way counts w (live_undone w) (λ way. refl) w.way)
+taken-counts p event w other = refl
 
 -- a workflow that is live before and after an event
 module _ (p : Plain) (event : Event) (answer : Answer) (name : List ℕ) (w v : Live) (before : live_at p name ≡ Some w) (now : live_at (next p event answer) name ≡ Some v) where
@@ -209,40 +222,25 @@ module _ (p : Plain) (event : Event) (answer : Answer) (name : List ℕ) (w v : 
   same_switched other =
       ap (λ x. x.switched) is_next
       ∙ live_leaves (λ x. x.switched) p event answer w (taken-switched p event w other)
-      (λ workflow stream at at_most events rows is. ap (λ t. t.0) (traffic-advanced p w stream at at_most events rows))
+      (λ workflow stream shard at at_most events rows is. ap (λ t. t.0) (traffic-advanced p w stream shard at at_most events rows))
 
   pub same_way : ¬ (ChangesWay event) → v.way ≡ w.way
   same_way other =
       ap (λ x. x.way) is_next
       ∙ live_leaves (λ x. x.way) p event answer w (taken-way p event w other)
-      (λ workflow stream at at_most events rows is. ap (λ t. t.1) (traffic-advanced p w stream at at_most events rows))
+      (λ workflow stream shard at at_most events rows is. ap (λ t. t.1) (traffic-advanced p w stream shard at at_most events rows))
 
-  same_copy : ¬ (IsAdvance event) → copy v ≡ copy w
-  same_copy other =
-      ap copy is_next
-      ∙ live_leaves copy p event answer w (taken-copy p event w)
-      (λ workflow stream at at_most events rows is. absurd (other (subst IsAdvance (sym is) tt)))
+  pub same_lanes : ¬ (MovesStream event) → v.lanes ≡ w.lanes
+  same_lanes other =
+      ap (λ x. x.lanes) is_next
+      ∙ live_leaves (λ x. x.lanes) p event answer w (taken-lanes p event w other)
+      (λ workflow stream shard at at_most events rows is. absurd (other (subst MovesStream (sym is) tt)))
 
-  pub same_fed : ¬ (IsAdvance event) → v.fed ≡ w.fed
-  same_fed other = ap (λ c. c.0) (same_copy other)
-
-  pub same_copied : ¬ (IsAdvance event) → v.copied ≡ w.copied
-  same_copied other = ap (λ c. c.1) (same_copy other)
-
-  same_positions : ¬ (MovesStream event) → positions v ≡ positions w
-  same_positions other =
-      ap positions is_next
-      ∙ live_leaves positions p event answer w (taken-positions p event w other)
-      (λ workflow stream at at_most events rows is. absurd (other (subst MovesStream (sym is) tt)))
-
-  pub same_forward_at : ¬ (MovesStream event) → v.forward_at ≡ w.forward_at
-  same_forward_at other = ap (λ c. c.0) (same_positions other)
-
-  pub same_back_at : ¬ (MovesStream event) → v.back_at ≡ w.back_at
-  same_back_at other = ap (λ c. c.1) (same_positions other)
-
-  pub same_fresh_at : ¬ (MovesStream event) → v.fresh_at ≡ w.fresh_at
-  same_fresh_at other = ap (λ c. c.2) (same_positions other)
+  pub same_counts : ¬ (IsAdvance event) → map fed_and_copied v.lanes ≡ map fed_and_copied w.lanes
+  same_counts other =
+      ap counts is_next
+      ∙ live_leaves counts p event answer w (taken-counts p event w other)
+      (λ workflow stream shard at at_most events rows is. absurd (other (subst IsAdvance (sym is) tt)))
 
 -- ---- which workflows are live, and the others
 
@@ -274,7 +272,7 @@ taken_elsewhere p event name w is other = refl
 pub next_elsewhere : (p : Plain) (event : Event) (answer : Answer) (name : List ℕ) (w : Live) → w.name ≡ name → ¬ (IsOf name event) → live_next p event answer w ≡ w
 next_elsewhere p event done name w is other = taken_elsewhere p event name w is other
 next_elsewhere p event (row r) name w is other = taken_elsewhere p event name w is other
-next_elsewhere p (advance workflow stream at at_most) (advanced events rows) name w is other = rw (text_differs w.name workflow (λ e. other (sym e ∙ is))) refl
+next_elsewhere p (advance workflow stream shard at at_most) (advanced events rows) name w is other = rw (text_differs w.name workflow (λ e. other (sym e ∙ is))) refl
 next_elsewhere p event (advanced events rows) name w is other = refl
 next_elsewhere p event (shown s) name w is other = refl
 next_elsewhere p event (refused refusal) name w is other = refl
@@ -308,7 +306,7 @@ same_workflow p event answer name other = by (lives_after p event answer)
 pub same_traffic : (p : Plain) (event : Event) (answer : Answer) (w : Live) → ¬ (ChangesWay event) → traffic (live_next p event answer w) ≡ traffic w
 same_traffic p event answer w other =
     live_leaves traffic p event answer w (by event other)
-    (λ workflow stream at at_most events rows is. traffic-advanced p w stream at at_most events rows)
+    (λ workflow stream shard at at_most events rows is. traffic-advanced p w stream shard at at_most events rows)
   where
     by : (e : Event) → ¬ (ChangesWay e) → traffic (live_taken p e w) ≡ traffic w
     by (begin_switch workflow types) n = absurd (n tt)

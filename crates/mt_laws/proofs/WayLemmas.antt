@@ -1,18 +1,19 @@
 -- What an event that is taken makes of the way of a live workflow.
-use Rattle.std.proofs.Common.{◌≡◌, ℕ, ◌-◌, Bool, true, false, not, cond, eqb, List, Option, None, Some, refl, sym, ap, ◌∙◌, arith, ◌≢◌}
-use Rattle.mt_laws.proofs.ListLemmas.{cond-either}
-use Rattle.std.specs.Prelude.{◌||◌}
+use Rattle.std.proofs.Common.{◌≡◌, ◌≢◌, ℕ, ◌-◌, Bool, true, false, not, cond, eqb, List, Option, None, Some, refl, sym, ap, ◌∙◌, arith}
 use Rattle.std.proofs.lemmas.Bool.{true≢false}
 use Rattle.std.specs.Option.{option_map_or}
+use Rattle.std.specs.Prelude.{◌||◌}
+use Rattle.mt_names.specs.Shards.{shard_count}
 use Rattle.mt_names.specs.declared.types.TypeSet.{TypeSet}
 use Rattle.mt_names.specs.Names.{same_text}
 use Rattle.mt_plain.specs.Answers.{Answers}
 use Rattle.mt_plain.specs.Events.{Event, Answer, Refusal, nothing_under_way, past_journal, stale, Way}
-use Rattle.mt_plain.specs.Next.{closes, live_stepped, live_undone, types_and, types_without, with_way_to}
-use Rattle.mt_plain.specs.Plain.{Live, Plain, live_at, next_step, stands_done, write_journal, refresh_source, refresh_target, repeated_step}
+use Rattle.mt_plain.specs.Next.{live_stepped, live_undone, types_and, types_without, closes, with_way_to}
+use Rattle.mt_plain.specs.Plain.{Live, Plain, live_at, next_step, refresh_source, refresh_target, repeated_step, stands_done, write_journal}
 use Rattle.mt_plain.specs.Refuse.{or_else, refuse_if, undo_refusal}
 use Rattle.mt_laws.specs.Changes.{BeginsWay, IsStep}
 use Rattle.mt_laws.specs.Copies.{Undoes}
+use Rattle.mt_laws.proofs.ListLemmas.{cond-either}
 use Rattle.mt_laws.proofs.ChangeLemmas.{live_next}
 use Rattle.mt_laws.proofs.KeepLemmas.{Keeps, next_has}
 use Rattle.mt_laws.proofs.RefusalLemmas.{or_else-none, refuse_if-none, switch-none, reverse-none}
@@ -56,17 +57,17 @@ step_change p event w way opens steps =
 -- ---- an undo
 
 undo_change : (event : Event) (w : Live) (way : Way) → w.way ≡ Some way → Undoes event → stands_done way write_journal ≡ false → WayChange event w (live_undone w way)
-undo_change event w way opens undoes before = by (eqb (way.done - 1) 0)
+undo_change event w way opens undoes before = by (eqb (way.done - 1) 0) refl
   where
-    by : (t : Bool) → WayChange event w (record w { way = cond t None (Some (fewer way)) })
-    by true = abandoned way undoes opens refl refl before
-    by false = goes_on way (fewer way) opens refl refl refl (λ settled later. settled before)
+    by : (t : Bool) → eqb (way.done - 1) 0 ≡ t → WayChange event w (live_undone w way)
+    by true t = abandoned way undoes opens (ap (λ l. cond l None (Some (fewer way))) t) refl before
+    by false t = goes_on way (fewer way) opens (ap (λ l. cond l None (Some (fewer way))) t) refl refl (λ settled later. settled before)
 
 -- ---- an event on a workflow
 
 begin_change : (event : Event) (backward : Bool) (change : TypeSet → TypeSet) (w : Live) → BeginsWay event → w.way ≡ None → WayChange event w (with_way_to backward change w)
 begin_change event backward change w begins rests =
-    begun (record { back = backward; shards = 1; before = w.switched; after = change w.switched; done = 0; undoing = false }) begins rests refl refl refl
+    begun (record { back = backward; shards = shard_count w.cuts; before = w.switched; after = change w.switched; done = 0; undoing = false }) begins rests refl refl refl
 
 pub undo_before_journal : (at : ℕ) (w : Live) (way : Way) → w.way ≡ Some way → undo_refusal at w ≡ None → stands_done way write_journal ≡ false
 undo_before_journal at w way opens none =
@@ -83,8 +84,8 @@ way_keeps p event w = record {
   reverse = λ types begins none. begin_change event true (λ switched. types_without switched types) w begins (reverse-none p types w none).0;
   steps = λ at way steps opens none. step_change p event w way opens steps;
   undoes = λ at way undoes opens none. undo_change event w way opens undoes (undo_before_journal at w way opens none);
-  advances = λ workflow stream at at_most events rows live none given.
-      let same = traffic-advanced p w stream at at_most events rows in kept (ap (λ t. t.1) same) (ap (λ t. t.0) same);
+  advances = λ adv workflow stream shard at at_most events rows live none given.
+      let same = traffic-advanced p w stream shard at at_most events rows in kept (ap (λ t. t.1) same) (ap (λ t. t.0) same);
 }
 
 pub way_change : (p : Plain) (event : Event) (answer : Answer) (w : Live) → ((name : List ℕ) → same_text w.name name ≡ true → live_at p name ≡ Some w) → Answers p event answer → WayChange event w (live_next p event answer w)

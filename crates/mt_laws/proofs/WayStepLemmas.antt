@@ -1,11 +1,10 @@
 -- The open way of a workflow, with one step more done or one less: how it goes on, and which of its steps stand done.
-use Rattle.std.proofs.Common.{◌≡◌, ◌≢◌, ◌⊎◌, inl, inr, ℕ, zero, suc, ◌+◌, ◌-◌, ◌≤◌, Bool, true, false, cond, eqb, ltb, leb, min, Option, None, Some, refl, sym, ap, ◌∙◌, subst, arith, eqb-true, ltb-true, lt-ltb, le-leb}
+use Rattle.std.proofs.Common.{◌≡◌, ◌≢◌, ◌⊎◌, inl, inr, ℕ, zero, suc, ◌+◌, ◌-◌, ◌≤◌, Bool, true, false, cond, eqb, ltb, leb, min, ◌<◌, Option, None, Some, refl, sym, ap, ◌∙◌, subst, arith, eqb-true, ltb-true, lt-ltb, le-leb}
 use Rattle.std.proofs.lemmas.Bool.{true≢false, and_from, and_parts, eq-eqb, false_from_ne_true, leb-false, leb-true, ltb-false}
 use Rattle.std.specs.Cmp.{both_ways}
-use Rattle.std.specs.Prelude.{◌&&◌}
 use Rattle.mt_plain.specs.Events.{Way}
 use Rattle.mt_plain.specs.Next.{closes, live_stepped, live_undone}
-use Rattle.mt_plain.specs.Plain.{Live, Plain, first_step, last_place_of, next_place, next_step, repeated_step, stands_done, step_at_place, last_step}
+use Rattle.mt_plain.specs.Plain.{Live, Plain, first_step, next_place, next_step, place_of_refresh, place_of_step, repeated_step, stands_done, stands_done_at, step_at_place, last_step}
 use Rattle.mt_plain.proofs.PlaceLemmas.{step-behind, step-first}
 use Rattle.mt_laws.proofs.ListLemmas.{cond-either}
 use Rattle.mt_laws.proofs.PlainWords.{changes_reads}
@@ -137,6 +136,7 @@ fewer-le way = by way.done refl
         subst (λ d. step_at_place way (first_step way + (d - 1)) ≤ step_at_place way (first_step way + d)) (sym e)
         (subst (λ m. step_at_place way (first_step way + m) ≤ step_at_place way (first_step way + suc n)) (sym k) (next-le (record way { done = n })))
 
+-- the step at the place that was done last isn't behind the next one
 pub last-le : (way : Way) → last_step way ≤ next_step way
 last-le way = by (next_place way) refl
   where
@@ -213,77 +213,92 @@ was_done way n e =
     let le = fewer-le way in
     and_from (leb (first_step way) n) (ltb n (next_step way)) r.0 (lt-ltb n (next_step way) (omega arith))
 
--- ---- places of steps
+-- ---- the refreshes of shards
 
--- where the last place of a step is
-data LastPlace (way : Way) (step : ℕ) : Type 0 where
-  before : suc step ≤ repeated_step way → last_place_of way step ≡ step → LastPlace way step
-  repeated : step ≡ repeated_step way → last_place_of way step ≡ repeated_step way + (way.shards - 1) → LastPlace way step
-  behind : suc (repeated_step way) ≤ step → last_place_of way step ≡ step + (way.shards - 1) → LastPlace way step
-
-last_place : (way : Way) (step : ℕ) → LastPlace way step
-last_place way step = by (leb step (repeated_step way)) refl (eqb step (repeated_step way)) refl
+-- a refresh that stands done stands done for each shard
+pub done_at_all : (way : Way) (step shard : ℕ) → stands_done way step ≡ true → stands_done_at way step shard ≡ true
+done_at_all way step shard done = by (leb step r) refl (eqb step r) refl (leb (next_place way) r) refl
   where
-    by : (t : Bool) → leb step (repeated_step way) ≡ t → (u : Bool) → eqb step (repeated_step way) ≡ u → LastPlace way step
-    by true e true f = let is = eqb-true step (repeated_step way) f in repeated is (rw (e, f) (omega arith))
-    by true e false f =
-        let le = leb-true step (repeated_step way) e in
-        let apart : step ≢ repeated_step way = λ is. true≢false (sym (eq-eqb step (repeated_step way) is) ∙ f) in
-        before (omega arith) (rw (e, f) (omega arith))
-    by false e true f = let high = leb-false step (repeated_step way) e in let is = eqb-true step (repeated_step way) f in absurd (omega arith)
-    by false e false f = let high = leb-false step (repeated_step way) e in behind (omega arith) (rw (e, f) (omega arith))
+    r : ℕ
+    r = repeated_step way
 
--- a step is done at a place just where its last place is before that
-pub step-past : (way : Way) (step place : ℕ) → ltb step (step_at_place way place) ≡ ltb (last_place_of way step) place
-step-past way step place = both_ways (ltb step (step_at_place way place)) (ltb (last_place_of way step) place) there back_again
+    more_shards : ℕ
+    more_shards = way.shards - 1
+
+    lt : suc step ≤ next_step way
+    lt = ltb-true step (next_step way) (and_parts (leb (first_step way) step) (ltb step (next_step way)) done).1
+
+    by : (t : Bool) → leb step r ≡ t → (u : Bool) → eqb step r ≡ u → (v : Bool) → leb (next_place way) r ≡ v → stands_done_at way step shard ≡ true
+    by t e u f true g =
+        let here = leb-true (next_place way) r g in
+        let below = lt in
+        let is = step-first way (next_place way) here in
+        let low : eqb step r ≡ false = false_from_ne_true (eqb step r) (λ x. let y = eqb-true step r x in absurd (omega arith)) in
+        let le : leb step r ≡ true = le-leb step r (omega arith) in
+        rw (le, low) (lt-ltb (step + 0) (next_place way) (omega arith))
+    by true e true f false g =
+        let behind = leb-false (next_place way) r g in
+        let below = lt in
+        let is = step-behind way (next_place way) (omega arith) in
+        let same = eqb-true step r f in
+        rw (e, f) (lt-ltb (step + min shard more_shards) (next_place way) (omega arith))
+    by true e false f false g =
+        let behind = leb-false (next_place way) r g in
+        let le = leb-true step r e in
+        rw (e, f) (lt-ltb (step + 0) (next_place way) (omega arith))
+    by false e true f false g = let behind = leb-false step r e in let same = eqb-true step r f in absurd (omega arith)
+    by false e false f false g =
+        let behind = leb-false (next_place way) r g in
+        let high = leb-false step r e in
+        let below = lt in
+        let is = step-behind way (next_place way) (omega arith) in
+        rw (e, f) (lt-ltb (step + more_shards + 0) (next_place way) (omega arith))
+
+-- where it stands done for one, each step before it stands done, step 0 aside
+pub done_at_some : (way : Way) (step shard m : ℕ) → stands_done_at way step shard ≡ true → suc m < step → stands_done way (suc m) ≡ true
+done_at_some way step shard m done lt = by (leb step r) refl
   where
-    there : ltb step (step_at_place way place) ≡ true → ltb (last_place_of way step) place ≡ true
-    there e = by (ltb-true step (step_at_place way place) e) (leb place (repeated_step way)) refl (last_place way step)
-      where
-        by : suc step ≤ step_at_place way place → (t : Bool) → leb place (repeated_step way) ≡ t → LastPlace way step → ltb (last_place_of way step) place ≡ true
-        by h true t (before lt is) = let le = leb-true place (repeated_step way) t in let at = step-first way place le in lt-ltb (last_place_of way step) place (omega arith)
-        by h true t (repeated same is) = let le = leb-true place (repeated_step way) t in let at = step-first way place le in absurd (omega arith)
-        by h true t (behind lt is) = let le = leb-true place (repeated_step way) t in let at = step-first way place le in absurd (omega arith)
-        by h false t (before lt is) = let high = leb-false place (repeated_step way) t in lt-ltb (last_place_of way step) place (omega arith)
-        by h false t (repeated same is) =
-            let high = leb-false place (repeated_step way) t in let at = step-behind way place (omega arith) in lt-ltb (last_place_of way step) place (omega arith)
-        by h false t (behind lt is) =
-            let high = leb-false place (repeated_step way) t in let at = step-behind way place (omega arith) in lt-ltb (last_place_of way step) place (omega arith)
+    r : ℕ
+    r = repeated_step way
 
-    back_again : ltb (last_place_of way step) place ≡ true → ltb step (step_at_place way place) ≡ true
-    back_again e = by (ltb-true (last_place_of way step) place e) (leb place (repeated_step way)) refl (last_place way step)
-      where
-        by : suc (last_place_of way step) ≤ place → (t : Bool) → leb place (repeated_step way) ≡ t → LastPlace way step → ltb step (step_at_place way place) ≡ true
-        by h true t (before lt is) = let le = leb-true place (repeated_step way) t in let at = step-first way place le in lt-ltb step (step_at_place way place) (omega arith)
-        by h true t (repeated same is) = let le = leb-true place (repeated_step way) t in absurd (omega arith)
-        by h true t (behind lt is) = let le = leb-true place (repeated_step way) t in absurd (omega arith)
-        by h false t (before lt is) =
-            let high = leb-false place (repeated_step way) t in let at = step-behind way place (omega arith) in lt-ltb step (step_at_place way place) (omega arith)
-        by h false t (repeated same is) =
-            let high = leb-false place (repeated_step way) t in let at = step-behind way place (omega arith) in lt-ltb step (step_at_place way place) (omega arith)
-        by h false t (behind lt is) =
-            let high = leb-false place (repeated_step way) t in let at = step-behind way place (omega arith) in lt-ltb step (step_at_place way place) (omega arith)
+    more_shards : ℕ
+    more_shards = way.shards - 1
 
--- it is none before the step's own number
-pub last-ge : (way : Way) (step : ℕ) → step ≤ last_place_of way step
-last-ge way step = by (last_place way step)
-  where
-    by : LastPlace way step → step ≤ last_place_of way step
-    by (before lt is) = omega arith
-    by (repeated same is) = omega arith
-    by (behind lt is) = omega arith
+    before : step ≤ next_step way → stands_done way (suc m) ≡ true
+    before le = and_from (leb (first_step way) (suc m)) (ltb (suc m) (next_step way)) (early way (suc m) (omega arith)) (lt-ltb (suc m) (next_step way) (omega arith))
 
--- a step stands done just where its last place does
-pub done_at : (way : Way) (step : ℕ) → 1 ≤ step → stands_done way step ≡ ltb (last_place_of way step) (next_place way)
-done_at way step le = ap (λ b. b && ltb step (next_step way)) (early way step le) ∙ step-past way step (next_place way)
+    h : suc (place_of_refresh way step shard) ≤ next_place way
+    h = ltb-true (place_of_refresh way step shard) (next_place way) done
 
--- ---- one shard
+    next-ge : (n : ℕ) → n ≤ r → suc n ≤ next_place way → (t : Bool) → leb (next_place way) r ≡ t → n ≤ next_step way
+    next-ge n le lt true e = let here = leb-true (next_place way) r e in let is = step-first way (next_place way) here in omega arith
+    next-ge n le lt false e = let here = leb-false (next_place way) r e in let is = step-behind way (next_place way) (omega arith) in omega arith
 
-pub one-last_place : (way : Way) (step : ℕ) → way.shards ≤ 1 → last_place_of way step ≡ step
-one-last_place way step few = by (leb step (repeated_step way)) (eqb step (repeated_step way))
-  where
-    by : (a b : Bool) → cond a step (step + (way.shards - 1)) + cond b (min (way.shards - 1) (way.shards - 1)) 0 ≡ step
-    by true true = omega arith
-    by true false = omega arith
-    by false true = omega arith
-    by false false = omega arith
+    by : (t : Bool) → leb step r ≡ t → stands_done way (suc m) ≡ true
+    by true e =
+        let le = leb-true step r e in
+        let first = h in
+        let place : place_of_step way step ≡ step = ap (λ t. cond t step (step + more_shards)) e in
+        before (next-ge step le (omega arith) (leb (next_place way) r) refl)
+    by false e =
+        let high = leb-false step r e in
+        let first = h in
+        let place : place_of_step way step ≡ step + more_shards = ap (λ t. cond t step (step + more_shards)) e in
+        let is = step-behind way (next_place way) (omega arith) in
+        before (omega arith)
+
+-- one that doesn't stand done with one step more didn't, and none stands done before its number comes
+pub not_before_at : (way : Way) (step shard : ℕ) → stands_done_at (more way) step shard ≡ false → stands_done_at way step shard ≡ false
+not_before_at way step shard e =
+    false_from_ne_true (stands_done_at way step shard)
+    (λ t. let h = ltb-true (place_of_refresh way step shard) (next_place way) t in
+    true≢false (sym (lt-ltb (place_of_refresh way step shard) (next_place (more way)) (omega arith)) ∙ e))
+
+pub was_done_at : (way : Way) (step shard : ℕ) → stands_done_at (fewer way) step shard ≡ true → stands_done_at way step shard ≡ true
+was_done_at way step shard e =
+    let h = ltb-true (place_of_refresh way step shard) (next_place (fewer way)) e in
+    lt-ltb (place_of_refresh way step shard) (next_place way) (omega arith)
+
+pub undone_at : (way : Way) (step shard m : ℕ) → next_step way ≡ suc m → suc m < step → stands_done_at way step shard ≡ false
+undone_at way step shard m is lt =
+    false_from_ne_true (stands_done_at way step shard) (λ t. true≢false (sym (done_at_some way step shard m t lt) ∙ undone_by way (suc m) (suc m) is (omega arith)))

@@ -19,7 +19,7 @@ abbrev scopes : List Scope
 scopes = scope.Primary (codes "b") ∷ scope.Primary (codes "a") ∷ []
 
 abbrev first_events : List Event
-first_events = add_keyspace (codes "a") ∷ add_keyspace (codes "b") ∷ add_table (codes "a") (codes "t") ∷ []
+first_events = add_keyspace (codes "a") [] ∷ add_keyspace (codes "b") [] ∷ add_table (codes "a") (codes "t") ∷ []
 
 abbrev first_answers : List Answer
 first_answers = done ∷ done ∷ done ∷ []
@@ -34,7 +34,7 @@ abbrev make : Event
 make = create name (codes "a") (codes "b") (codes "t" ∷ [])
 
 abbrev copy : Event
-copy = advance name forward 0 1
+copy = advance name forward 0 0 1
 
 abbrev p1 : Plain
 p1 = after (next p0 make done) (copy ∷ []) (advanced 0 0 ∷ [])
@@ -51,7 +51,7 @@ in_it = refl
 reached1 : IsReached p1
 reached1 = record {
   scopes = scopes;
-  events = add_keyspace (codes "a") ∷ add_keyspace (codes "b") ∷ add_table (codes "a") (codes "t") ∷ make ∷ copy ∷ [];
+  events = add_keyspace (codes "a") [] ∷ add_keyspace (codes "b") [] ∷ add_table (codes "a") (codes "t") ∷ make ∷ copy ∷ [];
   answers = done ∷ done ∷ done ∷ done ∷ advanced 0 0 ∷ [];
   run = ((refl, refl), ((refl, refl), ((refl, refl), ((refl, refl), ((refl, inl refl), tt)))));
   is = refl;

@@ -14,15 +14,15 @@ use Rattle.mt_model.specs.declared.entries.EntryKey.TheVariants as about
 use Rattle.mt_model.specs.Topology.{value_of}
 use Rattle.mt_model.proofs.PartLemmas.{table_of}
 use Rattle.mt_plain.specs.Events.{Way}
-use Rattle.mt_plain.specs.Plain.{Live, Plain, before_way, has_part, is_side, mover, moves, owner, part_owner, refresh_source, refresh_target, stands_done}
-use Rattle.mt_plain.specs.Serve.{IsWritable, is_denied_at, owned_before, refuses, served_by, served_entry, types_by}
+use Rattle.mt_plain.specs.Plain.{Live, Plain, before_way, has_part, is_side, mover, moves, owner, part_owner, refresh_source, refresh_target, stands_done_at}
+use Rattle.mt_plain.specs.Serve.{IsWritable, is_denied_at, list_types, owned_before, refuses, served_by, served_entry, has_table}
 use Rattle.mt_laws.specs.WayBack.{IsReached}
 use Rattle.mt_laws.proofs.LiveLemmas.{Apart, IsApart, IsIn, all_from_in, find_none, find_some, in_all, text_differs}
 use Rattle.mt_laws.proofs.PartLemmas.{HasParts, moved_from_part, there_at_source, there_at_target}
 use Rattle.mt_laws.proofs.ReachLemmas.{reached_has_parts}
-use Rattle.mt_laws.proofs.PlainWords.{refuses_moved, types_by_way, side_by}
+use Rattle.mt_laws.proofs.PlainWords.{refuses_moved, list_types_by_way, side_by}
 use Rattle.mt_laws.proofs.ListLemmas.{cond-ap}
-use Rattle.mt_laws.proofs.WayStepLemmas.{done_in_order}
+use Rattle.mt_laws.proofs.WayStepLemmas.{done_at_all, done_at_some}
 
 -- ---- parts
 
@@ -48,37 +48,39 @@ no_denial_elsewhere p reached keyspace table none =
     ap (λ o. option_map_or (λ w. served_by p.topology w (about.Denied keyspace table)) o (value_of p.topology (about.Denied keyspace table))) none
     ∙ ap (entry.Denied keyspace table) ((reached_has_parts p reached).undenied keyspace table)
 
-refuses_elsewhere : (p : Plain) (keyspace table : List ℕ) → part_owner p (about.Denied keyspace table) ≡ None → (o : Option Live) → mover p table ≡ o → refuses_moved o keyspace ≡ false
-refuses_elsewhere p keyspace table none None found = refl
-refuses_elsewhere p keyspace table none (Some w) found =
+refuses_elsewhere : (p : Plain) (keyspace : List ℕ) (shard : ℕ) (table : List ℕ) → part_owner p (about.Denied keyspace table) ≡ None → (o : Option Live) → mover p table ≡ o → refuses_moved o keyspace shard ≡ false
+refuses_elsewhere p keyspace shard table none None found = refl
+refuses_elsewhere p keyspace shard table none (Some w) found =
     let r = find_some (λ v. moves v table) p.lives w found in
-    ap (λ t. t && is_denied_at w (types_by w (cond (owned_before w keyspace) refresh_source refresh_target)) keyspace)
+    ap (λ t. t && is_denied_at w (list_types w keyspace shard) keyspace)
     (sym (ap (λ t. t && is_side w keyspace) r.1) ∙ find_none (λ v. has_part v (about.Denied keyspace table)) p.lives none w r.0)
 
-pub no_refusal_elsewhere : (p : Plain) (keyspace table : List ℕ) → part_owner p (about.Denied keyspace table) ≡ None → refuses p keyspace table ≡ false
-no_refusal_elsewhere p keyspace table none = refuses_elsewhere p keyspace table none (mover p table) refl
+pub no_refusal_elsewhere : (p : Plain) (keyspace : List ℕ) (shard : ℕ) (table : List ℕ) → part_owner p (about.Denied keyspace table) ≡ None → refuses p keyspace shard table ≡ false
+no_refusal_elsewhere p keyspace shard table none = refuses_elsewhere p keyspace shard table none (mover p table) refl
 
 -- ---- which side refuses
 
--- by whether primary was switched before the way and is after it, and whether the two refreshes stand done
-not_both : (before source_done target_done after : Bool) → (target_done ≡ true → source_done ≡ true)
-    → cond (cond (not before) source_done target_done) after before ≡ false → not (cond (cond before source_done target_done) after before) ≡ false → ⊥
-not_both true s true true order e f = true≢false e
-not_both true s false a order e f = true≢false e
-not_both true true true false order e f = true≢false f
-not_both true false true false order e f = true≢false (sym (order refl))
-not_both false s false a order e f = true≢false f
-not_both false s true false order e f = true≢false f
-not_both false true true true order e f = true≢false e
-not_both false false true true order e f = true≢false (sym (order refl))
+-- by whether primary was switched before the way and is after it, and whether the two refreshes stand done, at a shard of the source and at
+-- one of the target
+not_both : (before source_here source_there target_here target_there after : Bool) → (target_there ≡ true → source_here ≡ true) → (target_here ≡ true → source_there ≡ true)
+    → cond (cond (not before) source_here target_here) after before ≡ false → not (cond (cond before source_there target_there) after before) ≡ false → ⊥
+not_both true sh st true tt true one two e f = true≢false e
+not_both true sh true true tt false one two e f = true≢false f
+not_both true sh false true tt false one two e f = true≢false (sym (two refl))
+not_both true sh st false tt after one two e f = true≢false e
+not_both false true st th tt true one two e f = true≢false e
+not_both false true st th true false one two e f = true≢false f
+not_both false true st th false false one two e f = true≢false f
+not_both false false st th true after one two e f = true≢false (sym (one refl))
+not_both false false st th false after one two e f = true≢false f
 
 -- the step at which a side's primary takes its denials over, by whether it was the owner
 abbrev pub step_by : Bool → ℕ
 step_by owned = cond owned refresh_source refresh_target
 
-pub primary-step : (way : Way) (owned : Bool) → (cond (stands_done way (step_by owned)) way.after way.before).primary ≡ cond (cond owned (stands_done way refresh_source) (stands_done way refresh_target)) way.after.primary way.before.primary
-primary-step way true = cond-ap (λ s. s.primary) (stands_done way refresh_source) way.after way.before
-primary-step way false = cond-ap (λ s. s.primary) (stands_done way refresh_target) way.after way.before
+pub primary-step : (way : Way) (owned : Bool) (shard : ℕ) → (cond (stands_done_at way (step_by owned) shard) way.after way.before).primary ≡ cond (cond owned (stands_done_at way refresh_source shard) (stands_done_at way refresh_target shard)) way.after.primary way.before.primary
+primary-step way true shard = cond-ap (λ s. s.primary) (stands_done_at way refresh_source shard) way.after way.before
+primary-step way false shard = cond-ap (λ s. s.primary) (stands_done_at way refresh_target shard) way.after way.before
 
 abbrev pub before_by : TypeSet → Option Way → TypeSet
 before_by switched o = option_map_or (λ way. way.before) o switched
@@ -90,12 +92,16 @@ pub side_by-is_side : (w : Live) (t : Bool) → is_side w (side_by w t) ≡ true
 side_by-is_side w true = or_right (same_text w.source w.target) (same_text w.target w.target) ((same_text_decides w.target w.target).1 refl)
 side_by-is_side w false = or_left (same_text w.source w.source) (same_text w.target w.source) ((same_text_decides w.source w.source).1 refl)
 
-not_both_sides : (switched : TypeSet) (o : Option Way) → (types_by_way switched o (step_by (not (before_by switched o).primary))).primary ≡ false
-    → not (types_by_way switched o (step_by (before_by switched o).primary)).primary ≡ false → ⊥
-not_both_sides switched None e f = true≢false (sym (not-false switched.primary f) ∙ e)
-not_both_sides switched (Some way) e f =
-    not_both way.before.primary (stands_done way refresh_source) (stands_done way refresh_target) way.after.primary (done_in_order way 1 refresh_target (omega arith))
-    (sym (primary-step way (not way.before.primary)) ∙ e) (ap not (sym (primary-step way way.before.primary)) ∙ f)
+not_both_sides : (switched : TypeSet) (o : Option Way) (here there : ℕ) → (list_types_by_way switched o (step_by (not (before_by switched o).primary)) here).primary ≡ false
+    → not (list_types_by_way switched o (step_by (before_by switched o).primary) there).primary ≡ false → ⊥
+not_both_sides switched None here there e f = true≢false (sym (not-false switched.primary f) ∙ e)
+not_both_sides switched (Some way) here there e f =
+    not_both way.before.primary (stands_done_at way refresh_source here) (stands_done_at way refresh_source there) (stands_done_at way refresh_target here) (stands_done_at way refresh_target there) way.after.primary (order there here) (order here there)
+    (sym (primary-step way (not way.before.primary) here) ∙ e) (ap not (sym (primary-step way way.before.primary there)) ∙ f)
+  where
+    -- where a primary of the new owner has taken over, all those of the old one have
+    order : (a b : ℕ) → stands_done_at way refresh_target a ≡ true → stands_done_at way refresh_source b ≡ true
+    order a b t = done_at_all way refresh_source b (done_at_some way refresh_target a 1 t (omega arith))
 
 module _ (p : Plain) (w : Live) (table : List ℕ) (has : HasParts p) (found : mover p table ≡ Some w) where
   is_live : IsIn w p.lives
@@ -136,39 +142,50 @@ module _ (p : Plain) (w : Live) (table : List ℕ) (has : HasParts p) (found : m
   at-target : (types : TypeSet) → refused_by w.target types ≡ not types.primary
   at-target types = rw (differs, itself w.target) refl
 
-  pub refused-source : refuses p w.source table ≡ (types_by w (step_by (not (before_way w).primary))).primary
-  refused-source =
-      ap (λ o. refuses_moved o w.source) found ∙ at-source (types_by w (step_by (owned_before w w.source)))
-      ∙ ap (λ t. (types_by w (step_by t)).primary) owned-source
+  pub refused-source : (shard : ℕ) → refuses p w.source shard table ≡ (list_types_by_way w.switched w.way (step_by (not (before_way w).primary)) shard).primary
+  refused-source shard =
+      ap (λ o. refuses_moved o w.source shard) found ∙ at-source (list_types w w.source shard)
+      ∙ ap (λ t. (list_types_by_way w.switched w.way (step_by t) shard).primary) owned-source
 
-  pub refused-target : refuses p w.target table ≡ not (types_by w (step_by (before_way w).primary)).primary
-  refused-target =
-      ap (λ o. refuses_moved o w.target) found ∙ at-target (types_by w (step_by (owned_before w w.target)))
-      ∙ ap (λ t. not (types_by w (step_by t)).primary) owned-target
+  pub refused-target : (shard : ℕ) → refuses p w.target shard table ≡ not (list_types_by_way w.switched w.way (step_by (before_way w).primary) shard).primary
+  refused-target shard =
+      ap (λ o. refuses_moved o w.target shard) found ∙ at-target (list_types w w.target shard)
+      ∙ ap (λ t. not (list_types_by_way w.switched w.way (step_by t) shard).primary) owned-target
 
   pub not_writable_in_two : IsWritable p w.source table → IsWritable p w.target table → ⊥
-  not_writable_in_two at_source at_target = not_both_sides w.switched w.way (sym refused-source ∙ at_source.1) (sym refused-target ∙ at_target.1)
+  not_writable_in_two at_source at_target =
+      not_both_sides w.switched w.way at_source.1.0 at_target.1.0 (sym (refused-source at_source.1.0) ∙ at_source.1.2) (sym (refused-target at_target.1.0) ∙ at_target.1.2)
 
   -- ---- at rest
 
   module _ (rests : w.way ≡ None) where
-    rest-source : refuses p w.source table ≡ w.switched.primary
-    rest-source = refused-source ∙ ap (λ o. (types_by_way w.switched o (step_by (not (before_by w.switched o).primary))).primary) rests
+    rest-source : (shard : ℕ) → refuses p w.source shard table ≡ w.switched.primary
+    rest-source shard = refused-source shard ∙ ap (λ o. (list_types_by_way w.switched o (step_by (not (before_by w.switched o).primary)) shard).primary) rests
 
-    rest-target : refuses p w.target table ≡ not w.switched.primary
-    rest-target = refused-target ∙ ap (λ o. not (types_by_way w.switched o (step_by (before_by w.switched o).primary)).primary) rests
+    rest-target : (shard : ℕ) → refuses p w.target shard table ≡ not w.switched.primary
+    rest-target shard = refused-target shard ∙ ap (λ o. not (list_types_by_way w.switched o (step_by (before_by w.switched o).primary) shard).primary) rests
+
+    open-owner : (t : Bool) → w.switched.primary ≡ t → (shard : ℕ) → refuses p (cond t w.target w.source) shard table ≡ false
+    open-owner true e shard = rest-target shard ∙ ap not e
+    open-owner false e shard = rest-source shard ∙ e
+
+    there-owner : (t : Bool) → has_table p (cond t w.target w.source) table ≡ true
+    there-owner true = there_at_target p w table is_live moved
+    there-owner false = there_at_source p w table has is_live moved
+
+    pub open_at_rest : (shard : ℕ) → refuses p (owner w) shard table ≡ false
+    open_at_rest shard = ap (λ k. refuses p k shard table) (owner-if w w.switched.primary refl) ∙ open-owner w.switched.primary refl shard
 
     writable-owner : (t : Bool) → w.switched.primary ≡ t → IsWritable p (cond t w.target w.source) table
-    writable-owner true e = (there_at_target p w table is_live moved, rest-target ∙ ap not e)
-    writable-owner false e = (there_at_source p w table has is_live moved, rest-source ∙ e)
+    writable-owner t e = (there-owner t, (0, omega arith, open-owner t e 0))
 
     owner-writable : (keyspace : List ℕ) → (same_text w.source keyspace ≡ true) ⊎ (same_text w.target keyspace ≡ true) → IsWritable p keyspace table → keyspace ≡ owner w
     owner-writable keyspace (inl e) writable =
         let is = (same_text_decides w.source keyspace).0 e in
-        sym is ∙ sym (owner-if w false (sym rest-source ∙ ap (λ k. refuses p k table) is ∙ writable.1))
+        sym is ∙ sym (owner-if w false (sym (rest-source writable.1.0) ∙ ap (λ k. refuses p k writable.1.0 table) is ∙ writable.1.2))
     owner-writable keyspace (inr e) writable =
         let is = (same_text_decides w.target keyspace).0 e in
-        sym is ∙ sym (owner-if w true (not-false w.switched.primary (sym rest-target ∙ ap (λ k. refuses p k table) is ∙ writable.1)))
+        sym is ∙ sym (owner-if w true (not-false w.switched.primary (sym (rest-target writable.1.0) ∙ ap (λ k. refuses p k writable.1.0 table) is ∙ writable.1.2)))
 
     pub writable_at_rest : (keyspace : List ℕ) → is_side w keyspace ≡ true → IsWritable p keyspace table ↔ (keyspace ≡ owner w)
     writable_at_rest keyspace side = (
@@ -178,6 +195,9 @@ module _ (p : Plain) (w : Live) (table : List ℕ) (has : HasParts p) (found : m
 
 pub never_writable_in_two : (p : Plain) → IsReached p → (table : List ℕ) (w : Live) → mover p table ≡ Some w → IsWritable p w.source table → IsWritable p w.target table → ⊥
 never_writable_in_two p reached table w found = not_writable_in_two p w table (reached_has_parts p reached) found
+
+pub open_at_the_owner : (p : Plain) → IsReached p → (table : List ℕ) (w : Live) → mover p table ≡ Some w → w.way ≡ None → (shard : ℕ) → refuses p (owner w) shard table ≡ false
+open_at_the_owner p reached table w found rests = open_at_rest p w table (reached_has_parts p reached) found rests
 
 pub writable_at_the_owner : (p : Plain) → IsReached p → (table : List ℕ) (w : Live) → mover p table ≡ Some w → w.way ≡ None → (keyspace : List ℕ) → is_side w keyspace ≡ true → IsWritable p keyspace table ↔ (keyspace ≡ owner w)
 writable_at_the_owner p reached table w found rests = writable_at_rest p w table (reached_has_parts p reached) found rests

@@ -1,7 +1,7 @@
 -- Streams and the copy that they feed.
 use Rattle.std.specs.Prelude.{◌≡◌, ℕ, Bool, ◌&&◌, ◌||◌, ◌==◌, Option, Some, ⊤}
 use Rattle.mt_plain.specs.Events.{Event, advance, undo, Slot, running, frozen, Way}
-use Rattle.mt_plain.specs.Plain.{Live, catch_up, next_step, owner, switch_reads}
+use Rattle.mt_plain.specs.Plain.{Lane, Live, catch_up, next_step, owner, switch_reads}
 use Rattle.mt_plain.specs.Refuse.{will_read_other_side}
 use Rattle.mt_plain.specs.Slots.{read_side}
 
@@ -18,9 +18,9 @@ abbrev pub tests_level : Live → Way → Bool
 tests_level w way = (next_step way == catch_up) || (next_step way == switch_reads) && will_read_other_side w way
 
 -- an advance of the workflow's stream that reads the owner's log
-abbrev pub Feeds : Live → Event → Type 0
-Feeds w (advance workflow stream at at_most) = (workflow ≡ w.name) × (read_side w stream ≡ owner w)
-Feeds w other = ⊥
+abbrev pub Feeds : Live → Lane → Event → Type 0
+Feeds w lane (advance workflow stream shard at at_most) = (workflow ≡ w.name) × (shard ≡ lane.shard) × (read_side w stream ≡ owner w)
+Feeds w lane other = ⊥
 
 -- an undo, of whatever workflow
 abbrev pub Undoes : Event → Type 0

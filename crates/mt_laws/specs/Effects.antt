@@ -4,7 +4,7 @@ use Rattle.mt_model.specs.declared.entries.Entry.{Entry}
 use Rattle.mt_model.specs.declared.entries.EntryKey.{EntryKey}
 use Rattle.mt_model.specs.Topology.{TopologyState}
 use Rattle.mt_plain.specs.Events.{StreamName, StreamState, running, stopped, frozen, Slot, Way}
-use Rattle.mt_plain.specs.Plain.{Live, create_back, freeze_old, last_place_of, last_step, next_place, next_step, start_back, stop_feeding}
+use Rattle.mt_plain.specs.Plain.{Live, create_back, freeze_old, last_step, next_place, next_step, place_of_refresh, start_back, stop_feeding}
 use Rattle.mt_plain.specs.Serve.{is_listed_at, refuses_by, serve, served_by, step_of_entry, step_of_list}
 use Rattle.mt_plain.specs.Slots.{is_feeding}
 
@@ -20,15 +20,19 @@ entry_undone u w way key = if last_step way == step_of_entry w key then serve u 
 
 -- ---- own lists
 
--- whether a primary's own list has the moved tables behind the place that is next: it changes with the last place of its refresh
-abbrev pub list_stepped : Live → Way → (keyspace : List ℕ) → Bool
-list_stepped w way keyspace =
-    if next_place way == last_place_of way (step_of_list w keyspace) then is_listed_at w way.after keyspace else refuses_by w keyspace
+-- the place in the plan of the refresh of the primary of a shard
+abbrev pub place_of_list : Live → Way → (keyspace : List ℕ) → (shard : ℕ) → ℕ
+place_of_list w way keyspace shard = place_of_refresh way (step_of_list w keyspace) shard
+
+-- whether the own list of a shard's primary has the moved tables behind the step that is next
+abbrev pub list_stepped : Live → Way → (keyspace : List ℕ) → (shard : ℕ) → Bool
+list_stepped w way keyspace shard =
+    if next_place way == place_of_list w way keyspace shard then is_listed_at w way.after keyspace else refuses_by w keyspace shard
 
 -- and behind an undo
-abbrev pub list_undone : Live → Way → (keyspace : List ℕ) → Bool
-list_undone w way keyspace =
-    if next_place way == suc (last_place_of way (step_of_list w keyspace)) then is_listed_at w way.before keyspace else refuses_by w keyspace
+abbrev pub list_undone : Live → Way → (keyspace : List ℕ) → (shard : ℕ) → Bool
+list_undone w way keyspace shard =
+    if next_place way == suc (place_of_list w way keyspace shard) then is_listed_at w way.before keyspace else refuses_by w keyspace shard
 
 -- ---- streams
 

@@ -10,10 +10,10 @@ use Rattle.mt_model.specs.Rows.{Row}
 use Rattle.mt_plain.specs.Answers.{after}
 use Rattle.mt_plain.specs.Drive.{way_of}
 use Rattle.mt_plain.specs.Events.{Event, write, read, create, begin_switch, begin_reverse, step, undo, cancel, complete, StreamName, Answer, done, row, Way}
-use Rattle.mt_plain.specs.Plain.{Live, Plain, changed_types, is_side, live_at, mover, moves, next_step, owner, write_journal}
-use Rattle.mt_plain.specs.Serve.{IsWritable, served_entry}
-use Rattle.mt_plain.specs.Slots.{past, read_side, running_at, slot_of}
-use Rattle.mt_plain.specs.Writes.{client_number, client_row, other_row, row_after_writes, writes_to}
+use Rattle.mt_plain.specs.Plain.{Lane, Live, Plain, changed_types, lane_at, is_side, live_at, mover, moves, next_step, owner, write_journal}
+use Rattle.mt_plain.specs.Serve.{IsWritable, refuses, served_entry}
+use Rattle.mt_plain.specs.Slots.{is_for, past, read_side, running_at, slot_of}
+use Rattle.mt_plain.specs.Writes.{client_number, client_row, other_row, lane_writes, row_after_writes}
 use Rattle.mt_laws.specs.Acknowledged.{acknowledged, row_with_op}
 use Rattle.mt_laws.specs.Copies.{tests_level}
 use Rattle.mt_laws.specs.WayBack.{IsBegin, ends_way, ends_workflow, in_part}
@@ -79,6 +79,9 @@ pub record Headline (p : Plain) (events : List Event) (answers : List Answer) : 
   -- and where no way of its workflow is open, it is writable in the owner, and not in the other side
   pub writable_at_rest : (i : ℕ) (table : List ℕ) (w : Live) → mover (state_at p events answers i) table ≡ Some w → w.way ≡ None
       → (keyspace : List ℕ) → is_side w keyspace ≡ true → IsWritable (state_at p events answers i) keyspace table ↔ (keyspace ≡ owner w)
+  -- there in each shard
+  pub open_at_rest : (i : ℕ) (table : List ℕ) (w : Live) → mover (state_at p events answers i) table ≡ Some w → w.way ≡ None
+      → (shard : ℕ) → refuses (state_at p events answers i) (owner w) shard table ≡ false
   -- each write to a moved table is acknowledged at the owner
   pub writes_at_the_owner : (i : ℕ) (keyspace table : List ℕ) (op : Op) (w : Live) → IsLine events answers i (write keyspace table op) done
       → mover (state_at p events answers i) table ≡ Some w → is_side w keyspace ≡ true → keyspace ≡ owner w
@@ -87,9 +90,9 @@ pub record Headline (p : Plain) (events : List Event) (answers : List Answer) : 
       → IsLine events answers i (read keyspace table key tablet_type) (row r) → mover (state_at p events answers i) table ≡ Some w
       → is_side w keyspace ≡ true → keyspace ≢ owner w → r ≡ other_row (state_at p events answers i) w table key
   -- the writes that aren't fed yet are those past the position of the stream that runs, which reads the owner
-  pub no_write_is_skipped : (i : ℕ) (name : List ℕ) (w : Live) (stream : StreamName) (at : ℕ) → live_at (state_at p events answers i) name ≡ Some w
-      → running_at (slot_of w stream) ≡ Some at → (read_side w stream ≡ owner w)
-      × (w.fed + count_by (λ e. moves w e.table) (past (state_at p events answers i) w stream at) ≡ length (writes_to (state_at p events answers i) w))
+  pub no_write_is_skipped : (i : ℕ) (name : List ℕ) (w : Live) (shard : ℕ) (lane : Lane) (stream : StreamName) (at : ℕ) → live_at (state_at p events answers i) name ≡ Some w
+      → lane_at w shard ≡ Some lane → running_at (slot_of w lane stream) ≡ Some at → (read_side w stream ≡ owner w)
+      × (lane.fed + count_by (is_for w lane) (past (state_at p events answers i) w lane stream at) ≡ length (lane_writes (state_at p events answers i) w lane))
   -- where reads are switched to the side that isn't the owner, at the catch-up and at the journal, that side has every row of the owner
   pub no_row_is_lost : (i : ℕ) (name : List ℕ) (at : ℕ) (w : Live) (way : Way) → IsLine events answers i (step name at) done
       → live_at (state_at p events answers i) name ≡ Some w → w.way ≡ Some way

@@ -36,7 +36,7 @@ calm p = record p { lives = [] }
 abbrev pub IsByHand : Event → Type 0
 IsByHand (write keyspace table op) = ⊤
 IsByHand (read keyspace table key tablet_type) = ⊤
-IsByHand (add_keyspace keyspace) = ⊤
+IsByHand (add_keyspace keyspace cuts) = ⊤
 IsByHand (add_table keyspace table) = ⊤
 IsByHand (edit_rule key target) = ⊤
 IsByHand other = ⊥

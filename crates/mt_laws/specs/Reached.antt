@@ -1,10 +1,11 @@
 -- What holds in each state that a run reaches: of its live workflows, and of their ways.
 use Rattle.std.specs.Prelude.{◌≡◌, ◌≢◌, ℕ, ◌<◌, true, false, List, None, if◌then◌else◌}
 use Rattle.std.specs.List.{IsDistinct}
+use Rattle.mt_names.specs.Shards.{shard_count}
 use Rattle.mt_names.specs.Names.{same_text}
 use Rattle.mt_model.specs.Topology.{TopologyState, is_present}
 use Rattle.mt_plain.specs.Events.{StreamName, Way}
-use Rattle.mt_plain.specs.Plain.{Live, behind_last, changes_primary, moves, next_step, owner, stands_done, write_journal}
+use Rattle.mt_plain.specs.Plain.{Lane, Live, behind_last, changes_primary, moves, next_step, owner, stands_done, write_journal}
 use Rattle.mt_plain.specs.Refuse.{new_owner, old_owner}
 use Rattle.mt_plain.specs.Slots.{is_fresh, read_side, running_at, slot_of}
 use Rattle.mt_laws.specs.Parts.{HasSides}
@@ -17,10 +18,10 @@ pub record IsInPlace (u : TopologyState) (w : Live) : Type 0 where
   pub at_source : (table : List ℕ) → moves w table ≡ true → is_present u.keyspaces w.source table ≡ true
   pub at_target : (table : List ℕ) → moves w table ≡ true → is_present u.keyspaces w.target table ≡ false
 
--- an open way of a live workflow: its target has one shard yet; it has a step left; the switched types are those from before it until its
+-- an open way of a live workflow: its plan has the shards of the target; it has a step left; the switched types are those from before it until its
 -- journal stands done, and those after it from then on; only a way that changes primary has a journal
 pub record IsOnCourse (w : Live) (way : Way) : Type 0 where
-  pub shards : way.shards ≡ 1
+  pub shards : way.shards ≡ shard_count w.cuts
   pub within : next_step way < behind_last way
   pub before : stands_done way write_journal ≡ false → w.switched ≡ way.before
   pub after : stands_done way write_journal ≡ true → w.switched ≡ way.after
@@ -37,7 +38,7 @@ pub record HandsOver (w : Live) (way : Way) : Type 0 where
 
 -- a stream that is not in use: it is absent, stopped or frozen; it would read the side that isn't the owner; and it is none that the open
 -- way has made
-pub record IsIdle (w : Live) (stream : StreamName) : Type 0 where
-  pub stands : running_at (slot_of w stream) ≡ None
+pub record IsIdle (w : Live) (lane : Lane) (stream : StreamName) : Type 0 where
+  pub stands : running_at (slot_of w lane stream) ≡ None
   pub reads : read_side w stream ≢ owner w
   pub old : is_fresh w.way stream ≡ false

@@ -6,7 +6,7 @@ use Rattle.mt_plain.specs.Answers.{Answers, Run, after}
 use Rattle.mt_plain.specs.Drive.{way_of}
 use Rattle.mt_plain.specs.Events.{Event, create, begin_switch, begin_reverse, step, undo, cancel, complete, StreamName, StreamState, Answer, done}
 use Rattle.mt_plain.specs.Next.{next}
-use Rattle.mt_plain.specs.Plain.{Plain, live_at, next_step, stands_done, write_journal}
+use Rattle.mt_plain.specs.Plain.{Plain, lane_at, live_at, next_step, stands_done, write_journal}
 use Rattle.mt_plain.specs.Slots.{slot_of}
 
 -- whether an event was a command of the workflow that was taken: Create, a begin, a step, an undo, Cancel or Complete
@@ -37,8 +37,9 @@ pub record StepUndone (name : List ℕ) (at at_undo : ℕ) (p q : Plain) : Type 
   pub is : next (after (next p (step name at) done) events answers) (undo name at_undo) done ≡ q
 
 -- what a stream of the workflow does, where it has that stream
-abbrev pub stream_state : Plain → (name : List ℕ) → StreamName → Option StreamState
-stream_state p name stream = option_map (λ slot. slot.state) (option_and_then (λ w. slot_of w stream) (live_at p name))
+abbrev pub stream_state : Plain → (name : List ℕ) → (shard : ℕ) → StreamName → Option StreamState
+stream_state p name shard stream =
+    option_map (λ slot. slot.state) (option_and_then (λ w. option_and_then (λ lane. slot_of w lane stream) (lane_at w shard)) (live_at p name))
 
 -- whether an event was the step of the workflow that writes the journal
 abbrev pub writes_journal : (name : List ℕ) → Plain → Event → Answer → Bool

@@ -1,24 +1,25 @@
 -- How many turns are enough for a drive (this profile's own).
-use Rattle.std.specs.Prelude.{◌≡◌, ℕ, suc, ◌+◌, ◌*◌, ◌<◌, ◌≤◌, false, List, Some, ⊤}
+use Rattle.std.specs.Prelude.{◌≡◌, ℕ, ◌+◌, ◌*◌, ◌<◌, ◌≤◌, false, List, Some, ⊤}
 use Rattle.mt_plain.specs.Drive.{Driving, begins, steps, feeds, gives_up, Heard, goes_on, ends, way_of}
 use Rattle.mt_plain.specs.Events.{Way}
-use Rattle.mt_plain.specs.Plain.{Plain, behind_last, next_step, stands_done, write_journal}
+use Rattle.mt_plain.specs.Plain.{Plain, behind_last, next_place, next_step, stands_done, write_journal}
 
--- before a step of a number, with some tries of it left: two steps may be tried again, and eight turns are for an undo
-pub data Enough (turns tries n : ℕ) : Type 0 where
-  at_reads : n ≡ 0 → 2 * tries + 146 ≤ turns → Enough turns tries n
-  before_level : 0 < n → n < 3 → 148 ≤ turns + n → Enough turns tries n
-  at_level : n ≡ 3 → 2 * tries + 17 ≤ turns → Enough turns tries n
-  behind_level : 3 < n → 21 ≤ turns + n → Enough turns tries n
+-- before the step of a number at a place of its plan, with some tries of it left: two steps may be tried again, each time behind an advance
+-- of each of eight streams, and thirteen turns are for an undo
+pub data Enough (turns tries n place : ℕ) : Type 0 where
+  at_reads : n ≡ 0 → place ≡ 0 → 9 * tries + 592 ≤ turns → Enough turns tries n place
+  before_level : 0 < n → n < 3 → 601 ≤ turns + place → Enough turns tries n place
+  at_level : n ≡ 3 → 9 * tries + 15 ≤ turns → Enough turns tries n place
+  behind_level : 3 < n → 27 ≤ turns + place → Enough turns tries n place
 
--- a way with a step left, and turns enough for it; its target has one shard, so each place of its plan is a step
+-- a way with a step left, and turns enough for it
 pub record Goes (turns tries : ℕ) (p : Plain) (workflow : List ℕ) : Type 0 where
   pub way : Way
   pub is : way_of p workflow ≡ Some way
-  pub few : way.shards ≤ 1
+  pub few : way.shards ≤ 8
   pub left : next_step way < behind_last way
   pub tried : 0 < tries
-  pub enough : Enough turns tries (next_step way)
+  pub enough : Enough turns tries (next_step way) (next_place way)
 
 -- a way whose journal does not stand done, and turns enough to undo it
 pub record Undoes (turns : ℕ) (p : Plain) (workflow : List ℕ) : Type 0 where
@@ -30,9 +31,9 @@ pub record Undoes (turns : ℕ) (p : Plain) (workflow : List ℕ) : Type 0 where
 
 -- a drive that ends within so many turns, however it is answered
 abbrev pub Fits : ℕ → Plain → Driving → Type 0
-Fits turns p (begins workflow types backward) = 300 < turns
+Fits turns p (begins workflow types backward) = 1200 < turns
 Fits turns p (steps workflow tries) = Goes turns tries p workflow
-Fits turns p (feeds workflow tries) = (t : ℕ) × (turns ≡ suc t) × Goes t tries p workflow
+Fits turns p (feeds workflow shard tries) = (t : ℕ) × (t + 8 ≡ turns + shard) × (shard < 8) × Goes t tries p workflow
 Fits turns p (gives_up workflow refusal) = Undoes turns p workflow
 
 -- what was heard: a drive that fits in the turns left, or an end

@@ -1,6 +1,6 @@
 //! Laws on what an event changes.
-ghost use Rattle.std.specs.Prelude.{◌≡◌, ℕ, List, Some, false, is_some};
-ghost use Rattle.mt_laws.specs.Changes.{BeginsWay, ChangesLives, ChangesLogs, ChangesNumbers, ChangesTopology, ChangesWay, ChangesWrites, HasSides, IsAdvance, IsOf, IsOfRows, IsStep, MovesStream, OnlyTells};
+ghost use Rattle.std.specs.Prelude.{◌≡◌, ℕ, List, map, Some, false, is_some};
+ghost use Rattle.mt_laws.specs.Changes.{BeginsWay, ChangesLives, ChangesLogs, ChangesNumbers, ChangesTopology, ChangesWay, ChangesWrites, HasSides, IsAdvance, IsOf, IsOfRows, IsStep, MovesStream, OnlyTells, fed_and_copied};
 ghost use Rattle.mt_laws.specs.WayBack.{IsReached, in_part};
 ghost use Rattle.mt_model.specs.declared.entries.EntryKey.{EntryKey};
 ghost use Rattle.mt_plain.specs.Events.{Event, Answer};
@@ -46,21 +46,12 @@ pub fn only_named_events_change_a_workflow()
     ensures way { (p : Plain) (event : Event) (answer : Answer) (name : List ℕ) (w v : Live)
         → live_at p name ≡ Some w → live_at (next p event answer) name ≡ Some v → ¬ (ChangesWay event)
         → v.way ≡ w.way }
-    ensures fed { (p : Plain) (event : Event) (answer : Answer) (name : List ℕ) (w v : Live)
+    ensures lanes { (p : Plain) (event : Event) (answer : Answer) (name : List ℕ) (w v : Live)
+        → live_at p name ≡ Some w → live_at (next p event answer) name ≡ Some v → ¬ (MovesStream event)
+        → v.lanes ≡ w.lanes }
+    ensures counts { (p : Plain) (event : Event) (answer : Answer) (name : List ℕ) (w v : Live)
         → live_at p name ≡ Some w → live_at (next p event answer) name ≡ Some v → ¬ (IsAdvance event)
-        → v.fed ≡ w.fed }
-    ensures copied { (p : Plain) (event : Event) (answer : Answer) (name : List ℕ) (w v : Live)
-        → live_at p name ≡ Some w → live_at (next p event answer) name ≡ Some v → ¬ (IsAdvance event)
-        → v.copied ≡ w.copied }
-    ensures forward_at { (p : Plain) (event : Event) (answer : Answer) (name : List ℕ) (w v : Live)
-        → live_at p name ≡ Some w → live_at (next p event answer) name ≡ Some v → ¬ (MovesStream event)
-        → v.forward_at ≡ w.forward_at }
-    ensures back_at { (p : Plain) (event : Event) (answer : Answer) (name : List ℕ) (w v : Live)
-        → live_at p name ≡ Some w → live_at (next p event answer) name ≡ Some v → ¬ (MovesStream event)
-        → v.back_at ≡ w.back_at }
-    ensures fresh_at { (p : Plain) (event : Event) (answer : Answer) (name : List ℕ) (w v : Live)
-        → live_at p name ≡ Some w → live_at (next p event answer) name ≡ Some v → ¬ (MovesStream event)
-        → v.fresh_at ≡ w.fresh_at }
+        → map fed_and_copied v.lanes ≡ map fed_and_copied w.lanes }
 {}
 
 /// Writes, reads, advances and Show change no entry of the topology that is served, whatever workflows are live.

@@ -3,10 +3,11 @@ ghost use Rattle.std.specs.Prelude.{◌≡◌, ℕ, true, false, List, Some, Non
 ghost use Rattle.mt_names.specs.declared.types.TabletType.{TabletType};
 ghost use Rattle.mt_model.specs.declared.rows.Op.{Op};
 ghost use Rattle.mt_model.specs.Rows.{Row, op_key, op_row};
+ghost use Rattle.mt_names.specs.Shards.{Cuts};
 ghost use Rattle.mt_plain.specs.Answers.{Answers, IsFree, answer_of};
 ghost use Rattle.mt_plain.specs.Events.{Event, write, read, add_keyspace, add_table, Refusal, exists, Answer, row, refused};
 ghost use Rattle.mt_plain.specs.Next.{next};
-ghost use Rattle.mt_plain.specs.Plain.{Live, Plain, has_keyspace, mover, owner};
+ghost use Rattle.mt_plain.specs.Plain.{Live, Plain, has_keyspace, mover, owner, shard_at};
 ghost use Rattle.mt_plain.specs.Refuse.{refusal_of, row_refusal};
 ghost use Rattle.mt_plain.specs.Serve.{has_table, refuses};
 ghost use Rattle.mt_plain.specs.Writes.{client_row, row_of};
@@ -37,12 +38,12 @@ pub fn reads_answer_the_row()
 
 /// A limit is told last: what is there already, and what the row refuses, is told where a limit is reached too.
 pub fn limits_are_told_last()
-    ensures keyspace { (p : Plain) (keyspace : List ℕ) → has_keyspace p keyspace ≡ true
-        → refusal_of p (add_keyspace keyspace) ≡ Some exists }
+    ensures keyspace { (p : Plain) (keyspace : List ℕ) (cuts : Cuts) → has_keyspace p keyspace ≡ true
+        → refusal_of p (add_keyspace keyspace cuts) ≡ Some exists }
     ensures table { (p : Plain) (keyspace table : List ℕ) → has_keyspace p keyspace ≡ true
         → has_table p keyspace table ≡ true → refusal_of p (add_table keyspace table) ≡ Some exists }
     ensures row { (p : Plain) (keyspace table : List ℕ) (op : Op) (refusal : Refusal)
-        → has_keyspace p keyspace ≡ true → has_table p keyspace table ≡ true → refuses p keyspace table ≡ false
+        → has_keyspace p keyspace ≡ true → has_table p keyspace table ≡ true → refuses p keyspace (shard_at p keyspace (op_key op)) table ≡ false
         → row_refusal (op_row op (client_row p keyspace table (op_key op))) ≡ Some refusal
         → refusal_of p (write keyspace table op) ≡ Some refusal }
 {}

@@ -54,8 +54,9 @@ pub use places::{
     what_is_served_is_a_topology,
 };
 pub use reached::{
-    a_live_workflow_is_found_by_its_part, an_advance_writes_one_log, each_next_state_is_reached,
-    live_workflows_stand_in_place, names_as_a_set_have_each_name_once, ways_keep_their_course,
+    a_live_workflow_is_found_by_its_part, a_live_workflow_knows_its_shards,
+    an_advance_writes_one_log, each_next_state_is_reached, live_workflows_stand_in_place,
+    names_as_a_set_have_each_name_once, ways_keep_their_course,
     while_a_stream_runs_the_other_is_idle,
 };
 pub use rows::{

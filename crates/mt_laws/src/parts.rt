@@ -18,16 +18,18 @@ pub fn parts_are_apart()
     ensures denials { (p : Plain) → IsReached p → (keyspace table : List ℕ)
         → part_owner p (about.Denied keyspace table) ≡ None
         → served_entry p (about.Denied keyspace table) ≡ entry.Denied keyspace table false }
-    ensures own_lists { (p : Plain) (keyspace table : List ℕ) → part_owner p (about.Denied keyspace table) ≡ None
-        → refuses p keyspace table ≡ false }
+    ensures own_lists { (p : Plain) (keyspace : List ℕ) (shard : ℕ) (table : List ℕ) → part_owner p (about.Denied keyspace table) ≡ None
+        → refuses p keyspace shard table ≡ false }
 {}
 
 /// In each state that a run reaches, a moved table is writable in at most one of the two keyspaces of its workflow,
-/// whatever steps stand done; where no way is open it is writable in exactly one of them, the owner.
+/// whatever steps stand done; where no way is open it is writable in exactly one of them, the owner, and there in each shard.
 pub fn a_moved_table_is_never_writable_in_two()
     ensures at_most_one { (p : Plain) → IsReached p → (table : List ℕ) (w : Live) → mover p table ≡ Some w
         → IsWritable p w.source table → IsWritable p w.target table → ⊥ }
     ensures the_owner { (p : Plain) → IsReached p → (table : List ℕ) (w : Live) → mover p table ≡ Some w
         → w.way ≡ None → (keyspace : List ℕ) → is_side w keyspace ≡ true
         → IsWritable p keyspace table ↔ (keyspace ≡ owner w) }
+    ensures each_shard { (p : Plain) → IsReached p → (table : List ℕ) (w : Live) → mover p table ≡ Some w
+        → w.way ≡ None → (shard : ℕ) → refuses p (owner w) shard table ≡ false }
 {}

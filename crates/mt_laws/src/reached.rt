@@ -1,6 +1,6 @@
 //! Laws on the states that runs reach: on live workflows, their tables and their ways.
-ghost use Rattle.std.specs.Prelude.{◌≡◌, ◌≢◌, ℕ, false, true, All, List, Some};
-ghost use Rattle.std.specs.List.{IsDistinct};
+ghost use Rattle.std.specs.Prelude.{◌≡◌, ◌≢◌, ℕ, [], ◌∷◌, false, true, All, List, Some, map};
+ghost use Rattle.std.specs.List.{IsDistinct, range_with_len};
 ghost use Rattle.mt_laws.specs.Advances.{IsAfterAdvance};
 ghost use Rattle.mt_laws.specs.Reached.{HandsOver, IsIdle, IsInPlace, IsOnCourse};
 ghost use Rattle.mt_laws.specs.WayBack.{IsReached};
@@ -8,10 +8,11 @@ ghost use Rattle.mt_model.specs.declared.entries.EntryKey.{EntryKey};
 ghost use Rattle.mt_model.specs.declared.entries.Scope.{Scope};
 ghost use Rattle.mt_model.specs.Topology.{is_denied};
 ghost use Rattle.mt_names.specs.Names.{same_text};
+ghost use Rattle.mt_names.specs.Shards.{shard_count, shard_of};
 ghost use Rattle.mt_plain.specs.Answers.{Answers, Run, after};
 ghost use Rattle.mt_plain.specs.Events.{Event, advance, Answer, advanced, StreamName, Way};
 ghost use Rattle.mt_plain.specs.Next.{next};
-ghost use Rattle.mt_plain.specs.Plain.{Live, Plain, among, changes_primary, each_once, has_part, live_at, mover, moves, opening, part_owner};
+ghost use Rattle.mt_plain.specs.Plain.{Live, Plain, among, changes_primary, cuts_of, each_once, has_part, live_at, mover, moves, opening, part_owner, Lane, lane_at, lane_of, shard_at};
 ghost use Rattle.mt_plain.specs.Slots.{running_at, slot_of};
 
 /// The opening is reached; so is the state after each event with an answer that it may get, and the state after a run.
@@ -67,14 +68,29 @@ pub fn a_live_workflow_is_found_by_its_part()
 /// In each state that a run reaches, while one stream of a workflow runs the other is not in use.
 pub fn while_a_stream_runs_the_other_is_idle()
     ensures { (p : Plain) → IsReached p → (name : List ℕ) (w : Live) → live_at p name ≡ Some w
-        → (stream other : StreamName) → stream ≢ other → (at : ℕ) → running_at (slot_of w stream) ≡ Some at
-        → IsIdle w other }
+        → (lane : Lane) (stream other : StreamName) → stream ≢ other → (at : ℕ) → running_at (slot_of w lane stream) ≡ Some at
+        → IsIdle w lane other }
 {}
 
 /// An advance, whatever its counts, changes how far its own workflow has read and copied, and the log of the side that its
 /// stream writes, and nothing else.
 pub fn an_advance_writes_one_log()
     ensures { (p : Plain) (workflow : List ℕ) (w : Live) → live_at p workflow ≡ Some w → (stream : StreamName)
-        (at at_most events rows : ℕ)
-        → IsAfterAdvance p (next p (advance workflow stream at at_most) (advanced events rows)) workflow w stream at at_most events rows }
+        (shard at at_most events rows : ℕ) (lane : Lane) → lane_at w shard ≡ Some lane
+        → IsAfterAdvance p (next p (advance workflow stream shard at at_most) (advanced events rows)) workflow w lane stream shard at at_most events rows }
+{}
+
+/// In each state that a run reaches a live workflow knows the shards of its target, and has a lane for each of them, by their
+/// numbers; its source has one shard. So a key stands at the source in its first shard, and at the target in that of its lane.
+/// Where the target has one shard too, there is one lane.
+pub fn a_live_workflow_knows_its_shards()
+    ensures cuts { (p : Plain) → IsReached p → (name : List ℕ) (w : Live) → live_at p name ≡ Some w → w.cuts ≡ cuts_of p w.target }
+    ensures source_cuts { (p : Plain) → IsReached p → (name : List ℕ) (w : Live) → live_at p name ≡ Some w → cuts_of p w.source ≡ [] }
+    ensures source { (p : Plain) → IsReached p → (name : List ℕ) (w : Live) → live_at p name ≡ Some w → (key : ℕ) → shard_at p w.source key ≡ 0 }
+    ensures target { (p : Plain) → IsReached p → (name : List ℕ) (w : Live) → live_at p name ≡ Some w → (key : ℕ) → shard_at p w.target key ≡ shard_of w.cuts key }
+    ensures lanes { (p : Plain) → IsReached p → (name : List ℕ) (w : Live) → live_at p name ≡ Some w → (key : ℕ) → (lane : Lane) × (lane_of w key ≡ Some lane) }
+    ensures numbers { (p : Plain) → IsReached p → (name : List ℕ) (w : Live) → live_at p name ≡ Some w
+        → map (λ lane. lane.shard) w.lanes ≡ range_with_len 0 (shard_count w.cuts) }
+    ensures one_lane { (p : Plain) → IsReached p → (name : List ℕ) (w : Live) → live_at p name ≡ Some w → w.cuts ≡ []
+        → (lane : Lane) × (w.lanes ≡ lane ∷ []) × (lane.shard ≡ 0) }
 {}

@@ -116,8 +116,8 @@ pub fn each_output_is_that_of_a_run()
 pub fn a_small_script_was_this_run()
     ensures { IsScriptRun read_line (opening (watchers_of (codes "a" ∷ codes "b" ∷ [])))
         (lines (codes "# a move\nkeyspace a\nkeyspace b\ntable a t\ncreate w a b t\nadvance w forward 0 100\nswitch w replica\nswitch w\n"))
-        (add_keyspace (codes "a") ∷ add_keyspace (codes "b") ∷ add_table (codes "a") (codes "t")
-        ∷ create (codes "w") (codes "a") (codes "b") (codes "t" ∷ []) ∷ advance (codes "w") forward 0 100
+        (add_keyspace (codes "a") [] ∷ add_keyspace (codes "b") [] ∷ add_table (codes "a") (codes "t")
+        ∷ create (codes "w") (codes "a") (codes "b") (codes "t" ∷ []) ∷ advance (codes "w") forward 0 0 100
         ∷ begin_switch (codes "w") (record { primary = false; replica = true; rdonly = false }) ∷ step (codes "w") 0 ∷ [])
         (done ∷ done ∷ done ∷ done ∷ advanced 0 0 ∷ done ∷ done ∷ [])
         (codes "ok\nok\nok\nok\nevents 0 rows 0\nok\nrefused X1 BadLine\n") }

@@ -18,10 +18,10 @@ pub fn an_undo_takes_a_step_back()
     ensures served { (name : List ℕ) (at at_undo : ℕ) (p q : Plain) → IsReached p → StepUndone name at at_undo p q
         → (key : EntryKey) → in_part p name key ≡ true → served_entry q key ≡ served_entry p key }
     ensures refused { (name : List ℕ) (at at_undo : ℕ) (p q : Plain) → IsReached p → StepUndone name at at_undo p q
-        → (w : Live) (keyspace table : List ℕ) → live_at p name ≡ Some w → moves w table ≡ true
-        → refuses q keyspace table ≡ refuses p keyspace table }
+        → (w : Live) (keyspace : List ℕ) (shard : ℕ) (table : List ℕ) → live_at p name ≡ Some w → moves w table ≡ true
+        → refuses q keyspace shard table ≡ refuses p keyspace shard table }
     ensures streams { (name : List ℕ) (at at_undo : ℕ) (p q : Plain) → IsReached p → StepUndone name at at_undo p q
-        → (stream : StreamName) → stream_state q name stream ≡ stream_state p name stream }
+        → (shard : ℕ) (stream : StreamName) → stream_state q name shard stream ≡ stream_state p name shard stream }
 {}
 
 /// What that law presupposes does happen: a step denies a table, and between it and its undo come a write to the table, an

@@ -109,7 +109,14 @@ shard-holds cuts are n range e key =
     few : (c : ℕ) → c ≤ 7 → c ≡ min 7 c
     few c le = omega (arith, le)
 
--- there is one more of them
+-- each shard below the count has a range
+pub range-there : (start : Bound) (cuts : Cuts) (n : ℕ) → n < suc (length cuts) → (range : KeyRange) × (slice_get (ranges_from start cuts) n ≡ Some range)
+range-there start [] zero l = (record { start = start; end = [] }, refl)
+range-there start [] (suc n) l = absurd (omega (arith, l))
+range-there start (cut ∷ cuts) zero l = (record { start = start; end = cut }, refl)
+range-there start (cut ∷ cuts) (suc n) l = range-there cut cuts n (omega (arith, l))
+
+-- there is one more than there are bounds
 pub ranges-long : (start : Bound) (cuts : Cuts) → length (ranges_from start cuts) ≡ suc (length cuts)
 ranges-long start [] = refl
 ranges-long start (cut ∷ cuts) = ap suc (ranges-long cut cuts)

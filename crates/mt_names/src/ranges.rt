@@ -245,6 +245,13 @@ impl KeyRange {
             && (self.end.is_open() || key < self.end.key)
     }
 
+    /// The key that it starts at: of an open start the lowest key, 0.
+    pub fn first_key(&self) -> u64
+        ensures { result ≡ bound_value self.now.start }
+    {
+        self.start.key
+    }
+
     /// A copy. It takes no memory.
     pub fn copied(&self) -> Self
         ensures { result ≡ self.now }

@@ -2,11 +2,12 @@
 -- a comment names a page of Vitess's documentation.
 use Rattle.std.specs.Prelude.{◌≡◌, ◌≢◌, ◌⊎◌, ◌↔◌, ℕ, ◌≤◌, not, true, false, List, [], ◌∷◌, length, map, slice_get, take, All, AllPairs, Contains, Option, None, Some, option_map, unwrap_or, ⊤}
 use Rattle.std.specs.Option.{option_map_or}
+use Rattle.mt_names.specs.Shards.{Cuts, KeyRange, ranges_of, whole}
 use Rattle.mt_model.specs.declared.entries.Entry.{Entry}
 use Rattle.mt_model.specs.Topology.{is_routed, key_of}
-use Rattle.mt_plain.specs.Events.{Event, read, advance, show, StreamName, forward, back, Refusal, memory, watcher_refused, frozen, Shown, Answer, done, row, advanced, shown, refused}
+use Rattle.mt_plain.specs.Events.{Event, read, advance, show, StreamName, forward, back, Refusal, memory, watcher_refused, frozen, Shown, ShownLane, Answer, done, row, advanced, shown, refused}
 use Rattle.mt_plain.specs.Next.{next}
-use Rattle.mt_plain.specs.Plain.{Live, Plain, live_at}
+use Rattle.mt_plain.specs.Plain.{Lane, Live, Plain, lane_at, live_at}
 use Rattle.mt_plain.specs.Refuse.{is_still_copying, may_grow, may_refuse, refusal_of}
 use Rattle.mt_plain.specs.Serve.{served_entry}
 use Rattle.mt_plain.specs.Slots.{may_be_cut, most_events, most_rows, slot_of}
@@ -14,7 +15,21 @@ use Rattle.mt_plain.specs.Writes.{row_of}
 
 -- ---- the answer of an event that is taken
 
--- what Show tells; a forward stream is always there (MoveTables: Show)
+-- the range of a shard ("Sharding")
+abbrev pub range_at : Cuts → (shard : ℕ) → KeyRange
+range_at cuts shard = unwrap_or (slice_get (ranges_of cuts) shard) whole
+
+-- what Show tells of a lane; a forward stream is always there (MoveTables: Show)
+abbrev pub lane_shown : Live → Lane → ShownLane
+lane_shown w lane =
+    record {
+      range = range_at w.cuts lane.shard;
+      forward = unwrap_or (slot_of w lane forward) (record { state = frozen; position = lane.forward_at });
+      copied = not (is_still_copying lane.copied);
+      back = slot_of w lane back;
+    }
+
+-- what Show tells (MoveTables: Show)
 abbrev pub shown_of : Live → Shown
 shown_of w =
     record {
@@ -24,9 +39,7 @@ shown_of w =
       tables = w.tables;
       switched = w.switched;
       way = w.way;
-      forward = unwrap_or (slot_of w forward) (record { state = frozen; position = w.forward_at });
-      copied = not (is_still_copying w.copied);
-      back = slot_of w back;
+      lanes = map (lane_shown w) w.lanes;
     }
 
 -- a live workflow is shown (MoveTables: Show)
@@ -35,14 +48,18 @@ show_of None = done
 show_of (Some w) = shown (shown_of w)
 
 -- the counts of an advance that finds memory
-abbrev pub advanced_of : Plain → StreamName → (at at_most : ℕ) → Option Live → Answer
-advanced_of p name at at_most None = done
-advanced_of p name at at_most (Some w) = advanced (most_events p w name at at_most) (most_rows p w name at at_most)
+abbrev pub lane_advanced_of : Plain → StreamName → (at at_most : ℕ) → Live → Option Lane → Answer
+lane_advanced_of p name at at_most w None = done
+lane_advanced_of p name at at_most w (Some lane) = advanced (most_events p w lane name at at_most) (most_rows p w lane name at at_most)
+
+abbrev pub advanced_of : Plain → StreamName → (shard at at_most : ℕ) → Option Live → Answer
+advanced_of p name shard at at_most None = done
+advanced_of p name shard at at_most (Some w) = lane_advanced_of p name at at_most w (lane_at w shard)
 
 -- a read answers the row, an advance its counts, Show what it tells, and each other event that it is done
 abbrev pub reply_of : Plain → Event → Answer
 reply_of p (read keyspace table key tablet_type) = row (row_of p keyspace table key)
-reply_of p (advance workflow name at at_most) = advanced_of p name at at_most (live_at p workflow)
+reply_of p (advance workflow name shard at at_most) = advanced_of p name shard at at_most (live_at p workflow)
 reply_of p (show workflow) = show_of (live_at p workflow)
 reply_of p other = done
 
@@ -57,8 +74,8 @@ Refuses p event refusal = refusal_of p event ≡ Some refusal
 
 -- an advance may be cut short, where a growth was refused
 abbrev pub IsCut : Plain → Event → (events rows : ℕ) → Type 0
-IsCut p (advance workflow name at at_most) events rows =
-    option_map_or (λ w. may_be_cut p w name at at_most events rows) (live_at p workflow) false ≡ true
+IsCut p (advance workflow name shard at at_most) events rows =
+    option_map_or (λ w. option_map_or (λ lane. may_be_cut p w lane name at at_most events rows) (lane_at w shard) false) (live_at p workflow) false ≡ true
 IsCut p other events rows = ⊥
 
 -- the answer of an event that is taken is the one that the state decides, a cut advance aside

@@ -8,7 +8,7 @@ use Rattle.mt_model.specs.declared.entries.EntryKey.TheVariants as about
 use Rattle.mt_model.specs.Topology.{TopologyState}
 use Rattle.mt_plain.specs.Events.{Event, create, step}
 use Rattle.mt_plain.specs.Next.{created}
-use Rattle.mt_plain.specs.Plain.{Live, Plain, each_once, live_at, twelve_keys}
+use Rattle.mt_plain.specs.Plain.{Live, Plain, cuts_of, each_once, live_at, twelve_keys}
 use Rattle.mt_plain.specs.Refuse.{asked_by_step}
 use Rattle.mt_plain.specs.Serve.{serve, served_by}
 use Rattle.mt_plain.specs.Slots.{log_length}
@@ -31,6 +31,6 @@ refresh_change p w side = map (λ table. served_by p.topology w (about.Denied si
 -- the change with which an event asks the watchers of the keyspace that it asks; none where it asks nobody (this profile's own)
 abbrev pub asked_change : Plain → Event → List Entry
 asked_change p (create workflow source target tables) =
-    create_change p.topology (created workflow source target (each_once tables) (log_length p source))
+    create_change p.topology (created workflow source target (each_once tables) (cuts_of p target) (log_length p source 0))
 asked_change p (step workflow at) = option_map_or (λ w. option_map_or (refresh_change p w) (asked_by_step w) []) (live_at p workflow) []
 asked_change p other = []

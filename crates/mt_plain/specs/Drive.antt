@@ -1,12 +1,13 @@
 -- A whole switch or reversal of traffic, as one line of a script asks for it: which event it asks for next, and when it ends
 -- (MoveTables: SwitchTraffic, ReverseTraffic; the number of tries is this profile's own).
-use Rattle.std.specs.Prelude.{ℕ, zero, suc, Bool, true, false, if◌then◌else◌, List, option_and_then, Option, None, Some, Result, Ok, Err}
+use Rattle.std.specs.Prelude.{ℕ, zero, suc, Bool, true, false, if◌then◌else◌, List, nat_lt, option_and_then, Option, None, Some, Result, Ok, Err}
 use Rattle.std.specs.Option.{option_map_or}
+use Rattle.mt_names.specs.Shards.{shard_count}
 use Rattle.mt_names.specs.declared.types.TypeSet.{TypeSet}
 use Rattle.mt_plain.specs.Answers.{AnswerRule}
 use Rattle.mt_plain.specs.Events.{Event, begin_switch, begin_reverse, advance, step, undo, StreamName, forward, back, Refusal, not_level, Answer, refused, Way}
 use Rattle.mt_plain.specs.Next.{next}
-use Rattle.mt_plain.specs.Plain.{Plain, live_at, stands_done, write_journal}
+use Rattle.mt_plain.specs.Plain.{Plain, lane_at, live_at, stands_done, write_journal}
 use Rattle.mt_plain.specs.Slots.{slot_of}
 
 -- how often a step is tried, and how many entries are read before it is tried again
@@ -17,12 +18,12 @@ most_tries = 64
 abbrev pub most_at_once : ℕ
 most_at_once = 100
 
--- what a drive is about to ask for: the way, a step, an advance of the feeding stream before the step is tried again, or an undo,
--- after a refusal that it will tell
+-- what a drive is about to ask for: the way, a step, an advance of the feeding stream of a shard, and then of the shards behind it, before
+-- the step is tried again, or an undo, after a refusal that it will tell
 pub data Driving : Type 0 where
   begins : (workflow : List ℕ) → TypeSet → (backward : Bool) → Driving
   steps : (workflow : List ℕ) → (tries : ℕ) → Driving
-  feeds : (workflow : List ℕ) → (tries : ℕ) → Driving
+  feeds : (workflow : List ℕ) → (shard tries : ℕ) → Driving
   gives_up : (workflow : List ℕ) → Refusal → Driving
 
 -- the open way of a workflow, and how many of its steps stand done
@@ -37,17 +38,22 @@ steps_done p workflow = option_map_or (λ way. way.done) (way_of p workflow) 0
 abbrev pub feeding_stream : Plain → (workflow : List ℕ) → StreamName
 feeding_stream p workflow = if option_map_or (λ way. way.back) (way_of p workflow) false then back else forward
 
--- the position of a stream
-abbrev pub position_of : Plain → (workflow : List ℕ) → StreamName → ℕ
-position_of p workflow name = option_map_or (λ slot. slot.position) (option_and_then (λ w. slot_of w name) (live_at p workflow)) 0
+-- the position of a stream of a shard
+abbrev pub position_of : Plain → (workflow : List ℕ) → StreamName → (shard : ℕ) → ℕ
+position_of p workflow name shard =
+    option_map_or (λ slot. slot.position) (option_and_then (λ w. option_and_then (λ lane. slot_of w lane name) (lane_at w shard)) (live_at p workflow)) 0
+
+-- how many shards the target of a workflow has
+abbrev pub lanes_of : Plain → (workflow : List ℕ) → ℕ
+lanes_of p workflow = option_map_or (λ w. shard_count w.cuts) (live_at p workflow) 0
 
 -- the event that it asks for
 abbrev pub event_of : Plain → Driving → Event
 event_of p (begins workflow types true) = begin_reverse workflow types
 event_of p (begins workflow types false) = begin_switch workflow types
 event_of p (steps workflow tries) = step workflow (steps_done p workflow)
-event_of p (feeds workflow tries) =
-    let name = feeding_stream p workflow in advance workflow name (position_of p workflow name) most_at_once
+event_of p (feeds workflow shard tries) =
+    let name = feeding_stream p workflow in advance workflow name shard (position_of p workflow name shard) most_at_once
 event_of p (gives_up workflow refusal) = undo workflow (steps_done p workflow)
 
 -- ---- what follows from the answer
@@ -77,7 +83,7 @@ unless_closed (Some way) driven driving = goes_on driving
 
 -- a step that finds the stream not level is tried again behind an advance, as long as tries are left; another refusal ends it
 abbrev pub refused_step : Plain → (workflow : List ℕ) → (tries : ℕ) → Refusal → Heard
-refused_step p workflow (suc (suc left)) not_level = goes_on (feeds workflow (suc left))
+refused_step p workflow (suc (suc left)) not_level = goes_on (feeds workflow 0 (suc left))
 refused_step p workflow tries refusal = fails p workflow refusal
 
 -- in the state after the answer; no other answer comes
@@ -86,13 +92,15 @@ heard p (begins workflow types backward) (refused refusal) = ends (Err refusal)
 heard p (begins workflow types backward) other = goes_on (steps workflow most_tries)
 heard p (steps workflow tries) (refused refusal) = refused_step p workflow tries refusal
 heard p (steps workflow tries) other = unless_closed (way_of p workflow) done (steps workflow most_tries)
-heard p (feeds workflow tries) (refused refusal) = fails p workflow refusal
-heard p (feeds workflow tries) other = goes_on (steps workflow tries)
+heard p (feeds workflow shard tries) (refused refusal) = fails p workflow refusal
+heard p (feeds workflow shard tries) other =
+    if nat_lt (suc shard) (lanes_of p workflow) then goes_on (feeds workflow (suc shard) tries) else goes_on (steps workflow tries)
 heard p (gives_up workflow refusal) answer = unless_closed (way_of p workflow) (abandoned refusal) (gives_up workflow refusal)
 
--- more events than any drive asks for: two steps are tried with 63 advances between, and twelve are done or undone
+-- more events than any drive asks for: two steps are tried with 63 advances of each of eight streams between, and nineteen are done or
+-- undone
 abbrev pub most_turns : ℕ
-most_turns = 400
+most_turns = 1400
 
 -- ---- a whole drive
 

@@ -1,10 +1,11 @@
 -- What can be asked of the controller, and what it answers. The commands are those of Vitess's MoveTables (Create,
 -- SwitchTraffic, ReverseTraffic, Cancel, Complete, Show) in this profile's atomic steps; the refusals are this profile's own.
-use Rattle.std.specs.Prelude.{ℕ, Bool, List, codes, Option, Result, Ok, Err}
+use Rattle.std.specs.Prelude.{ℕ, Bool, List, codes, Option}
 use Rattle.mt_names.specs.declared.keys.RuleKey.{RuleKey}
 use Rattle.mt_names.specs.declared.keys.RuleTarget.{RuleTarget}
 use Rattle.mt_names.specs.declared.types.TabletType.{TabletType}
 use Rattle.mt_names.specs.declared.types.TypeSet.{TypeSet}
+use Rattle.mt_names.specs.Shards.{Cuts, KeyRange}
 use Rattle.mt_model.specs.declared.rows.Op.{Op}
 use Rattle.mt_model.specs.Rows.{Row}
 
@@ -18,11 +19,11 @@ pub data StreamName : Type 0 where
 pub data Event : Type 0 where
   write : (keyspace table : List ℕ) → Op → Event
   read : (keyspace table : List ℕ) → ℕ → TabletType → Event
-  add_keyspace : List ℕ → Event
+  add_keyspace : List ℕ → Cuts → Event
   add_table : (keyspace table : List ℕ) → Event
   edit_rule : RuleKey → Option RuleTarget → Event
   create : (workflow source target : List ℕ) → List (List ℕ) → Event
-  advance : (workflow : List ℕ) → StreamName → (at most : ℕ) → Event
+  advance : (workflow : List ℕ) → StreamName → (shard at most : ℕ) → Event
   begin_switch : (workflow : List ℕ) → TypeSet → Event
   begin_reverse : (workflow : List ℕ) → TypeSet → Event
   step : (workflow : List ℕ) → ℕ → Event
@@ -64,6 +65,8 @@ pub data Refusal : Type 0 where
   undoing : Refusal
   too_long : Refusal
   exists : Refusal
+  no_shard : Refusal
+  sharded_source : Refusal
 
 -- a refusal as it is printed, without the values that it carries (this profile's own)
 abbrev pub refusal_text : Refusal → List ℕ
@@ -98,6 +101,8 @@ refusal_text full = codes "F27 Full"
 refusal_text undoing = codes "F28 Undoing"
 refusal_text too_long = codes "F29 TooLong"
 refusal_text exists = codes "F30 Exists"
+refusal_text no_shard = codes "F32 NoShard"
+refusal_text sharded_source = codes "F33 ShardedSource"
 
 -- a switch or a reversal of traffic that is open: its direction, how many shards the target has, each of which is refreshed at a place
 -- of its own, the switched types before it and after it, how many places of its plan stand done, and whether an undo of it was taken
@@ -121,6 +126,13 @@ pub record Slot : Type 0 where
   pub state : StreamState
   pub position : ℕ
 
+-- the streams of a shard of the target, as they are shown (MoveTables: Show)
+pub record ShownLane : Type 0 where
+  pub range : KeyRange
+  pub forward : Slot
+  pub copied : Bool
+  pub back : Option Slot
+
 -- what Show tells of a workflow (MoveTables: Show; the layout is this profile's own)
 pub record Shown : Type 0 where
   pub workflow : List ℕ
@@ -129,9 +141,7 @@ pub record Shown : Type 0 where
   pub tables : List (List ℕ)
   pub switched : TypeSet
   pub way : Option Way
-  pub forward : Slot
-  pub copied : Bool
-  pub back : Option Slot
+  pub lanes : List ShownLane
 
 -- the answer to an event (this profile's own)
 pub data Answer : Type 0 where

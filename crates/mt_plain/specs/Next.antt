@@ -1,21 +1,23 @@
 -- The state after each event: what a command changes (MoveTables: Create, SwitchTraffic, ReverseTraffic, Cancel, Complete).
 use Rattle.std.specs.Prelude.{ℕ, suc, ◌-◌, Bool, true, false, not, ◌&&◌, ◌||◌, ◌==◌, List, [], ◌∷◌, ◌++◌, filter, fold, length, map, if◌then◌else◌, Option, None, Some, Result, Ok, Err}
 use Rattle.std.specs.Map.{remove_entry}
+use Rattle.std.specs.List.{range_with_len}
 use Rattle.std.specs.Option.{option_map_or}
 use Rattle.mt_names.specs.declared.keys.RuleTarget.{RuleTarget}
 use Rattle.mt_names.specs.declared.types.TypeSet.{TypeSet}
 use Rattle.mt_names.specs.Names.{same_text}
 use Rattle.mt_names.specs.Same.{same_key}
+use Rattle.mt_names.specs.Shards.{Cuts, shard_count}
 use Rattle.mt_names.specs.Types.{no_types}
 use Rattle.mt_model.specs.declared.rows.Op.{Op}
 use Rattle.mt_model.specs.declared.faults.PrimaryFault.{PrimaryFault}
 use Rattle.mt_model.specs.Rows.{Row, op_key, op_row}
 use Rattle.mt_model.specs.Topology.{KeyspaceState, TopologyState, with_keyspace, with_keyspace_state, with_new_table, with_rule, with_table}
 use Rattle.mt_plain.specs.Events.{Event, write, add_keyspace, add_table, edit_rule, create, advance, begin_switch, begin_reverse, step, undo, cancel, complete, StreamName, Answer, done, row, advanced, shown, refused, Way}
-use Rattle.mt_plain.specs.Plain.{Live, Plain, not_begun, behind_last, changes_primary, create_back, each_once, in_keyspace, live_at, moves, next_step, rule_keys, write_journal}
+use Rattle.mt_plain.specs.Plain.{Lane, Live, Plain, not_begun, before_way, behind_last, changes_primary, create_back, cuts_of, each_once, in_keyspace, lane_at, live_at, moves, next_step, rule_keys, shard_at, write_journal}
 use Rattle.mt_plain.specs.Refuse.{new_owner}
 use Rattle.mt_plain.specs.Slots.{live_advanced, log_advanced, log_length}
-use Rattle.mt_plain.specs.Writes.{client_number, client_row, writes_to}
+use Rattle.mt_plain.specs.Writes.{client_number, client_row, lane_writes}
 
 -- ---- rows
 
@@ -24,13 +26,13 @@ abbrev pub row_left : Result Row PrimaryFault → Row
 row_left (Ok after) = after
 row_left (Err fault) = None
 
--- one acknowledged write more, and one entry more in the primary's log (this profile's own)
+-- one acknowledged write more, and one entry more in the log of the primary of the key's shard (this profile's own)
 abbrev pub with_write : Plain → (keyspace table : List ℕ) → Op → Plain
 with_write p keyspace table op =
     let after = row_left (op_row op (client_row p keyspace table (op_key op))) in
     record p {
       writes = p.writes ++ (record { table = client_number p keyspace table; key = op_key op; after = after }) ∷ [];
-      log = p.log ++ (record { keyspace = keyspace; table = table; key = op_key op }) ∷ [];
+      log = p.log ++ (record { keyspace = keyspace; shard = shard_at p keyspace (op_key op); table = table; key = op_key op }) ∷ [];
     }
 
 -- ---- workflows
@@ -47,29 +49,37 @@ without_live name lives = filter (λ w. not (same_text w.name name)) lives
 abbrev pub change_live : Plain → (name : List ℕ) → (Live → Live) → Plain
 change_live p name change = record p { lives = with_live change name p.lives }
 
--- Create: a workflow that has switched nothing and copied nothing; its stream starts at the end of the source's log, behind all
--- writes acknowledged up to now (MoveTables: Create)
-abbrev pub created : (name source target : List ℕ) → List (List ℕ) → (position : ℕ) → Live
-created name source target tables position =
+-- a lane that has copied nothing: its stream starts at the end of the source's log, behind all writes acknowledged up to now
+-- (MoveTables: Create)
+abbrev pub new_lane : (position shard : ℕ) → Lane
+new_lane position shard =
+    record { shard = shard; fed = 0; copied = not_begun; forward_at = position; back_at = 0; fresh_at = 0 }
+
+-- Create: a workflow that has switched nothing, with a lane for each shard of the target (MoveTables: Create)
+abbrev pub created : (name source target : List ℕ) → List (List ℕ) → Cuts → (position : ℕ) → Live
+created name source target tables cuts position =
     record {
       name = name;
       source = source;
       target = target;
       tables = tables;
+      cuts = cuts;
       switched = no_types;
       way = None;
-      fed = 0;
-      copied = not_begun;
-      forward_at = position;
-      back_at = 0;
-      fresh_at = 0;
+      lanes = map (new_lane position) (range_with_len 0 (shard_count cuts));
     }
 
--- the state with a new workflow, to which all writes up to now are fed (MoveTables: Create)
+-- the lanes of a workflow, to each of which all writes up to now with a key in its shard are fed (MoveTables: Create)
+abbrev pub lane_fed : Plain → Live → Lane → Lane
+lane_fed p w lane = record lane { fed = length (lane_writes p w lane) }
+
+abbrev pub all_fed : Plain → Live → Live
+all_fed p w = record w { lanes = map (lane_fed p w) w.lanes }
+
+-- the state with a new workflow (MoveTables: Create)
 abbrev pub with_created : Plain → (name source target : List ℕ) → List (List ℕ) → Plain
 with_created p name source target tables =
-    let w = created name source target tables (log_length p source) in
-    record p { lives = p.lives ++ (record w { fed = length (writes_to p w) }) ∷ [] }
+    record p { lives = p.lives ++ all_fed p (created name source target tables (cuts_of p target) (log_length p source 0)) ∷ [] }
 
 -- ---- ways (MoveTables: SwitchTraffic, ReverseTraffic)
 
@@ -81,10 +91,10 @@ types_and a b = record { primary = a.primary || b.primary; replica = a.replica |
 abbrev pub types_without : TypeSet → TypeSet → TypeSet
 types_without a b = record { primary = a.primary && not b.primary; replica = a.replica && not b.replica; rdonly = a.rdonly && not b.rdonly }
 
--- a way opens, with no step done; the target has one shard yet
+-- a way opens, with no step done
 abbrev pub with_way_to : (back : Bool) → (TypeSet → TypeSet) → Live → Live
 with_way_to back change w =
-    record w { way = Some (record { back = back; shards = 1; before = w.switched; after = change w.switched; done = 0; undoing = false }) }
+    record w { way = Some (record { back = back; shards = shard_count w.cuts; before = w.switched; after = change w.switched; done = 0; undoing = false }) }
 
 -- the state with a way opened, which gets the next number (this profile's own)
 abbrev pub with_way : Plain → (name : List ℕ) → (back : Bool) → (TypeSet → TypeSet) → Plain
@@ -103,28 +113,24 @@ way_stepped way = if closes way then None else Some (record way { done = suc way
 abbrev pub types_stepped : Live → Way → TypeSet
 types_stepped w way = if closes way || (next_step way == write_journal) then way.after else w.switched
 
--- the positions of the streams at rest behind a step: once a way closes that changes writes, the stream that it has made is one of them,
--- the back stream after a way forward, the forward stream after a way back (How traffic is switched)
-abbrev pub forward_stepped : Live → Way → ℕ
-forward_stepped w way = if closes way && changes_primary way && way.back then w.fresh_at else w.forward_at
+-- a lane behind a step: a new stream begins at the end of the log that it reads; and once the way closes, the stream that it has made is
+-- the one at rest, which is the back stream after a way forward, and the forward stream after a way back (How traffic is switched)
+abbrev pub lane_made : Plain → Live → Lane → Lane
+lane_made p w lane = record lane { fresh_at = log_length p (new_owner w) (if (before_way w).primary then 0 else lane.shard) }
 
-abbrev pub back_stepped : Live → Way → ℕ
-back_stepped w way = if closes way && changes_primary way && not way.back then w.fresh_at else w.back_at
+abbrev pub lane_closed : Way → Lane → Lane
+lane_closed way lane = if way.back then record lane { forward_at = lane.fresh_at } else record lane { back_at = lane.fresh_at }
 
--- the position of the stream that a way makes: it begins at the end of the log that it reads (How traffic is switched)
-abbrev pub fresh_stepped : Plain → Live → Way → ℕ
-fresh_stepped p w way = if next_step way == create_back then log_length p (new_owner w) else w.fresh_at
+abbrev pub lane_stepped : Plain → Live → Way → Lane → Lane
+lane_stepped p w way lane =
+    if next_step way == create_back then lane_made p w lane
+    else if closes way && changes_primary way then lane_closed way lane
+    else lane
 
 -- what a step changes of a workflow (How traffic is switched)
 abbrev pub live_stepped : Plain → Live → Way → Live
 live_stepped p w way =
-    record w {
-      switched = types_stepped w way;
-      way = way_stepped way;
-      forward_at = forward_stepped w way;
-      back_at = back_stepped w way;
-      fresh_at = fresh_stepped p w way;
-    }
+    record w { switched = types_stepped w way; way = way_stepped way; lanes = map (lane_stepped p w way) w.lanes }
 
 -- an undo is the number of steps done less one; the way closes where none is done then
 abbrev pub way_undone : Way → Option Way
@@ -185,18 +191,18 @@ with_completed p (Some w) =
 
 -- ---- Advance (MoveTables: the copy phase and the catchup)
 
--- the state after an advance of a workflow's stream (MoveTables)
-abbrev pub with_advance : Plain → StreamName → (position at_most events rows : ℕ) → Option Live → Plain
-with_advance p name position at_most events rows None = p
-with_advance p name position at_most events rows (Some w) =
+-- the state after an advance of a workflow's stream of a shard (MoveTables)
+abbrev pub with_advance : Plain → StreamName → (shard position at_most events rows : ℕ) → Option Live → Plain
+with_advance p name shard position at_most events rows None = p
+with_advance p name shard position at_most events rows (Some w) =
     record p {
-      lives = with_live (λ v. live_advanced p v name position at_most events rows) w.name p.lives;
-      log = log_advanced p w name position events rows;
+      lives = with_live (λ v. live_advanced p v name shard position at_most events rows) w.name p.lives;
+      log = option_map_or (λ lane. log_advanced p w lane name position events rows) (lane_at w shard) p.log;
     }
 
 -- the state after an advance with its counts (MoveTables)
 abbrev pub after_advance : Plain → Event → (events rows : ℕ) → Plain
-after_advance p (advance workflow name at at_most) events rows = with_advance p name at at_most events rows (live_at p workflow)
+after_advance p (advance workflow name shard at at_most) events rows = with_advance p name shard at at_most events rows (live_at p workflow)
 after_advance p other events rows = p
 
 -- ---- the next state
@@ -204,7 +210,7 @@ after_advance p other events rows = p
 -- the state after an event that is done (MoveTables; the atomic steps are this profile's own)
 abbrev pub next_taken : Plain → Event → Plain
 next_taken p (write keyspace table op) = with_write p keyspace table op
-next_taken p (add_keyspace keyspace) = record p { topology = with_keyspace p.topology keyspace [] }
+next_taken p (add_keyspace keyspace cuts) = record p { topology = with_keyspace p.topology keyspace cuts }
 next_taken p (add_table keyspace table) =
     record p { topology = with_table p.topology keyspace table; numbers = p.numbers ++ (in_keyspace keyspace table, p.made) ∷ []; made = suc p.made }
 next_taken p (edit_rule key target) = record p { topology = record p.topology { rules = with_rule p.topology.rules key target } }

@@ -1,11 +1,14 @@
 -- The output of a script: the text of each line that writes. All of this page is this profile's own, unless a comment names a
 -- page of Vitess's documentation.
-use Rattle.std.specs.Prelude.{◌≡◌, ℕ, zero, suc, ◌<◌, if◌then◌else◌, List, [], ◌∷◌, ◌++◌, length, map, codes, Option, None, Some, Result, Ok, Err}
+use Rattle.std.specs.Prelude.{◌≡◌, ℕ, zero, suc, ◌<◌, Bool, if◌then◌else◌, List, [], ◌∷◌, ◌++◌, length, map, codes, Option, None, Some, Result, Ok, Err}
+use Rattle.std.specs.List.{flat_map, join_with_byte}
+use Rattle.std.specs.Option.{option_map_or}
 use Rattle.std.specs.Str.Lines.{lines}
 use Rattle.mt_names.specs.declared.fault.NameFault.{NameFault}
 use Rattle.mt_names.specs.declared.keys.RuleTarget.{RuleTarget}
 use Rattle.mt_names.specs.declared.types.TabletType.TheVariants.{Primary}
 use Rattle.mt_names.specs.Faults.{fault_text}
+use Rattle.mt_names.specs.Shards.{range_text}
 use Rattle.mt_names.specs.Tables.{table_list_text}
 use Rattle.mt_names.specs.Types.{type_set_text}
 use Rattle.mt_model.specs.declared.entries.Scope.{Scope}
@@ -18,7 +21,7 @@ use Rattle.mt_model.specs.Topology.{resolution}
 use Rattle.mt_plain.specs.Answers.{AnswerRule, Answers, answer_of}
 use Rattle.mt_plain.specs.Drive.{Driven, Drives, Driving, begins, Heard, goes_on, ends, event_of, heard, most_turns}
 use Rattle.mt_plain.specs.Drive as driven
-use Rattle.mt_plain.specs.Events.{Event, write, read, Way, Refusal, StreamState, running, stopped, frozen, Slot, Shown, Answer, done, row, advanced, shown, refused, refusal_text}
+use Rattle.mt_plain.specs.Events.{Event, write, read, Way, Refusal, StreamState, running, stopped, frozen, Slot, Shown, ShownLane, Answer, done, row, advanced, shown, refused, refusal_text}
 use Rattle.mt_plain.specs.Next.{next}
 use Rattle.mt_plain.specs.Numbers.{number_text}
 use Rattle.mt_plain.specs.Plain.{Plain, changed_types, opening}
@@ -63,6 +66,30 @@ abbrev pub back_text : Option Slot → List ℕ
 back_text None = codes "none"
 back_text (Some slot) = slot_text slot
 
+-- whether a copy has ended
+abbrev pub copied_text : Bool → List ℕ
+copied_text ended = if ended then codes "copied" else codes "copying"
+
+-- the forward streams: of one shard as it is, of several each behind its range
+abbrev pub forward_text : ShownLane → List ℕ
+forward_text lane = spaced (slot_text lane.forward) (copied_text lane.copied)
+
+abbrev pub forwards_text : List ShownLane → List ℕ
+forwards_text (lane ∷ []) = forward_text lane
+forwards_text lanes = join_with_byte 32 (map (λ lane. spaced (range_text lane.range) (forward_text lane)) lanes)
+
+-- the back streams, each behind its range too; all shards have one, or none has
+abbrev pub lane_back_texts : ShownLane → List (List ℕ)
+lane_back_texts lane = option_map_or (λ slot. spaced (range_text lane.range) (slot_text slot) ∷ []) lane.back []
+
+abbrev pub none_or : List (List ℕ) → List ℕ
+none_or [] = codes "none"
+none_or (text ∷ texts) = join_with_byte 32 (text ∷ texts)
+
+abbrev pub backs_text : List ShownLane → List ℕ
+backs_text (lane ∷ []) = back_text lane.back
+backs_text lanes = none_or (flat_map lane_back_texts lanes)
+
 -- the open way: its direction, the types that it changes, how many of its steps stand done
 abbrev pub way_text : Option Way → List ℕ
 way_text None = codes "none"
@@ -76,8 +103,8 @@ shown_text s =
     spaced s.workflow (spaced s.source (spaced s.target (spaced (table_list_text s.tables)
     (spaced (codes "switched") (spaced (type_set_text s.switched)
     (spaced (codes "way") (spaced (way_text s.way)
-    (spaced (codes "forward") (spaced (slot_text s.forward) (spaced (if s.copied then codes "copied" else codes "copying")
-    (spaced (codes "back") (back_text s.back))))))))))))
+    (spaced (codes "forward") (spaced (forwards_text s.lanes)
+    (spaced (codes "back") (backs_text s.lanes)))))))))))
 
 -- the answer to an event
 abbrev pub answer_text : Answer → List ℕ

@@ -9,7 +9,7 @@ use Rattle.mt_names.specs.declared.keys.RuleTarget.{RuleTarget}
 use Rattle.mt_names.specs.declared.types.TypeSet.{TypeSet}
 use Rattle.mt_names.specs.Names.{same_text}
 use Rattle.mt_names.specs.Same.{same_target}
-use Rattle.mt_names.specs.Shards.{Cuts}
+use Rattle.mt_names.specs.Shards.{Cuts, shard_count, shard_of}
 use Rattle.mt_model.specs.declared.entries.EntryKey.{EntryKey}
 use Rattle.mt_model.specs.declared.entries.EntryKey.TheVariants as about
 use Rattle.mt_model.specs.declared.entries.Scope.{Scope}
@@ -24,9 +24,11 @@ pub record Write : Type 0 where
   pub key : ℕ
   pub after : Row
 
--- an entry of a primary's log, without its rows (this profile's own; in Vitess it is a row event of the binary log)
+-- an entry of the log of a primary, which is that of a shard of a keyspace, without its rows (this profile's own; in Vitess it is a row
+-- event of the binary log)
 pub record LogEntry : Type 0 where
   pub keyspace : List ℕ
+  pub shard : ℕ
   pub table : List ℕ
   pub key : ℕ
 
@@ -36,21 +38,28 @@ pub data Copied : Type 0 where
   up_to : (table : List ℕ) → ℕ → Copied
   ended : Copied
 
--- a live workflow: its sides and tables, the types whose traffic it has switched, the way that is open, how many of the
--- acknowledged writes to its tables have reached the side that is not the owner, how far its copy has come, and the positions of
--- its forward stream, its back stream, and the one that the open way has made (MoveTables)
-pub record Live : Type 0 where
-  pub name : List ℕ
-  pub source : List ℕ
-  pub target : List ℕ
-  pub tables : List (List ℕ)
-  pub switched : TypeSet
-  pub way : Option Way
+-- what goes on for one shard of a workflow's target: how many of the acknowledged writes to its tables with a key in that shard have
+-- reached the side that is not the owner, how far the copy has come there, and the positions of the forward stream, the back stream, and
+-- the one that the open way has made (MoveTables: a stream for each shard of the target)
+pub record Lane : Type 0 where
+  pub shard : ℕ
   pub fed : ℕ
   pub copied : Copied
   pub forward_at : ℕ
   pub back_at : ℕ
   pub fresh_at : ℕ
+
+-- a live workflow: its sides and tables, the bounds between the shards of its target, the types whose traffic it has switched, the way
+-- that is open, and a lane for each shard of the target (MoveTables)
+pub record Live : Type 0 where
+  pub name : List ℕ
+  pub source : List ℕ
+  pub target : List ℕ
+  pub tables : List (List ℕ)
+  pub cuts : Cuts
+  pub switched : TypeSet
+  pub way : Option Way
+  pub lanes : List Lane
 
 -- the plain state (this profile's own): the topology as if no workflow were live; the number that each table got when it was
 -- made, and how many were ever made; all acknowledged writes, and the entries of all logs, each in their order; the live
@@ -78,9 +87,16 @@ in_keyspace keyspace table = record { keyspace = keyspace; table = table }
 abbrev pub has_keyspace : Plain → List ℕ → Bool
 has_keyspace p keyspace = is_some (keyspace_at p.topology.keyspaces keyspace)
 
--- the bounds between its shards; none where it isn't sharded, or isn't there ("Sharding")
+-- the bounds between the shards of a keyspace, and whether it has several ("Sharding")
 abbrev pub cuts_of : Plain → List ℕ → Cuts
 cuts_of p keyspace = cuts_at p.topology.keyspaces keyspace
+
+abbrev pub is_sharded : Plain → List ℕ → Bool
+is_sharded p keyspace = nat_lt 1 (shard_count (cuts_of p keyspace))
+
+-- the place of the shard of a keyspace in which a key stands ("Sharding")
+abbrev pub shard_at : Plain → (keyspace : List ℕ) → (key : ℕ) → ℕ
+shard_at p keyspace key = shard_of (cuts_of p keyspace) key
 
 -- the number of a table; where there is none, one that no table has yet (this profile's own)
 abbrev pub number_of : Plain → (keyspace table : List ℕ) → ℕ
@@ -124,6 +140,20 @@ owner w = owner_by w w.switched
 -- the switched types before the way that is open, or now where none is (MoveTables)
 abbrev pub before_way : Live → TypeSet
 before_way w = option_map_or (λ way. way.before) w.way w.switched
+
+-- ---- the lanes of a workflow
+
+-- whether a key stands in the shard of a lane ("Sharding")
+abbrev pub in_lane : Live → Lane → (key : ℕ) → Bool
+in_lane w lane key = shard_of w.cuts key == lane.shard
+
+-- the lane of a shard, by its place in the target's list
+abbrev pub lane_at : Live → (shard : ℕ) → Option Lane
+lane_at w shard = find (λ lane. lane.shard == shard) w.lanes
+
+-- the lane in whose shard a key stands
+abbrev pub lane_of : Live → (key : ℕ) → Option Lane
+lane_of w key = lane_at w (shard_of w.cuts key)
 
 -- ---- the part of a workflow
 
@@ -258,3 +288,7 @@ last_step way = step_at_place way (next_place way - 1)
 -- a step stands done where all its places are among the first `done` of the way (this profile's own)
 abbrev pub stands_done : Way → ℕ → Bool
 stands_done way step = nat_le (first_step way) step && nat_lt step (next_step way)
+
+-- whether the refresh of a shard of its side stands done (this profile's own)
+abbrev pub stands_done_at : Way → (step shard : ℕ) → Bool
+stands_done_at way step shard = nat_lt (place_of_refresh way step shard) (next_place way)

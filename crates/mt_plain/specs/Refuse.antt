@@ -4,6 +4,7 @@ use Rattle.std.specs.Prelude.{ℕ, ◌+◌, Bool, true, false, not, ◌&&◌, �
 use Rattle.std.specs.List.{list_any}
 use Rattle.std.specs.Option.{option_map_or}
 use Rattle.std.specs.Map.{lookup}
+use Rattle.mt_names.specs.Shards.{shard_count}
 use Rattle.mt_names.specs.declared.keys.RuleKey.{RuleKey}
 use Rattle.mt_names.specs.declared.keys.RuleTarget.{RuleTarget}
 use Rattle.mt_names.specs.declared.types.TabletType.{TabletType}
@@ -20,11 +21,11 @@ use Rattle.mt_model.specs.Limits.{longest_log, most_keyspaces, most_rules, most_
 use Rattle.mt_model.specs.declared.rows.Op.{Op}
 use Rattle.mt_model.specs.Rows.{Row, op_key, op_row}
 use Rattle.mt_model.specs.Topology.{Rules, keyspace_at, rule_at}
-use Rattle.mt_plain.specs.Events.{Event, write, read, add_keyspace, add_table, edit_rule, create, advance, begin_switch, begin_reverse, step, undo, cancel, complete, show, StreamName, Way, Refusal, no_keyspace, no_table, denied, row_exists, no_row, workflow_exists, no_workflow, table_in_workflow, rule_conflict, target_has_table, same_keyspace, no_tables, under_way, nothing_under_way, nothing_to_switch, nothing_to_reverse, copying, not_level, past_journal, traffic_switched, not_all_switched, rule_owned, no_watcher, stale, stream_stopped, full, undoing, too_long, exists}
-use Rattle.mt_plain.specs.Plain.{Copied, ended, Live, Plain, before_way, catch_up, has_keyspace, each_once, in_keyspace, live_at, mover, next_step, owner_by, part_owner, refresh_source, refresh_target, rule_keys, stands_done, switch_reads, twelve_keys, write_journal}
+use Rattle.mt_plain.specs.Events.{Event, write, read, add_keyspace, add_table, edit_rule, create, advance, begin_switch, begin_reverse, step, undo, cancel, complete, show, StreamName, Way, Refusal, no_keyspace, no_table, denied, row_exists, no_row, workflow_exists, no_workflow, table_in_workflow, rule_conflict, target_has_table, same_keyspace, no_tables, under_way, nothing_under_way, nothing_to_switch, nothing_to_reverse, copying, not_level, past_journal, traffic_switched, not_all_switched, rule_owned, no_watcher, stale, stream_stopped, full, undoing, too_long, exists, no_shard, sharded_source}
+use Rattle.mt_plain.specs.Plain.{Copied, ended, Lane, Live, Plain, before_way, catch_up, create_back, has_keyspace, each_once, in_keyspace, is_sharded, lane_at, shard_at, live_at, mover, next_step, owner_by, part_owner, refresh_source, refresh_target, rule_keys, stands_done, switch_reads, twelve_keys, write_journal}
 use Rattle.mt_plain.specs.Serve.{has_table, refuses}
-use Rattle.mt_plain.specs.Slots.{log_length, room_in_log, running_at, slot_of, writes_any, written_side}
-use Rattle.mt_plain.specs.Writes.{client_row, writes_to}
+use Rattle.mt_plain.specs.Slots.{log_length, room_in_log, running_at, slot_of, writes_any, written_side, written_shard}
+use Rattle.mt_plain.specs.Writes.{client_row, lane_writes}
 
 -- the limits of live workflows, of journal entries, and of the numbers of ways
 abbrev pub most_workflows : ℕ
@@ -61,21 +62,22 @@ row_refusal (Err primary.NoRow) = Some no_row
 row_refusal (Err primary.TooLong) = Some too_long
 row_refusal (Err other) = None
 
--- a write: the keyspace, the table, the primary's own list, the row, the room in the log
+-- a write: the keyspace, the table, the own list of the key's shard, the row, the room in that shard's log
 abbrev pub write_refusal : Plain → (keyspace table : List ℕ) → Op → Option Refusal
 write_refusal p keyspace table op =
     or_else (unknown_table p keyspace table)
-    (or_else (refuse_if (refuses p keyspace table) denied)
-    (or_else (row_refusal (op_row op (client_row p keyspace table (op_key op)))) (refuse_if (nat_le longest_log (log_length p keyspace)) full)))
+    (or_else (refuse_if (refuses p keyspace (shard_at p keyspace (op_key op)) table) denied)
+    (or_else (row_refusal (op_row op (client_row p keyspace table (op_key op))))
+    (refuse_if (nat_le longest_log (log_length p keyspace (shard_at p keyspace (op_key op)))) full)))
 
 -- the primary's own list concerns reads of type primary alone
-abbrev pub denied_read : Plain → (keyspace table : List ℕ) → TabletType → Option Refusal
-denied_read p keyspace table Primary = refuse_if (refuses p keyspace table) denied
-denied_read p keyspace table other = None
+abbrev pub denied_read : Plain → (keyspace table : List ℕ) → ℕ → TabletType → Option Refusal
+denied_read p keyspace table key Primary = refuse_if (refuses p keyspace (shard_at p keyspace key) table) denied
+denied_read p keyspace table key other = None
 
 -- a read: the keyspace, the table, the primary's own list
-abbrev pub read_refusal : Plain → (keyspace table : List ℕ) → TabletType → Option Refusal
-read_refusal p keyspace table tablet_type = or_else (unknown_table p keyspace table) (denied_read p keyspace table tablet_type)
+abbrev pub read_refusal : Plain → (keyspace table : List ℕ) → ℕ → TabletType → Option Refusal
+read_refusal p keyspace table key tablet_type = or_else (unknown_table p keyspace table) (denied_read p keyspace table key tablet_type)
 
 -- ---- keyspaces, tables, rules
 
@@ -151,7 +153,7 @@ create_is_full p source target tables =
     || nat_lt most_tables_in_keyspace (table_count p target + length tables)
     || nat_lt most_rules (fold (λ n table. n + keys_without_rule p.topology.rules (twelve_keys source target table)) (rule_count p) tables)
 
--- Create of a set of tables: the name, the tables, the sides, each table, the watcher, the limits
+-- Create of a set of tables: the name, the tables, the sides, that the source isn't sharded, each table, the watcher, the limits
 abbrev pub create_refusal : Plain → (workflow source target : List ℕ) → List (List ℕ) → Option Refusal
 create_refusal p workflow source target tables =
     or_else (refuse_if (is_some (live_at p workflow)) workflow_exists)
@@ -159,8 +161,9 @@ create_refusal p workflow source target tables =
     (or_else (refuse_if (same_text source target) same_keyspace)
     (or_else (refuse_if (not (has_keyspace p source)) no_keyspace)
     (or_else (refuse_if (not (has_keyspace p target)) no_keyspace)
+    (or_else (refuse_if (is_sharded p source) sharded_source)
     (or_else (moved_tables_refusal p source target tables)
-    (or_else (watcher_refusal p target) (refuse_if (create_is_full p source target tables) full)))))))
+    (or_else (watcher_refusal p target) (refuse_if (create_is_full p source target tables) full))))))))
 
 -- ---- events on a live workflow
 
@@ -178,15 +181,21 @@ abbrev pub at_rest : Live → Option Refusal → Option Refusal
 at_rest w refusal = or_else (refuse_if (is_some w.way) under_way) refusal
 
 -- an advance: a stream that runs, at its position, with room for a first change
-abbrev pub advance_at : Plain → Live → StreamName → (at at_most : ℕ) → Option ℕ → Option Refusal
-advance_at p w name at at_most None = Some stream_stopped
-advance_at p w name at at_most (Some position) =
+abbrev pub advance_at : Plain → Live → Lane → StreamName → (at at_most : ℕ) → Option ℕ → Option Refusal
+advance_at p w lane name at at_most None = Some stream_stopped
+advance_at p w lane name at at_most (Some position) =
     or_else (refuse_if (not (at == position)) (stale position))
-    (refuse_if (writes_any p w name position at_most && (room_in_log p (written_side w name) == 0)) full)
+    (refuse_if (writes_any p w lane name position at_most && (room_in_log p (written_side w name) (written_shard lane name) == 0)) full)
 
--- an advance of a workflow's stream
-abbrev pub advance_refusal : Plain → StreamName → (at at_most : ℕ) → Live → Option Refusal
-advance_refusal p name at at_most w = advance_at p w name at at_most (running_at (slot_of w name))
+-- what a lane refuses, where the workflow has one for that shard
+abbrev pub in_lane_at : Option Lane → (Lane → Option Refusal) → Option Refusal
+in_lane_at None refusal = Some no_shard
+in_lane_at (Some lane) refusal = refusal lane
+
+-- an advance of a stream of a workflow
+abbrev pub advance_refusal : Plain → StreamName → (shard at at_most : ℕ) → Live → Option Refusal
+advance_refusal p name shard at at_most w =
+    in_lane_at (lane_at w shard) (λ lane. advance_at p w lane name at at_most (running_at (slot_of w lane name)))
 
 -- whether a set of types has one that another lacks, and whether they share one
 abbrev pub has_more : TypeSet → TypeSet → Bool
@@ -201,12 +210,16 @@ abbrev pub is_still_copying : Copied → Bool
 is_still_copying ended = false
 is_still_copying other = true
 
+-- in some shard of the target
+abbrev pub copies_still : Live → Bool
+copies_still w = list_any (λ lane. is_still_copying lane.copied) w.lanes
+
 -- a way forward: a type to switch, a copy at its end, the limit
 abbrev pub begin_switch_refusal : Plain → TypeSet → Live → Option Refusal
 begin_switch_refusal p types w =
     at_rest w
     (or_else (refuse_if (not (has_more types w.switched)) nothing_to_switch)
-    (or_else (refuse_if (is_still_copying w.copied) copying) (refuse_if (nat_le most_ways p.ways) full)))
+    (or_else (refuse_if (copies_still w) copying) (refuse_if (nat_le most_ways p.ways) full)))
 
 -- a way back: a type to reverse, the limit
 abbrev pub begin_reverse_refusal : Plain → TypeSet → Live → Option Refusal
@@ -221,9 +234,12 @@ old_owner w = owner_by w (before_way w)
 abbrev pub new_owner : Live → List ℕ
 new_owner w = if (before_way w).primary then w.source else w.target
 
--- whether a write to the workflow's tables has not reached the other side
+-- whether a write to the workflow's tables has not reached the other side, in a shard and in some shard
+abbrev pub lane_is_behind : Plain → Live → Lane → Bool
+lane_is_behind p w lane = nat_lt lane.fed (length (lane_writes p w lane))
+
 abbrev pub is_behind : Plain → Live → Bool
-is_behind p w = nat_lt w.fed (length (writes_to p w))
+is_behind p w = list_any (lane_is_behind p w) w.lanes
 
 -- whether the side that will serve the reads is not the owner: the target on a way forward, the source on a way back
 abbrev pub will_read_other_side : Live → Way → Bool
@@ -263,12 +279,12 @@ complete_refusal w = at_rest w (refuse_if (not (w.switched.primary && w.switched
 -- the first refusal of an event, out of memory and a watcher's refusal aside
 abbrev pub refusal_of : Plain → Event → Option Refusal
 refusal_of p (write keyspace table op) = write_refusal p keyspace table op
-refusal_of p (read keyspace table key tablet_type) = read_refusal p keyspace table tablet_type
-refusal_of p (add_keyspace keyspace) = keyspace_refusal p keyspace
+refusal_of p (read keyspace table key tablet_type) = read_refusal p keyspace table key tablet_type
+refusal_of p (add_keyspace keyspace cuts) = keyspace_refusal p keyspace
 refusal_of p (add_table keyspace table) = table_refusal p keyspace table
 refusal_of p (edit_rule key target) = edit_refusal p key target
 refusal_of p (create workflow source target tables) = create_refusal p workflow source target (each_once tables)
-refusal_of p (advance workflow name at at_most) = in_workflow (live_at p workflow) (advance_refusal p name at at_most)
+refusal_of p (advance workflow name shard at at_most) = in_workflow (live_at p workflow) (advance_refusal p name shard at at_most)
 refusal_of p (begin_switch workflow types) = in_workflow (live_at p workflow) (begin_switch_refusal p types)
 refusal_of p (begin_reverse workflow types) = in_workflow (live_at p workflow) (begin_reverse_refusal p types)
 refusal_of p (step workflow at) = in_workflow (live_at p workflow) (step_refusal p at)
@@ -299,13 +315,19 @@ abbrev pub may_refuse : Plain → Event → (index : ℕ) → Bool
 may_refuse p event index =
     option_map_or (λ keyspace. option_map_or (is_of_primary keyspace) (slice_get p.scopes index) false) (asked_keyspace p event) false
 
+-- the steps that may: the refreshes, the journal, and with several shards the one that makes their streams
+abbrev pub steps_that_grow : Live → List ℕ
+steps_that_grow w =
+    refresh_source ∷ write_journal ∷ refresh_target ∷ (if nat_lt 1 (shard_count w.cuts) then create_back ∷ [] else [])
+
 -- the events that may grow something, and so may run out of memory: of a rule by hand a new one alone, of an advance one that writes something
 abbrev pub may_grow : Plain → Event → Bool
 may_grow p (read keyspace table key tablet_type) = false
 may_grow p (edit_rule key None) = false
 may_grow p (edit_rule key (Some target)) = not (is_some (lookup (same_key key) p.topology.rules))
-may_grow p (advance workflow name at at_most) = option_map_or (λ w. writes_any p w name at at_most) (live_at p workflow) false
-may_grow p (step workflow at) = option_map_or (λ w. list_any (is_next_step w) (refresh_source ∷ write_journal ∷ refresh_target ∷ [])) (live_at p workflow) false
+may_grow p (advance workflow name shard at at_most) =
+    option_map_or (λ w. option_map_or (λ lane. writes_any p w lane name at at_most) (lane_at w shard) false) (live_at p workflow) false
+may_grow p (step workflow at) = option_map_or (λ w. list_any (is_next_step w) (steps_that_grow w)) (live_at p workflow) false
 may_grow p (undo workflow at) = false
 may_grow p (cancel workflow) = false
 may_grow p (complete workflow) = false

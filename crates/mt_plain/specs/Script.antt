@@ -277,7 +277,7 @@ type_of key = unwrap_or key.tablet_type Primary
 
 -- names are read from left to right, and the first fault is told
 abbrev pub request_of : Command → Result Request NameFault
-request_of (keyspace name) = read_keyspace name >>= λ k. Ok (event (core.add_keyspace k))
+request_of (keyspace name) = read_keyspace name >>= λ k. Ok (event (core.add_keyspace k []))
 request_of (table name name') = read_keyspace name >>= λ k. read_table name' >>= λ t. Ok (event (core.add_table k t))
 request_of (rule key target) = read_key key >>= λ k. read_rule_target target >>= λ t. Ok (event (core.edit_rule k t))
 request_of (change name op) = read_key name >>= λ k. Ok (write_through k op)
@@ -286,7 +286,7 @@ request_of (change_at name op) = read_key name >>= λ k. Ok (event (core.write (
 request_of (get_at name number) = read_key name >>= λ k. Ok (event (core.read (unwrap_or k.keyspace []) k.table number (type_of k)))
 request_of (create workflow source target tables) =
     read_workflow workflow >>= λ w. read_keyspace source >>= λ s. read_keyspace target >>= λ g. read_table_list tables >>= λ ts. Ok (event (core.create w s g ts))
-request_of (advance workflow stream at most) = read_workflow workflow >>= λ w. Ok (event (core.advance w stream at most))
+request_of (advance workflow stream at most) = read_workflow workflow >>= λ w. Ok (event (core.advance w stream 0 at most))
 request_of (begin_switch workflow types) = read_workflow workflow >>= λ w. read_type_set types >>= λ t. Ok (event (core.begin_switch w t))
 request_of (begin_reverse workflow types) = read_workflow workflow >>= λ w. read_type_set types >>= λ t. Ok (event (core.begin_reverse w t))
 request_of (step workflow at) = read_workflow workflow >>= λ w. Ok (event (core.step w at))

@@ -1,6 +1,6 @@
 -- What the topology serves, and what the primaries refuse: the part of each live workflow lies over the topology as if none
 -- were live, and follows one table of twelve keys read with a set of types.
-use Rattle.std.specs.Prelude.{◌≡◌, ℕ, Bool, true, false, not, ◌&&◌, if◌then◌else◌, List, [], ◌++◌, fold, map, Option, None, Some, is_some}
+use Rattle.std.specs.Prelude.{◌≡◌, ℕ, ◌<◌, Bool, true, false, not, ◌&&◌, if◌then◌else◌, List, [], ◌++◌, fold, map, Option, None, Some, is_some}
 use Rattle.std.specs.List.{list_any}
 use Rattle.std.specs.Map.{remove_entry}
 use Rattle.std.specs.Option.{option_map_or}
@@ -11,13 +11,14 @@ use Rattle.mt_names.specs.declared.types.TabletType.TheVariants.{Primary}
 use Rattle.mt_names.specs.declared.types.TypeSet.{TypeSet}
 use Rattle.mt_names.specs.Names.{same_text}
 use Rattle.mt_names.specs.Same.{same_key}
+use Rattle.mt_names.specs.Shards.{shard_count}
 use Rattle.mt_names.specs.Types.{has}
 use Rattle.mt_model.specs.declared.entries.Entry.{Entry}
 use Rattle.mt_model.specs.declared.entries.Entry.TheVariants as entry
 use Rattle.mt_model.specs.declared.entries.EntryKey.{EntryKey}
 use Rattle.mt_model.specs.declared.entries.EntryKey.TheVariants as about
 use Rattle.mt_model.specs.Topology.{HasDistinctPlaces, KeyspaceState, Keyspaces, Marks, TopologyState, cuts_at, is_present, keyspace_at, rule_at, value_of, with_keyspace_state}
-use Rattle.mt_plain.specs.Plain.{Live, Plain, allow_target, before_way, cuts_of, deny_source, has_keyspace, in_keyspace, is_side, mover, moves, owner_by, part_owner, refresh_source, refresh_target, rule_keys, stands_done, switch_reads, switch_write_rules}
+use Rattle.mt_plain.specs.Plain.{Live, Plain, allow_target, before_way, cuts_of, deny_source, has_keyspace, in_keyspace, is_side, mover, moves, owner_by, part_owner, refresh_source, refresh_target, rule_keys, stands_done, stands_done_at, switch_reads, switch_write_rules}
 
 -- ---- the table: what a part serves once some types are switched
 
@@ -98,23 +99,31 @@ step_of_list w keyspace = if owned_before w keyspace then refresh_source else re
 abbrev pub is_listed_at : Live → TypeSet → (keyspace : List ℕ) → Bool
 is_listed_at w types keyspace = is_side w keyspace && is_denied_at w types keyspace
 
--- the same at rest and on a way
-abbrev pub refuses_by : Live → (keyspace : List ℕ) → Bool
-refuses_by w keyspace = is_listed_at w (types_by w (step_of_list w keyspace)) keyspace
+-- the types to read the table with at the own list of a shard's primary: those after the way where its own refresh stands done, else
+-- those before it; and the switched ones where no way is open (How traffic is switched)
+abbrev pub list_types : Live → (keyspace : List ℕ) → (shard : ℕ) → TypeSet
+list_types w keyspace shard =
+    option_map_or (λ way. if stands_done_at way (step_of_list w keyspace) shard then way.after else way.before) w.way w.switched
 
--- whether a primary's own list refuses a table. It follows the topology's denials with a refresh, a step later; at rest it is the
--- denial, and no list has a table that no live workflow moves (How traffic is switched: the primary reloads its denied tables)
-abbrev pub refuses : Plain → (keyspace table : List ℕ) → Bool
-refuses p keyspace table = option_map_or (λ w. refuses_by w keyspace) (mover p table) false
+-- the same at rest and on a way
+abbrev pub refuses_by : Live → (keyspace : List ℕ) → (shard : ℕ) → Bool
+refuses_by w keyspace shard = is_listed_at w (list_types w keyspace shard) keyspace
+
+-- whether the own list of a shard's primary refuses a table. It follows the topology's denials with a refresh, a step later; at rest it
+-- is the denial, and no list has a table that no live workflow moves (How traffic is switched: the primary reloads its denied tables)
+abbrev pub refuses : Plain → (keyspace : List ℕ) → (shard : ℕ) → (table : List ℕ) → Bool
+refuses p keyspace shard table = option_map_or (λ w. refuses_by w keyspace shard) (mover p table) false
 
 -- whether a keyspace has a table: one that was made there, or that a live workflow moves there (MoveTables)
 abbrev pub has_table : Plain → (keyspace table : List ℕ) → Bool
 has_table p keyspace table =
     if list_any (λ w. moves w table && same_text w.target keyspace) p.lives then true else is_present p.topology.keyspaces keyspace table
 
--- a table is writable where the keyspace's primary has it and its own list doesn't refuse it (MoveTables)
+-- a table is writable where the primary of some shard of the keyspace has it and its own list doesn't refuse it (MoveTables)
 abbrev pub IsWritable : Plain → (keyspace table : List ℕ) → Type 0
-IsWritable p keyspace table = (has_table p keyspace table ≡ true) × (refuses p keyspace table ≡ false)
+IsWritable p keyspace table =
+    (has_table p keyspace table ≡ true)
+    × ((shard : ℕ) × (shard < shard_count (cuts_of p keyspace)) × (refuses p keyspace shard table ≡ false))
 
 -- ---- the topology that is served, as a list of its entries
 

@@ -4,7 +4,7 @@ use Rattle.std.specs.List.{list_any, position_or_len}
 use Rattle.std.specs.Option.{option_map_or}
 use Rattle.mt_names.specs.Names.{same_text}
 use Rattle.mt_model.specs.Rows.{Row}
-use Rattle.mt_plain.specs.Plain.{Copied, not_begun, up_to, ended, Live, Plain, Write, among, is_side, mover, number_of, owner}
+use Rattle.mt_plain.specs.Plain.{Copied, not_begun, up_to, ended, Lane, Live, Plain, Write, among, in_lane, is_side, lane_of, mover, number_of, owner}
 
 -- the row after one write more (this profile's own)
 abbrev pub row_after_write : (table key : ℕ) → Row → Write → Row
@@ -32,6 +32,10 @@ is_write_to p w write = list_any (λ table. number_of p w.source table == write.
 abbrev pub writes_to : Plain → Live → List Write
 writes_to p w = filter (is_write_to p w) p.writes
 
+-- those of them with a key in the shard of a lane, in the same order
+abbrev pub lane_writes : Plain → Live → Lane → List Write
+lane_writes p w lane = filter (λ write. in_lane w lane write.key) (writes_to p w)
+
 -- ---- the other copy
 
 -- the place of a table among those named; behind them all where it isn't named (this profile's own)
@@ -51,15 +55,19 @@ in_range tables ended table key = true
 abbrev pub is_applied : (tables : List (List ℕ)) → Copied → (table : List ℕ) → ℕ → Bool
 is_applied tables range table key = among tables table && in_range tables range table key
 
--- whether a row lies in the copied range of a workflow (MoveTables: the copy phase)
+-- whether a row lies in the copied range of its shard (MoveTables: the copy phase)
 abbrev pub is_copied : Live → (table : List ℕ) → ℕ → Bool
-is_copied w table key = in_range w.tables w.copied table key
+is_copied w table key = option_map_or (λ lane. in_range w.tables lane.copied table key) (lane_of w key) false
 
--- the row at the side that is not the owner: in the copied range what the writes fed up to now leave, elsewhere none
+-- the row that a lane has at the side that is not the owner: in its copied range what the writes fed to it up to now leave, elsewhere none
 -- (MoveTables: the stream applies what was committed, in its order)
+abbrev pub lane_row : Plain → Live → Lane → (table : List ℕ) → ℕ → Row
+lane_row p w lane table key =
+    if in_range w.tables lane.copied table key then row_after_writes (take lane.fed (lane_writes p w lane)) (number_of p w.source table) key else None
+
+-- the row at the side that is not the owner, by the lane of its key (MoveTables)
 abbrev pub other_row : Plain → Live → (table : List ℕ) → ℕ → Row
-other_row p w table key =
-    if is_copied w table key then row_after_writes (take w.fed (writes_to p w)) (number_of p w.source table) key else None
+other_row p w table key = option_map_or (λ lane. lane_row p w lane table key) (lane_of w key) None
 
 -- the row of a table at a keyspace (MoveTables)
 abbrev pub row_by_mover : Plain → Option Live → (keyspace table : List ℕ) → ℕ → Row

@@ -21,7 +21,7 @@ value bytes = record { items = bytes }
 
 -- two keyspaces, of which the first has a table with one row
 abbrev pub begin : List Event
-begin = add_keyspace commerce ∷ add_keyspace customer ∷ add_table commerce corder ∷ write commerce corder (Insert 1 (value (codes "a"))) ∷ []
+begin = add_keyspace commerce [] ∷ add_keyspace customer [] ∷ add_table commerce corder ∷ write commerce corder (Insert 1 (value (codes "a"))) ∷ []
 
 abbrev pub begun : List Answer
 begun = done ∷ done ∷ done ∷ done ∷ []
@@ -66,10 +66,10 @@ abbrev pub a_value_of_64_bytes : Type 0
 a_value_of_64_bytes = ¬ (Gets (write commerce corder (Append 1 (value (replicate 63 98)))) (refused too_long))
 
 abbrev pub keyspace_exists : Type 0
-keyspace_exists = Gets (add_keyspace commerce) (refused exists)
+keyspace_exists = Gets (add_keyspace commerce []) (refused exists)
 
 abbrev pub keyspace_is_new : Type 0
-keyspace_is_new = ¬ (Gets (add_keyspace (codes "other")) (refused exists))
+keyspace_is_new = ¬ (Gets (add_keyspace (codes "other") []) (refused exists))
 
 abbrev pub table_exists : Type 0
 table_exists = Gets (add_table commerce corder) (refused exists)
@@ -78,7 +78,7 @@ abbrev pub table_is_new : Type 0
 table_is_new = ¬ (Gets (add_table customer corder) (refused exists))
 
 abbrev pub memory_may_be_wanted : Type 0
-memory_may_be_wanted = Gets (add_keyspace (codes "other")) (refused memory)
+memory_may_be_wanted = Gets (add_keyspace (codes "other") []) (refused memory)
 
 -- ---- wrong answers
 
@@ -98,13 +98,13 @@ abbrev pub not_the_later_of_two_refusals : Type 0
 not_the_later_of_two_refusals = ¬ (Gets (read (codes "nosuch") corder 1 Primary) (refused no_table))
 
 abbrev pub not_taken_where_a_refusal_is_due : Type 0
-not_taken_where_a_refusal_is_due = ¬ (Gets (add_keyspace commerce) done)
+not_taken_where_a_refusal_is_due = ¬ (Gets (add_keyspace commerce []) done)
 
 abbrev pub a_read_wants_no_memory : Type 0
 a_read_wants_no_memory = ¬ (Gets (read commerce corder 1 Primary) (refused memory))
 
 abbrev pub no_memory_where_a_refusal_is_due : Type 0
-no_memory_where_a_refusal_is_due = ¬ (Gets (add_keyspace commerce) (refused memory))
+no_memory_where_a_refusal_is_due = ¬ (Gets (add_keyspace commerce []) (refused memory))
 
 abbrev pub no_workflow_is_ended_twice : Type 0
 no_workflow_is_ended_twice = ¬ (Gets (cancel (codes "mv")) done)

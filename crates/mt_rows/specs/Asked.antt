@@ -44,7 +44,7 @@ own_ruled = after_events begun (edit_rule (record (plain corder) { keyspace = So
 
 -- a way of two tables: with two steps done, and with eight
 abbrev pub two_stepped : Plain
-two_stepped = after_events begun (two_made ∷ advance mv forward 1 100 ∷ begin_switch mv all_types ∷ step mv 0 ∷ step mv 1 ∷ [])
+two_stepped = after_events begun (two_made ∷ advance mv forward 0 1 100 ∷ begin_switch mv all_types ∷ step mv 0 ∷ step mv 1 ∷ [])
 
 abbrev pub two_allowed : Plain
 two_allowed = after_events two_stepped (step mv 2 ∷ step mv 3 ∷ step mv 4 ∷ step mv 5 ∷ step mv 6 ∷ step mv 7 ∷ [])
@@ -120,7 +120,7 @@ abbrev pub no_end_of_a_workflow_asks : Type 0
 no_end_of_a_workflow_asks = (asked_change copied (cancel mv) ≡ []) × (asked_change switched (complete mv) ≡ []) × (asked_change live (show mv) ≡ [])
 
 abbrev pub no_begin_and_no_advance_asks : Type 0
-no_begin_and_no_advance_asks = (asked_change copied (begin_switch mv all_types) ≡ []) × (asked_change live (advance mv forward 1 100) ≡ [])
+no_begin_and_no_advance_asks = (asked_change copied (begin_switch mv all_types) ≡ []) × (asked_change live (advance mv forward 0 1 100) ≡ [])
 
 abbrev pub no_row_table_or_rule_asks : Type 0
 no_row_table_or_rule_asks =

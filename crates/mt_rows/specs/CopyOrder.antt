@@ -18,17 +18,17 @@ two_tables =
 
 -- so many advances of one row each
 abbrev pub one_copied : Plain
-one_copied = after_events two_tables (advance mv forward 5 1 ∷ [])
+one_copied = after_events two_tables (advance mv forward 0 5 1 ∷ [])
 
 abbrev pub two_copied : Plain
-two_copied = after_events one_copied (advance mv forward 5 1 ∷ [])
+two_copied = after_events one_copied (advance mv forward 0 5 1 ∷ [])
 
 abbrev pub three_copied : Plain
-three_copied = after_events two_copied (advance mv forward 5 1 ∷ [])
+three_copied = after_events two_copied (advance mv forward 0 5 1 ∷ [])
 
 -- a row of the first table is changed while the second is still to be copied; a row of the second one too
 abbrev pub changed_first : Plain
-changed_first = after_events two_copied (write commerce other (Update 3 (value (codes "C"))) ∷ write commerce corder (Update 1 (value (codes "A"))) ∷ advance mv forward 5 100 ∷ [])
+changed_first = after_events two_copied (write commerce other (Update 3 (value (codes "C"))) ∷ write commerce corder (Update 1 (value (codes "A"))) ∷ advance mv forward 0 5 100 ∷ [])
 
 -- ---- rows
 
@@ -51,10 +51,10 @@ abbrev pub the_second_table_is_copied_behind_the_first : Type 0
 the_second_table_is_copied_behind_the_first = Gets three_copied (read customer corder 1 Replica) (row (Some (value (codes "a"))))
 
 abbrev pub three_rows_are_left_to_copy : Type 0
-three_rows_are_left_to_copy = Gets two_tables (advance mv forward 5 100) (advanced 0 3)
+three_rows_are_left_to_copy = Gets two_tables (advance mv forward 0 5 100) (advanced 0 3)
 
 abbrev pub no_row_is_left_to_copy : Type 0
-no_row_is_left_to_copy = Gets three_copied (advance mv forward 5 1) (advanced 0 0)
+no_row_is_left_to_copy = Gets three_copied (advance mv forward 0 5 1) (advanced 0 0)
 
 abbrev pub a_change_of_the_copied_table_is_fed : Type 0
 a_change_of_the_copied_table_is_fed = Gets changed_first (read customer other 3 Replica) (row (Some (value (codes "C"))))

@@ -10,7 +10,7 @@ use Rattle.mt_rows.specs.Workflows.{Gets, before_journal, begun, behind, copied,
 
 -- with so many live workflows, and with so many rules of other names
 abbrev pub with_workflows : ℕ → Plain
-with_workflows n = record begun { lives = replicate n (created (codes "other") customer commerce (codes "other" ∷ []) 0) }
+with_workflows n = record begun { lives = replicate n (created (codes "other") customer commerce (codes "other" ∷ []) [] 0) }
 
 abbrev pub with_other_rules : ℕ → Plain
 with_other_rules n =
@@ -23,13 +23,13 @@ abbrev pub each_step_begins_with_64_tries : Type 0
 each_step_begins_with_64_tries = heard stepped (steps mv 1) done ≡ goes_on (steps mv 64)
 
 abbrev pub a_step_that_is_not_level_is_tried_again : Type 0
-a_step_that_is_not_level_is_tried_again = heard behind (steps mv 2) (refused not_level) ≡ goes_on (feeds mv 1)
+a_step_that_is_not_level_is_tried_again = heard behind (steps mv 2) (refused not_level) ≡ goes_on (feeds mv 0 1)
 
 abbrev pub the_last_try_gives_up : Type 0
 the_last_try_gives_up = heard behind (steps mv 1) (refused not_level) ≡ goes_on (gives_up mv not_level)
 
 abbrev pub an_advance_between_tries_reads_100 : Type 0
-an_advance_between_tries_reads_100 = event_of behind (feeds mv 1) ≡ advance mv forward 1 100
+an_advance_between_tries_reads_100 = event_of behind (feeds mv 0 1) ≡ advance mv forward 0 1 100
 
 abbrev pub past_the_journal_it_stops : Type 0
 past_the_journal_it_stops = heard journalled (steps mv 64) (refused memory) ≡ ends (Ok (stopped memory 7))

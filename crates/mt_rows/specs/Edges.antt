@@ -24,7 +24,7 @@ abbrev pub line_4097_of_bad_bytes : Type 0
 line_4097_of_bad_bytes = read_line (replicate 4097 1) ≡ line_too_long
 
 abbrev pub keyspace_exists_at_the_limit : Type 0
-keyspace_exists_at_the_limit = Run (opening []) (map add_keyspace (names 32 ++ name_of 0 ∷ [])) (replicate 32 done ++ refused exists ∷ [])
+keyspace_exists_at_the_limit = Run (opening []) (map (λ k. add_keyspace k []) (names 32 ++ name_of 0 ∷ [])) (replicate 32 done ++ refused exists ∷ [])
 
 abbrev pub table_exists_at_the_limit : Type 0
 table_exists_at_the_limit = table_refusal (with_tables 256) (codes "k") (name_of 0) ≡ Some exists

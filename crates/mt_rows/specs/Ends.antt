@@ -32,7 +32,7 @@ again = after_events cancelled (write commerce corder (Insert 2 (value (codes "b
 -- a way back, up to the stream that it makes; and one step more taken back
 abbrev pub back_made : Plain
 back_made =
-    after_events switched (write customer corder (Insert 2 (value (codes "b"))) ∷ advance mv back 1 100 ∷ begin_reverse mv all_types ∷ step mv 0 ∷ step mv 1 ∷ step mv 2 ∷ step mv 3 ∷ step mv 4 ∷ step mv 5 ∷ [])
+    after_events switched (write customer corder (Insert 2 (value (codes "b"))) ∷ advance mv back 0 1 100 ∷ begin_reverse mv all_types ∷ step mv 0 ∷ step mv 1 ∷ step mv 2 ∷ step mv 3 ∷ step mv 4 ∷ step mv 5 ∷ [])
 
 abbrev pub back_undone : Plain
 back_undone = after_events back_made (undo mv 6 ∷ [])
@@ -43,7 +43,7 @@ back_way steps is_undone = Some (record { back = true; shards = 1; before = all_
 -- a rule of the source's own name stands before Create, and the workflow is completed
 abbrev pub ruled_and_completed : Plain
 ruled_and_completed =
-    after_events begun (edit_rule source_key (Some (in_keyspace commerce corder)) ∷ create mv commerce customer (corder ∷ []) ∷ advance mv forward 1 100 ∷ begin_switch mv all_types
+    after_events begun (edit_rule source_key (Some (in_keyspace commerce corder)) ∷ create mv commerce customer (corder ∷ []) ∷ advance mv forward 0 1 100 ∷ begin_switch mv all_types
     ∷ step mv 0 ∷ step mv 1 ∷ step mv 2 ∷ step mv 3 ∷ step mv 4 ∷ step mv 5 ∷ step mv 6 ∷ step mv 7 ∷ step mv 8 ∷ step mv 9 ∷ step mv 10 ∷ step mv 11 ∷ complete mv ∷ [])
 
 -- the types of replicas alone, and those of primaries
@@ -94,7 +94,7 @@ abbrev pub a_cancelled_workflow_leaves_no_denial : Type 0
 a_cancelled_workflow_leaves_no_denial = served_entry cancelled (about.Denied customer corder) ≡ entry.Denied customer corder false
 
 abbrev pub a_workflow_made_again_begins_at_the_end_of_the_log : Type 0
-a_workflow_made_again_begins_at_the_end_of_the_log = Gets again (advance mv forward 2 100) (advanced 0 2)
+a_workflow_made_again_begins_at_the_end_of_the_log = Gets again (advance mv forward 0 2 100) (advanced 0 2)
 
 abbrev pub a_workflow_made_again_has_copied_nothing : Type 0
 a_workflow_made_again_has_copied_nothing = Gets again (read customer corder 1 Replica) (row None)

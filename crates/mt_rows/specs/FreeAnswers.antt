@@ -43,10 +43,10 @@ abbrev pub taking_a_rule_away_wants_no_memory : Type 0
 taking_a_rule_away_wants_no_memory = ¬ (Gets begun (edit_rule (plain corder) None) (refused memory))
 
 abbrev pub an_advance_may_want_memory : Type 0
-an_advance_may_want_memory = Gets live (advance mv forward 1 1) (refused memory)
+an_advance_may_want_memory = Gets live (advance mv forward 0 1 1) (refused memory)
 
 abbrev pub a_stale_advance_wants_no_memory : Type 0
-a_stale_advance_wants_no_memory = ¬ (Gets live (advance mv forward 0 1) (refused memory))
+a_stale_advance_wants_no_memory = ¬ (Gets live (advance mv forward 0 0 1) (refused memory))
 
 abbrev pub a_way_forward_may_want_memory : Type 0
 a_way_forward_may_want_memory = Gets copied (begin_switch mv all_types) (refused memory)
@@ -130,7 +130,7 @@ abbrev pub no_watcher_refuses_a_write : Type 0
 no_watcher_refuses_a_write = ¬ (Gets begun (write commerce corder (Delete 1)) (refused (watcher_refused 1)))
 
 abbrev pub no_watcher_refuses_an_advance : Type 0
-no_watcher_refuses_an_advance = ¬ (Gets live (advance mv forward 1 1) (refused (watcher_refused 2)))
+no_watcher_refuses_an_advance = ¬ (Gets live (advance mv forward 0 1 1) (refused (watcher_refused 2)))
 
 abbrev pub no_watcher_refuses_a_way : Type 0
 no_watcher_refuses_a_way = ¬ (Gets copied (begin_switch mv all_types) (refused (watcher_refused 1)))
@@ -139,34 +139,34 @@ abbrev pub no_watcher_refuses_a_rule : Type 0
 no_watcher_refuses_a_rule = ¬ (Gets begun (edit_rule (plain corder) None) (refused (watcher_refused 0)))
 
 abbrev pub behind_a_change_and_an_event_passed_over_it_may_be_cut : Type 0
-behind_a_change_and_an_event_passed_over_it_may_be_cut = Gets behind_around_another (advance mv forward 1 100) (advanced 2 0)
+behind_a_change_and_an_event_passed_over_it_may_be_cut = Gets behind_around_another (advance mv forward 0 1 100) (advanced 2 0)
 
 abbrev pub before_an_event_passed_over_it_is_not_cut : Type 0
-before_an_event_passed_over_it_is_not_cut = ¬ (Gets behind_around_another (advance mv forward 1 100) (advanced 1 0))
+before_an_event_passed_over_it_is_not_cut = ¬ (Gets behind_around_another (advance mv forward 0 1 100) (advanced 1 0))
 
 abbrev pub as_many_events_as_allowed_are_read : Type 0
-as_many_events_as_allowed_are_read = Gets behind_around_another (advance mv forward 1 2) (advanced 2 0)
+as_many_events_as_allowed_are_read = Gets behind_around_another (advance mv forward 0 1 2) (advanced 2 0)
 
 abbrev pub no_advance_reads_and_copies : Type 0
-no_advance_reads_and_copies = ¬ (Gets behind_by_two (advance mv forward 1 100) (advanced 1 1))
+no_advance_reads_and_copies = ¬ (Gets behind_by_two (advance mv forward 0 1 100) (advanced 1 1))
 
 abbrev pub no_copy_in_place_of_events : Type 0
-no_copy_in_place_of_events = ¬ (Gets behind_by_two (advance mv forward 1 100) (advanced 0 1))
+no_copy_in_place_of_events = ¬ (Gets behind_by_two (advance mv forward 0 1 100) (advanced 0 1))
 
 abbrev pub a_copy_of_one_row_is_not_cut : Type 0
-a_copy_of_one_row_is_not_cut = ¬ (Gets live (advance mv forward 1 100) (advanced 0 0))
+a_copy_of_one_row_is_not_cut = ¬ (Gets live (advance mv forward 0 1 100) (advanced 0 0))
 
 abbrev pub a_copy_of_no_more_than_one_is_not_cut : Type 0
-a_copy_of_no_more_than_one_is_not_cut = ¬ (Gets live_of_two (advance mv forward 2 1) (advanced 0 0))
+a_copy_of_no_more_than_one_is_not_cut = ¬ (Gets live_of_two (advance mv forward 0 2 1) (advanced 0 0))
 
 abbrev pub a_copy_copies_no_more_than_allowed : Type 0
-a_copy_copies_no_more_than_allowed = ¬ (Gets live_of_two (advance mv forward 2 1) (advanced 0 2))
+a_copy_copies_no_more_than_allowed = ¬ (Gets live_of_two (advance mv forward 0 2 1) (advanced 0 2))
 
 abbrev pub no_stale_advance_is_cut : Type 0
-no_stale_advance_is_cut = ¬ (Gets live_of_two (advance mv forward 1 100) (advanced 0 1))
+no_stale_advance_is_cut = ¬ (Gets live_of_two (advance mv forward 0 1 100) (advanced 0 1))
 
 abbrev pub nothing_but_an_advance_is_cut : Type 0
 nothing_but_an_advance_is_cut = ¬ (Gets begun (add_table customer corder) (advanced 0 0))
 
 abbrev pub an_advance_is_not_just_done : Type 0
-an_advance_is_not_just_done = ¬ (Gets live (advance mv forward 1 100) (done))
+an_advance_is_not_just_done = ¬ (Gets live (advance mv forward 0 1 100) (done))

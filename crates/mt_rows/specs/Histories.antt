@@ -31,11 +31,11 @@ line client event answer = record { client = client; event = event; answer = ans
 
 abbrev pub history : History
 history =
-    line 1 (add_keyspace commerce) done ∷ line 2 (read commerce corder 1 Primary) (refused no_table) ∷ line 1 (add_table commerce corder) done
-    ∷ line 2 (add_keyspace commerce) (refused exists) ∷ line 2 (edit_rule (plain (codes "c")) (Some (in_keyspace commerce corder))) done ∷ []
+    line 1 (add_keyspace commerce []) done ∷ line 2 (read commerce corder 1 Primary) (refused no_table) ∷ line 1 (add_table commerce corder) done
+    ∷ line 2 (add_keyspace commerce []) (refused exists) ∷ line 2 (edit_rule (plain (codes "c")) (Some (in_keyspace commerce corder))) done ∷ []
 
 abbrev pub invented : History
-invented = line 1 (add_keyspace commerce) done ∷ line 2 (read commerce corder 1 Primary) (row None) ∷ []
+invented = line 1 (add_keyspace commerce []) done ∷ line 2 (read commerce corder 1 Primary) (row None) ∷ []
 
 abbrev pub start : Plain
 start = opening (watchers_of [])

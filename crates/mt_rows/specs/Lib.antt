@@ -20,6 +20,9 @@ pub mod Owed
 pub mod Publications
 pub mod RepeatedTables
 pub mod ServedTopologies
+pub mod Shards
+pub mod ShardsOne
+pub mod ShardsTwo
 pub mod SharpScripts
 pub mod UndoneStreams
 pub mod Watched

@@ -18,10 +18,10 @@ names zero = []
 names (suc n) = names n ++ name_of n ∷ []
 
 abbrev pub thirty_second_keyspace_is_taken : Type 0
-thirty_second_keyspace_is_taken = Run (opening []) (map add_keyspace (names 32)) (replicate 32 done)
+thirty_second_keyspace_is_taken = Run (opening []) (map (λ k. add_keyspace k []) (names 32)) (replicate 32 done)
 
 abbrev pub thirty_third_keyspace_is_refused : Type 0
-thirty_third_keyspace_is_refused = Run (opening []) (map add_keyspace (names 33)) (replicate 32 done ++ refused full ∷ [])
+thirty_third_keyspace_is_refused = Run (opening []) (map (λ k. add_keyspace k []) (names 33)) (replicate 32 done ++ refused full ∷ [])
 
 -- a state with one keyspace, which has so many tables
 abbrev pub with_tables : ℕ → Plain

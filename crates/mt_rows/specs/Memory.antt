@@ -27,43 +27,43 @@ for_replicas = record (at_target corder) { tablet_type = Some Replica }
 -- ---- rows
 
 abbrev pub passing_over_another_table_needs_no_memory : Type 0
-passing_over_another_table_needs_no_memory = ¬ (Gets behind_by_others (advance mv forward 1 1) (refused memory))
+passing_over_another_table_needs_no_memory = ¬ (Gets behind_by_others (advance mv forward 0 1 1) (refused memory))
 
 abbrev pub passing_over_it_and_writing_may_be_out_of_memory : Type 0
-passing_over_it_and_writing_may_be_out_of_memory = Gets behind_by_others (advance mv forward 1 2) (refused memory)
+passing_over_it_and_writing_may_be_out_of_memory = Gets behind_by_others (advance mv forward 0 1 2) (refused memory)
 
 abbrev pub passing_over_it_is_answered : Type 0
-passing_over_it_is_answered = Gets behind_by_others (advance mv forward 1 1) (advanced 1 0)
+passing_over_it_is_answered = Gets behind_by_others (advance mv forward 0 1 1) (advanced 1 0)
 
 abbrev pub passing_over_a_row_not_copied_needs_no_memory : Type 0
-passing_over_a_row_not_copied_needs_no_memory = ¬ (Gets behind_not_copied (advance mv forward 1 100) (refused memory))
+passing_over_a_row_not_copied_needs_no_memory = ¬ (Gets behind_not_copied (advance mv forward 0 1 100) (refused memory))
 
 abbrev pub passing_over_a_row_behind_those_copied_needs_no_memory : Type 0
-passing_over_a_row_behind_those_copied_needs_no_memory = ¬ (Gets behind_half_copied (advance mv forward 2 1) (refused memory))
+passing_over_a_row_behind_those_copied_needs_no_memory = ¬ (Gets behind_half_copied (advance mv forward 0 2 1) (refused memory))
 
 abbrev pub applying_a_copied_row_may_be_out_of_memory : Type 0
-applying_a_copied_row_may_be_out_of_memory = Gets behind_half_copied (advance mv forward 2 2) (refused memory)
+applying_a_copied_row_may_be_out_of_memory = Gets behind_half_copied (advance mv forward 0 2 2) (refused memory)
 
 abbrev pub finding_nothing_to_do_needs_no_memory : Type 0
-finding_nothing_to_do_needs_no_memory = ¬ (Gets copied (advance mv forward 1 100) (refused memory))
+finding_nothing_to_do_needs_no_memory = ¬ (Gets copied (advance mv forward 0 1 100) (refused memory))
 
 abbrev pub finding_nothing_to_do_is_answered : Type 0
-finding_nothing_to_do_is_answered = Gets copied (advance mv forward 1 100) (advanced 0 0)
+finding_nothing_to_do_is_answered = Gets copied (advance mv forward 0 1 100) (advanced 0 0)
 
 abbrev pub an_advance_of_nothing_needs_no_memory : Type 0
-an_advance_of_nothing_needs_no_memory = ¬ (Gets live (advance mv forward 1 0) (refused memory))
+an_advance_of_nothing_needs_no_memory = ¬ (Gets live (advance mv forward 0 1 0) (refused memory))
 
 abbrev pub copying_a_row_may_be_out_of_memory : Type 0
-copying_a_row_may_be_out_of_memory = Gets live (advance mv forward 1 100) (refused memory)
+copying_a_row_may_be_out_of_memory = Gets live (advance mv forward 0 1 100) (refused memory)
 
 abbrev pub applying_an_entry_may_be_out_of_memory : Type 0
-applying_an_entry_may_be_out_of_memory = Gets behind_by_two (advance mv forward 1 1) (refused memory)
+applying_an_entry_may_be_out_of_memory = Gets behind_by_two (advance mv forward 0 1 1) (refused memory)
 
 abbrev pub feeding_back_may_be_out_of_memory : Type 0
-feeding_back_may_be_out_of_memory = Gets behind_switch (advance mv back 1 100) (refused memory)
+feeding_back_may_be_out_of_memory = Gets behind_switch (advance mv back 0 1 100) (refused memory)
 
 abbrev pub feeding_nothing_back_needs_no_memory : Type 0
-feeding_nothing_back_needs_no_memory = ¬ (Gets switched (advance mv back 1 100) (refused memory))
+feeding_nothing_back_needs_no_memory = ¬ (Gets switched (advance mv back 0 1 100) (refused memory))
 
 abbrev pub changing_a_rule_needs_no_memory : Type 0
 changing_a_rule_needs_no_memory = ¬ (Gets ruled (edit_rule (at_target corder) (Some (in_keyspace commerce corder))) (refused memory))

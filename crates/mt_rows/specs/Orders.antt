@@ -13,7 +13,7 @@ use Rattle.mt_rows.specs.Workflows.{Gets, after_events, at_target, before_journa
 
 -- a third keyspace, without tables, beside a workflow
 abbrev pub with_third : Plain
-with_third = after_events live (add_keyspace (codes "third") ∷ [])
+with_third = after_events live (add_keyspace (codes "third") [] ∷ [])
 
 -- a rule that leads elsewhere, where the target has no watcher
 abbrev pub ruled_unwatched : Plain
@@ -39,7 +39,7 @@ full_and_ruled = after_events ruled (add_table customer corder ∷ [])
 
 -- sixteen workflows, of which none moves the tables that are there
 abbrev pub sixteen : Plain
-sixteen = record unwatched { lives = replicate 16 (created (codes "w") customer commerce (codes "w" ∷ []) 0) }
+sixteen = record unwatched { lives = replicate 16 (created (codes "w") customer commerce (codes "w" ∷ []) [] 0) }
 
 -- all numbers of ways are used up
 abbrev pub no_number_left : Plain → Plain
@@ -104,7 +104,7 @@ abbrev pub the_watcher_before_the_limits : Type 0
 the_watcher_before_the_limits = Gets sixteen (made mv) (refused no_watcher)
 
 abbrev pub stopped_before_stale : Type 0
-stopped_before_stale = Gets before_journal (advance mv forward 0 1) (refused stream_stopped)
+stopped_before_stale = Gets before_journal (advance mv forward 0 0 1) (refused stream_stopped)
 
 abbrev pub under_way_before_nothing_to_switch : Type 0
 under_way_before_nothing_to_switch = Gets opened (begin_switch mv no_types) (refused under_way)

@@ -13,7 +13,7 @@ abbrev pub two_live : Plain
 two_live = after_events stepped (create (codes "m2") commerce customer (codes "other" ∷ []) ∷ [])
 
 abbrev pub two_begun : Plain
-two_begun = after_events two_live (advance (codes "m2") forward 1 100 ∷ begin_switch (codes "m2") (record no_types { replica = true }) ∷ [])
+two_begun = after_events two_live (advance (codes "m2") forward 0 1 100 ∷ begin_switch (codes "m2") (record no_types { replica = true }) ∷ [])
 
 -- ---- rows
 

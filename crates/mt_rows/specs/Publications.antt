@@ -24,7 +24,7 @@ c_entry = entry.Rule (plain (codes "c")) (Some (in_keyspace commerce corder))
 
 -- a history in which a workflow is made, and the state in which it begins
 abbrev pub moving : History
-moving = line 1 (add_keyspace commerce) done ∷ line 2 (add_keyspace customer) done ∷ line 1 (add_table commerce corder) done ∷ line 2 (made mv) done ∷ []
+moving = line 1 (add_keyspace commerce []) done ∷ line 2 (add_keyspace customer []) done ∷ line 1 (add_table commerce corder) done ∷ line 2 (made mv) done ∷ []
 
 abbrev pub watched : Plain
 watched = opening (watchers_of (commerce ∷ customer ∷ []))

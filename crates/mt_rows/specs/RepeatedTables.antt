@@ -28,13 +28,13 @@ named_twice =
 
 -- after so many advances of one row each
 abbrev pub one_copied : Plain
-one_copied = after_events named_twice (advance mv forward 3 1 ∷ [])
+one_copied = after_events named_twice (advance mv forward 0 3 1 ∷ [])
 
 abbrev pub two_copied : Plain
-two_copied = after_events one_copied (advance mv forward 3 1 ∷ [])
+two_copied = after_events one_copied (advance mv forward 0 3 1 ∷ [])
 
 abbrev pub all_copied : Plain
-all_copied = after_events two_copied (advance mv forward 3 1 ∷ [])
+all_copied = after_events two_copied (advance mv forward 0 3 1 ∷ [])
 
 -- ---- rows
 
@@ -81,10 +81,10 @@ abbrev pub past_the_limit_they_are_refused : Type 0
 past_the_limit_they_are_refused = Gets (with_other_rules 4085) (create_of (corder ∷ corder ∷ [])) (refused full)
 
 abbrev pub its_rows_are_to_be_copied_once : Type 0
-its_rows_are_to_be_copied_once = Gets named_twice (advance mv forward 3 100) (advanced 0 3)
+its_rows_are_to_be_copied_once = Gets named_twice (advance mv forward 0 3 100) (advanced 0 3)
 
 abbrev pub no_row_is_to_be_copied_again : Type 0
-no_row_is_to_be_copied_again = ¬ (Gets named_twice (advance mv forward 3 100) (advanced 0 4))
+no_row_is_to_be_copied_again = ¬ (Gets named_twice (advance mv forward 0 3 100) (advanced 0 4))
 
 abbrev pub the_first_advance_copies_its_row : Type 0
 the_first_advance_copies_its_row = Gets one_copied (read customer corder 1 Replica) (row (Some (value (codes "a"))))
@@ -99,10 +99,10 @@ abbrev pub before_the_third_it_is_not_there : Type 0
 before_the_third_it_is_not_there = Gets two_copied (read customer other 7 Replica) (row None)
 
 abbrev pub the_fourth_goes_back_over_no_row : Type 0
-the_fourth_goes_back_over_no_row = Gets all_copied (advance mv forward 3 1) (advanced 0 0)
+the_fourth_goes_back_over_no_row = Gets all_copied (advance mv forward 0 3 1) (advanced 0 0)
 
 abbrev pub the_fourth_copies_no_row_again : Type 0
-the_fourth_copies_no_row_again = ¬ (Gets all_copied (advance mv forward 3 1) (advanced 0 1))
+the_fourth_copies_no_row_again = ¬ (Gets all_copied (advance mv forward 0 3 1) (advanced 0 1))
 
 abbrev pub behind_it_the_copy_has_ended : Type 0
-behind_it_the_copy_has_ended = Gets (after_events all_copied (advance mv forward 3 1 ∷ [])) (begin_switch mv all_types) done
+behind_it_the_copy_has_ended = Gets (after_events all_copied (advance mv forward 0 3 1 ∷ [])) (begin_switch mv all_types) done

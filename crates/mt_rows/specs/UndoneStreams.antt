@@ -3,7 +3,7 @@ use Rattle.std.specs.Prelude.{◌≡◌, [], ◌∷◌, codes, Option, None, Som
 use Rattle.mt_names.specs.Types.{all_types}
 use Rattle.mt_model.specs.declared.rows.Op.TheVariants.{Insert}
 use Rattle.mt_plain.specs.Events.{write, advance, begin_reverse, step, undo, StreamName, forward, back, running, stopped, frozen, Slot}
-use Rattle.mt_plain.specs.Plain.{Plain, live_at}
+use Rattle.mt_plain.specs.Plain.{Plain, lane_at, live_at}
 use Rattle.mt_plain.specs.Slots.{slot_of}
 use Rattle.mt_rows.specs.Answers.{corder, customer, value}
 use Rattle.mt_rows.specs.Ways.{at_position}
@@ -11,11 +11,11 @@ use Rattle.mt_rows.specs.Workflows.{after_events, before_journal, copied, mv, sw
 
 -- a stream of the workflow
 abbrev pub stream : Plain → StreamName → Option Slot
-stream p name = option_and_then (λ w. slot_of w name) (live_at p mv)
+stream p name = option_and_then (λ w. option_and_then (λ lane. slot_of w lane name) (lane_at w 0)) (live_at p mv)
 
 -- the forward stream froze at one entry of the source's log; a write that is fed back makes it two
 abbrev pub fed_back : Plain
-fed_back = after_events switched (write customer corder (Insert 2 (value (codes "b"))) ∷ advance mv back 1 100 ∷ [])
+fed_back = after_events switched (write customer corder (Insert 2 (value (codes "b"))) ∷ advance mv back 0 1 100 ∷ [])
 
 -- a way back with five steps done, and with six: the new forward stream is made
 abbrev pub before_it_is_made : Plain

@@ -1,6 +1,7 @@
 -- Two histories with a watcher of the target's primary that refuses a change: from events to answers.
 use Rattle.std.specs.Prelude.{List, true, [], ◌∷◌, ◌++◌, None, Some}
 use Rattle.mt_names.specs.Types.{all_types}
+use Rattle.mt_names.specs.Shards.{whole}
 use Rattle.mt_plain.specs.Answers.{Run}
 use Rattle.mt_plain.specs.Events.{Event, add_keyspace, add_table, advance, begin_switch, step, undo, show, forward, frozen, running, Answer, done, advanced, shown, refused, past_journal, watcher_refused}
 use Rattle.mt_plain.specs.Output.{watchers_of}
@@ -11,7 +12,7 @@ use Rattle.mt_rows.specs.Workflows.{made, mv}
 -- a switch whose last refresh the watcher refuses; past the journal no undo is taken
 abbrev pub switch_events : List Event
 switch_events =
-    add_keyspace commerce ∷ add_keyspace customer ∷ add_table commerce corder ∷ made mv ∷ advance mv forward 0 100 ∷ begin_switch mv all_types
+    add_keyspace commerce [] ∷ add_keyspace customer [] ∷ add_table commerce corder ∷ made mv ∷ advance mv forward 0 0 100 ∷ begin_switch mv all_types
     ∷ step mv 0 ∷ step mv 1 ∷ step mv 2 ∷ step mv 3 ∷ step mv 4 ∷ step mv 5 ∷ step mv 6 ∷ step mv 7 ∷ step mv 8 ∷ undo mv 8 ∷ []
 
 abbrev pub switch_answers : List Answer
@@ -35,7 +36,5 @@ stopped_switch_is_finished_by_steps =
       tables = corder ∷ [];
       switched = all_types;
       way = None;
-      forward = record { state = frozen; position = 0 };
-      copied = true;
-      back = Some (record { state = running; position = 0 });
+      lanes = record { range = whole; forward = record { state = frozen; position = 0 }; copied = true; back = Some (record { state = running; position = 0 }) } ∷ [];
     }) ∷ [])

@@ -8,6 +8,7 @@ use Rattle.mt_model.specs.declared.entries.Entry.TheVariants as entry
 use Rattle.mt_model.specs.declared.entries.EntryKey.{EntryKey}
 use Rattle.mt_model.specs.declared.entries.EntryKey.TheVariants as about
 use Rattle.mt_model.specs.declared.rows.Op.TheVariants.{Insert, Update}
+use Rattle.mt_names.specs.Shards.{whole}
 use Rattle.mt_plain.specs.Events.{Event, write, read, advance, begin_switch, step, undo, show, forward, back, Way, StreamState, running, stopped, frozen, Slot, done, row, advanced, shown, refused, denied, not_level}
 use Rattle.mt_plain.specs.Plain.{Plain, in_keyspace}
 use Rattle.mt_plain.specs.Serve.{served_entry}
@@ -51,9 +52,7 @@ Shows p types way first other =
       tables = corder ∷ [];
       switched = types;
       way = way;
-      forward = first;
-      copied = true;
-      back = other;
+      lanes = record { range = whole; forward = first; copied = true; back = other } ∷ [];
     }))
 
 abbrev pub way_with : ℕ → Bool → Option Way
@@ -65,7 +64,7 @@ at_position state position = record { state = state; position = position }
 -- the second of two rows is changed before it is copied; then both are copied, and writes switched
 abbrev pub changed_before_its_copy : Plain
 changed_before_its_copy =
-    after_events cut (write commerce corder (Update 2 (value (codes "z"))) ∷ advance mv forward 2 100 ∷ advance mv forward 3 100 ∷ [])
+    after_events cut (write commerce corder (Update 2 (value (codes "z"))) ∷ advance mv forward 0 2 100 ∷ advance mv forward 0 3 100 ∷ [])
 
 abbrev pub changed_and_switched : Plain
 changed_and_switched =
@@ -74,7 +73,7 @@ changed_and_switched =
 
 -- an entry of a table that the workflow doesn't move is read, and one of its own table is not
 abbrev pub past_others : Plain
-past_others = after_events behind_by_others (advance mv forward 1 1 ∷ [])
+past_others = after_events behind_by_others (advance mv forward 0 1 1 ∷ [])
 
 -- ---- rows
 
@@ -163,7 +162,7 @@ abbrev pub a_switch_that_has_ended : Type 0
 a_switch_that_has_ended = Shows switched all_types None (at_position frozen 1) (Some (at_position running 1))
 
 abbrev pub events_of_other_tables_are_read_too : Type 0
-events_of_other_tables_are_read_too = Gets behind_by_others (advance mv forward 1 1) (advanced 1 0)
+events_of_other_tables_are_read_too = Gets behind_by_others (advance mv forward 0 1 1) (advanced 1 0)
 
 abbrev pub events_of_other_tables_feed_no_write : Type 0
 events_of_other_tables_feed_no_write = Gets past_others (read customer corder 3 Replica) (row None)
@@ -172,13 +171,13 @@ abbrev pub events_of_other_tables_leave_it_not_level : Type 0
 events_of_other_tables_leave_it_not_level = Gets (after_events past_others (begin_switch mv all_types ∷ [])) (step mv 0) (refused not_level)
 
 abbrev pub the_next_event_feeds_it : Type 0
-the_next_event_feeds_it = Gets (after_events past_others (advance mv forward 2 1 ∷ [])) (read customer corder 3 Replica) (row (Some (value (codes "c"))))
+the_next_event_feeds_it = Gets (after_events past_others (advance mv forward 0 2 1 ∷ [])) (read customer corder 3 Replica) (row (Some (value (codes "c"))))
 
 abbrev pub a_row_changed_before_its_copy_is_copied_as_it_is : Type 0
 a_row_changed_before_its_copy_is_copied_as_it_is = Gets changed_before_its_copy (read customer corder 2 Replica) (row (Some (value (codes "z"))))
 
 abbrev pub a_change_before_the_copy_is_not_written_twice : Type 0
-a_change_before_the_copy_is_not_written_twice = Gets (after_events changed_and_switched (step mv 11 ∷ [])) (advance mv back 2 1) (advanced 0 0)
+a_change_before_the_copy_is_not_written_twice = Gets (after_events changed_and_switched (step mv 11 ∷ [])) (advance mv back 0 2 1) (advanced 0 0)
 
 abbrev pub a_change_before_the_copy_is_fed : Type 0
 a_change_before_the_copy_is_fed = Gets (after_events changed_before_its_copy (begin_switch mv all_types ∷ [])) (step mv 0) done

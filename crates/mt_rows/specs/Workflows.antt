@@ -33,7 +33,7 @@ at_target table = record { keyspace = Some customer; table = table; tablet_type 
 -- two keyspaces, of which the first has two tables, and one of these a row
 abbrev pub keyspaces_and_tables : List Event
 keyspaces_and_tables =
-    add_keyspace commerce ∷ add_keyspace customer ∷ add_table commerce corder ∷ add_table commerce (codes "other")
+    add_keyspace commerce [] ∷ add_keyspace customer [] ∷ add_table commerce corder ∷ add_table commerce (codes "other")
     ∷ write commerce corder (Insert 1 (value (codes "a"))) ∷ []
 
 abbrev pub begun : Plain
@@ -54,7 +54,7 @@ abbrev pub live : Plain
 live = after_events begun (made mv ∷ [])
 
 abbrev pub copied : Plain
-copied = after_events live (advance mv forward 1 100 ∷ [])
+copied = after_events live (advance mv forward 0 1 100 ∷ [])
 
 abbrev pub opened : Plain
 opened = after_events copied (begin_switch mv all_types ∷ [])
@@ -95,7 +95,7 @@ abbrev pub live_of_two : Plain
 live_of_two = after_events begun (write commerce corder (Insert 2 (value (codes "b"))) ∷ made mv ∷ [])
 
 abbrev pub cut : Plain
-cut = next live_of_two (advance mv forward 2 100) (advanced 0 1)
+cut = next live_of_two (advance mv forward 0 2 100) (advanced 0 1)
 
 abbrev pub behind_by_two : Plain
 behind_by_two = after_events copied (write commerce corder (Insert 2 (value (codes "b"))) ∷ write commerce corder (Insert 3 (value (codes "c"))) ∷ [])
@@ -195,16 +195,16 @@ abbrev pub no_no_workflow_there_again : Type 0
 no_no_workflow_there_again = ¬ (Gets live (show mv) (refused (no_workflow)))
 
 abbrev pub stream_stopped_here : Type 0
-stream_stopped_here = Gets live (advance mv back 0 1) (refused (stream_stopped))
+stream_stopped_here = Gets live (advance mv back 0 0 1) (refused (stream_stopped))
 
 abbrev pub no_stream_stopped_there : Type 0
-no_stream_stopped_there = ¬ (Gets live (advance mv forward 0 1) (refused (stream_stopped)))
+no_stream_stopped_there = ¬ (Gets live (advance mv forward 0 0 1) (refused (stream_stopped)))
 
 abbrev pub stale_here : Type 0
-stale_here = Gets live (advance mv forward 0 1) (refused (stale 1))
+stale_here = Gets live (advance mv forward 0 0 1) (refused (stale 1))
 
 abbrev pub no_stale_there : Type 0
-no_stale_there = ¬ (Gets live (advance mv forward 1 1) (refused (stale 1)))
+no_stale_there = ¬ (Gets live (advance mv forward 0 1 1) (refused (stale 1)))
 
 abbrev pub copying_here : Type 0
 copying_here = Gets live (begin_switch mv all_types) (refused (copying))
@@ -291,10 +291,10 @@ abbrev pub no_not_all_switched_there : Type 0
 no_not_all_switched_there = ¬ (Gets switched (complete mv) (refused (not_all_switched)))
 
 abbrev pub stream_stopped_here_again : Type 0
-stream_stopped_here_again = Gets before_journal (advance mv forward 1 1) (refused (stream_stopped))
+stream_stopped_here_again = Gets before_journal (advance mv forward 0 1 1) (refused (stream_stopped))
 
 abbrev pub no_stream_stopped_there_again : Type 0
-no_stream_stopped_there_again = ¬ (Gets opened (advance mv forward 1 1) (refused (stream_stopped)))
+no_stream_stopped_there_again = ¬ (Gets opened (advance mv forward 0 1 1) (refused (stream_stopped)))
 
 abbrev pub no_watcher_here_again : Type 0
 no_watcher_here_again = Gets source_unwatched (step mv 2) (refused (no_watcher))
@@ -357,28 +357,28 @@ abbrev pub no_watcher_refuses_cancel : Type 0
 no_watcher_refuses_cancel = ¬ (Gets copied (cancel mv) (refused (watcher_refused 2)))
 
 abbrev pub a_copy_may_be_cut : Type 0
-a_copy_may_be_cut = Gets live_of_two (advance mv forward 2 100) (advanced 0 1)
+a_copy_may_be_cut = Gets live_of_two (advance mv forward 0 2 100) (advanced 0 1)
 
 abbrev pub a_copy_is_not_cut_at_its_first_row : Type 0
-a_copy_is_not_cut_at_its_first_row = ¬ (Gets live_of_two (advance mv forward 2 100) (advanced 0 0))
+a_copy_is_not_cut_at_its_first_row = ¬ (Gets live_of_two (advance mv forward 0 2 100) (advanced 0 0))
 
 abbrev pub a_copy_copies_no_more_rows_than_there_are : Type 0
-a_copy_copies_no_more_rows_than_there_are = ¬ (Gets live_of_two (advance mv forward 2 100) (advanced 0 3))
+a_copy_copies_no_more_rows_than_there_are = ¬ (Gets live_of_two (advance mv forward 0 2 100) (advanced 0 3))
 
 abbrev pub a_copy_that_was_cut_goes_on : Type 0
-a_copy_that_was_cut_goes_on = Gets cut (advance mv forward 2 100) (advanced 0 1)
+a_copy_that_was_cut_goes_on = Gets cut (advance mv forward 0 2 100) (advanced 0 1)
 
 abbrev pub a_copy_that_was_cut_has_not_ended : Type 0
 a_copy_that_was_cut_has_not_ended = Gets cut (begin_switch mv all_types) (refused copying)
 
 abbrev pub events_may_be_cut : Type 0
-events_may_be_cut = Gets behind_by_two (advance mv forward 1 100) (advanced 1 0)
+events_may_be_cut = Gets behind_by_two (advance mv forward 0 1 100) (advanced 1 0)
 
 abbrev pub events_are_not_cut_at_the_first_change : Type 0
-events_are_not_cut_at_the_first_change = ¬ (Gets behind_by_two (advance mv forward 1 100) (advanced 0 0))
+events_are_not_cut_at_the_first_change = ¬ (Gets behind_by_two (advance mv forward 0 1 100) (advanced 0 0))
 
 abbrev pub no_more_events_than_there_are : Type 0
-no_more_events_than_there_are = ¬ (Gets behind_by_two (advance mv forward 1 100) (advanced 3 0))
+no_more_events_than_there_are = ¬ (Gets behind_by_two (advance mv forward 0 1 100) (advanced 3 0))
 
 abbrev pub an_event_passed_over_is_no_place_to_cut : Type 0
-an_event_passed_over_is_no_place_to_cut = ¬ (Gets behind_by_others (advance mv forward 1 100) (advanced 1 0))
+an_event_passed_over_is_no_place_to_cut = ¬ (Gets behind_by_others (advance mv forward 0 1 100) (advanced 1 0))

@@ -27,6 +27,9 @@ mod publications;
 mod repeated_tables;
 mod served_routes;
 mod served_topologies;
+mod sharded_targets;
+mod shards_one;
+mod shards_two;
 mod sharp_scripts;
 mod undone_streams;
 mod watched;
@@ -72,6 +75,11 @@ pub use publications::publications_tell_the_views_of_their_fronts;
 pub use repeated_tables::a_table_named_twice_counts_once;
 pub use served_routes::routes_of_what_is_served_are_a_view;
 pub use served_topologies::topologies_are_served_by_what_they_say;
+pub use sharded_targets::{
+    shards_are_refused, shards_have_lanes_of_their_own, tables_move_to_shards,
+};
+pub use shards_one::{first_scripts_of_shards, second_scripts_of_shards};
+pub use shards_two::{fourth_scripts_of_shards, third_scripts_of_shards};
 pub use sharp_scripts::sharp_scripts_print_their_outputs;
 pub use undone_streams::undos_give_streams_back;
 pub use watched::watchers_may_refuse;

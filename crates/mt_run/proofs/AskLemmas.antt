@@ -1,5 +1,5 @@
 -- What a line asks for, once it is read, and once its names are.
-use Rattle.std.proofs.Common.{◌≡◌, ℕ, false, true, List, [], ◌++◌, Result, Ok, Err, refl, sym, ap, append_assoc, subst, ◌∙◌}
+use Rattle.std.proofs.Common.{◌≡◌, ℕ, Bool, false, true, List, [], ◌++◌, Result, Ok, Err, refl, sym, ap, append_assoc, subst, ◌∙◌}
 use Rattle.std.specs.Prelude.{IfOk, IfSome, unwrap_or}
 use Rattle.std.specs.Result.{result_ok}
 use Rattle.arrayvec.specs.ArrayVec.{ArrayVec}
@@ -29,7 +29,7 @@ use Rattle.mt_script.specs.declared.lines.WorkflowAsked.TheVariants as of_workfl
 use Rattle.mt_script.specs.Lines.{asked_from, line_refusal_text, op_from, refusal_from, row_from, table_read}
 use Rattle.mt_site_state.specs.Ways.{SiteStands, SiteState}
 use Rattle.mt_workflow.specs.Workflows.{stream_name}
-use Rattle.mt_run.specs.Runs.{IsNamed, RunsLine}
+use Rattle.mt_run.specs.Runs.{IsAnswered, IsNamed, RunsLine}
 use Rattle.mt_run.proofs.RunLemmas.{document_tells_made, fault_waits, line_waits, named_waits}
 
 -- ---- names, one after another
@@ -152,7 +152,7 @@ module _ (workflow source target tables : List ℕ) where
 
 -- what is asked for, once the workflow is read
 abbrev pub request_then : WorkflowAsked → (workflow : List ℕ) → Result Request NameFault
-request_then (of_workflow.Advance stream at most) w = Ok (event (plain.advance w (stream_name stream) at most))
+request_then (of_workflow.Advance stream at most) w = Ok (event (plain.advance w (stream_name stream) 0 at most))
 request_then (of_workflow.BeginSwitch types) w = read_type_set types.now >>= λ t. Ok (event (plain.begin_switch w t))
 request_then (of_workflow.BeginReverse types) w = read_type_set types.now >>= λ t. Ok (event (plain.begin_reverse w t))
 request_then (of_workflow.Step at) w = Ok (event (plain.step w at))
@@ -183,3 +183,18 @@ workflow_read name asked said workflow request is read next =
 -- and its types
 pub types_read : (make : TypeSet → Request) (text : List ℕ) (types : TypeSet) → Ok types ≡ read_type_set text → (read_type_set text >>= λ t. Ok (make t)) ≡ Ok (make types)
 types_read make text types is = then_ok (λ t. Ok (make t)) (read_type_set text) types (Ok (make types)) is refl
+
+-- ---- whole drives
+
+-- what is answered is so of equal parts. (A drive has many turns, and two statements of it are not to be compared turn by turn.)
+pub drive_alike : (scopes others : List Scope) (old start : SiteState) (name workflow : List ℕ) (types more : TypeSet) (back : Bool) (waiting before : List ℕ) (waiting' behind : List ℕ) (new end : SiteState)
+    → scopes ≡ others → old ≡ start → name ≡ workflow → types ≡ more → waiting ≡ before → waiting' ≡ behind → new ≡ end
+    → IsAnswered scopes old (drive name types back) waiting waiting' new → IsAnswered others start (drive workflow more back) before behind end
+drive_alike scopes others old start name workflow types more back waiting before waiting' behind new end s o n t w w' e answered =
+    subst (λ x. IsAnswered x start (drive workflow more back) before behind end) s
+    (subst (λ x. IsAnswered scopes x (drive workflow more back) before behind end) o
+    (subst (λ x. IsAnswered scopes old (drive x more back) before behind end) n
+    (subst (λ x. IsAnswered scopes old (drive name x back) before behind end) t
+    (subst (λ x. IsAnswered scopes old (drive name types back) x behind end) w
+    (subst (λ x. IsAnswered scopes old (drive name types back) waiting x end) w'
+    (subst (λ x. IsAnswered scopes old (drive name types back) waiting waiting' x) e answered))))))

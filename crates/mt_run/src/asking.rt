@@ -207,7 +207,7 @@ fn advance<A: Asks>(
 )
     requires room { length waiting.old.items + LONGEST_LINE ≤ ROOM }
     ensures watchers { cached.new.site.watchers ≡ cached.old.site.watchers }
-    ensures answered { (scopes : List Scope) → IsAnswered scopes cached.old.site.core (event (plain.advance workflow.now (stream_name stream) at max)) waiting.old.items waiting.new.items cached.new.site.core }
+    ensures answered { (scopes : List Scope) → IsAnswered scopes cached.old.site.core (event (plain.advance workflow.now (stream_name stream) 0 at max)) waiting.old.items waiting.new.items cached.new.site.core }
 {
     tell_advanced(&cached.site.advance(workflow, stream, at, max), waiting);
 }

@@ -1,5 +1,5 @@
 -- The first blank of a line, by a mark for each of its first sixteen bytes; and a line without one.
-use Rattle.std.proofs.Common.{◌≡◌, ℕ, ◌+◌, ◌%◌, ◌^◌, ◌<◌, ◌≤◌, Bool, true, false, not, List, [], ◌∷◌, map, length, get_or, take, replicate, position, None, Some, Fits, w8, refl, sym, ap, ap₂, ◌∙◌, subst, arith, inl, inr}
+use Rattle.std.proofs.Common.{◌≡◌, ℕ, ◌%◌, ◌^◌, ◌<◌, ◌≤◌, Bool, true, false, not, List, [], ◌∷◌, map, length, get_or, take, position, None, Some, Fits, w8, refl, sym, ap, ap₂, ◌∙◌, arith, inl, inr}
 use Rattle.std.proofs.lemmas.Bool.{agree_below, agree_below_at, cases_eq, not-true, not-false, true≢false}
 use Rattle.std.proofs.lemmas.Simd.{map-map, mask_l-mod, trailing_mask_l}
 use Rattle.std.proofs.lemmas.List.{get_or-take, length-map, length-take-le}

@@ -1,6 +1,6 @@
 -- The words of a line, taken off from the front.
-use Rattle.std.proofs.Common.{◌≡◌, ℕ, zero, suc, ◌<◌, Bool, true, false, not, leb, ◌||◌, List, [], ◌∷◌, ◌++◌, length, get_or, take, drop, filter, position, Option, None, Some, unwrap_or, refl, sym, ap, subst, ◌∙◌, append-nil, drop-cons, ⊎_elim, arith}
-use Rattle.std.proofs.lemmas.Bool.{true≢false, not-true, not-false, cases_lt, and_parts, leb-true}
+use Rattle.std.proofs.Common.{◌≡◌, ℕ, zero, suc, ◌<◌, Bool, true, false, not, ◌||◌, List, [], ◌∷◌, ◌++◌, length, get_or, take, drop, filter, position, Option, None, Some, unwrap_or, refl, sym, ap, ◌∙◌, append-nil, drop-cons, ⊎_elim, arith}
+use Rattle.std.proofs.lemmas.Bool.{true≢false, not-true, not-false, cases_lt, and_parts}
 use Rattle.std.proofs.lemmas.Grind.{common_steps}
 use Rattle.std.proofs.lemmas.List.{take-append-drop, get_or-take, length-take-le}
 use Rattle.std.proofs.Math.Seq.{take-length}
@@ -8,11 +8,8 @@ use Rattle.std.proofs.Math.Seq.{drop-length}
 use Rattle.std.proofs.lemmas.List.Elements.{recursion_from_All, All-from_recursion}
 use Rattle.std.proofs.lemmas.List.Quantifiers.{position-Some}
 use Rattle.std.proofs.lemmas.List.Splits.{slice_split_none, slice_split_at}
-use Rattle.std.proofs.lemmas.List.Sums.{AllPass-from_list_all, fails_before_first}
-use Rattle.std.proofs.lemmas.Str.{IsUtf8-from_ascii}
-use Rattle.std.proofs.lemmas.Str.Ascii.{IsAscii-from_all}
-use Rattle.std.specs.Str.{IsUtf8}
-use Rattle.std.specs.List.{AllByRecursion, list_all, position_or_len}
+use Rattle.std.proofs.lemmas.List.Sums.{fails_before_first}
+use Rattle.std.specs.List.{AllByRecursion, position_or_len}
 use Rattle.mt_plain.specs.Script.{is_blank, is_readable, is_visible, is_word, words_of}
 
 -- every byte is blank, and none is

@@ -1,5 +1,6 @@
 -- A turn that is taken, and a drive that is on its way.
-use Rattle.std.proofs.Common.{◌≡◌, ℕ, suc, Bool, List, Option, Result, Ok, Err, refl, sym, ap, subst, ◌∙◌}
+use Rattle.std.proofs.Common.{◌≡◌, ℕ, suc, Bool, false, nat_lt, List, Option, None, Some, Result, Ok, Err, refl, sym, ap, subst, ◌∙◌}
+use Rattle.std.specs.Option.{option_map_or}
 use Rattle.mt_event.specs.declared.reason.Reason.{Reason}
 use Rattle.mt_event.specs.declared.refusal.Refusal.{Refusal}
 use Rattle.mt_event.specs.Events.{refusal_from}
@@ -7,12 +8,16 @@ use Rattle.mt_event.specs.Reasons.{reason_from}
 use Rattle.mt_laws.specs.Turns.{Fits, FitsHeard}
 use Rattle.mt_model.specs.declared.entries.Scope.{Scope}
 use Rattle.mt_names.specs.declared.types.TypeSet.{TypeSet}
+use Rattle.mt_names.specs.Shards.{shard_count}
 use Rattle.mt_plain.specs.Answers.{Answers}
-use Rattle.mt_plain.specs.Drive.{Drives, Driving, GoesOn, Heard, abandoned, begins, ends, event_of, feeding_stream, feeds, gives_up, goes_on, heard, most_at_once, most_turns, position_of, unless_closed, way_of}
+use Rattle.mt_plain.specs.Drive.{Drives, Driving, GoesOn, Heard, abandoned, begins, ends, event_of, feeding_stream, feeds, gives_up, goes_on, heard, lanes_of, most_at_once, most_turns, position_of, unless_closed, way_of}
 use Rattle.mt_plain.specs.Events.{Answer, Event, StreamName, Way, advance}
 use Rattle.mt_plain.specs.Next.{next}
-use Rattle.mt_plain.specs.Plain.{Plain}
+use Rattle.mt_plain.specs.Plain.{Live, Plain, live_at}
+use Rattle.mt_site_state.specs.Core.{workflow_at}
+use Rattle.mt_site_state.specs.Stands.{StandsForAny}
 use Rattle.mt_site_state.specs.Ways.{SiteStands, SiteState, SiteSteps}
+use Rattle.mt_workflow.specs.Workflows.{WorkflowState}
 use Rattle.mt_event.specs.declared.driven.Driven.{Driven}
 use Rattle.mt_event.specs.Drives.{driven_from, ended_from}
 use Rattle.mt_site.specs.Drives.{EndsFrom, IsOnItsWay, Turns}
@@ -32,9 +37,18 @@ turn_taken scopes old new driving said event answer does due follows = λ p stan
 
 -- the advance that is due
 pub advance_due : (p : Plain) (workflow : List ℕ) (tries : ℕ) (name : StreamName) (at : ℕ) → name ≡ feeding_stream p workflow
-    → at ≡ position_of p workflow (feeding_stream p workflow) → advance workflow name at most_at_once ≡ event_of p (feeds workflow tries)
+    → at ≡ position_of p workflow (feeding_stream p workflow) 0 → advance workflow name 0 at most_at_once ≡ event_of p (feeds workflow 0 tries)
 advance_due p workflow tries name at same there =
-    ap (λ n. advance workflow n at most_at_once) same ∙ ap (λ n. advance workflow (feeding_stream p workflow) n most_at_once) there
+    ap (λ n. advance workflow n 0 at most_at_once) same ∙ ap (λ n. advance workflow (feeding_stream p workflow) 0 n most_at_once) there
+
+-- a workflow has one lane, and so no other stream is due
+pub no_more_lanes : (q : Plain) (scopes : List Scope) (s : SiteState) (name : List ℕ) → SiteStands q scopes s → nat_lt 1 (lanes_of q name) ≡ false
+no_more_lanes q scopes s name stands = by (live_at q name) (workflow_at s.core.workflows name) (stands.core.workflows.each name)
+  where
+    by : (o : Option Live) (found : Option WorkflowState) → StandsForAny q o found → nat_lt 1 (option_map_or (λ w. shard_count w.cuts) o 0) ≡ false
+    by None found is = refl
+    by (Some live) None is = absurd is
+    by (Some live) (Some w) is = ap (λ cuts. nat_lt 1 (shard_count cuts)) is.sides.cuts
 
 -- what follows from any answer to an undo
 pub undone : (q : Plain) (workflow : List ℕ) (why : Reason) (way : Option Way) (answer : Answer) (said : Heard) → way ≡ way_of q workflow

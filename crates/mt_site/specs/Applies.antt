@@ -1,5 +1,5 @@
 -- What an event does to the controller (this profile's own).
-use Rattle.std.specs.Prelude.{◌≡◌, ℕ, List}
+use Rattle.std.specs.Prelude.{◌≡◌, ℕ, zero, suc, List, [], ◌∷◌}
 use Rattle.mt_model.specs.declared.rows.Op.{Op}
 use Rattle.mt_model.specs.declared.entries.Scope.{Scope}
 use Rattle.mt_watch.specs.Asking.{Answering}
@@ -15,17 +15,19 @@ use Rattle.mt_site_state.specs.Workflows.{AdvancesWorkflow, Cancels, Creates, Sh
 abbrev pub LeavesWays : (old new : SiteState) → Type 0
 LeavesWays old new = new.ways ≡ old.ways
 
--- each event does what it does
+-- each event does what it does; none brings bounds between shards, or asks of another shard than the first
 abbrev pub Applies : List Scope → Answering → SiteState → Event → Answer → SiteState → Type 0
 Applies scopes may_answer old (write keyspace table op) answer new = WritesRow old.core keyspace table op answer new.core × LeavesWays old new
 Applies scopes may_answer old (read keyspace table key tablet_type) answer new = ReadsRow old.core keyspace table key tablet_type answer new.core × LeavesWays old new
-Applies scopes may_answer old (add_keyspace keyspace) answer new = AddsKeyspace old.core keyspace answer new.core × LeavesWays old new
+Applies scopes may_answer old (add_keyspace keyspace []) answer new = AddsKeyspace old.core keyspace answer new.core × LeavesWays old new
+Applies scopes may_answer old (add_keyspace keyspace (cut ∷ cuts)) answer new = ⊥
 Applies scopes may_answer old (add_table keyspace table) answer new = AddsTable old.core keyspace table answer new.core × LeavesWays old new
 Applies scopes may_answer old (edit_rule key target) answer new = EditsRule old.core key target answer new.core × LeavesWays old new
 Applies scopes may_answer old (create workflow source target tables) answer new =
     Creates old.core scopes may_answer workflow source target tables answer new.core × LeavesWays old new
-Applies scopes may_answer old (advance workflow name at at_most) answer new =
+Applies scopes may_answer old (advance workflow name zero at at_most) answer new =
     AdvancesWorkflow old.core workflow name at at_most answer new.core × LeavesWays old new
+Applies scopes may_answer old (advance workflow name (suc shard) at at_most) answer new = ⊥
 Applies scopes may_answer old (begin_switch workflow types) answer new = BeginsSwitch old workflow types answer new
 Applies scopes may_answer old (begin_reverse workflow types) answer new = BeginsReverse old workflow types answer new
 Applies scopes may_answer old (step workflow at) answer new = StepsWorkflow old scopes may_answer workflow at answer new

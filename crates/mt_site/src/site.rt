@@ -118,9 +118,9 @@ impl<W: Asks> Site<W> {
         ensures watchers { self.new.watchers ≡ self.old.watchers }
         ensures does { AdvancesAndPurges self.old.core.core workflow.now (stream_name stream) at max (advanced_from result) self.new.core.core }
         ensures ways { self.new.core.ways ≡ self.old.core.ways }
-        ensures steps { (scopes : List Scope) → SiteSteps scopes self.old.core (plain.advance workflow.now (stream_name stream) at max) (advanced_from result) self.new.core }
+        ensures steps { (scopes : List Scope) → SiteSteps scopes self.old.core (plain.advance workflow.now (stream_name stream) 0 at max) (advanced_from result) self.new.core }
         ensures unchanged { OnErr result (self.new.core ≡ self.old.core) }
-        ensures headline { (scopes : List Scope) → KeepsTheHeadline scopes self.old.core (plain.advance workflow.now (stream_name stream) at max ∷ []) (advanced_from result ∷ []) self.new.core }
+        ensures headline { (scopes : List Scope) → KeepsTheHeadline scopes self.old.core (plain.advance workflow.now (stream_name stream) 0 at max ∷ []) (advanced_from result ∷ []) self.new.core }
         ensures stood { (scopes : List Scope) → IsSiteWith scopes self.old.core → IsSiteWith scopes self.new.core }
         ensures purged { IsPurged self.old.core.core → IsPurged self.new.core.core }
     {

@@ -86,7 +86,7 @@ fn steps_done(way: Option<Way>) -> u64
 fn feeding(core: &Core, workflow: &WorkflowName) -> (Slot, Position)
     ensures stream { (p : Plain) (scopes : List Scope) → SiteStands p scopes core.now → stream_name result.0 ≡ plain.feeding_stream p workflow.now }
     ensures position { (p : Plain) (scopes : List Scope) → SiteStands p scopes core.now
-        → result.1 ≡ plain.position_of p workflow.now (plain.feeding_stream p workflow.now) }
+        → result.1 ≡ plain.position_of p workflow.now (plain.feeding_stream p workflow.now) 0 }
 {
     let Some(found) = core.workflow(workflow) else {
         return (Slot::Forward, 0);
@@ -152,7 +152,7 @@ fn step<W: Asks>(core: &mut Core, watchers: &W, workflow: &WorkflowName, tries: 
 
 /// Advances the feeding stream, before the step is tried again.
 fn feed(core: &mut Core, workflow: &WorkflowName, tries: u8) -> Heard
-    ensures { (scopes : List Scope) → Turns scopes core.old (plain.feeds workflow.now tries) (heard_from workflow.now result) core.new }
+    ensures { (scopes : List Scope) → Turns scopes core.old (plain.feeds workflow.now 0 tries) (heard_from workflow.now result) core.new }
 {
     let (stream, at) = feeding(core, workflow);
     match core.advance(workflow, stream, at, MOST_AT_ONCE) {

@@ -27,11 +27,13 @@ use Rattle.mt_plain.specs.Refuse.{cancel_refusal, in_workflow, or_else, refuse_i
 use Rattle.mt_plain.specs.Serve as plain
 use Rattle.mt_primary.specs.Primary.{IsPrimary, PrimaryState, has_table, is_denied_at}
 use Rattle.mt_primary.specs.Writes.{without_table}
-use Rattle.mt_site_rows.specs.Rows.{OtherTablesStay, OthersStay, Primaries, RowsStand}
+use Rattle.mt_site_rows.specs.Rows.{OtherTablesStay, OtherKeyspacesStay, Primaries, RowsStand}
 use Rattle.mt_site_topology.specs.Keys.{IsKept, kept_entries, keys_of_part, rules_only}
 use Rattle.mt_site_topology.specs.Stands.{TopologyStands}
-use Rattle.mt_site_state.specs.Core.{CoreState, Does, primary_at, primary_of, workflow_at}
+use Rattle.mt_site_state.specs.Core.{CoreState, Does, primaries_of, primary_at, primary_of, workflow_at}
 use Rattle.mt_site_state.specs.Stands.{AreWorkflows, StandsFor, StandsForAny, StandsWith}
+use Rattle.mt_site_state.proofs.ShardLemmas.{StayBut, keyspaces_stay}
+use Rattle.mt_site_state.proofs.ShardLemmas as shards
 use Rattle.mt_site_state.specs.Workflows.{Cancels, CancelsAt, cancelled}
 use Rattle.mt_workflow.specs.Workflows.{WorkflowState, live_of}
 use Rattle.mt_site_events.proofs.MoveCoreLemmas.{live_found, no_live, primaries-set, primary-elsewhere, primary-here, same_or, stands-elsewhere}
@@ -92,7 +94,7 @@ module _ (p : Plain) (scopes : List Scope) (old : CoreState) (stands : StandsWit
   target_now : primary_of made.primaries live.target ≡ after
   target_now = primary-here old.primaries live.target target_there.0 after target_there.1
 
-  others_stay : OthersStay live.target (primary_of old.primaries) (primary_of made.primaries)
+  others_stay : StayBut live.target old.primaries made.primaries
   others_stay = primary-elsewhere old.primaries live.target target_there.0 after target_there.1
 
   tables_stay : OtherTablesStay live.tables before (primary_of made.primaries live.target)
@@ -123,25 +125,25 @@ module _ (p : Plain) (scopes : List Scope) (old : CoreState) (stands : StandsWit
           ap (λ s. has_table s t) (others_stay k other) ∙ stands.primaries.tables k t
           ∙ sym (table_stays p apart workflow live (live_in p workflow live is_live) named k t (ap (λ b. moves live t && b) (text_differs live.target k other) ∙ fails (moves live t)))
 
-  denials_now : (k t : List ℕ) → is_denied_at (primary_of made.primaries k) t ≡ plain.refuses q k t
+  denials_now : (k t : List ℕ) → is_denied_at (primary_of made.primaries k) t ≡ plain.refuses q k 0 t
   denials_now k t = ⊎_elim at_target elsewhere (same_or live.target k)
     where
-      by : (b : Bool) → moves live t ≡ b → (not b && is_denied_at before t) ≡ plain.refuses q live.target t
+      by : (b : Bool) → moves live t ≡ b → (not b && is_denied_at before t) ≡ plain.refuses q live.target 0 t
       by true moved = sym (allowed_gone p apart workflow live (live_in p workflow live is_live) named live.target t moved)
       by false other = stands.primaries.denials live.target t ∙ sym (refused_stays p apart workflow live (live_in p workflow live is_live) named live.target t other)
 
-      at_target : live.target ≡ k → is_denied_at (primary_of made.primaries k) t ≡ plain.refuses q k t
+      at_target : live.target ≡ k → is_denied_at (primary_of made.primaries k) t ≡ plain.refuses q k 0 t
       at_target e =
-          subst (λ x. is_denied_at (primary_of made.primaries x) t ≡ plain.refuses q x t) e
+          subst (λ x. is_denied_at (primary_of made.primaries x) t ≡ plain.refuses q x 0 t) e
           (ap (λ s. is_denied_at s t) target_now ∙ gone_denied before live.tables (are live.target) t ∙ by (moves live t) refl)
 
-      same : live.target ≢ k → (b : Bool) → moves live t ≡ b → plain.refuses p k t ≡ plain.refuses q k t
+      same : live.target ≢ k → (b : Bool) → moves live t ≡ b → plain.refuses p k 0 t ≡ plain.refuses q k 0 t
       same other true moved =
-          ap (λ o. option_map_or (λ v. plain.refuses_by v k) o false) (mover_is t moved) ∙ allowed_before live none k other
+          ap (λ o. option_map_or (λ v. plain.refuses_by v k 0) o false) (mover_is t moved) ∙ allowed_before live none k other
           ∙ sym (allowed_gone p apart workflow live (live_in p workflow live is_live) named k t moved)
       same other false not_moved = sym (refused_stays p apart workflow live (live_in p workflow live is_live) named k t not_moved)
 
-      elsewhere : live.target ≢ k → is_denied_at (primary_of made.primaries k) t ≡ plain.refuses q k t
+      elsewhere : live.target ≢ k → is_denied_at (primary_of made.primaries k) t ≡ plain.refuses q k 0 t
       elsewhere other = ap (λ s. is_denied_at s t) (others_stay k other) ∙ stands.primaries.denials k t ∙ same other (moves live t) refl
 
   -- ---- the workflows
@@ -168,13 +170,14 @@ module _ (p : Plain) (scopes : List Scope) (old : CoreState) (stands : StandsWit
     }
 
     pub cancelled_stands : IsReached q → TopologyStands q made.topology
-        → (OthersStay live.target (primary_of old.primaries) (primary_of made.primaries) → OtherTablesStay live.tables before (primary_of made.primaries live.target) → RowsStand q (primary_of made.primaries))
+        → (OtherKeyspacesStay live.target (primaries_of old.primaries) (primaries_of made.primaries)
+        → ((n : ℕ) → OtherTablesStay live.tables (primaries_of old.primaries live.target n) (primaries_of made.primaries live.target n)) → RowsStand q (primaries_of made.primaries))
         → StandsWith q scopes made
     cancelled_stands reached_q topology_q rows_q = record {
       reached = reached_q;
       scopes_are = stands.scopes_are;
       topology = topology_q;
-      rows = rows_q others_stay tables_stay;
+      rows = rows_q (keyspaces_stay live.target old.primaries made.primaries others_stay) (shards.tables_stay live.target old.primaries made.primaries live.tables tables_stay);
       primaries = primaries-set p q refl old.primaries stands.primaries live.target after tables_now denials_now;
       workflows = workflows_now;
     }
@@ -188,7 +191,7 @@ module _ (p : Plain) (reached : IsReached p)
     (placed : (name : List ℕ) (w : Live) → live_at p name ≡ Some w → IsInPlace p.topology w)
     (elsewhere : (event : Event) (answer : Answer) (name : List ℕ) → ¬ (IsOf name event) → live_at (next p event answer) name ≡ live_at p name)
     (rows : (old new : Primaries) → RowsStand p old → (name : List ℕ) (w : Live) → live_at p name ≡ Some w
-    → Answers p (cancel name) done → OthersStay w.target old new → OtherTablesStay w.tables (old w.target) (new w.target)
+    → Answers p (cancel name) done → OtherKeyspacesStay w.target old new → ((n : ℕ) → OtherTablesStay w.tables (old w.target n) (new w.target n))
     → RowsStand (next p (cancel name) done) new)
     (dropped : (old : PrimaryState) (tables : List (List ℕ)) → OtherTablesStay tables old (fold without_table old tables))
     (gone : (old : PrimaryState) (tables : List (List ℕ)) → IsPrimary old → (table : List ℕ)
@@ -221,7 +224,7 @@ module _ (p : Plain) (reached : IsReached p)
                 (cancelled_stands p scopes old stands are workflow w found live is_live for is_named at_rest in_place (movers workflow live is_live) dropped gone gone_denied
                 (λ n other. elsewhere (cancel workflow) done n other)
                 (reaches (cancel workflow) done given) (topology old.topology workflow live w.kept is_live for.kept given stands.topology)
-                (λ others tables. rows (primary_of old.primaries) _ stands.rows workflow live is_live given others tables)),
+                (λ others tables. rows (primaries_of old.primaries) _ stands.rows workflow live is_live given others tables)),
           )
 
       by_answer : (answer : Answer) → Does old (cancel_refusal (live_of w)) false (cancelled old w) answer new → Stepped answer

@@ -2,29 +2,32 @@
 use Rattle.std.proofs.Common.{◌≡◌, List, [], ◌∷◌, ◌++◌, Option, None, Some, refl, sym, ap, subst, ◌∙◌}
 use Rattle.std.specs.List.{AllByRecursion}
 use Rattle.mt_model.specs.declared.entries.Scope.{Scope}
+use Rattle.mt_model.specs.declared.rows.RowChange.{RowChange}
 use Rattle.mt_model.specs.Topology.{empty_topology}
 use Rattle.mt_plain.specs.Answers.{Answers, Run, after}
 use Rattle.mt_plain.specs.Events.{Event, Answer}
 use Rattle.mt_plain.specs.Next.{next}
-use Rattle.mt_plain.specs.Plain.{Live, Plain, live_at, opening, owner}
+use Rattle.mt_plain.specs.Plain.{Lane, Live, Plain, live_at, opening, owner}
 use Rattle.mt_laws.specs.Texts.{BringsNames}
 use Rattle.mt_laws.specs.WayBack.{IsReached}
-use Rattle.mt_site_rows.specs.Rows.{IsPending, RowsStand, no_primaries}
+use Rattle.mt_site_rows.specs.Rows.{IsPending, RowsStand, no_primaries, owner_shard}
+use Rattle.mt_site_rows.proofs.KnownLemmas.{same_primaries}
 use Rattle.mt_site_topology.specs.Stands.{TopologyStands}
 use Rattle.mt_workflow.specs.Workflows.{WorkflowState}
-use Rattle.mt_site_state.specs.Core.{CoreState, empty_core, primary_of, workflow_at}
+use Rattle.mt_site_state.specs.Core.{CoreState, empty_core, primaries_of, workflow_at}
 use Rattle.mt_site_state.specs.Stands.{HasState, Stands, StandsForAny, StandsWith, Steps}
+use Rattle.mt_site_state.proofs.ShardLemmas.{none_there}
 use Rattle.mt_site_events.proofs.WiderLemmas.{IsWide, row_same, wider, widened}
 
 module _ (more : List Scope) (p : Plain) where
-  pending_wide : (w : Live) (core : CoreState) → IsPending p w (primary_of core.primaries (owner w)).log.entries → IsPending (wider more p) w (primary_of core.primaries (owner w)).log.entries
-  pending_wide w core pending = record { before = pending.before; left = pending.left; entries = pending.entries; writes = pending.writes; rows = pending.rows }
+  pending_wide : (w : Live) (lane : Lane) (log : List RowChange) → IsPending p w lane log → IsPending (wider more p) w lane log
+  pending_wide w lane log pending = record { before = pending.before; left = pending.left; entries = pending.entries; writes = pending.writes; rows = pending.rows }
 
   any_wide : (o : Option Live) (v : Option WorkflowState) → StandsForAny p o v → StandsForAny (wider more p) o v
   any_wide None None stands = stands
   any_wide None (Some w) stands = stands
   any_wide (Some live) None stands = stands
-  any_wide (Some live) (Some w) stands = record { sides = stands.sides; switched = stands.switched; way = stands.way; kept = stands.kept; forward = stands.forward; back = stands.back }
+  any_wide (Some live) (Some w) stands = record { sides = stands.sides; switched = stands.switched; way = stands.way; kept = stands.kept; lane = stands.lane; alone = stands.alone; shard = stands.shard; forward = stands.forward; back = stands.back }
 
   pub stands_wide : (core : CoreState) → IsReached (wider more p) → Stands p core → Stands (wider more p) core
   stands_wide core reached stands = record {
@@ -37,10 +40,11 @@ module _ (more : List Scope) (p : Plain) where
     rows = record {
       log = stands.rows.log;
       rows = λ keyspace table there key. stands.rows.rows keyspace table there key ∙ sym (row_same more p keyspace table key);
-      pending = λ name w live. pending_wide w core (stands.rows.pending name w live);
+      apart = stands.rows.apart;
+      pending = λ name w live shard lane laned. pending_wide w lane (primaries_of core.primaries (owner w) (owner_shard w lane)).log.entries (stands.rows.pending name w live shard lane laned);
       unread = stands.rows.unread;
     };
-    primaries = record { there = stands.primaries.there; count = stands.primaries.count; tables = stands.primaries.tables; denials = stands.primaries.denials };
+    primaries = record { there = stands.primaries.there; count = stands.primaries.count; unsharded = stands.primaries.unsharded; tables = stands.primaries.tables; denials = stands.primaries.denials };
     workflows = record { each = λ name. any_wide (live_at p name) (workflow_at core.workflows name) (stands.workflows.each name); names = stands.workflows.names };
   }
 
@@ -124,8 +128,8 @@ opening_state topology rows = record {
     reached = reached;
     scopes_are = refl;
     topology = topology;
-    rows = rows;
-    primaries = record { there = λ keyspace. refl; count = refl; tables = λ keyspace table. refl; denials = λ keyspace table. refl };
+    rows = same_primaries (opening []) no_primaries (primaries_of []) rows none_there;
+    primaries = record { there = λ keyspace. refl; count = refl; unsharded = λ keyspace. refl; tables = λ keyspace table. refl; denials = λ keyspace table. refl };
     workflows = record { each = λ name. tt; names = refl };
   };
 }

@@ -14,7 +14,7 @@ use Rattle.mt_model.specs.declared.entries.EntryKey.TheVariants as about
 use Rattle.mt_model.specs.declared.entries.Scope.{Scope}
 use Rattle.mt_model.specs.declared.faults.TopologyFault.TheVariants as fault
 use Rattle.mt_model.specs.Limits.{most_tables_in_keyspace}
-use Rattle.mt_model.specs.Topology.{KeyspaceState, TopologyState, has_place, is_marked, is_present, keyspace_at, value_of, with_keyspace_state, with_table}
+use Rattle.mt_model.specs.Topology.{KeyspaceState, TopologyState, cuts_at, has_place, is_marked, is_present, keyspace_at, value_of, with_keyspace_state, with_table}
 use Rattle.mt_model.specs.Topology as model
 use Rattle.mt_primary.specs.Primary.{PrimaryState, has_table, is_denied_at, row_at}
 use Rattle.mt_primary.specs.Writes.{with_new_table}
@@ -28,11 +28,14 @@ use Rattle.mt_plain.specs.Serve.{mark_in, served_by, served_entry}
 use Rattle.mt_plain.specs.Serve as plain
 use Rattle.mt_laws.specs.Places.{IsWithinLimits}
 use Rattle.mt_laws.specs.WayBack.{IsReached}
+use Rattle.mt_laws.proofs.CutLemmas.{cuts_changed}
 use Rattle.mt_site_topology.specs.Stands.{TopologyStands}
 use Rattle.mt_site_rows.specs.Rows as rows
 use Rattle.mt_site_state.specs.ByHand.{AddsTable}
-use Rattle.mt_site_state.specs.Core.{CoreState, Primaries, primary_at, primary_of, with_primary}
+use Rattle.mt_site_state.specs.Core.{CoreState, Primaries, primaries_of, primary_at, primary_of, with_primary}
 use Rattle.mt_site_state.specs.Stands.{ArePrimaries, StandsWith, Steps}
+use Rattle.mt_site_state.proofs.ShardLemmas.{no_row, tables_stay}
+use Rattle.mt_site_state.proofs.ShardLemmas as shards
 use Rattle.mt_site_events.proofs.HandCoreLemmas.{changed_keeps, primary_of-found, primary_of-set_elsewhere, primary_of-set_here}
 use Rattle.mt_site_events.proofs.KeptLemmas.{Laws, core_stands, does_steps}
 use Rattle.mt_site_events.proofs.OwnedLemmas.{any_found}
@@ -48,8 +51,8 @@ pub record TableLaws : Type 0 where
   pub made : (t : TopologyState) (keyspace table : List ℕ) → is_some (keyspace_at t.keyspaces keyspace) ≡ true → value_of (with_table t keyspace table) (about.Present keyspace table) ≡ entry.Present keyspace table true
   pub no_other : (t : TopologyState) (keyspace table k n : List ℕ) → about.Present keyspace table ≢ about.Present k n → value_of (with_table t keyspace table) (about.Present k n) ≡ value_of t (about.Present k n)
   pub topology : (p : Plain) (t : TopologyState) (keyspace table : List ℕ) → Answers p (add_table keyspace table) done → TopologyStands p t → TopologyStands (next p (add_table keyspace table) done) (with_table t keyspace table)
-  pub keeps : (p : Plain) → IsReached p → (old new : rows.Primaries) → rows.RowsStand p old → (keyspace table : List ℕ) → Answers p (add_table keyspace table) done → rows.OthersStay keyspace old new
-      → rows.OtherTablesStay (table ∷ []) (old keyspace) (new keyspace) → ((key : ℕ) → row_at (new keyspace) table key ≡ None) → rows.RowsStand (next p (add_table keyspace table) done) new
+  pub keeps : (p : Plain) → IsReached p → (old new : rows.Primaries) → rows.RowsStand p old → (keyspace table : List ℕ) → Answers p (add_table keyspace table) done → rows.OtherKeyspacesStay keyspace old new
+      → ((n : ℕ) → rows.OtherTablesStay (table ∷ []) (old keyspace n) (new keyspace n)) → ((n key : ℕ) → row_at (new keyspace n) table key ≡ None) → rows.RowsStand (next p (add_table keyspace table) done) new
   pub stays : (old : PrimaryState) (tables : List (List ℕ)) → rows.OtherTablesStay tables old (fold with_new_table old tables)
   pub empty : (old : PrimaryState) (tables : List (List ℕ)) → ((table : List ℕ) → among tables table ≡ true → has_table old table ≡ false)
       → (table : List ℕ) → among tables table ≡ true → (key : ℕ) → row_at (fold with_new_table old tables) table key ≡ None
@@ -94,6 +97,9 @@ module _ (t : TopologyState) (keyspace table : List ℕ) where
           → is_some (keyspace_at (option_map_or (λ state. set_value (same_text keyspace) t.keyspaces (model.with_new_table table state)) o t.keyspaces) k) ≡ is_some (keyspace_at t.keyspaces k)
       by None = refl
       by (Some state) = is_some-set_value same_text t.keyspaces keyspace k (model.with_new_table table state)
+
+  cuts_stay : (k : List ℕ) → cuts_at (with_table t keyspace table).keyspaces k ≡ cuts_at t.keyspaces k
+  cuts_stay k = cuts_changed (model.with_new_table table) (λ state. refl) t.keyspaces keyspace k
 
   count_stays : length (with_table t keyspace table).keyspaces ≡ length t.keyspaces
   count_stays = by (keyspace_at t.keyspaces keyspace)
@@ -171,12 +177,13 @@ module _ (laws : Laws) (law : TableLaws) (p : Plain) (scopes : List Scope) (old 
             subst (λ n. has_table before n ≡ false) at (stands.primaries.tables keyspace table ∙ is_new)
         by false same e = absurd (true≢false (sym e))
 
-    table_rows : rows.RowsStand (next p (add_table keyspace table) done) (primary_of more)
+    table_rows : rows.RowsStand (next p (add_table keyspace table) done) (primaries_of more)
     table_rows =
-        law.keeps p stands.reached (primary_of old.primaries) (primary_of more) stands.rows keyspace table given (others_stay old.primaries keyspace (with_new_table before table))
-        (subst (rows.OtherTablesStay (table ∷ []) before) (sym now) (law.stays before (table ∷ [])))
-        (λ key. ap (λ s. row_at s table key) now
-        ∙ law.empty before (table ∷ []) absent table (ap (λ b. b || false) (same_itself same_text same_text_decides table)) key)
+        law.keeps p stands.reached (primaries_of old.primaries) (primaries_of more) stands.rows keyspace table given
+        (shards.keyspaces_stay keyspace old.primaries more (others_stay old.primaries keyspace (with_new_table before table)))
+        (tables_stay keyspace old.primaries more (table ∷ []) (subst (rows.OtherTablesStay (table ∷ []) before) (sym now) (law.stays before (table ∷ []))))
+        (no_row keyspace old.primaries more table (λ key. ap (λ s. row_at s table key) now
+        ∙ law.empty before (table ∷ []) absent table (ap (λ b. b || false) (same_itself same_text same_text_decides table)) key))
 
     -- the new state says the same of every other table
     present_next : (k n : List ℕ) → (keyspace ≡ k → table ≢ n) → is_present (with_table p.topology keyspace table).keyspaces k n ≡ is_present p.topology.keyspaces k n
@@ -215,6 +222,7 @@ module _ (laws : Laws) (law : TableLaws) (p : Plain) (scopes : List Scope) (old 
     table_primaries = record {
       there = λ k. is_some-set_value same_text old.primaries keyspace k (with_new_table before table) ∙ stands.primaries.there k ∙ sym (keyspaces_stay p.topology keyspace table k);
       count = length-set_value (same_text keyspace) old.primaries (with_new_table before table) ∙ stands.primaries.count ∙ sym (count_stays p.topology keyspace table);
+      unsharded = λ k. cuts_stay p.topology keyspace table k ∙ stands.primaries.unsharded k;
       tables = λ k n. ⊎_elim (λ e. subst (λ x. has_table (primary_of more x) n ≡ plain.has_table (next p (add_table keyspace table) done) x n) e (tables_here n)) (tables_elsewhere k n)
           (same_or_other same_text same_text_decides keyspace k);
       denials = λ k n. changed_keeps old.primaries more keyspace before (with_new_table before table) found refl (λ s. is_denied_at s n) (law.allowed before (table ∷ []) n) k

@@ -16,9 +16,10 @@ use Rattle.mt_plain.specs.Plain.{Live, Plain, among, mover, moves}
 use Rattle.mt_plain.specs.Serve.{has_table, refuses, refuses_by}
 use Rattle.mt_plain.specs.Next.{with_created}
 use Rattle.mt_site_topology.specs.Keys.{created_live}
-use Rattle.mt_site_rows.specs.Rows.{OtherTablesStay, OthersStay}
+use Rattle.mt_site_rows.specs.Rows.{OtherTablesStay}
 use Rattle.mt_site_state.specs.Core.{Primaries, primary_at, primary_of, with_primary}
 use Rattle.mt_site_state.specs.Stands.{ArePrimaries}
+use Rattle.mt_site_state.proofs.ShardLemmas.{StayBut}
 use Rattle.mt_site_events.proofs.ListLemmas.{at_named}
 use Rattle.mt_site_events.proofs.RoomLemmas.{CanMove}
 
@@ -30,7 +31,7 @@ module _ (old : Primaries) (keyspace : List ℕ) (change : PrimaryState → Prim
       let (state, found) = some_from (primary_at old keyspace) there in
       ap (λ (o : Option PrimaryState). unwrap_or o empty_primary) (lookup-set_value_here same_text same_text_decides old keyspace (change (primary_of old keyspace)) state found)
 
-  pub changed_elsewhere : OthersStay keyspace (primary_of old) (primary_of (with_primary old keyspace change))
+  pub changed_elsewhere : StayBut keyspace old (with_primary old keyspace change)
   changed_elsewhere other apart =
       ap (λ (o : Option PrimaryState). unwrap_or o empty_primary) (lookup-set_value_elsewhere same_text same_text_decides old keyspace other (change (primary_of old keyspace)) apart)
 
@@ -70,9 +71,9 @@ module _ (p : Plain) (workflow source target : List ℕ) (tables : List (List �
   mover_now : (table : List ℕ) → mover q table ≡ option_or (mover p table) (cond (among tables table) (Some v) None)
   mover_now table = find-append (λ (w : Live). moves w table) p.lives (v ∷ [])
 
-  refuses_free : (keyspace table : List ℕ) → among tables table ≡ false → refuses q keyspace table ≡ refuses p keyspace table
+  refuses_free : (keyspace table : List ℕ) → among tables table ≡ false → refuses q keyspace 0 table ≡ refuses p keyspace 0 table
   refuses_free keyspace table other =
-      ap (λ (o : Option Live). option_map_or (λ w. refuses_by w keyspace) o false)
+      ap (λ (o : Option Live). option_map_or (λ w. refuses_by w keyspace 0) o false)
       (mover_now table ∙ ap (λ b. option_or (mover p table) (cond b (Some v) None)) other ∙ by (mover p table))
     where
       by : (o : Option Live) → option_or o None ≡ o
@@ -80,25 +81,25 @@ module _ (p : Plain) (workflow source target : List ℕ) (tables : List (List �
       by (Some w) = refl
 
   module _ (sides : source ≢ target) where
-    refused_at : (keyspace : List ℕ) → refuses_by v keyspace ≡ same_text target keyspace
+    refused_at : (keyspace : List ℕ) → refuses_by v keyspace 0 ≡ same_text target keyspace
     refused_at keyspace = by (same_text source keyspace) refl (same_text target keyspace) refl
       where
-        by : (a : Bool) → same_text source keyspace ≡ a → (b : Bool) → same_text target keyspace ≡ b → refuses_by v keyspace ≡ same_text target keyspace
+        by : (a : Bool) → same_text source keyspace ≡ a → (b : Bool) → same_text target keyspace ≡ b → refuses_by v keyspace 0 ≡ same_text target keyspace
         by true a true b = absurd (sides ((same_text_decides source keyspace).0 a ∙ sym ((same_text_decides target keyspace).0 b)))
         by true a false b = rw (a, b) refl
         by false a true b = rw (a, b) refl
         by false a false b = rw (a, b) refl
 
-    refuses_moved : (keyspace table : List ℕ) → among tables table ≡ true → mover p table ≡ None → refuses q keyspace table ≡ same_text target keyspace
+    refuses_moved : (keyspace table : List ℕ) → among tables table ≡ true → mover p table ≡ None → refuses q keyspace 0 table ≡ same_text target keyspace
     refuses_moved keyspace table m free =
-        ap (λ (o : Option Live). option_map_or (λ w. refuses_by w keyspace) o false)
+        ap (λ (o : Option Live). option_map_or (λ w. refuses_by w keyspace 0) o false)
         (mover_now table ∙ ap (λ b. option_or (mover p table) (cond b (Some v) None)) m ∙ ap (λ o. option_or o (Some v)) free)
         ∙ refused_at keyspace
 
     -- ---- and what the primaries have and deny then
 
     module _ (old new : Primaries) (are : ArePrimaries p old) (can : AllByRecursion (CanMove p source target) tables)
-        (others : OthersStay target (primary_of old) (primary_of new)) (there : (keyspace : List ℕ) → is_some (primary_at new keyspace) ≡ is_some (primary_at old keyspace)) (count : length new ≡ length old)
+        (others : StayBut target old new) (there : (keyspace : List ℕ) → is_some (primary_at new keyspace) ≡ is_some (primary_at old keyspace)) (count : length new ≡ length old)
         (has : (table : List ℕ) → primary.has_table (primary_of new target) table ≡ (among tables table || primary.has_table (primary_of old target) table))
         (denied : (table : List ℕ) → among tables table ≡ true → primary.is_denied_at (primary_of new target) table ≡ true)
         (as_before : (table : List ℕ) → among tables table ≡ false → primary.is_denied_at (primary_of new target) table ≡ primary.is_denied_at (primary_of old target) table) where
@@ -120,25 +121,25 @@ module _ (p : Plain) (workflow source target : List ℕ) (tables : List (List �
               ∙ sym (ap (λ b. b || has_table p keyspace table) (ap (λ b. among tables table && b) (apart same_text same_text_decides target keyspace e) ∙ and-false (among tables table)))
               ∙ sym (has_now keyspace table)
 
-      denials_now : (keyspace table : List ℕ) → primary.is_denied_at (primary_of new keyspace) table ≡ refuses q keyspace table
+      denials_now : (keyspace table : List ℕ) → primary.is_denied_at (primary_of new keyspace) table ≡ refuses q keyspace 0 table
       denials_now keyspace table = ⊎_elim here elsewhere (same_or_other same_text same_text_decides target keyspace)
         where
-          free : (keyspace : List ℕ) → mover p table ≡ None → refuses p keyspace table ≡ false
-          free keyspace none = ap (λ (o : Option Live). option_map_or (λ w. refuses_by w keyspace) o false) none
+          free : (keyspace : List ℕ) → mover p table ≡ None → refuses p keyspace 0 table ≡ false
+          free keyspace none = ap (λ (o : Option Live). option_map_or (λ w. refuses_by w keyspace 0) o false) none
 
-          at_target : (b : Bool) → among tables table ≡ b → primary.is_denied_at (primary_of new target) table ≡ refuses q target table
+          at_target : (b : Bool) → among tables table ≡ b → primary.is_denied_at (primary_of new target) table ≡ refuses q target 0 table
           at_target true m = denied table m ∙ sym ((same_text_decides target target).1 refl) ∙ sym (refuses_moved target table m (can_move table m).free)
           at_target false m = as_before table m ∙ are.denials target table ∙ sym (refuses_free target table m)
 
-          here : target ≡ keyspace → primary.is_denied_at (primary_of new keyspace) table ≡ refuses q keyspace table
-          here e = subst (λ k. primary.is_denied_at (primary_of new k) table ≡ refuses q k table) e (at_target (among tables table) refl)
+          here : target ≡ keyspace → primary.is_denied_at (primary_of new keyspace) table ≡ refuses q keyspace 0 table
+          here e = subst (λ k. primary.is_denied_at (primary_of new k) table ≡ refuses q k 0 table) e (at_target (among tables table) refl)
 
-          at_other : target ≢ keyspace → (b : Bool) → among tables table ≡ b → refuses p keyspace table ≡ refuses q keyspace table
+          at_other : target ≢ keyspace → (b : Bool) → among tables table ≡ b → refuses p keyspace 0 table ≡ refuses q keyspace 0 table
           at_other e true m = free keyspace (can_move table m).free ∙ sym (apart same_text same_text_decides target keyspace e) ∙ sym (refuses_moved keyspace table m (can_move table m).free)
           at_other e false m = sym (refuses_free keyspace table m)
 
-          elsewhere : target ≢ keyspace → primary.is_denied_at (primary_of new keyspace) table ≡ refuses q keyspace table
+          elsewhere : target ≢ keyspace → primary.is_denied_at (primary_of new keyspace) table ≡ refuses q keyspace 0 table
           elsewhere e = ap (λ s. primary.is_denied_at s table) (others keyspace e) ∙ are.denials keyspace table ∙ at_other e (among tables table) refl
 
       pub primaries_now : ArePrimaries q new
-      primaries_now = record { there = λ keyspace. there keyspace ∙ are.there keyspace; count = count ∙ are.count; tables = tables_now; denials = denials_now }
+      primaries_now = record { there = λ keyspace. there keyspace ∙ are.there keyspace; count = count ∙ are.count; unsharded = are.unsharded; tables = tables_now; denials = denials_now }

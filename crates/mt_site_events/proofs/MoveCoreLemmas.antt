@@ -5,6 +5,7 @@ use Rattle.std.specs.Map.{lookup, set_value}
 use Rattle.mt_names.specs.Names.{same_text}
 use Rattle.mt_names.proofs.EntryLemmas.{is_some-set_value, lookup-set_value_elsewhere, lookup-set_value_here, same_or_other}
 use Rattle.mt_names.proofs.SameLemmas.{same_text_decides}
+use Rattle.mt_model.specs.Topology.{cuts_at}
 use Rattle.mt_plain.specs.Plain.{Live, Plain, live_at}
 use Rattle.mt_plain.specs.Serve.{has_table, refuses}
 use Rattle.mt_primary.specs.Primary.{PrimaryState, empty_primary, is_denied_at}
@@ -51,11 +52,12 @@ module _ (old : Primaries) (side : List ℕ) (before after : PrimaryState) (foun
 -- the primaries with one set are those of a next state with the same keyspaces, if each has the tables and the own list that it has there
 pub primaries-set : (p q : Plain) → q.topology ≡ p.topology → (old : Primaries) → ArePrimaries p old → (side : List ℕ) (after : PrimaryState)
     → ((keyspace table : List ℕ) → primary.has_table (primary_of (set_value (same_text side) old after) keyspace) table ≡ has_table q keyspace table)
-    → ((keyspace table : List ℕ) → is_denied_at (primary_of (set_value (same_text side) old after) keyspace) table ≡ refuses q keyspace table)
+    → ((keyspace table : List ℕ) → is_denied_at (primary_of (set_value (same_text side) old after) keyspace) table ≡ refuses q keyspace 0 table)
     → ArePrimaries q (set_value (same_text side) old after)
 primaries-set p q same old are side after tables denials = record {
   there = λ k. is_some-set_value same_text old side k after ∙ are.there k ∙ sym (ap (λ u. is_some (lookup (same_text k) u.keyspaces)) same);
   count = length-set_value (same_text side) old after ∙ are.count ∙ sym (ap (λ u. length u.keyspaces) same);
+  unsharded = λ k. ap (λ u. cuts_at u.keyspaces k) same ∙ are.unsharded k;
   tables = tables;
   denials = denials;
 }
@@ -72,6 +74,9 @@ stands-elsewhere p q same (Some live) (Some w) stands = record {
   switched = stands.switched;
   way = stands.way;
   kept = subst (λ u. IsKept u live w.kept) (sym same) stands.kept;
+  lane = stands.lane;
+  alone = stands.alone;
+  shard = stands.shard;
   forward = stands.forward;
   back = stands.back;
 }

@@ -22,8 +22,8 @@ NamesApart p = AllPairs (λ v w. v.name ≢ w.name) p.lives
 
 names_apart : (lives : List Live) → AllPairs (λ v w. v.name ≢ w.name) lives → AllPairs (λ a b. a ≢ b) (map (λ w. w.name) lives)
 names_apart lives apart i j d below inside same =
-    apart i j (created d [] [] [] 0) below is_inside
-    (sym (get_or-map (λ (w : Live). w.name) lives i (created d [] [] [] 0) d (omega (arith, is_inside))) ∙ same ∙ get_or-map (λ (w : Live). w.name) lives j (created d [] [] [] 0) d is_inside)
+    apart i j (created d [] [] [] [] 0) below is_inside
+    (sym (get_or-map (λ (w : Live). w.name) lives i (created d [] [] [] [] 0) d (omega (arith, is_inside))) ∙ same ∙ get_or-map (λ (w : Live). w.name) lives j (created d [] [] [] [] 0) d is_inside)
   where
     is_inside : j < length lives
     is_inside = subst (λ n. j < n) (length-map lives (λ (w : Live). w.name)) inside

@@ -1,5 +1,5 @@
 -- Cores whose logs are purged below what is needed.
-use Rattle.std.proofs.Common.{◌≡◌, ◌≢◌, ℕ, ◌-◌, ◌≤◌, ◌<◌, Bool, true, false, cond, List, [], ◌∷◌, map, Option, None, Some, is_some, option_map, unwrap_or, refl, sym, ap, subst, ◌∙◌, arith, ⊎_elim}
+use Rattle.std.proofs.Common.{◌≡◌, ◌≢◌, ℕ, zero, suc, ◌-◌, ◌≤◌, ◌<◌, Bool, true, false, cond, List, [], ◌∷◌, map, Option, None, Some, is_some, option_map, unwrap_or, refl, sym, ap, subst, ◌∙◌, arith, ⊎_elim}
 use Rattle.std.proofs.lemmas.List.{length-map}
 use Rattle.mt_names.proofs.SameLemmas.{same_text_decides}
 use Rattle.mt_names.specs.Names.{same_text}
@@ -14,13 +14,18 @@ use Rattle.mt_site_topology.specs.Stands.{TopologyStands}
 use Rattle.mt_site_rows.specs.Purges.{ArePurged}
 use Rattle.mt_site_rows.specs.Rows.{RowsStand, StandAbove, stream_of}
 use Rattle.mt_site_rows.specs.Rows as rows
-use Rattle.mt_site_state.specs.Core.{CoreState, Primaries, Workflows, primary_at, primary_of, workflow_at}
+use Rattle.mt_site_state.specs.Core.{CoreState, Primaries, Workflows, primaries_of, primary_at, primary_of, workflow_at}
 use Rattle.mt_site_state.specs.Purges.{PurgesAll, PurgesCore, PurgesOne, first_needed, has_whole_segments, is_in_use, least_of, least_with, with_purge_of, with_purges, without_unneeded}
 use Rattle.mt_site_state.specs.Stands.{AreWorkflows, StandsFor, StandsWith}
 use Rattle.mt_site_state.proofs.NeededLemmas.{needed-le, needed-one, purge-none, with-le, with-stream}
+use Rattle.mt_site_state.proofs.ShardLemmas.{lane_is}
 use Rattle.mt_site_events.proofs.FoundLemmas.{state_of_live}
 use Rattle.mt_site_events.proofs.MadeLemmas.{changed_count, changed_elsewhere, changed_here, changed_there}
 use Rattle.mt_site_events.proofs.MoveCoreLemmas.{same_or}
+
+-- a purge below position 0 purges nothing
+none-purged : (primary : PrimaryState) → primary ≡ with_purge primary 0
+none-purged primary = let few : 0 - primary.log.purged < 256 = omega arith in sym (purge-none primary 0 few)
 
 -- ---- what no purge passes
 
@@ -31,46 +36,49 @@ in-use frozen moves = absurd (moves refl)
 
 module _ (p : Plain) (scopes : List Scope) (old : CoreState) (stands : StandsWith p scopes old) where
   -- a stream that is in use
-  not-passed : (keyspace : List ℕ) (end : ℕ) → StandAbove p keyspace (first_needed old.workflows keyspace end)
-  not-passed keyspace end name live is_live stream slot there moves reads =
+  not-passed : (keyspace : List ℕ) (shard end : ℕ) → StandAbove p keyspace shard (first_needed old.workflows keyspace end)
+  not-passed keyspace shard end name live is_live n lane laned stream slot there moves reads at =
       let (w, found, for) = state_of_live p (live_at p name) (workflow_at old.workflows name) live (stands.workflows.each name) is_live in
-      needed-one old.workflows keyspace name end slot.position w found (low w for stream there reads)
+      needed-one old.workflows keyspace name end slot.position w found
+      (low w for stream (subst (λ l. slot_of live l stream ≡ Some slot) (lane_is p live w for n lane laned) there) reads)
     where
-      low : (w : WorkflowState) → StandsFor p live w → (which : StreamName) → slot_of live which ≡ Some slot → read_side live which ≡ keyspace → (least : ℕ) → least_of keyspace least w ≤ slot.position
+      low : (w : WorkflowState) (for : StandsFor p live w) → (which : StreamName) → slot_of live for.lane which ≡ Some slot → read_side live which ≡ keyspace → (least : ℕ) → least_of keyspace least w ≤ slot.position
       low w for forward at reads least =
-          let has : w.forward ≡ Some (stream_of live slot) = for.forward ∙ ap (option_map (stream_of live)) at in
+          let has : w.forward ≡ Some (stream_of live for.lane slot) = for.forward ∙ ap (option_map (stream_of live for.lane)) at in
           let side : same_text keyspace w.source ≡ true = (same_text_decides keyspace w.source).1 (sym reads ∙ for.sides.source) in
           let a : least_with keyspace w.source w.forward least ≤ slot.position
-          = subst (λ o. least_with keyspace w.source o least ≤ slot.position) (sym has) (with-stream keyspace w.source (stream_of live slot) least side (in-use slot.state moves)) in
+          = subst (λ o. least_with keyspace w.source o least ≤ slot.position) (sym has) (with-stream keyspace w.source (stream_of live for.lane slot) least side (in-use slot.state moves)) in
           let b = with-le keyspace w.target w.back (least_with keyspace w.source w.forward least) in
           omega (arith, a, b)
       low w for back at reads least =
-          let has : w.back ≡ Some (stream_of live slot) = for.back ∙ ap (option_map (stream_of live)) at in
+          let has : w.back ≡ Some (stream_of live for.lane slot) = for.back ∙ ap (option_map (stream_of live for.lane)) at in
           let side : same_text keyspace w.target ≡ true = (same_text_decides keyspace w.target).1 (sym reads ∙ for.sides.target) in
           subst (λ o. least_with keyspace w.target o (least_with keyspace w.source w.forward least) ≤ slot.position) (sym has)
-          (with-stream keyspace w.target (stream_of live slot) (least_with keyspace w.source w.forward least) side (in-use slot.state moves))
+          (with-stream keyspace w.target (stream_of live for.lane slot) (least_with keyspace w.source w.forward least) side (in-use slot.state moves))
 
   module _ (new : CoreState) (purges : PurgesCore old new) where
-    are-purged : ArePurged p (primary_of old.primaries) (primary_of new.primaries)
-    are-purged keyspace =
+    are-purged : ArePurged p (primaries_of old.primaries) (primaries_of new.primaries)
+    are-purged keyspace zero =
         let (position, low, is) = purges.logs keyspace in
         let end = end_of (primary_of old.primaries keyspace) in
         record {
           position = position;
           within = (let a = needed-le old.workflows keyspace end in omega (arith, low, a));
-          above = (λ name live is_live stream slot there moves reads. let a = not-passed keyspace end name live is_live stream slot there moves reads in omega (arith, low, a));
+          above = (λ name live is_live n lane laned stream slot there moves reads at. let a = not-passed keyspace 0 end name live is_live n lane laned stream slot there moves reads at in omega (arith, low, a));
           is = is;
         }
+    are-purged keyspace (suc n) = record { position = 0; within = omega arith; above = (λ name live is_live n lane laned stream slot there moves reads at. omega arith); is = none-purged empty_primary }
 
     pub purged-stands : ((old_rows new_rows : rows.Primaries) → RowsStand p old_rows → ArePurged p old_rows new_rows → RowsStand p new_rows) → StandsWith p scopes new
     purged-stands law = record {
       reached = stands.reached;
       scopes_are = stands.scopes_are;
       topology = subst (TopologyStands p) (sym purges.topology) stands.topology;
-      rows = law (primary_of old.primaries) (primary_of new.primaries) stands.rows are-purged;
+      rows = law (primaries_of old.primaries) (primaries_of new.primaries) stands.rows are-purged;
       primaries = record {
         there = λ k. purges.there k ∙ stands.primaries.there k;
         count = purges.count ∙ stands.primaries.count;
+        unsharded = stands.primaries.unsharded;
         tables = λ k t. ap (λ s. has_table s t) (purges.logs k).2 ∙ stands.primaries.tables k t;
         denials = λ k t. ap (λ s. is_denied_at s t) (purges.logs k).2 ∙ stands.primaries.denials k t;
       };
@@ -122,10 +130,6 @@ all-purges core = record {
     by k (Some primary) = refl
 
 -- ---- one log
-
--- a purge below position 0 purges nothing
-none-purged : (primary : PrimaryState) → primary ≡ with_purge primary 0
-none-purged primary = let few : 0 - primary.log.purged < 256 = omega arith in sym (purge-none primary 0 few)
 
 pub one-at : (core : CoreState) (keyspace : List ℕ) → is_some (primary_at core.primaries keyspace) ≡ true
     → primary_of (with_purge_of keyspace core).primaries keyspace ≡ without_unneeded core.workflows keyspace (primary_of core.primaries keyspace)

@@ -2,16 +2,17 @@
 use Rattle.std.proofs.Common.{◌≡◌, ℕ, Bool, true, false, not, ◌||◌, List, length, Option, None, Some, is_some, refl, sym, ap, ◌∙◌}
 use Rattle.std.proofs.lemmas.Bool.{not-false}
 use Rattle.std.specs.List.{AllByRecursion, IsDistinct, list_any}
-use Rattle.std.specs.Prelude.{◌==◌, nat_le}
+use Rattle.std.specs.Prelude.{◌==◌, nat_le, nat_lt}
 use Rattle.mt_names.specs.Names.{same_text}
+use Rattle.mt_names.specs.Shards.{shard_count}
 use Rattle.mt_names.proofs.EntryLemmas.{none_from, some_from}
 use Rattle.mt_model.specs.declared.entries.Scope.{Scope}
 use Rattle.mt_model.specs.declared.entries.Scope.TheVariants as scope
 use Rattle.mt_model.specs.Topology.{KeyspaceState, keyspace_at}
 use Rattle.mt_topology.specs.Part.{reserve_refusal}
 use Rattle.mt_watch.specs.Scopes.{has_scope}
-use Rattle.mt_plain.specs.Events.{Refusal, full, no_keyspace, no_table, no_tables, no_watcher, same_keyspace, table_in_workflow, target_has_table, workflow_exists}
-use Rattle.mt_plain.specs.Plain.{Plain, has_keyspace, live_at, mover}
+use Rattle.mt_plain.specs.Events.{Refusal, full, no_keyspace, no_table, no_tables, no_watcher, same_keyspace, sharded_source, table_in_workflow, target_has_table, workflow_exists}
+use Rattle.mt_plain.specs.Plain.{Plain, has_keyspace, is_sharded, live_at, mover}
 use Rattle.mt_plain.specs.Refuse.{conflict_refusal, create_is_full, is_of_primary, most_workflows, moved_table_refusal, moved_tables_refusal, or_else, refuse_if, rule_count, table_count, watcher_refusal}
 use Rattle.mt_plain.specs.Refuse as plain
 use Rattle.mt_plain.specs.Serve.{has_table}
@@ -88,11 +89,18 @@ module _ (p : Plain) (scopes : List Scope) (core : CoreState) (stands : StandsWi
       ap (λ o. or_else o core_watcher) (same_tables p core stands.topology moved source target tables)
       ∙ or_else_same (moved_tables_refusal p source target tables) core_watcher plain_watcher (from_watcher there_s there_t)
 
+  abbrev plain_sharded : Option Refusal
+  plain_sharded = or_else (refuse_if (is_sharded p source) sharded_source) plain_tables
+
+  -- no keyspace has several shards
+  unsharded : is_sharded p source ≡ false
+  unsharded = ap (λ cuts. nat_lt 1 (shard_count cuts)) (stands.primaries.unsharded source)
+
   abbrev core_target : Option Refusal
   core_target = or_else (refuse_if (not (is_some (primary_at core.primaries target))) no_keyspace) core_tables
 
   abbrev plain_target : Option Refusal
-  plain_target = or_else (refuse_if (not (has_keyspace p target)) no_keyspace) plain_tables
+  plain_target = or_else (refuse_if (not (has_keyspace p target)) no_keyspace) plain_sharded
 
   there : (keyspace : List ℕ) → refuse_if (not (has_keyspace p keyspace)) no_keyspace ≡ None → has_keyspace p keyspace ≡ true
   there keyspace e = not-false (has_keyspace p keyspace) (refuse_if_none (not (has_keyspace p keyspace)) no_keyspace e)
@@ -100,7 +108,8 @@ module _ (p : Plain) (scopes : List Scope) (core : CoreState) (stands : StandsWi
   from_target : has_keyspace p source ≡ true → core_target ≡ plain_target
   from_target there_s =
       ap (λ b. or_else (refuse_if (not b) no_keyspace) core_tables) (stands.primaries.there target)
-      ∙ or_else_same (refuse_if (not (has_keyspace p target)) no_keyspace) core_tables plain_tables (λ e. from_tables there_s (there target e))
+      ∙ or_else_same (refuse_if (not (has_keyspace p target)) no_keyspace) core_tables plain_sharded
+      (λ e. from_tables there_s (there target e) ∙ sym (ap (λ b. or_else (refuse_if b sharded_source) plain_tables) unsharded))
 
   abbrev core_source : Option Refusal
   core_source = or_else (refuse_if (not (is_some (primary_at core.primaries source))) no_keyspace) core_target
@@ -132,8 +141,11 @@ module _ (p : Plain) (workflow source target : List ℕ) (tables : List (List �
   abbrev behind_tables : Option Refusal
   behind_tables = or_else (watcher_refusal p target) (refuse_if (create_is_full p source target tables) full)
 
+  abbrev behind_sharded : Option Refusal
+  behind_sharded = or_else (moved_tables_refusal p source target tables) behind_tables
+
   abbrev behind_target : Option Refusal
-  behind_target = or_else (moved_tables_refusal p source target tables) behind_tables
+  behind_target = or_else (refuse_if (is_sharded p source) sharded_source) behind_sharded
 
   abbrev behind_source : Option Refusal
   behind_source = or_else (refuse_if (not (has_keyspace p target)) no_keyspace) behind_target
@@ -154,7 +166,8 @@ module _ (p : Plain) (workflow source target : List ℕ) (tables : List (List �
       let (sides, d) = or_else_none (refuse_if (same_text source target) same_keyspace) behind_sides b in
       let (at_source, e) = or_else_none (refuse_if (not (has_keyspace p source)) no_keyspace) behind_source d in
       let (at_target, f) = or_else_none (refuse_if (not (has_keyspace p target)) no_keyspace) behind_target e in
-      let (each, g) = or_else_none (moved_tables_refusal p source target tables) behind_tables f in
+      let (one, g) = or_else_none (refuse_if (is_sharded p source) sharded_source) behind_sharded f in
+      let (each, h) = or_else_none (moved_tables_refusal p source target tables) behind_tables g in
       record {
         free = none_from (live_at p workflow) (refuse_if_none (is_some (live_at p workflow)) workflow_exists name);
         there = not-false (has_keyspace p target) (refuse_if_none (not (has_keyspace p target)) no_keyspace at_target);

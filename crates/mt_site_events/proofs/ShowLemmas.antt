@@ -1,12 +1,13 @@
 -- Show: a workflow that stands for a live one is shown as that one is.
-use Rattle.std.proofs.Common.{◌≡◌, ℕ, Bool, true, false, not, cond, List, Option, None, Some, option_map, is_some, unwrap_or, refl, sym, ap, ◌∙◌, subst}
+use Rattle.std.proofs.Common.{◌≡◌, ℕ, Bool, true, false, not, cond, List, [], ◌∷◌, map, Option, None, Some, option_map, is_some, unwrap_or, refl, sym, ap, ◌∙◌, subst}
 use Rattle.std.specs.Option.{option_map_or}
 use Rattle.mt_model.specs.declared.entries.Scope.{Scope}
 use Rattle.mt_names.specs.declared.types.TypeSet.{TypeSet}
-use Rattle.mt_plain.specs.Answers.{Answers, show_of, shown_of}
-use Rattle.mt_plain.specs.Events.{Answer, show, forward, back, running, frozen, stopped, shown, Slot, Way}
+use Rattle.mt_names.specs.Shards.{KeyRange, whole}
+use Rattle.mt_plain.specs.Answers.{Answers, lane_shown, range_at, show_of, shown_of}
+use Rattle.mt_plain.specs.Events.{Answer, show, forward, back, running, frozen, stopped, shown, ShownLane, Slot, Way}
 use Rattle.mt_plain.specs.Next.{next}
-use Rattle.mt_plain.specs.Plain.{Copied, ended, not_begun, up_to, Live, Plain, changes_primary, create_back, live_at, stands_done}
+use Rattle.mt_plain.specs.Plain.{Copied, ended, not_begun, up_to, Lane, Live, Plain, changes_primary, create_back, live_at, stands_done}
 use Rattle.mt_plain.specs.Refuse.{in_workflow, is_still_copying}
 use Rattle.mt_plain.specs.Slots.{feeding_slot, is_feeding, slot_before_way, slot_by_way, slot_of}
 use Rattle.mt_stream.specs.Streams.{StreamValue, has_ended}
@@ -14,16 +15,16 @@ use Rattle.mt_workflow.specs.Workflows.{WorkflowState}
 use Rattle.mt_site_rows.specs.Rows.{stream_of}
 use Rattle.mt_site_state.specs.Core.{CoreState, workflow_at}
 use Rattle.mt_site_state.specs.Stands.{StandsFor, StandsForAny, StandsWith}
-use Rattle.mt_site_state.specs.Workflows.{ShowsWorkflow, show_at, shown_by, slot_from}
+use Rattle.mt_site_state.specs.Workflows.{ShowsWorkflow, lane_by, show_at, shown_by, slot_from}
 
 -- ---- a forward stream is always there
 
-pub forward_there : (w : Live) (o : Option Way) → is_some (slot_by_way w o forward) ≡ true
-forward_there w None = refl
-forward_there w (Some way) = by (changes_primary way) (is_feeding way forward) (stands_done way create_back)
+pub forward_there : (w : Live) (lane : Lane) (o : Option Way) → is_some (slot_by_way w lane o forward) ≡ true
+forward_there w lane None = refl
+forward_there w lane (Some way) = by (changes_primary way) (is_feeding way forward) (stands_done way create_back)
   where
-    by : (c f t : Bool) → is_some (cond (not c) (slot_before_way w forward) (cond f (feeding_slot w way (slot_before_way w forward))
-        (cond t (Some (record { state = cond (stands_done way 10) running stopped; position = w.fresh_at })) (slot_before_way w forward)))) ≡ true
+    by : (c f t : Bool) → is_some (cond (not c) (slot_before_way w lane forward) (cond f (feeding_slot lane way (slot_before_way w lane forward))
+        (cond t (Some (record { state = cond (stands_done way 10) running stopped; position = lane.fresh_at })) (slot_before_way w lane forward)))) ≡ true
     by false f t = refl
     by true true t = refl
     by true false true = refl
@@ -31,9 +32,9 @@ forward_there w (Some way) = by (changes_primary way) (is_feeding way forward) (
 
 -- ---- what is shown
 
-slots_back : (w : Live) (o : Option Slot) → option_map slot_from (option_map (stream_of w) o) ≡ o
-slots_back w None = refl
-slots_back w (Some s) = refl
+slots_back : (w : Live) (lane : Lane) (o : Option Slot) → option_map slot_from (option_map (stream_of w lane) o) ≡ o
+slots_back w lane None = refl
+slots_back w lane (Some s) = refl
 
 any_default : (o : Option Slot) (a b : Slot) → is_some o ≡ true → unwrap_or o a ≡ unwrap_or o b
 any_default None a b e = absurd cc
@@ -44,34 +45,46 @@ ended_copy not_begun = refl
 ended_copy (up_to table key) = refl
 ended_copy ended = refl
 
-copy_of : (w : Live) (o : Option Slot) → is_some o ≡ true → option_map_or (λ (s : StreamValue). has_ended s.copied) (option_map (stream_of w) o) false ≡ not (is_still_copying w.copied)
-copy_of w None e = absurd cc
-copy_of w (Some s) e = ended_copy w.copied
+copy_of : (w : Live) (lane : Lane) (o : Option Slot) → is_some o ≡ true → option_map_or (λ (s : StreamValue). has_ended s.copied) (option_map (stream_of w lane) o) false ≡ not (is_still_copying lane.copied)
+copy_of w lane None e = absurd cc
+copy_of w lane (Some s) e = ended_copy lane.copied
 
 module _ (p : Plain) (live : Live) (w : WorkflowState) (stands : StandsFor p live w) where
-  forward_shown : unwrap_or (option_map slot_from w.forward) (record { state = frozen; position = 0 }) ≡ unwrap_or (slot_of live forward) (record { state = frozen; position = live.forward_at })
+  abbrev lane : Lane
+  lane = stands.lane
+
+  forward_shown : unwrap_or (option_map slot_from w.forward) (record { state = frozen; position = 0 }) ≡ unwrap_or (slot_of live lane forward) (record { state = frozen; position = lane.forward_at })
   forward_shown =
       ap (λ o. unwrap_or (option_map slot_from o) (record { state = frozen; position = 0 })) stands.forward
-      ∙ ap (λ o. unwrap_or o (record { state = frozen; position = 0 })) (slots_back live (slot_of live forward))
-      ∙ any_default (slot_of live forward) (record { state = frozen; position = 0 }) (record { state = frozen; position = live.forward_at }) (forward_there live live.way)
+      ∙ ap (λ o. unwrap_or o (record { state = frozen; position = 0 })) (slots_back live lane (slot_of live lane forward))
+      ∙ any_default (slot_of live lane forward) (record { state = frozen; position = 0 }) (record { state = frozen; position = lane.forward_at }) (forward_there live lane live.way)
 
-  copy_shown : option_map_or (λ (s : StreamValue). has_ended s.copied) w.forward false ≡ not (is_still_copying live.copied)
-  copy_shown = ap (λ o. option_map_or (λ (s : StreamValue). has_ended s.copied) o false) stands.forward ∙ copy_of live (slot_of live forward) (forward_there live live.way)
+  copy_shown : option_map_or (λ (s : StreamValue). has_ended s.copied) w.forward false ≡ not (is_still_copying lane.copied)
+  copy_shown = ap (λ o. option_map_or (λ (s : StreamValue). has_ended s.copied) o false) stands.forward ∙ copy_of live lane (slot_of live lane forward) (forward_there live lane live.way)
 
-  back_shown : option_map slot_from w.back ≡ slot_of live back
-  back_shown = ap (λ o. option_map slot_from o) stands.back ∙ slots_back live (slot_of live back)
+  back_shown : option_map slot_from w.back ≡ slot_of live lane back
+  back_shown = ap (λ o. option_map slot_from o) stands.back ∙ slots_back live lane (slot_of live lane back)
+
+  range_shown : whole ≡ range_at live.cuts lane.shard
+  range_shown = sym (ap (λ cuts. range_at cuts lane.shard) stands.sides.cuts ∙ ap (range_at []) stands.shard)
+
+  lane_same : lane_by w ≡ lane_shown live lane
+  lane_same = by whole range_shown _ forward_shown _ copy_shown _ back_shown
+    where
+      by : (r : KeyRange) → r ≡ range_at live.cuts lane.shard → (f : Slot) → f ≡ unwrap_or (slot_of live lane forward) (record { state = frozen; position = lane.forward_at })
+          → (c : Bool) → c ≡ not (is_still_copying lane.copied) → (b : Option Slot) → b ≡ slot_of live lane back
+          → record { range = r; forward = f; copied = c; back = b } ≡ lane_shown live lane
+      by r e0 f e1 c e2 b e3 = cc
 
   pub shown_same : shown_by w ≡ shown_of live
   shown_same =
       by w.name (sym stands.sides.name) w.source (sym stands.sides.source) w.target (sym stands.sides.target) w.tables (sym stands.sides.tables) w.switched stands.switched w.way stands.way
-      _ forward_shown _ copy_shown _ back_shown
+      (lane_by w ∷ []) (ap (λ l. l ∷ []) lane_same ∙ sym (ap (map (lane_shown live)) stands.alone))
     where
       by : (n : List ℕ) → n ≡ live.name → (s : List ℕ) → s ≡ live.source → (t : List ℕ) → t ≡ live.target → (ts : List (List ℕ)) → ts ≡ live.tables
-          → (types : TypeSet) → types ≡ live.switched → (way : Option Way) → way ≡ live.way
-          → (f : Slot) → f ≡ unwrap_or (slot_of live forward) (record { state = frozen; position = live.forward_at })
-          → (c : Bool) → c ≡ not (is_still_copying live.copied) → (b : Option Slot) → b ≡ slot_of live back
-          → record { workflow = n; source = s; target = t; tables = ts; switched = types; way = way; forward = f; copied = c; back = b } ≡ shown_of live
-      by n e0 s e1 t e2 ts e3 types e4 way e5 f e6 c e7 b e8 = cc
+          → (types : TypeSet) → types ≡ live.switched → (way : Option Way) → way ≡ live.way → (ls : List ShownLane) → ls ≡ map (lane_shown live) live.lanes
+          → record { workflow = n; source = s; target = t; tables = ts; switched = types; way = way; lanes = ls } ≡ shown_of live
+      by n e0 s e1 t e2 ts e3 types e4 way e5 ls e6 = cc
 
 -- ---- the law
 

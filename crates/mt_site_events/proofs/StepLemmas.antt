@@ -1,11 +1,12 @@
 -- What a Create leaves stands for the next state.
-use Rattle.std.proofs.Common.{◌≡◌, ◌≢◌, ⊎_elim, ℕ, true, false, List, [], ◌∷◌, ◌++◌, slice_get, Option, None, Some, is_some, refl, sym, ap, subst, ◌∙◌}
+use Rattle.std.proofs.Common.{◌≡◌, ◌≢◌, ⊎_elim, ℕ, true, false, List, [], ◌∷◌, ◌++◌, map, slice_get, Option, None, Some, is_some, refl, sym, ap, subst, ◌∙◌}
 use Rattle.std.proofs.lemmas.List.{map-append}
 use Rattle.std.proofs.lemmas.List.Sums.{length-filter}
-use Rattle.std.specs.List.{AllByRecursion}
+use Rattle.std.specs.List.{AllByRecursion, range_with_len}
 use Rattle.std.specs.Option.{option_map_or}
 use Rattle.std.specs.Prelude.{Ok}
 use Rattle.mt_names.specs.Names.{same_text}
+use Rattle.mt_names.specs.Shards.{shard_count}
 use Rattle.mt_names.specs.Types.{no_types}
 use Rattle.mt_names.proofs.EntryLemmas.{lookup-push_elsewhere, lookup-push_here, none_from, same_or_other}
 use Rattle.mt_names.proofs.SameLemmas.{same_text_decides}
@@ -16,21 +17,22 @@ use Rattle.mt_model.specs.Part.{with_entries, with_places}
 use Rattle.mt_watch.specs.Asking.{Answering, AsksEach}
 use Rattle.mt_watch.specs.Notices.{notice_of}
 use Rattle.mt_workflow.specs.Workflows.{WorkflowState, live_of, new_stream}
-use Rattle.mt_plain.specs.Answers.{Answers}
-use Rattle.mt_plain.specs.Events.{Answer, done, row, advanced, shown, refused, memory, watcher_refused, create}
-use Rattle.mt_plain.specs.Next.{next}
+use Rattle.mt_plain.specs.Answers.{Answers, range_at}
+use Rattle.mt_plain.specs.Events.{Answer, done, row, advanced, shown, refused, memory, watcher_refused, create, running}
+use Rattle.mt_plain.specs.Next.{lane_fed, new_lane, next}
 use Rattle.mt_plain.specs.Next as plain
-use Rattle.mt_plain.specs.Plain.{Live, LogEntry, Plain, each_once, live_at}
+use Rattle.mt_plain.specs.Plain.{Lane, Live, Plain, cuts_of, each_once, live_at, not_begun}
 use Rattle.mt_plain.specs.Refuse.{is_of_primary, refusal_of}
-use Rattle.mt_plain.specs.Slots.{log_length, log_of}
+use Rattle.mt_plain.specs.Slots.{is_entry_at, log_length, log_of}
 use Rattle.mt_laws.specs.WayBack.{IsReached}
 use Rattle.mt_site_topology.specs.Keys.{IsKept, created_live, keys_of_part, part_entries}
 use Rattle.mt_site_topology.specs.Stands.{TopologyStands}
 use Rattle.mt_primary.specs.Primary.{end_of}
-use Rattle.mt_site_rows.specs.Rows.{OthersStay, RowsStand}
+use Rattle.mt_site_rows.specs.Rows.{RowsStand}
 use Rattle.mt_site_rows.proofs.LogLemmas.{log-length}
-use Rattle.mt_site_state.specs.Core.{CoreState, primary_at, primary_of, with_primary, workflow_at}
+use Rattle.mt_site_state.specs.Core.{CoreState, primaries_of, primary_at, primary_of, with_primary, workflow_at}
 use Rattle.mt_site_state.specs.Stands.{AreWorkflows, StandsFor, StandsForAny, StandsWith}
+use Rattle.mt_site_state.proofs.ShardLemmas.{StayBut}
 use Rattle.mt_site_state.specs.Workflows.{CreatesSet, change_of, create_refusal, new_of, target_made, with_created}
 use Rattle.mt_site_events.specs.Made.{AreMadeDenied}
 use Rattle.mt_site_events.proofs.MadeLemmas.{changed_count, changed_elsewhere, changed_here, changed_there, primaries_now}
@@ -49,18 +51,28 @@ module _ (p : Plain) (scopes : List Scope) (old : CoreState) (stands : StandsWit
 
   -- ---- the workflows
 
-  log_same : end_of (primary_of old.primaries source) ≡ log_length p source
+  log_same : end_of (primary_of old.primaries source) ≡ log_length p source 0
   log_same =
-      sym (log-length (log_of p source) source (primary_of old.primaries source).log (stands.rows.log source))
-      ∙ length-filter (λ (e : LogEntry). same_text e.keyspace source) p.log
+      sym (log-length (log_of p source 0) source 0 (primary_of old.primaries source).log (stands.rows.log source 0))
+      ∙ length-filter (is_entry_at source 0) p.log
+
+  abbrev made : Live
+  made = plain.created workflow source target tables (cuts_of p target) (log_length p source 0)
+
+  abbrev lane : Lane
+  lane = lane_fed p made (new_lane (log_length p source 0) 0)
 
   stands_new : IsKept p.topology v w.kept → StandsFor q v w
   stands_new kept = record {
-    sides = record { name = refl; source = refl; target = refl; tables = refl };
+    sides = record { name = refl; source = refl; target = refl; tables = refl; cuts = stands.primaries.unsharded target };
     switched = refl;
     way = refl;
     kept = kept;
-    forward = ap (λ n. Some (new_stream tables n)) log_same;
+    lane = lane;
+    alone = ap (λ cuts. map (lane_fed p made) (map (new_lane (log_length p source 0)) (range_with_len 0 (shard_count cuts)))) (stands.primaries.unsharded target);
+    shard = refl;
+    forward = ap (λ n. Some (new_stream tables n)) log_same
+        ∙ ap (λ cuts. Some (record { tables = tables; range = range_at cuts 0; copied = not_begun; position = log_length p source 0; state = running })) (sym (stands.primaries.unsharded target));
     back = refl;
   }
 
@@ -69,7 +81,7 @@ module _ (p : Plain) (scopes : List Scope) (old : CoreState) (stands : StandsWit
   stands_still None (Some x) still = still
   stands_still (Some l) None still = still
   stands_still (Some l) (Some x) still =
-      record { sides = still.sides; switched = still.switched; way = still.way; kept = still.kept; forward = still.forward; back = still.back }
+      record { sides = still.sides; switched = still.switched; way = still.way; kept = still.kept; lane = still.lane; alone = still.alone; shard = still.shard; forward = still.forward; back = still.back }
 
   module _ (free : live_at p workflow ≡ None) (live : live_at q workflow ≡ Some v) (elsewhere : (name : List ℕ) → workflow ≢ name → live_at q name ≡ live_at p name) (kept : IsKept p.topology v w.kept) where
     workflows_now : AreWorkflows q (old.workflows ++ (workflow, w) ∷ [])
@@ -98,9 +110,9 @@ module _ (p : Plain) (scopes : List Scope) (old : CoreState) (stands : StandsWit
         (there : is_some (primary_at old.primaries target) ≡ true) (sides : source ≢ target) (can : AllByRecursion (CanMove p source target) tables) (reached : IsReached q)
         (topology : TopologyStands q (with_entries (with_places old.topology (keys_of_part v)) (part_entries w.kept v no_types)))
         (follows : part_entries w.kept v no_types ≡ part_entries w.kept (live_of w) no_types)
-        (rows : OthersStay target (primary_of old.primaries) (primary_of (with_primary old.primaries target (target_made w notice)))
+        (rows : StayBut target old.primaries (with_primary old.primaries target (target_made w notice))
         → AreMadeDenied tables (primary_of old.primaries target) (primary_of (with_primary old.primaries target (target_made w notice)) target)
-        → RowsStand q (primary_of (with_primary old.primaries target (target_made w notice)))) where
+        → RowsStand q (primaries_of (with_primary old.primaries target (target_made w notice)))) where
       made_there : AreMadeDenied tables (primary_of old.primaries target) (primary_of (with_primary old.primaries target (target_made w notice)) target)
       made_there = subst (λ s. AreMadeDenied tables (primary_of old.primaries target) s) (sym (changed_here old.primaries target (target_made w notice) there)) made
 

@@ -1,5 +1,5 @@
 -- A run is a run with more watchers too: only where none is found there is a refusal, and nothing else is read of them.
-use Rattle.std.proofs.Common.{◌≡◌, inl, inr, ℕ, Bool, true, false, not, cond, eqb, List, [], ◌∷◌, ◌++◌, Option, None, Some, is_some, refl, sym, ap, subst, ◌∙◌}
+use Rattle.std.proofs.Common.{◌≡◌, inl, inr, ℕ, Bool, true, false, not, cond, eqb, List, [], ◌∷◌, ◌++◌, map, Option, None, Some, is_some, refl, sym, ap, subst, ◌∙◌}
 use Rattle.std.proofs.lemmas.Bool.{not-false}
 use Rattle.std.specs.List.{AllByRecursion, list_any}
 use Rattle.std.specs.Prelude.{◌||◌, ◌&&◌, ◌+◌, ◌⊎◌, count_by, length, min, nat_le, nat_lt, slice_get, take}
@@ -7,12 +7,12 @@ use Rattle.std.specs.Option.{option_map_or}
 use Rattle.mt_names.specs.declared.types.TabletType.TheVariants.{Primary, Replica, Rdonly}
 use Rattle.mt_names.specs.Names.{same_text}
 use Rattle.mt_model.specs.declared.entries.Scope.{Scope}
-use Rattle.mt_plain.specs.Answers.{Answers, IsCut, Run, advanced_of, after, reply_of}
-use Rattle.mt_plain.specs.Events.{Event, write, read, add_keyspace, add_table, edit_rule, create, advance, begin_switch, begin_reverse, step, undo, cancel, complete, show, StreamName, Way, Refusal, full, stale, no_keyspace, no_tables, no_watcher, not_level, same_keyspace, nothing_under_way, undoing, workflow_exists, Answer, done, row, advanced, shown, refused}
+use Rattle.mt_plain.specs.Answers.{Answers, IsCut, Run, advanced_of, after, lane_advanced_of, reply_of}
+use Rattle.mt_plain.specs.Events.{Event, write, read, add_keyspace, add_table, edit_rule, create, advance, begin_switch, begin_reverse, step, undo, cancel, complete, show, StreamName, Way, Refusal, full, stale, no_keyspace, no_tables, no_watcher, not_level, same_keyspace, sharded_source, nothing_under_way, undoing, workflow_exists, Answer, done, row, advanced, shown, refused}
 use Rattle.mt_plain.specs.Next.{next, next_taken, after_advance, journal_after, live_stepped, on_way_of, with_advance, with_completed, with_live}
-use Rattle.mt_plain.specs.Plain.{Live, LogEntry, Plain, catch_up, each_once, has_keyspace, live_at, mover, moves, next_step, refresh_source, refresh_target, switch_reads, write_journal}
-use Rattle.mt_plain.specs.Refuse.{advance_at, advance_refusal, create_is_full, create_refusal, in_workflow, is_behind, is_of_primary, most_journal_entries, moved_tables_refusal, new_owner, old_owner, or_else, own_refusal, refusal_of, refuse_if, step_refusal, watcher_refusal, will_read_other_side}
-use Rattle.mt_plain.specs.Slots.{applies, copied_after, is_fresh, live_advanced, log_advanced, logged, may_be_cut, most_events, most_rows, past, room_in_log, running_at, slot_of, to_copy, with_position, writes_any, written_side}
+use Rattle.mt_plain.specs.Plain.{Lane, Live, LogEntry, Plain, catch_up, each_once, has_keyspace, is_sharded, lane_at, live_at, mover, next_step, refresh_source, refresh_target, switch_reads, write_journal}
+use Rattle.mt_plain.specs.Refuse.{advance_at, advance_refusal, create_is_full, create_refusal, in_lane_at, in_workflow, is_behind, is_of_primary, most_journal_entries, moved_tables_refusal, new_owner, old_owner, or_else, own_refusal, refusal_of, refuse_if, step_refusal, watcher_refusal, will_read_other_side}
+use Rattle.mt_plain.specs.Slots.{applies, copied_after, is_for, is_fresh, lane_advanced, live_advanced, log_advanced, logged, may_be_cut, most_events, most_rows, past, room_in_log, running_at, slot_of, to_copy, with_position, writes_any, written_shard, written_side}
 use Rattle.mt_plain.specs.Writes.{row_by_mover, row_of}
 use Rattle.mt_laws.specs.Texts.{BringsNames}
 
@@ -47,9 +47,9 @@ module _ (more : List Scope) where
   abbrev pub wider : Plain → Plain
   wider p = record p { scopes = p.scopes ++ more }
 
-  copy_same : (p : Plain) (w : Live) (entries : List LogEntry) → to_copy (wider p) w entries ≡ to_copy p w entries
-  copy_same p w [] = refl
-  copy_same p w (e ∷ es) = refl
+  copy_same : (p : Plain) (w : Live) (lane : Lane) (entries : List LogEntry) → to_copy (wider p) w lane entries ≡ to_copy p w lane entries
+  copy_same p w lane [] = refl
+  copy_same p w lane (e ∷ es) = refl
 
   watched : (p : Plain) (keyspace : List ℕ) → watcher_refusal p keyspace ≡ None → watcher_refusal (wider p) keyspace ≡ None
   watched p keyspace e =
@@ -69,7 +69,8 @@ module _ (more : List Scope) where
       let none = refuse_if (eqb (length tables) 0) no_tables in
       else_kept (refuse_if (is_some (live_at p workflow)) workflow_exists) _ _
       (else_kept none _ _ (else_kept same _ _ (else_kept no_source _ _ (else_kept no_target _ _
-      (else_kept (moved_tables_refusal p source target tables) a b (first_kept (watcher_refusal p target) (watcher_refusal (wider p) target) f (watched p target)))))))
+      (else_kept (refuse_if (is_sharded p source) sharded_source) _ _
+      (else_kept (moved_tables_refusal p source target tables) a b (first_kept (watcher_refusal p target) (watcher_refusal (wider p) target) f (watched p target))))))))
 
   own_still : (p : Plain) (w : Live) (way : Way) (n : ℕ) → own_refusal p w way n ≡ None → own_refusal (wider p) w way n ≡ None
   own_still p w way n = by (eqb n switch_reads) (eqb n refresh_source) (eqb n catch_up) (eqb n write_journal) (eqb n refresh_target)
@@ -98,24 +99,25 @@ module _ (more : List Scope) where
 
   -- ---- what is copied
 
-  rows_same : (p : Plain) (w : Live) (name : StreamName) (position at_most : ℕ) → most_rows (wider p) w name position at_most ≡ most_rows p w name position at_most
-  rows_same p w name position at_most =
-      ap (λ (left : List (List ℕ × ℕ)). min (room_in_log p (written_side w name)) (min at_most (length left))) (copy_same p w (past p w name position))
+  rows_same : (p : Plain) (w : Live) (lane : Lane) (name : StreamName) (position at_most : ℕ) → most_rows (wider p) w lane name position at_most ≡ most_rows p w lane name position at_most
+  rows_same p w lane name position at_most =
+      ap (λ (left : List (List ℕ × ℕ)). min (room_in_log p (written_side w name) (written_shard lane name)) (min at_most (length left))) (copy_same p w lane (past p w lane name position))
 
-  any_same : (p : Plain) (w : Live) (name : StreamName) (position at_most : ℕ) → writes_any (wider p) w name position at_most ≡ writes_any p w name position at_most
-  any_same p w name position at_most =
-      ap (λ (left : List (List ℕ × ℕ)). list_any (applies w) (take at_most (past p w name position)) || nat_lt 0 (min at_most (length left))) (copy_same p w (past p w name position))
+  any_same : (p : Plain) (w : Live) (lane : Lane) (name : StreamName) (position at_most : ℕ) → writes_any (wider p) w lane name position at_most ≡ writes_any p w lane name position at_most
+  any_same p w lane name position at_most =
+      ap (λ (left : List (List ℕ × ℕ)). list_any (applies w lane) (take at_most (past p w lane name position)) || nat_lt 0 (min at_most (length left))) (copy_same p w lane (past p w lane name position))
 
-  cut_same : (p : Plain) (w : Live) (name : StreamName) (position at_most events rows : ℕ) → may_be_cut (wider p) w name position at_most events rows ≡ may_be_cut p w name position at_most events rows
-  cut_same p w name position at_most events rows =
-      ap (λ n. (eqb rows 0) && nat_lt events (most_events p w name position at_most)
-      && list_any (applies w) (take events (past p w name position)) && option_map_or (applies w) (slice_get (past p w name position) events) false
-      || (eqb events 0) && nat_lt 0 rows && nat_lt rows n) (rows_same p w name position at_most)
+  cut_same : (p : Plain) (w : Live) (lane : Lane) (name : StreamName) (position at_most events rows : ℕ)
+      → may_be_cut (wider p) w lane name position at_most events rows ≡ may_be_cut p w lane name position at_most events rows
+  cut_same p w lane name position at_most events rows =
+      ap (λ n. (eqb rows 0) && nat_lt events (most_events p w lane name position at_most)
+      && list_any (applies w lane) (take events (past p w lane name position)) && option_map_or (applies w lane) (slice_get (past p w lane name position) events) false
+      || (eqb events 0) && nat_lt 0 rows && nat_lt rows n) (rows_same p w lane name position at_most)
 
-  position_still : (p : Plain) (w : Live) (name : StreamName) (at at_most : ℕ) (o : Option ℕ) → advance_at (wider p) w name at at_most o ≡ advance_at p w name at at_most o
-  position_still p w name at at_most None = refl
-  position_still p w name at at_most (Some position) =
-      ap (λ b. or_else (refuse_if (not (eqb at position)) (stale position)) (refuse_if (b && (eqb (room_in_log p (written_side w name)) 0)) full)) (any_same p w name position at_most)
+  position_still : (p : Plain) (w : Live) (lane : Lane) (name : StreamName) (at at_most : ℕ) (o : Option ℕ) → advance_at (wider p) w lane name at at_most o ≡ advance_at p w lane name at at_most o
+  position_still p w lane name at at_most None = refl
+  position_still p w lane name at at_most (Some position) =
+      ap (λ b. or_else (refuse_if (not (eqb at position)) (stale position)) (refuse_if (b && (eqb (room_in_log p (written_side w name) (written_shard lane name)) 0)) full)) (any_same p w lane name position at_most)
 
   -- ---- events
 
@@ -124,14 +126,18 @@ module _ (more : List Scope) where
   refused_none p (read keyspace table key Primary) e = e
   refused_none p (read keyspace table key Replica) e = e
   refused_none p (read keyspace table key Rdonly) e = e
-  refused_none p (add_keyspace keyspace) e = e
+  refused_none p (add_keyspace keyspace cuts) e = e
   refused_none p (add_table keyspace table) e = e
   refused_none p (edit_rule key None) e = e
   refused_none p (edit_rule key (Some target)) e = e
   refused_none p (create workflow source target tables) e = created_still p workflow source target (each_once tables) e
-  refused_none p (advance workflow name at at_most) e =
-      in_kept (live_at p workflow) (advance_refusal p name at at_most) (advance_refusal (wider p) name at at_most)
-      (λ w none. position_still p w name at at_most (running_at (slot_of w name)) ∙ none) e
+  refused_none p (advance workflow name shard at at_most) e =
+      in_kept (live_at p workflow) (advance_refusal p name shard at at_most) (advance_refusal (wider p) name shard at at_most) (λ w. by w (lane_at w shard)) e
+    where
+      by : (w : Live) (o : Option Lane) → in_lane_at o (λ lane. advance_at p w lane name at at_most (running_at (slot_of w lane name))) ≡ None
+          → in_lane_at o (λ lane. advance_at (wider p) w lane name at at_most (running_at (slot_of w lane name))) ≡ None
+      by w None none = none
+      by w (Some lane) none = position_still p w lane name at at_most (running_at (slot_of w lane name)) ∙ none
   refused_none p (begin_switch workflow types) e = e
   refused_none p (begin_reverse workflow types) e = e
   refused_none p (step workflow at) e = in_kept (live_at p workflow) (step_refusal p at) (step_refusal (wider p) at) (step_still p at) e
@@ -149,14 +155,18 @@ module _ (more : List Scope) where
 
   reply_same : (p : Plain) (event : Event) → reply_of (wider p) event ≡ reply_of p event
   reply_same p (read keyspace table key tablet_type) = ap row (row_same p keyspace table key)
-  reply_same p (advance workflow name at at_most) = by (live_at p workflow)
+  reply_same p (advance workflow name shard at at_most) = by (live_at p workflow)
     where
-      by : (o : Option Live) → advanced_of (wider p) name at at_most o ≡ advanced_of p name at at_most o
+      of_lane : (w : Live) (o : Option Lane) → lane_advanced_of (wider p) name at at_most w o ≡ lane_advanced_of p name at at_most w o
+      of_lane w None = refl
+      of_lane w (Some lane) = ap (advanced (most_events p w lane name at at_most)) (rows_same p w lane name at at_most)
+
+      by : (o : Option Live) → advanced_of (wider p) name shard at at_most o ≡ advanced_of p name shard at at_most o
       by None = refl
-      by (Some w) = ap (advanced (most_events p w name at at_most)) (rows_same p w name at at_most)
+      by (Some w) = of_lane w (lane_at w shard)
   reply_same p (show workflow) = refl
   reply_same p (write keyspace table op) = refl
-  reply_same p (add_keyspace keyspace) = refl
+  reply_same p (add_keyspace keyspace cuts) = refl
   reply_same p (add_table keyspace table) = refl
   reply_same p (edit_rule key target) = refl
   reply_same p (create workflow source target tables) = refl
@@ -168,11 +178,17 @@ module _ (more : List Scope) where
   reply_same p (complete workflow) = refl
 
   cut_still : (p : Plain) (event : Event) (events rows : ℕ) → IsCut p event events rows → IsCut (wider p) event events rows
-  cut_still p (advance workflow name at at_most) events rows = by (live_at p workflow)
+  cut_still p (advance workflow name shard at at_most) events rows = by (live_at p workflow)
     where
-      by : (o : Option Live) → option_map_or (λ w. may_be_cut p w name at at_most events rows) o false ≡ true → option_map_or (λ w. may_be_cut (wider p) w name at at_most events rows) o false ≡ true
+      of_lane : (w : Live) (o : Option Lane) → option_map_or (λ lane. may_be_cut p w lane name at at_most events rows) o false ≡ true
+          → option_map_or (λ lane. may_be_cut (wider p) w lane name at at_most events rows) o false ≡ true
+      of_lane w None e = e
+      of_lane w (Some lane) e = cut_same p w lane name at at_most events rows ∙ e
+
+      by : (o : Option Live) → option_map_or (λ w. option_map_or (λ lane. may_be_cut p w lane name at at_most events rows) (lane_at w shard) false) o false ≡ true
+          → option_map_or (λ w. option_map_or (λ lane. may_be_cut (wider p) w lane name at at_most events rows) (lane_at w shard) false) o false ≡ true
       by None e = e
-      by (Some w) e = cut_same p w name at at_most events rows ∙ e
+      by (Some w) e = of_lane w (lane_at w shard) e
   cut_still p other events rows = λ is. is
 
   advanced_still : (p : Plain) (event : Event) (events rows : ℕ) → Answers p event (advanced events rows) → Answers (wider p) event (advanced events rows)
@@ -192,31 +208,47 @@ module _ (more : List Scope) where
   completed_same p None = refl
   completed_same p (Some w) = refl
 
-  live_same : (p : Plain) (v : Live) (name : StreamName) (at at_most events rows : ℕ) → live_advanced (wider p) v name at at_most events rows ≡ live_advanced p v name at at_most events rows
-  live_same p v name at at_most events rows =
-      ap (λ (left : List (List ℕ × ℕ)). record (with_position v name (is_fresh v.way name) (at + events)) {
-        fed = v.fed + count_by (λ (e : LogEntry). moves v e.table) (take events (past p v name at));
-        copied = copied_after v.copied (past p v name at) left rows at_most;
-      }) (copy_same p v (past p v name at))
+  lane_same : (p : Plain) (w : Live) (lane : Lane) (name : StreamName) (at at_most events rows : ℕ)
+      → lane_advanced (wider p) w lane name at at_most events rows ≡ lane_advanced p w lane name at at_most events rows
+  lane_same p w lane name at at_most events rows =
+      ap (λ (left : List (List ℕ × ℕ)). record (with_position lane name (is_fresh w.way name) (at + events)) {
+        fed = lane.fed + count_by (is_for w lane) (take events (past p w lane name at));
+        copied = copied_after lane.copied (past p w lane name at) left rows at_most;
+      }) (copy_same p w lane (past p w lane name at))
 
-  lives_same : (p : Plain) (workflow : List ℕ) (name : StreamName) (at at_most events rows : ℕ) (lives : List Live)
-      → with_live (λ v. live_advanced (wider p) v name at at_most events rows) workflow lives ≡ with_live (λ v. live_advanced p v name at at_most events rows) workflow lives
-  lives_same p workflow name at at_most events rows [] = refl
-  lives_same p workflow name at at_most events rows (v ∷ vs) =
-      ap (λ x. cond (same_text v.name workflow) x v ∷ with_live (λ v. live_advanced (wider p) v name at at_most events rows) workflow vs) (live_same p v name at at_most events rows)
-      ∙ ap (λ xs. cond (same_text v.name workflow) (live_advanced p v name at at_most events rows) v ∷ xs) (lives_same p workflow name at at_most events rows vs)
+  lanes_same : (p : Plain) (w : Live) (name : StreamName) (shard at at_most events rows : ℕ) (lanes : List Lane)
+      → map (λ (lane : Lane). cond (eqb lane.shard shard) (lane_advanced (wider p) w lane name at at_most events rows) lane) lanes
+      ≡ map (λ (lane : Lane). cond (eqb lane.shard shard) (lane_advanced p w lane name at at_most events rows) lane) lanes
+  lanes_same p w name shard at at_most events rows [] = refl
+  lanes_same p w name shard at at_most events rows (lane ∷ lanes) =
+      ap (λ x. cond (eqb lane.shard shard) x lane ∷ map (λ (lane : Lane). cond (eqb lane.shard shard) (lane_advanced (wider p) w lane name at at_most events rows) lane) lanes)
+      (lane_same p w lane name at at_most events rows)
+      ∙ ap (λ xs. cond (eqb lane.shard shard) (lane_advanced p w lane name at at_most events rows) lane ∷ xs) (lanes_same p w name shard at at_most events rows lanes)
 
-  log_same : (p : Plain) (w : Live) (name : StreamName) (at events rows : ℕ) → log_advanced (wider p) w name at events rows ≡ log_advanced p w name at events rows
-  log_same p w name at events rows = ap (λ (left : List (List ℕ × ℕ)). p.log ++ logged w name (take events (past p w name at)) (take rows left)) (copy_same p w (past p w name at))
+  lives_same : (p : Plain) (workflow : List ℕ) (name : StreamName) (shard at at_most events rows : ℕ) (lives : List Live)
+      → with_live (λ v. live_advanced (wider p) v name shard at at_most events rows) workflow lives ≡ with_live (λ v. live_advanced p v name shard at at_most events rows) workflow lives
+  lives_same p workflow name shard at at_most events rows [] = refl
+  lives_same p workflow name shard at at_most events rows (v ∷ vs) =
+      ap (λ lanes. cond (same_text v.name workflow) (record v { lanes = lanes }) v ∷ with_live (λ v. live_advanced (wider p) v name shard at at_most events rows) workflow vs)
+      (lanes_same p v name shard at at_most events rows v.lanes)
+      ∙ ap (λ xs. cond (same_text v.name workflow) (live_advanced p v name shard at at_most events rows) v ∷ xs) (lives_same p workflow name shard at at_most events rows vs)
 
-  advance_same : (p : Plain) (name : StreamName) (at at_most events rows : ℕ) (o : Option Live) → with_advance (wider p) name at at_most events rows o ≡ wider (with_advance p name at at_most events rows o)
-  advance_same p name at at_most events rows None = refl
-  advance_same p name at at_most events rows (Some w) =
-      ap (λ lives. record (wider p) { lives = lives; log = log_advanced (wider p) w name at events rows }) (lives_same p w.name name at at_most events rows p.lives)
-      ∙ ap (λ log. record (wider p) { lives = with_live (λ v. live_advanced p v name at at_most events rows) w.name p.lives; log = log }) (log_same p w name at events rows)
+  log_same : (p : Plain) (w : Live) (name : StreamName) (at events rows : ℕ) (o : Option Lane)
+      → option_map_or (λ lane. log_advanced (wider p) w lane name at events rows) o p.log ≡ option_map_or (λ lane. log_advanced p w lane name at events rows) o p.log
+  log_same p w name at events rows None = refl
+  log_same p w name at events rows (Some lane) =
+      ap (λ (left : List (List ℕ × ℕ)). p.log ++ logged w lane name (take events (past p w lane name at)) (take rows left)) (copy_same p w lane (past p w lane name at))
+
+  advance_same : (p : Plain) (name : StreamName) (shard at at_most events rows : ℕ) (o : Option Live)
+      → with_advance (wider p) name shard at at_most events rows o ≡ wider (with_advance p name shard at at_most events rows o)
+  advance_same p name shard at at_most events rows None = refl
+  advance_same p name shard at at_most events rows (Some w) =
+      ap (λ lives. record (wider p) { lives = lives; log = option_map_or (λ lane. log_advanced (wider p) w lane name at events rows) (lane_at w shard) p.log })
+      (lives_same p w.name name shard at at_most events rows p.lives)
+      ∙ ap (λ log. record (wider p) { lives = with_live (λ v. live_advanced p v name shard at at_most events rows) w.name p.lives; log = log }) (log_same p w name at events rows (lane_at w shard))
 
   counted_same : (p : Plain) (event : Event) (events rows : ℕ) → after_advance (wider p) event events rows ≡ wider (after_advance p event events rows)
-  counted_same p (advance workflow name at at_most) events rows = advance_same p name at at_most events rows (live_at p workflow)
+  counted_same p (advance workflow name shard at at_most) events rows = advance_same p name shard at at_most events rows (live_at p workflow)
   counted_same p other events rows = refl
 
   taken_same : (p : Plain) (event : Event) → next_taken (wider p) event ≡ wider (next_taken p event)
@@ -225,11 +257,11 @@ module _ (more : List Scope) where
   taken_same p (complete workflow) = completed_same p (live_at p workflow)
   taken_same p (write keyspace table op) = refl
   taken_same p (read keyspace table key tablet_type) = refl
-  taken_same p (add_keyspace keyspace) = refl
+  taken_same p (add_keyspace keyspace cuts) = refl
   taken_same p (add_table keyspace table) = refl
   taken_same p (edit_rule key target) = refl
   taken_same p (create workflow source target tables) = refl
-  taken_same p (advance workflow name at at_most) = refl
+  taken_same p (advance workflow name shard at at_most) = refl
   taken_same p (begin_switch workflow types) = refl
   taken_same p (begin_reverse workflow types) = refl
   taken_same p (undo workflow at) = refl

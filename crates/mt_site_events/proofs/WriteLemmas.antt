@@ -1,5 +1,5 @@
 -- A write and a read as events.
-use Rattle.std.proofs.Common.{◌≡◌, ℕ, Bool, true, false, List, Option, None, Some, Result, Ok, Err, is_some, refl, sym, ap, ◌∙◌, subst}
+use Rattle.std.proofs.Common.{◌≡◌, ℕ, zero, suc, Bool, true, false, List, Option, None, Some, Result, Ok, Err, is_some, refl, sym, ap, ◌∙◌, subst}
 use Rattle.std.specs.Map.{set_value}
 use Rattle.std.specs.Option.{option_map}
 use Rattle.std.specs.Prelude.{if◌then◌else◌}
@@ -10,7 +10,7 @@ use Rattle.mt_model.specs.declared.entries.Scope.{Scope}
 use Rattle.mt_model.specs.declared.faults.PrimaryFault.{PrimaryFault}
 use Rattle.mt_model.specs.declared.faults.PrimaryFault.TheVariants as primary
 use Rattle.mt_model.specs.declared.rows.Op.{Op}
-use Rattle.mt_model.specs.Rows.{Row}
+use Rattle.mt_model.specs.Rows.{Row, op_key}
 use Rattle.mt_model.specs.Topology.{TopologyState}
 use Rattle.mt_primary.specs.Primary.{PrimaryState, TableState, has_table, is_denied_at, row_at, table_at}
 use Rattle.mt_primary.specs.Reads.{refuses_type}
@@ -18,7 +18,7 @@ use Rattle.mt_primary.specs.Writes.{Writes}
 use Rattle.mt_plain.specs.Answers.{Answers}
 use Rattle.mt_plain.specs.Events.{Event, Answer, read, row, write}
 use Rattle.mt_plain.specs.Next.{next}
-use Rattle.mt_plain.specs.Plain.{Plain, has_keyspace}
+use Rattle.mt_plain.specs.Plain.{Plain, has_keyspace, shard_at}
 use Rattle.mt_plain.specs.Serve.{refuses}
 use Rattle.mt_plain.specs.Serve as plain
 use Rattle.mt_plain.specs.Writes.{row_of}
@@ -28,8 +28,10 @@ use Rattle.mt_site_topology.specs.Stands.{TopologyStands}
 use Rattle.mt_site_rows.specs.Answers.{answer_by}
 use Rattle.mt_site_rows.specs.Rows as rows
 use Rattle.mt_site_state.specs.ByHand.{ReadsRow, WritesAt, WritesRow, answer_by_read, read_at}
-use Rattle.mt_site_state.specs.Core.{CoreState, Primaries, primary_at, primary_of}
+use Rattle.mt_site_state.specs.Core.{CoreState, Primaries, primaries_of, primary_at, primary_of}
 use Rattle.mt_site_state.specs.Stands.{StandsWith, Steps}
+use Rattle.mt_site_state.proofs.ShardLemmas.{in_first}
+use Rattle.mt_site_state.proofs.ShardLemmas as shards
 use Rattle.mt_site_events.proofs.HandCoreLemmas.{primary_of-found, primary_of-set_here}
 use Rattle.mt_site_events.proofs.KeptLemmas.{Laws, core_stands}
 use Rattle.mt_site_events.proofs.PrimaryLemmas.{others_stay, primaries_next, primaries_set}
@@ -61,8 +63,10 @@ denials_stay before after table op (Err fault) did n = ap (λ s. is_denied_at s 
 pub record WriteLaws : Type 0 where
   pub topology : (p : Plain) (t : TopologyState) (event : Event) (answer : Answer) → IsReached p → IsOfRows event → Answers p event answer → TopologyStands p t → TopologyStands (next p event answer) t
   pub rows : (p : Plain) → IsReached p → (old new : rows.Primaries) → rows.RowsStand p old → (keyspace table : List ℕ) (op : Op) → has_keyspace p keyspace ≡ true
-      → has_table (old keyspace) table ≡ plain.has_table p keyspace table → is_denied_at (old keyspace) table ≡ refuses p keyspace table → rows.OthersStay keyspace old new
-      → (result : Result ℕ PrimaryFault) → Writes (old keyspace) table op result (new keyspace)
+      → has_table (old keyspace (shard_at p keyspace (op_key op))) table ≡ plain.has_table p keyspace table
+      → is_denied_at (old keyspace (shard_at p keyspace (op_key op))) table ≡ refuses p keyspace (shard_at p keyspace (op_key op)) table
+      → rows.OthersStay keyspace (shard_at p keyspace (op_key op)) old new
+      → (result : Result ℕ PrimaryFault) → Writes (old keyspace (shard_at p keyspace (op_key op))) table op result (new keyspace (shard_at p keyspace (op_key op)))
       → Answers p (write keyspace table op) (answer_by result) × rows.RowsStand (next p (write keyspace table op) (answer_by result)) new
 
 module _ (p : Plain) (keyspace table : List ℕ) (op : Op) where
@@ -93,10 +97,22 @@ module _ (laws : Laws) (law : WriteLaws) (p : Plain) (scopes : List Scope) (old 
         subst (λ s. Writes s table op result (primary_of set keyspace)) (sym (primary_of-found old.primaries keyspace before found))
         (subst (λ s. Writes before table op result s) (sym (primary_of-set_here old.primaries keyspace before after found)) did)
 
+    -- what the law says of the key's shard it says of the first one
+    at_first : (n : ℕ) → n ≡ 0
+        → (has_table (primaries_of old.primaries keyspace n) table ≡ plain.has_table p keyspace table → is_denied_at (primaries_of old.primaries keyspace n) table ≡ refuses p keyspace n table
+        → rows.OthersStay keyspace n (primaries_of old.primaries) (primaries_of set)
+        → (result : Result ℕ PrimaryFault) → Writes (primaries_of old.primaries keyspace n) table op result (primaries_of set keyspace n)
+        → Answers p (write keyspace table op) (answer_by result) × rows.RowsStand (next p (write keyspace table op) (answer_by result)) (primaries_of set))
+        → (result : Result ℕ PrimaryFault) → Writes (primary_of old.primaries keyspace) table op result (primary_of set keyspace)
+        → Answers p (write keyspace table op) (answer_by result) × rows.RowsStand (next p (write keyspace table op) (answer_by result)) (primaries_of set)
+    at_first zero is says =
+        says (stands.primaries.tables keyspace table) (stands.primaries.denials keyspace table) (shards.others_stay keyspace old.primaries set (others_stay old.primaries keyspace after))
+    at_first (suc n) is says = absurd cc
+
     write_stands : (result : Result ℕ PrimaryFault) → Writes before table op result after → Done (answer_by result) made
     write_stands result did =
-        let both = law.rows p stands.reached (primary_of old.primaries) (primary_of set) stands.rows keyspace table op (there before found)
-        (stands.primaries.tables keyspace table) (stands.primaries.denials keyspace table) (others_stay old.primaries keyspace after) result (at_primaries result did) in (
+        let both = at_first (shard_at p keyspace (op_key op)) (in_first p old.primaries stands.primaries keyspace (op_key op))
+        (law.rows p stands.reached (primaries_of old.primaries) (primaries_of set) stands.rows keyspace table op (there before found)) result (at_primaries result did) in (
           both.0,
           core_stands laws p (write keyspace table op) (answer_by result) stands.reached both.0 (same_lives p keyspace table op result) scopes old made stands refl
               (law.topology p old.topology (write keyspace table op) (answer_by result) stands.reached tt both.0 stands.topology) both.1
@@ -130,16 +146,19 @@ module _ (p : Plain) (scopes : List Scope) (old : CoreState) (keyspace table : L
     has_it : plain.has_table p keyspace table ≡ has_table state table
     has_it = sym (stands.primaries.tables keyspace table) ∙ ap (λ s. has_table s table) is_state
 
-    denies_it : refuses p keyspace table ≡ is_denied_at state table
-    denies_it = sym (stands.primaries.denials keyspace table) ∙ ap (λ s. is_denied_at s table) is_state
+    denies_it : refuses p keyspace (shard_at p keyspace key) table ≡ is_denied_at state table
+    denies_it =
+        ap (λ n. refuses p keyspace n table) (in_first p old.primaries stands.primaries keyspace key) ∙ sym (stands.primaries.denials keyspace table) ∙ ap (λ s. is_denied_at s table) is_state
 
     row_is : plain.has_table p keyspace table ≡ true → row_at state table key ≡ row_of p keyspace table key
-    row_is has = ap (λ s. row_at s table key) (sym is_state) ∙ stands.rows.rows keyspace table has key
+    row_is has =
+        ap (λ s. row_at s table key) (sym is_state) ∙ sym (ap (λ n. row_at (primaries_of old.primaries keyspace n) table key) (in_first p old.primaries stands.primaries keyspace key))
+        ∙ stands.rows.rows keyspace table has key
 
     abbrev answered : Row → Bool → Bool → TabletType → Answer
     answered r has denied tablet_type = answer_by_read (if has then (if refuses_type denied tablet_type then Err primary.Denied else Ok r) else Err primary.NoTable)
 
-    told : (has denied : Bool) → plain.has_table p keyspace table ≡ has → refuses p keyspace table ≡ denied → (tablet_type : TabletType) → Told tablet_type (answered (row_at state table key) has denied tablet_type)
+    told : (has denied : Bool) → plain.has_table p keyspace table ≡ has → refuses p keyspace (shard_at p keyspace key) table ≡ denied → (tablet_type : TabletType) → Told tablet_type (answered (row_at state table key) has denied tablet_type)
     told false denied has denies Primary = (rw (is_there, has) refl, stands)
     told false denied has denies Replica = (rw (is_there, has) refl, stands)
     told false denied has denies Rdonly = (rw (is_there, has) refl, stands)

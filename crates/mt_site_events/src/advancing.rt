@@ -20,7 +20,7 @@ pub fn an_advance_steps()
     ensures { (scopes : List Scope) (old new : CoreState) (workflow : List ℕ) (name : StreamName) (at at_most : ℕ) (answer : Answer)
         → AdvancesWorkflow old workflow name at at_most answer new
         → ((keyspace : List ℕ) → IsPrimary (primary_of old.primaries keyspace))
-        → Steps scopes old (advance workflow name at at_most) answer new }
+        → Steps scopes old (advance workflow name 0 at at_most) answer new }
 {
     a_live_workflow_is_found_by_its_part();
     an_advance_writes_one_log();

@@ -1,5 +1,5 @@
 //! Laws on what is made by hand.
-ghost use Rattle.std.specs.Prelude.{ℕ, List, Option};
+ghost use Rattle.std.specs.Prelude.{ℕ, List, [], Option};
 ghost use Rattle.mt_model.specs.declared.entries.Scope.{Scope};
 ghost use Rattle.mt_names.specs.declared.keys.RuleKey.{RuleKey};
 ghost use Rattle.mt_names.specs.declared.keys.RuleTarget.{RuleTarget};
@@ -25,7 +25,7 @@ use mt_site_topology::{
 /// A keyspace that is made by hand leads from each state that a core stands for to the next one.
 pub fn a_keyspace_steps()
     ensures { (scopes : List Scope) (old new : CoreState) (name : List ℕ) (answer : Answer)
-        → AddsKeyspace old name answer new → Steps scopes old (add_keyspace name) answer new }
+        → AddsKeyspace old name answer new → Steps scopes old (add_keyspace name []) answer new }
 {
     answers_are_determined();
     each_next_state_is_reached();

@@ -12,11 +12,11 @@ use Rattle.mt_model.specs.Topology.{is_present}
 use Rattle.mt_primary.specs.Primary.{PrimaryState, row_at}
 use Rattle.mt_plain.specs.Events.{traffic_switched, under_way}
 use Rattle.mt_plain.specs.Next.{without_live}
-use Rattle.mt_plain.specs.Plain.{Live, Plain, is_side, live_at, mover, moves, number_of, owner}
+use Rattle.mt_plain.specs.Plain.{Live, Plain, is_side, live_at, shard_at, mover, moves, number_of, owner}
 use Rattle.mt_plain.specs.Refuse.{cancel_refusal, or_else, refuse_if}
 use Rattle.mt_plain.specs.Serve.{has_table}
 use Rattle.mt_plain.specs.Writes.{client_number, client_row, other_row, row_after_writes, row_by_mover, row_of}
-use Rattle.mt_site_rows.specs.Rows.{KeepsEndOf, IsPending, OtherTablesStay, OthersStay, Primaries, RowsStand}
+use Rattle.mt_site_rows.specs.Rows.{KeepsEndOf, IsPending, OtherKeyspacesStay, OtherTablesStay, Primaries, RowsStand, owner_shard}
 use Rattle.mt_site_rows.proofs.UnreadLemmas.{StreamsGoOn, unread_next}
 use Rattle.mt_site_rows.proofs.KnownLemmas.{Known, row_at_owner, row_elsewhere, row_free, same_or, some_is}
 
@@ -55,18 +55,18 @@ owner_at_rest w none = by (is_some w.way) w.switched.primary refl none
     by false false e none = ap (λ b. cond b w.target w.source) e
 
 module _ (p : Plain) (known : Known p) (old new : Primaries) (stands : RowsStand p old) (name : List ℕ) (w : Live) (live : live_at p name ≡ Some w) (none : cancel_refusal w ≡ None)
-    (named : (n : List ℕ) (v : Live) → live_at p n ≡ Some v → v.name ≡ n) (others : OthersStay w.target old new) (stay : OtherTablesStay w.tables (old w.target) (new w.target)) where
+    (named : (n : List ℕ) (v : Live) → live_at p n ≡ Some v → v.name ≡ n) (others : OtherKeyspacesStay w.target old new) (stay : (n : ℕ) → OtherTablesStay w.tables (old w.target n) (new w.target n)) where
   abbrev q : Plain
   q = record p { lives = without_live name p.lives }
 
   module _ (known_q : Known q) (elsewhere : (n : List ℕ) → name ≢ n → live_at q n ≡ live_at p n) where
-    log_same : (k : List ℕ) → (new k).log ≡ (old k).log
-    log_same k = ⊎_elim (λ (e : w.target ≡ k). subst (λ x. (new x).log ≡ (old x).log) e stay.log) (λ (e : w.target ≢ k). ap (λ (s : PrimaryState). s.log) (others k e)) (same_or w.target k)
+    log_same : (k : List ℕ) (n : ℕ) → (new k n).log ≡ (old k n).log
+    log_same k n = ⊎_elim (λ (e : w.target ≡ k). subst (λ x. (new x n).log ≡ (old x n).log) e (stay n).log) (λ (e : w.target ≢ k). ap (λ (s : PrimaryState). s.log) (others k e n)) (same_or w.target k)
 
-    row_same : (k t : List ℕ) → moves w t ≡ false → (key : ℕ) → row_at (new k) t key ≡ row_at (old k) t key
-    row_same k t other key = ⊎_elim
-        (λ (e : w.target ≡ k). subst (λ x. row_at (new x) t key ≡ row_at (old x) t key) e (stay.rows t other key))
-        (λ (e : w.target ≢ k). ap (λ s. row_at s t key) (others k e)) (same_or w.target k)
+    row_same : (k : List ℕ) (n : ℕ) (t : List ℕ) → moves w t ≡ false → (key : ℕ) → row_at (new k n) t key ≡ row_at (old k n) t key
+    row_same k n t other key = ⊎_elim
+        (λ (e : w.target ≡ k). subst (λ x. row_at (new x n) t key ≡ row_at (old x n) t key) e ((stay n).rows t other key))
+        (λ (e : w.target ≢ k). ap (λ s. row_at s t key) (others k e n)) (same_or w.target k)
 
     -- those that are live still are others
     live_before : (n : List ℕ) (v : Live) → live_at q n ≡ Some v → (name ≢ n) × (live_at p n ≡ Some v)
@@ -93,9 +93,9 @@ module _ (p : Plain) (known : Known p) (old new : Primaries) (stands : RowsStand
           by None = client_same (ap numbered e)
           by (Some v) = ap (cond (is_side v k && not (same_text (owner v) k)) (other_row p v t key)) (client_same (ap numbered e))
 
-      -- a table that was moved is the source's again
-      given_back : mover q t ≡ None → mover p t ≡ Some w → row_at (new k) t key ≡ row_of q k t key
-      given_back gone found = ap (λ s. row_at s t key) (others k (λ e. not_target (sym e))) ∙ stands.rows k t has_before key ∙ by (is_side w k) refl
+      -- it was there before, and not at the target
+      was_there : mover q t ≡ None → mover p t ≡ Some w → (k ≢ w.target) × (has_table p k t ≡ true)
+      was_there gone found = (not_target, has_before)
         where
           there : is_present p.topology.keyspaces k t ≡ true
           there = sym (ap (λ b. cond b true (is_present p.topology.keyspaces k t)) (none_any (λ (v : Live). moves v t) (λ (v : Live). same_text v.target k) (without_live name p.lives) gone)) ∙ here
@@ -109,6 +109,13 @@ module _ (p : Plain) (known : Known p) (old new : Primaries) (stands : RowsStand
               either : (b : Bool) → cond b true (is_present p.topology.keyspaces k t) ≡ true
               either true = refl
               either false = there
+
+      -- a table that was moved is the source's again
+      given_back : mover q t ≡ None → mover p t ≡ Some w → row_at (new k (shard_at p k key)) t key ≡ row_of q k t key
+      given_back gone found = ap (λ s. row_at s t key) (others k (λ e. (was_there gone found).0 (sym e)) (shard_at p k key)) ∙ stands.rows k t (was_there gone found).1 key ∙ by (is_side w k) refl
+        where
+          not_target : k ≢ w.target
+          not_target = (was_there gone found).0
 
           at_source : same_text w.source k ≡ true → row_of p k t key ≡ row_of q k t key
           at_source e =
@@ -128,8 +135,8 @@ module _ (p : Plain) (known : Known p) (old new : Primaries) (stands : RowsStand
               ∙ ap (λ n. row_after_writes p.writes n key) (ap numbered found ∙ ap (λ b. number_of p (cond b w.source k) t) other ∙ sym (ap numbered gone))
               ∙ sym (row_free q k t gone key)
 
-      before : mover q t ≡ mover p t → moves w t ≡ false → row_at (new k) t key ≡ row_of q k t key
-      before e other = row_same k t other key ∙ stands.rows k t (has_before (list_any (λ (v : Live). moves v t && same_text v.target k) p.lives) refl) key ∙ sym (same_mover e)
+      still : has_table p k t ≡ true
+      still = has_before (list_any (λ (v : Live). moves v t && same_text v.target k) p.lives) refl
         where
           has_before : (b : Bool) → list_any (λ (v : Live). moves v t && same_text v.target k) p.lives ≡ b → has_table p k t ≡ true
           has_before true e = ap (λ b. cond b true (is_present p.topology.keyspaces k t)) e
@@ -137,10 +144,13 @@ module _ (p : Plain) (known : Known p) (old new : Primaries) (stands : RowsStand
               ap (λ b. cond b true (is_present p.topology.keyspaces k t)) e
               ∙ sym (ap (λ b. cond b true (is_present p.topology.keyspaces k t)) (any_without name (λ (v : Live). moves v t && same_text v.target k) p.lives e)) ∙ here
 
-      row_now : row_at (new k) t key ≡ row_of q k t key
+      before : mover q t ≡ mover p t → moves w t ≡ false → row_at (new k (shard_at p k key)) t key ≡ row_of q k t key
+      before e other = row_same k (shard_at p k key) t other key ∙ stands.rows k t still key ∙ sym (same_mover e)
+
+      row_now : row_at (new k (shard_at p k key)) t key ≡ row_of q k t key
       row_now = by (mover q t) refl (mover p t) refl (moves w t) refl
         where
-          by : (a : Option Live) → mover q t ≡ a → (b : Option Live) → mover p t ≡ b → (m : Bool) → moves w t ≡ m → row_at (new k) t key ≡ row_of q k t key
+          by : (a : Option Live) → mover q t ≡ a → (b : Option Live) → mover p t ≡ b → (m : Bool) → moves w t ≡ m → row_at (new k (shard_at p k key)) t key ≡ row_of q k t key
           by (Some v) e b f false m =
               let l = live_before v.name v (known_q.moving t v e).1 in
               before (e ∙ sym (known.found v.name v l.1 t (known_q.moving t v e).0)) m
@@ -157,11 +167,24 @@ module _ (p : Plain) (known : Known p) (old new : Primaries) (stands : RowsStand
                   (same_or name u.name)
           by None e b f true m = given_back e (known.found name w live t m)
 
+      apart_now : (n : ℕ) → shard_at p k key ≢ n → row_at (new k n) t key ≡ None
+      apart_now n other = by (mover q t) refl (moves w t) refl
+        where
+          by : (a : Option Live) → mover q t ≡ a → (m : Bool) → moves w t ≡ m → row_at (new k n) t key ≡ None
+          by a e false m = row_same k n t m key ∙ stands.apart k t still key n other
+          by None e true m =
+              let r = was_there e (known.found name w live t m) in
+              ap (λ s. row_at s t key) (others k (λ h. r.0 (sym h)) n) ∙ stands.apart k t r.1 key n other
+          by (Some v) e true m =
+              let l = live_before v.name v (known_q.moving t v e).1 in
+              absurd (not_w v (known_q.moving t v e).1 (some_is v w (sym (known.found v.name v l.1 t (known_q.moving t v e).0) ∙ known.found name w live t m)))
+
     pub cancel_stands : StreamsGoOn p q → RowsStand q new
     cancel_stands goes = record {
-      log = λ k. subst (KeepsEndOf (log_of p k) k) (sym (log_same k)) (stands.log k);
+      log = λ k n. subst (KeepsEndOf (log_of p k n) k n) (sym (log_same k n)) (stands.log k n);
       rows = row_now;
-      pending = λ n v found. subst (λ l. IsPending q v l) (sym (ap (λ (l : LogState). l.entries) (log_same (owner v))))
-          (let was = stands.pending n v (live_before n v found).1 in record { before = was.before; left = was.left; entries = was.entries; writes = was.writes; rows = was.rows });
-      unread = unread_next p q old new stands (λ k. ap (λ (l : LogState). l.purged) (log_same k)) goes;
+      apart = apart_now;
+      pending = λ n v found m l laned. subst (λ log. IsPending q v l log) (sym (ap (λ (log : LogState). log.entries) (log_same (owner v) (owner_shard v l))))
+          (let was = stands.pending n v (live_before n v found).1 m l laned in record { before = was.before; left = was.left; entries = was.entries; writes = was.writes; rows = was.rows });
+      unread = unread_next p q old new stands (λ k n. ap (λ (l : LogState). l.purged) (log_same k n)) goes;
     }

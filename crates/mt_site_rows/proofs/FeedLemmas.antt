@@ -1,6 +1,6 @@
 -- What an advance puts at the side that its stream writes, in the words of the state: entries, rows and writes.
-use Rattle.std.proofs.Common.{◌≡◌, ℕ, zero, suc, ◌+◌, Bool, true, false, not, cond, eqb, List, [], ◌∷◌, ◌++◌, drop, take, filter, length, Option, None, Some, refl, sym, ap, ◌∙◌, arith, map, eqb-true}
-use Rattle.std.proofs.lemmas.Bool.{true≢false, eq-eqb, eqb-false, and_parts, ne_eqb, or_right}
+use Rattle.std.proofs.Common.{◌≡◌, ℕ, zero, suc, ◌+◌, Bool, true, false, not, cond, eqb, List, [], ◌∷◌, ◌++◌, drop, take, filter, length, Option, None, Some, refl, sym, ap, ◌∙◌, subst, arith, map, eqb-true}
+use Rattle.std.proofs.lemmas.Bool.{true≢false, eq-eqb, eqb-false, and_parts, and_right, ne_eqb, or_right}
 use Rattle.std.proofs.lemmas.List.{length-append, take-append-drop}
 use Rattle.std.proofs.lemmas.List.Elements.{filter-append}
 use Rattle.std.proofs.Math.Seq.{drop-append_seam, take-append_seam}
@@ -14,13 +14,15 @@ use Rattle.mt_model.specs.Rows.{Row, RowValue}
 use Rattle.mt_primary.specs.Primary.{PrimaryState}
 use Rattle.mt_primary.specs.Writes.{RowPut, put_of, row_after_put}
 use Rattle.mt_plain.specs.Events.{StreamName, forward, back, running, stopped, Slot, Way}
-use Rattle.mt_plain.specs.Plain.{Copied, Live, LogEntry, Plain, among, before_way, changes_primary, create_back, live_at, moves, number_of, start_back, stands_done, stop_feeding}
-use Rattle.mt_plain.specs.Slots.{copied_after, entry_of_row, is_fresh, slot_by_way, slot_of, with_position}
+use Rattle.mt_names.specs.Shards.{holds}
+use Rattle.mt_plain.specs.Answers.{range_at}
+use Rattle.mt_plain.specs.Plain.{Copied, Lane, Live, LogEntry, in_lane, Plain, among, before_way, changes_primary, create_back, live_at, moves, number_of, start_back, stands_done, stop_feeding}
+use Rattle.mt_plain.specs.Slots.{copied_after, entry_of_row, is_for, is_fresh, slot_by_way, slot_of, with_position}
 use Rattle.mt_plain.specs.Slots as plain
-use Rattle.mt_plain.specs.Writes.{client_number, in_range, row_after_write}
+use Rattle.mt_plain.specs.Writes.{client_number, in_range, is_applied, row_after_write}
 use Rattle.mt_stream.specs.Advance.{applies, left_in, places, row_copied, rows_of}
 use Rattle.mt_stream.specs.Puts.{RowsByKey, changes_by, rows_after_put}
-use Rattle.mt_site_rows.specs.Rows.{entry_at, is_moved, stream_of, write_of}
+use Rattle.mt_site_rows.specs.Rows.{HoldsItsKeys, entry_at, is_moved, stream_of, write_of}
 use Rattle.mt_site_rows.proofs.KnownLemmas.{Known, client_at_side, has_at_source, itself, source_is_side}
 
 -- ---- lists
@@ -72,73 +74,108 @@ all_take P (suc n) (x ∷ xs) all = (all.0, all_take P n xs all.1)
 -- ---- entries
 
 -- the entries that puts leave name their rows
-pub changes_logged : (k : List ℕ) (rows : RowsByKey) (puts : List RowPut) → map (entry_at k) (changes_by rows puts) ≡ map (entry_of_row k) (places puts)
-changes_logged k rows [] = refl
-changes_logged k rows (put ∷ puts) = ap (λ l. entry_of_row k (put.table, put.key) ∷ l) (changes_logged k (rows_after_put rows put) puts)
+pub changes_logged : (k : List ℕ) (n : ℕ) (rows : RowsByKey) (puts : List RowPut) → map (entry_at k n) (changes_by rows puts) ≡ map (entry_of_row k n) (places puts)
+changes_logged k n rows [] = refl
+changes_logged k n rows (put ∷ puts) = ap (λ l. entry_of_row k n (put.table, put.key) ∷ l) (changes_logged k n (rows_after_put rows put) puts)
 
-pub applied_logged : (w : Live) (slot : Slot) (from k : List ℕ) (cs : List RowChange)
-    → map (entry_of_row k) (places (map put_of (filter (applies (stream_of w slot)) cs))) ≡ map (λ e. entry_of_row k (e.table, e.key)) (filter (plain.applies w) (map (entry_at from) cs))
-applied_logged w slot from k [] = refl
-applied_logged w slot from k (c ∷ cs) = by (applies (stream_of w slot) c) (applied_logged w slot from k cs)
+-- whether a lane's stream writes an entry, by the keys of its shard
+abbrev pub lane_test : Live → Lane → RowChange → Bool
+lane_test w lane c = in_lane w lane c.key && is_applied w.tables lane.copied c.table c.key
+
+pub filter_same : {X : Type 0} (f g : X → Bool) (xs : List X) → ((x : X) → f x ≡ g x) → filter f xs ≡ filter g xs
+filter_same f g [] same = refl
+filter_same f g (x ∷ xs) same = ap (λ b. cond b (x ∷ filter f xs) (filter f xs)) (same x) ∙ ap (λ l. cond (g x) (x ∷ l) l) (filter_same f g xs same)
+
+module _ (w : Live) (lane : Lane) (slot : Slot) (split : HoldsItsKeys w lane) where
+  pub test_is : (c : RowChange) → applies (stream_of w lane slot) c ≡ lane_test w lane c
+  test_is c = ap (λ b. b && is_applied w.tables lane.copied c.table c.key) (split c.key)
+
+  pub tests_are : (cs : List RowChange) → filter (applies (stream_of w lane slot)) cs ≡ filter (lane_test w lane) cs
+  tests_are cs = filter_same (applies (stream_of w lane slot)) (lane_test w lane) cs test_is
+
+  pub applied_logged : (from : List ℕ) (m : ℕ) (k : List ℕ) (n : ℕ) (cs : List RowChange)
+      → map (entry_of_row k n) (places (map put_of (filter (applies (stream_of w lane slot)) cs))) ≡ map (λ e. entry_of_row k n (e.table, e.key)) (filter (plain.applies w lane) (map (entry_at from m) cs))
+  applied_logged from m k n cs = ap (λ l. map (entry_of_row k n) (places (map put_of l))) (tests_are cs) ∙ of cs
+    where
+      of : (cs : List RowChange) → map (entry_of_row k n) (places (map put_of (filter (lane_test w lane) cs))) ≡ map (λ (e : LogEntry). entry_of_row k n (e.table, e.key)) (filter (plain.applies w lane) (map (entry_at from m) cs))
+      of [] = refl
+      of (c ∷ cs) = by (lane_test w lane c) (of cs)
+        where
+          by : (b : Bool) → map (entry_of_row k n) (places (map put_of (filter (lane_test w lane) cs))) ≡ map (λ (e : LogEntry). entry_of_row k n (e.table, e.key)) (filter (plain.applies w lane) (map (entry_at from m) cs))
+              → map (entry_of_row k n) (places (map put_of (cond b (c ∷ filter (lane_test w lane) cs) (filter (lane_test w lane) cs))))
+              ≡ map (λ (e : LogEntry). entry_of_row k n (e.table, e.key)) (cond b (entry_at from m c ∷ filter (plain.applies w lane) (map (entry_at from m) cs)) (filter (plain.applies w lane) (map (entry_at from m) cs)))
+          by true again = ap (λ l. entry_of_row k n (c.table, c.key) ∷ l) again
+          by false again = again
+
+pub moved_entries : (w : Live) (lane : Lane) (k : List ℕ) (n : ℕ) (cs : List RowChange) → filter (is_for w lane) (map (entry_at k n) cs) ≡ map (entry_at k n) (filter (is_moved w lane) cs)
+moved_entries w lane k n [] = refl
+moved_entries w lane k n (c ∷ cs) = by (is_moved w lane c) (moved_entries w lane k n cs)
   where
-    by : (b : Bool) → map (entry_of_row k) (places (map put_of (filter (applies (stream_of w slot)) cs))) ≡ map (λ (e : LogEntry). entry_of_row k (e.table, e.key)) (filter (plain.applies w) (map (entry_at from) cs))
-        → map (entry_of_row k) (places (map put_of (cond b (c ∷ filter (applies (stream_of w slot)) cs) (filter (applies (stream_of w slot)) cs))))
-        ≡ map (λ (e : LogEntry). entry_of_row k (e.table, e.key)) (cond b (entry_at from c ∷ filter (plain.applies w) (map (entry_at from) cs)) (filter (plain.applies w) (map (entry_at from) cs)))
-    by true again = ap (λ l. entry_of_row k (c.table, c.key) ∷ l) again
+    by : (b : Bool) → filter (is_for w lane) (map (entry_at k n) cs) ≡ map (entry_at k n) (filter (is_moved w lane) cs)
+        → cond b (entry_at k n c ∷ filter (is_for w lane) (map (entry_at k n) cs)) (filter (is_for w lane) (map (entry_at k n) cs)) ≡ map (entry_at k n) (cond b (c ∷ filter (is_moved w lane) cs) (filter (is_moved w lane) cs))
+    by true again = ap (λ l. entry_at k n c ∷ l) again
     by false again = again
 
-pub moved_entries : (w : Live) (k : List ℕ) (cs : List RowChange) → filter (λ e. moves w e.table) (map (entry_at k) cs) ≡ map (entry_at k) (filter (is_moved w) cs)
-moved_entries w k [] = refl
-moved_entries w k (c ∷ cs) = by (moves w c.table) (moved_entries w k cs)
+pub copied_same : (copied : Copied) (k : List ℕ) (n : ℕ) (cs : List RowChange) (left : List (List ℕ × ℕ)) (rows at_most : ℕ) → copied_after copied (map (entry_at k n) cs) left rows at_most ≡ copied_after copied cs left rows at_most
+copied_same copied k n [] left rows at_most = refl
+copied_same copied k n (c ∷ cs) left rows at_most = refl
+
+-- ---- puts at other tables, and other keys
+
+abbrev pub IsMoved : Live → Lane → List ℕ → ℕ → Type 0
+IsMoved w lane table key = (moves w table ≡ true) × (in_lane w lane key ≡ true)
+
+abbrev pub AllMoved : Live → Lane → List RowPut → Type 0
+AllMoved w lane puts = AllByRecursion (λ put. IsMoved w lane put.table put.key) puts
+
+pub applied_moved : (w : Live) (lane : Lane) (cs : List RowChange) → AllMoved w lane (map put_of (filter (lane_test w lane) cs))
+applied_moved w lane [] = tt
+applied_moved w lane (c ∷ cs) = by (lane_test w lane c) refl (applied_moved w lane cs)
   where
-    by : (b : Bool) → filter (λ (e : LogEntry). moves w e.table) (map (entry_at k) cs) ≡ map (entry_at k) (filter (is_moved w) cs)
-        → cond b (entry_at k c ∷ filter (λ (e : LogEntry). moves w e.table) (map (entry_at k) cs)) (filter (λ (e : LogEntry). moves w e.table) (map (entry_at k) cs)) ≡ map (entry_at k) (cond b (c ∷ filter (is_moved w) cs) (filter (is_moved w) cs))
-    by true again = ap (λ l. entry_at k c ∷ l) again
-    by false again = again
-
-pub copied_same : (copied : Copied) (k : List ℕ) (cs : List RowChange) (left : List (List ℕ × ℕ)) (rows at_most : ℕ) → copied_after copied (map (entry_at k) cs) left rows at_most ≡ copied_after copied cs left rows at_most
-copied_same copied k [] left rows at_most = refl
-copied_same copied k (c ∷ cs) left rows at_most = refl
-
--- ---- puts at other tables
-
-abbrev pub AllMoved : Live → List RowPut → Type 0
-AllMoved w puts = AllByRecursion (λ put. moves w put.table ≡ true) puts
-
-pub applied_moved : (w : Live) (slot : Slot) (cs : List RowChange) → AllMoved w (map put_of (filter (applies (stream_of w slot)) cs))
-applied_moved w slot [] = tt
-applied_moved w slot (c ∷ cs) = by (applies (stream_of w slot) c) refl (applied_moved w slot cs)
-  where
-    by : (b : Bool) → applies (stream_of w slot) c ≡ b → AllMoved w (map put_of (filter (applies (stream_of w slot)) cs)) → AllMoved w (map put_of (cond b (c ∷ filter (applies (stream_of w slot)) cs) (filter (applies (stream_of w slot)) cs)))
-    by true e again = ((and_parts (moves w c.table) (in_range w.tables w.copied c.table c.key) e).0, again)
+    by : (b : Bool) → lane_test w lane c ≡ b → AllMoved w lane (map put_of (filter (lane_test w lane) cs)) → AllMoved w lane (map put_of (cond b (c ∷ filter (lane_test w lane) cs) (filter (lane_test w lane) cs)))
+    by true e again =
+        let both = and_parts (in_lane w lane c.key) (is_applied w.tables lane.copied c.table c.key) e in
+        (((and_parts (moves w c.table) (in_range w.tables lane.copied c.table c.key) both.1).0, both.0), again)
     by false e again = again
 
-rows_moved : (w : Live) (t : List ℕ) → moves w t ≡ true → (rows : List (ℕ × RowValue)) → AllMoved w (map (row_copied t) rows)
-rows_moved w t moved [] = tt
-rows_moved w t moved (r ∷ rs) = (moved, rows_moved w t moved rs)
+module _ (w : Live) (lane : Lane) (split : HoldsItsKeys w lane) where
+  rows_moved : (t : List ℕ) → moves w t ≡ true → (test : ℕ → Bool) (rows : List (ℕ × RowValue)) → AllMoved w lane (map (row_copied t) (filter (λ row. holds (range_at w.cuts lane.shard) row.0 && test row.0) rows))
+  rows_moved t moved test [] = tt
+  rows_moved t moved test (r ∷ rs) = by (holds (range_at w.cuts lane.shard) r.0 && test r.0) refl (rows_moved t moved test rs)
+    where
+      rest : List (ℕ × RowValue)
+      rest = filter (λ row. holds (range_at w.cuts lane.shard) row.0 && test row.0) rs
 
-pub left_moved : (w : Live) (source : PrimaryState) (ts : List (List ℕ)) → ((t : List ℕ) → among ts t ≡ true → moves w t ≡ true) → AllMoved w (flat_map (left_in source w.tables w.copied) ts)
-left_moved w source [] all = tt
-left_moved w source (t ∷ ts) all =
-    all_append (λ (put : RowPut). moves w put.table ≡ true) (left_in source w.tables w.copied t) (flat_map (left_in source w.tables w.copied) ts)
-    (rows_moved w t (all t (ap (λ b. b || among ts t) (itself t))) (filter (λ row. not (in_range w.tables w.copied t row.0)) (rows_of source t)))
-    (left_moved w source ts (λ u named. all u (or_right (same_text t u) (among ts u) named)))
+      by : (b : Bool) → (holds (range_at w.cuts lane.shard) r.0 && test r.0) ≡ b → AllMoved w lane (map (row_copied t) rest) → AllMoved w lane (map (row_copied t) (cond b (r ∷ rest) rest))
+      by true e again = ((moved, sym (split r.0) ∙ (and_parts (holds (range_at w.cuts lane.shard) r.0) (test r.0) e).0), again)
+      by false e again = again
 
-pub fold_untouched : (w : Live) (puts : List RowPut) → AllMoved w puts → (t : List ℕ) → moves w t ≡ false → (key : ℕ) (row : Row) → fold (row_after_put t key) row puts ≡ row
-fold_untouched w [] all t none key row = refl
-fold_untouched w (put ∷ puts) all t none key row =
-    ap (λ b. fold (row_after_put t key) (cond (b && eqb key put.key) put.after row) puts) (by (same_text t put.table) refl) ∙ fold_untouched w puts all.1 t none key row
+  pub left_moved : (source : PrimaryState) (ts : List (List ℕ)) → ((t : List ℕ) → among ts t ≡ true → moves w t ≡ true) → AllMoved w lane (flat_map (left_in source (range_at w.cuts lane.shard) w.tables lane.copied) ts)
+  left_moved source [] all = tt
+  left_moved source (t ∷ ts) all =
+      all_append (λ (put : RowPut). IsMoved w lane put.table put.key) (left_in source (range_at w.cuts lane.shard) w.tables lane.copied t) (flat_map (left_in source (range_at w.cuts lane.shard) w.tables lane.copied) ts)
+      (rows_moved t (all t (ap (λ b. b || among ts t) (itself t))) (λ key. not (in_range w.tables lane.copied t key)) (rows_of source t))
+      (left_moved source ts (λ u named. all u (or_right (same_text t u) (among ts u) named)))
+
+pub fold_untouched : (w : Live) (lane : Lane) (puts : List RowPut) → AllMoved w lane puts → (t : List ℕ) (key : ℕ) → (moves w t && in_lane w lane key) ≡ false → (row : Row) → fold (row_after_put t key) row puts ≡ row
+fold_untouched w lane [] all t key none row = refl
+fold_untouched w lane (put ∷ puts) all t key none row =
+    ap (λ b. fold (row_after_put t key) (cond b put.after row) puts) (by (same_text t put.table) refl (eqb key put.key) refl) ∙ fold_untouched w lane puts all.1 t key none row
   where
-    by : (b : Bool) → same_text t put.table ≡ b → same_text t put.table ≡ false
-    by true e = absurd (true≢false (sym (ap (moves w) ((same_text_decides t put.table).0 e) ∙ all.0) ∙ none))
-    by false e = e
+    by : (a : Bool) → same_text t put.table ≡ a → (b : Bool) → eqb key put.key ≡ b → (same_text t put.table && eqb key put.key) ≡ false
+    by true e true f =
+        let m : moves w t ≡ true = ap (moves w) ((same_text_decides t put.table).0 e) ∙ all.0.0 in
+        let i : in_lane w lane key ≡ true = ap (in_lane w lane) (eqb-true key put.key f) ∙ all.0.1 in
+        absurd (true≢false (sym (ap (λ b. b && in_lane w lane key) m ∙ i) ∙ none))
+    by true e false f = ap (λ b. same_text t put.table && b) f ∙ and_right (same_text t put.table) false refl
+    by false e b f = ap (λ a. a && eqb key put.key) e
 
-pub none_moved : (w v : Live) → ((t : List ℕ) → moves w t ≡ true → moves v t ≡ false) → (rows : RowsByKey) (puts : List RowPut) → AllMoved w puts → filter (is_moved v) (changes_by rows puts) ≡ []
-none_moved w v apart rows [] all = refl
-none_moved w v apart rows (put ∷ puts) all =
-    ap (λ b. cond b (record { table = put.table; key = put.key; before = rows put.table put.key; after = put.after } ∷ filter (is_moved v) (changes_by (rows_after_put rows put) puts)) (filter (is_moved v) (changes_by (rows_after_put rows put) puts)))
-    (apart put.table all.0)
-    ∙ none_moved w v apart (rows_after_put rows put) puts all.1
+pub none_moved : (w v : Live) (lane l : Lane) → ((t : List ℕ) → moves w t ≡ true → moves v t ≡ false) → (rows : RowsByKey) (puts : List RowPut) → AllMoved w lane puts → filter (is_moved v l) (changes_by rows puts) ≡ []
+none_moved w v lane l apart rows [] all = refl
+none_moved w v lane l apart rows (put ∷ puts) all =
+    ap (λ b. cond b (record { table = put.table; key = put.key; before = rows put.table put.key; after = put.after } ∷ filter (is_moved v l) (changes_by (rows_after_put rows put) puts)) (filter (is_moved v l) (changes_by (rows_after_put rows put) puts)))
+    (ap (λ b. in_lane v l put.key && b) (apart put.table all.0.0) ∙ and_right (in_lane v l put.key) false refl)
+    ∙ none_moved w v lane l apart (rows_after_put rows put) puts all.1
 
 -- ---- entries that are read
 
@@ -163,63 +200,63 @@ module _ (p : Plain) (known : Known p) (name : List ℕ) (w : Live) (live : live
           (λ h. true≢false (sym ((same_text_decides t u).1 (sym (known.apart w.source u w.source t (has_at_source p known name w live u mu) (has_at_source p known name w live t mt) (client u mu ∙ h ∙ sym (client t mt))).0)) ∙ e))
           ∙ sym e
 
-  module _ (slot : Slot) (t : List ℕ) (key : ℕ) where
+  module _ (lane : Lane) (t : List ℕ) (key : ℕ) (here : in_lane w lane key ≡ true) where
     -- in the copied range the entries make of a row what the writes do
-    pub fold_read : moves w t ≡ true → in_range w.tables w.copied t key ≡ true → (cs : List RowChange) (row : Row)
-        → fold (row_after_put t key) row (map put_of (filter (applies (stream_of w slot)) cs)) ≡ fold (row_after_write (number_of p w.source t) key) row (map (write_of p w) (filter (is_moved w) cs))
+    pub fold_read : moves w t ≡ true → in_range w.tables lane.copied t key ≡ true → (cs : List RowChange) (row : Row)
+        → fold (row_after_put t key) row (map put_of (filter (lane_test w lane) cs)) ≡ fold (row_after_write (number_of p w.source t) key) row (map (write_of p w) (filter (is_moved w lane) cs))
     fold_read moved within [] row = refl
-    fold_read moved within (c ∷ cs) row = by (moves w c.table) refl (in_range w.tables w.copied c.table c.key) refl (fold_read moved within cs)
+    fold_read moved within (c ∷ cs) row = by (in_lane w lane c.key) refl (moves w c.table) refl (in_range w.tables lane.copied c.table c.key) refl (fold_read moved within cs)
       where
         puts : List RowChange
-        puts = filter (applies (stream_of w slot)) cs
+        puts = filter (lane_test w lane) cs
 
         more : List RowChange
-        more = filter (is_moved w) cs
+        more = filter (is_moved w lane) cs
 
         Again : Type 0
         Again = (r : Row) → fold (row_after_put t key) r (map put_of puts) ≡ fold (row_after_write (number_of p w.source t) key) r (map (write_of p w) more)
 
-        outside : (s e : Bool) → same_text t c.table ≡ s → eqb key c.key ≡ e → in_range w.tables w.copied c.table c.key ≡ false → (s && e) ≡ false
-        outside true true s e none = absurd (true≢false (sym (ap (λ x. in_range w.tables w.copied x c.key) (sym ((same_text_decides t c.table).0 s)) ∙ ap (in_range w.tables w.copied t) (sym (eqb-true key c.key e)) ∙ within) ∙ none))
+        outside : (s e : Bool) → same_text t c.table ≡ s → eqb key c.key ≡ e → in_range w.tables lane.copied c.table c.key ≡ false → (s && e) ≡ false
+        outside true true s e none = absurd (true≢false (sym (ap (λ x. in_range w.tables lane.copied x c.key) (sym ((same_text_decides t c.table).0 s)) ∙ ap (in_range w.tables lane.copied t) (sym (eqb-true key c.key e)) ∙ within) ∙ none))
         outside true false s e none = refl
         outside false e s f none = refl
 
         step : moves w c.table ≡ true → row_after_write (number_of p w.source t) key row (write_of p w c) ≡ cond (same_text t c.table && eqb key c.key) c.after row
         step m = ap (λ b. cond (b && eqb c.key key) c.after row) (numbers_apart t c.table moved m) ∙ ap (λ b. cond (same_text t c.table && b) c.after row) (same_key c.key key)
 
-        by : (m : Bool) → moves w c.table ≡ m → (i : Bool) → in_range w.tables w.copied c.table c.key ≡ i → Again
-            → fold (row_after_put t key) row (map put_of (cond (moves w c.table && in_range w.tables w.copied c.table c.key) (c ∷ puts) puts))
-            ≡ fold (row_after_write (number_of p w.source t) key) row (map (write_of p w) (cond (moves w c.table) (c ∷ more) more))
-        by false m i f again =
-            ap (λ b. fold (row_after_put t key) row (map put_of (cond (b && in_range w.tables w.copied c.table c.key) (c ∷ puts) puts))) m ∙ again row
-            ∙ sym (ap (λ b. fold (row_after_write (number_of p w.source t) key) row (map (write_of p w) (cond b (c ∷ more) more))) m)
-        by true m true f again =
-            ap (λ b. fold (row_after_put t key) row (map put_of (cond (b && in_range w.tables w.copied c.table c.key) (c ∷ puts) puts))) m
-            ∙ ap (λ b. fold (row_after_put t key) row (map put_of (cond b (c ∷ puts) puts))) f
-            ∙ again (cond (same_text t c.table && eqb key c.key) c.after row)
-            ∙ ap (λ r. fold (row_after_write (number_of p w.source t) key) r (map (write_of p w) more)) (sym (step m))
-            ∙ sym (ap (λ b. fold (row_after_write (number_of p w.source t) key) row (map (write_of p w) (cond b (c ∷ more) more))) m)
-        by true m false f again =
-            ap (λ b. fold (row_after_put t key) row (map put_of (cond (b && in_range w.tables w.copied c.table c.key) (c ∷ puts) puts))) m
-            ∙ ap (λ b. fold (row_after_put t key) row (map put_of (cond b (c ∷ puts) puts))) f
-            ∙ again row
-            ∙ ap (λ r. fold (row_after_write (number_of p w.source t) key) r (map (write_of p w) more)) (sym (step m ∙ ap (λ b. cond b c.after row) (outside (same_text t c.table) (eqb key c.key) refl refl f)))
-            ∙ sym (ap (λ b. fold (row_after_write (number_of p w.source t) key) row (map (write_of p w) (cond b (c ∷ more) more))) m)
+        Goal : (i m r : Bool) → Type 0
+        Goal i m r = fold (row_after_put t key) row (map put_of (cond (i && (m && r)) (c ∷ puts) puts)) ≡ fold (row_after_write (number_of p w.source t) key) row (map (write_of p w) (cond (i && m) (c ∷ more) more))
+
+        goal : (i : Bool) → in_lane w lane c.key ≡ i → (m : Bool) → moves w c.table ≡ m → (r : Bool) → in_range w.tables lane.copied c.table c.key ≡ r → Again → Goal i m r
+        goal false i m e r f again = again row
+        goal true i false e r f again = again row
+        goal true i true e true f again =
+            again (cond (same_text t c.table && eqb key c.key) c.after row)
+            ∙ ap (λ r. fold (row_after_write (number_of p w.source t) key) r (map (write_of p w) more)) (sym (step e))
+        goal true i true e false f again =
+            again row
+            ∙ ap (λ r. fold (row_after_write (number_of p w.source t) key) r (map (write_of p w) more)) (sym (step e ∙ ap (λ b. cond b c.after row) (outside (same_text t c.table) (eqb key c.key) refl refl f)))
+
+        by : (i : Bool) → in_lane w lane c.key ≡ i → (m : Bool) → moves w c.table ≡ m → (r : Bool) → in_range w.tables lane.copied c.table c.key ≡ r → Again → Goal (in_lane w lane c.key) (moves w c.table) (in_range w.tables lane.copied c.table c.key)
+        by i e m f r g again =
+            subst (λ x. Goal x (moves w c.table) (in_range w.tables lane.copied c.table c.key)) (sym e)
+            (subst (λ x. Goal i x (in_range w.tables lane.copied c.table c.key)) (sym f) (subst (Goal i m) (sym g) (goal i e m f r g again)))
 
     -- outside of it they leave the row
-    pub fold_passed : in_range w.tables w.copied t key ≡ false → (cs : List RowChange) (row : Row) → fold (row_after_put t key) row (map put_of (filter (applies (stream_of w slot)) cs)) ≡ row
+    pub fold_passed : in_range w.tables lane.copied t key ≡ false → (cs : List RowChange) (row : Row) → fold (row_after_put t key) row (map put_of (filter (lane_test w lane) cs)) ≡ row
     fold_passed outside [] row = refl
-    fold_passed outside (c ∷ cs) row = by (applies (stream_of w slot) c) refl (same_text t c.table) refl (eqb key c.key) refl (fold_passed outside cs row)
+    fold_passed outside (c ∷ cs) row = by (lane_test w lane c) refl (same_text t c.table) refl (eqb key c.key) refl (fold_passed outside cs row)
       where
         puts : List RowChange
-        puts = filter (applies (stream_of w slot)) cs
+        puts = filter (lane_test w lane) cs
 
-        by : (a : Bool) → applies (stream_of w slot) c ≡ a → (s : Bool) → same_text t c.table ≡ s → (e : Bool) → eqb key c.key ≡ e → fold (row_after_put t key) row (map put_of puts) ≡ row
+        by : (a : Bool) → lane_test w lane c ≡ a → (s : Bool) → same_text t c.table ≡ s → (e : Bool) → eqb key c.key ≡ e → fold (row_after_put t key) row (map put_of puts) ≡ row
             → fold (row_after_put t key) row (map put_of (cond a (c ∷ puts) puts)) ≡ row
         by false a s f e g again = again
         by true a true s true e again =
-            absurd (true≢false (sym (and_parts (moves w c.table) (in_range w.tables w.copied c.table c.key) a).1
-            ∙ ap (λ x. in_range w.tables w.copied x c.key) (sym ((same_text_decides t c.table).0 s)) ∙ ap (in_range w.tables w.copied t) (sym (eqb-true key c.key e)) ∙ outside))
+            let applied = (and_parts (in_lane w lane c.key) (is_applied w.tables lane.copied c.table c.key) a).1 in
+            absurd (true≢false (sym (and_parts (moves w c.table) (in_range w.tables lane.copied c.table c.key) applied).1
+            ∙ ap (λ x. in_range w.tables lane.copied x c.key) (sym ((same_text_decides t c.table).0 s)) ∙ ap (in_range w.tables lane.copied t) (sym (eqb-true key c.key e)) ∙ outside))
         by true a true s false e again = ap (λ b. fold (row_after_put t key) (cond (same_text t c.table && b) c.after row) (map put_of puts)) e ∙ ap (λ b. fold (row_after_put t key) (cond (b && false) c.after row) (map put_of puts)) s ∙ again
         by true a false s e f again = ap (λ b. fold (row_after_put t key) (cond (b && eqb key c.key) c.after row) (map put_of puts)) s ∙ again
 
@@ -229,53 +266,47 @@ abbrev pub moved_to : ℕ → Option Slot → Option Slot
 moved_to position slot = option_map (λ (s : Slot). let x : Slot = record { state = s.state; position = position } in x) slot
 
 -- a slot by the tests of its way
-abbrev pub slot_when : Live → Way → StreamName → (c f d : Bool) → Option Slot
-slot_when w way name c f d =
-    if not c then plain.slot_before_way w name else if f then plain.feeding_slot w way (plain.slot_before_way w name)
-    else if d then Some (record { state = if stands_done way start_back then running else stopped; position = w.fresh_at }) else plain.slot_before_way w name
+abbrev pub slot_when : Live → Lane → Way → StreamName → (c f d : Bool) → Option Slot
+slot_when w lane way name c f d =
+    if not c then plain.slot_before_way w lane name else if f then plain.feeding_slot lane way (plain.slot_before_way w lane name)
+    else if d then Some (record { state = if stands_done way start_back then running else stopped; position = lane.fresh_at }) else plain.slot_before_way w lane name
 
-module _ (w : Live) (position fed : ℕ) (copied : Copied) where
-  abbrev gone : StreamName → Bool → Live
-  gone name b = record (with_position w name b position) { fed = fed; copied = copied }
+module _ (w : Live) (lane : Lane) (position fed : ℕ) (copied : Copied) where
+  abbrev gone : StreamName → Bool → Lane
+  gone name b = record (with_position lane name b position) { fed = fed; copied = copied }
 
-  at_rest : (name : StreamName) (target_owns : Bool) → plain.slot_at_rest (gone name false) target_owns name ≡ moved_to position (plain.slot_at_rest w target_owns name)
+  at_rest : (name : StreamName) (target_owns : Bool) → plain.slot_at_rest (gone name false) target_owns name ≡ moved_to position (plain.slot_at_rest lane target_owns name)
   at_rest forward true = refl
   at_rest forward false = refl
   at_rest back true = refl
   at_rest back false = refl
 
-  feeding_goes : (way : Way) (slot : Option Slot) → plain.feeding_slot w way (moved_to position slot) ≡ moved_to position (plain.feeding_slot w way slot)
-  feeding_goes way None = refl
-  feeding_goes way (Some s) = by (stands_done way stop_feeding)
+  feeding_goes : (other : Lane) (way : Way) (slot : Option Slot) → plain.feeding_slot other way (moved_to position slot) ≡ moved_to position (plain.feeding_slot lane way slot)
+  feeding_goes other way None = refl
+  feeding_goes other way (Some s) = by (stands_done way stop_feeding)
     where
       by : (b : Bool) → Some (cond b (record { state = stopped; position = position }) (record { state = s.state; position = position }))
           ≡ moved_to position (Some (cond b (record s { state = stopped }) s))
       by true = refl
       by false = refl
 
-  on_way : (way : Way) (name : StreamName) (c f d : Bool) → slot_when (gone name (c && not f && d)) way name c f d ≡ moved_to position (slot_when w way name c f d)
+  on_way : (way : Way) (name : StreamName) (c f d : Bool) → slot_when w (gone name (c && not f && d)) way name c f d ≡ moved_to position (slot_when w lane way name c f d)
   on_way way forward false f d = at_rest forward (before_way w).primary
-  on_way way forward true true d = ap (plain.feeding_slot w way) (at_rest forward (before_way w).primary) ∙ feeding_goes way (plain.slot_before_way w forward)
+  on_way way forward true true d = ap (plain.feeding_slot (gone forward false) way) (at_rest forward (before_way w).primary) ∙ feeding_goes (gone forward false) way (plain.slot_before_way w lane forward)
   on_way way forward true false true = refl
   on_way way forward true false false = at_rest forward (before_way w).primary
   on_way way back false f d = at_rest back (before_way w).primary
-  on_way way back true true d = ap (plain.feeding_slot w way) (at_rest back (before_way w).primary) ∙ feeding_goes way (plain.slot_before_way w back)
+  on_way way back true true d = ap (plain.feeding_slot (gone back false) way) (at_rest back (before_way w).primary) ∙ feeding_goes (gone back false) way (plain.slot_before_way w lane back)
   on_way way back true false true = refl
   on_way way back true false false = at_rest back (before_way w).primary
 
-  pub slot_goes : (name : StreamName) → slot_of (gone name (is_fresh w.way name)) name ≡ moved_to position (slot_of w name)
-  slot_goes name = at_way name (is_fresh w.way name) ∙ by w.way
+  pub slot_goes : (name : StreamName) → slot_of w (gone name (is_fresh w.way name)) name ≡ moved_to position (slot_of w lane name)
+  slot_goes name = by w.way
     where
-      at_way : (n : StreamName) (b : Bool) → slot_of (gone n b) n ≡ slot_by_way (gone n b) w.way n
-      at_way forward true = refl
-      at_way forward false = refl
-      at_way back true = refl
-      at_way back false = refl
-
-      rests : (n : StreamName) → slot_by_way (gone n (is_fresh None n)) None n ≡ moved_to position (slot_by_way w None n)
+      rests : (n : StreamName) → slot_by_way w (gone n (is_fresh None n)) None n ≡ moved_to position (slot_by_way w lane None n)
       rests forward = at_rest forward (before_way w).primary
       rests back = at_rest back (before_way w).primary
 
-      by : (o : Option Way) → slot_by_way (gone name (is_fresh o name)) o name ≡ moved_to position (slot_by_way w o name)
+      by : (o : Option Way) → slot_by_way w (gone name (is_fresh o name)) o name ≡ moved_to position (slot_by_way w lane o name)
       by None = rests name
       by (Some way) = on_way way name (changes_primary way) (plain.is_feeding way name) (stands_done way create_back)

@@ -1,7 +1,6 @@
 -- What is known of a state that a run reaches, and what it says of rows and of writes.
-use Rattle.mt_plain.specs.Slots.{log_of}
-use Rattle.std.proofs.Common.{◌≡◌, ◌≢◌, ℕ, ◌≤◌, ◌⊎◌, Bool, true, false, not, cond, eqb, List, [], ◌∷◌, length, Option, None, Some, refl, sym, ap, ◌∙◌, subst, inl, inr, eqb-true}
-use Rattle.std.proofs.lemmas.Bool.{true≢false, eq-eqb, and_from, and_parts, or_right}
+use Rattle.std.proofs.Common.{◌≡◌, ◌≢◌, ℕ, ◌≤◌, ◌⊎◌, Bool, true, false, not, cond, eqb, List, [], ◌∷◌, length, Option, None, Some, refl, sym, ap, ◌∙◌, subst, inl, inr, ⊎_elim, eqb-true}
+use Rattle.std.proofs.lemmas.Bool.{true≢false, eq-eqb, eqb-false, and_from, and_parts, or_right}
 use Rattle.std.specs.List.{list_any}
 use Rattle.std.specs.Option.{option_map_or}
 use Rattle.std.specs.Prelude.{◌&&◌, ◌||◌}
@@ -10,19 +9,25 @@ use Rattle.mt_names.proofs.EntryLemmas.{same_itself, same_or_other, apart}
 use Rattle.mt_names.proofs.SameLemmas.{same_text_decides}
 use Rattle.mt_model.specs.Topology.{is_present}
 use Rattle.mt_primary.specs.Primary.{PrimaryState, row_at}
-use Rattle.mt_plain.specs.Plain.{Live, Plain, among, is_side, live_at, mover, moves, number_of, owner}
+use Rattle.mt_names.specs.Shards.{shard_of}
+use Rattle.mt_plain.specs.Events.{StreamName, forward, back}
+use Rattle.mt_plain.specs.Plain.{Lane, Live, Plain, among, in_lane, is_side, lane_at, lane_of, live_at, shard_at, mover, moves, number_of, owner}
 use Rattle.mt_plain.specs.Serve.{IsWritable, has_table}
-use Rattle.mt_plain.specs.Writes.{client_number, client_row, other_row, row_by_mover, row_of, writes_to}
+use Rattle.mt_plain.specs.Slots.{log_of, read_shard, read_side, written_side}
+use Rattle.mt_plain.specs.Writes.{client_number, client_row, lane_writes, other_row, row_by_mover, row_of}
+use Rattle.mt_laws.proofs.LaneLemmas.{lane_found}
 use Rattle.mt_laws.specs.Places.{AreSidesOfMove}
 use Rattle.mt_laws.specs.Reached.{IsInPlace}
-use Rattle.mt_site_rows.specs.Rows.{KeepsEndOf, IsPending, Primaries, RowsStand, StandAbove}
+use Rattle.mt_site_rows.specs.Rows.{KeepsEndOf, IsPending, OthersStay, Primaries, RowsStand, StandAbove, owner_shard}
 
 -- what the laws say of a state that a run reaches
 pub record Known (p : Plain) : Type 0 where
   pub found : (name : List ℕ) (w : Live) → live_at p name ≡ Some w → (table : List ℕ) → moves w table ≡ true → mover p table ≡ Some w
   pub moving : (table : List ℕ) (w : Live) → mover p table ≡ Some w → (moves w table ≡ true) × (live_at p w.name ≡ Some w)
   pub placed : (name : List ℕ) (w : Live) → live_at p name ≡ Some w → IsInPlace p.topology w
-  pub fed : (name : List ℕ) (w : Live) → live_at p name ≡ Some w → w.fed ≤ length (writes_to p w)
+  pub fed : (name : List ℕ) (w : Live) → live_at p name ≡ Some w → (shard : ℕ) (lane : Lane) → lane_at w shard ≡ Some lane → lane.fed ≤ length (lane_writes p w lane)
+  pub source_one : (name : List ℕ) (w : Live) → live_at p name ≡ Some w → (key : ℕ) → shard_at p w.source key ≡ 0
+  pub target_by : (name : List ℕ) (w : Live) → live_at p name ≡ Some w → (key : ℕ) → shard_at p w.target key ≡ shard_of w.cuts key
   pub apart : (k t keyspace table : List ℕ) → has_table p k t ≡ true → has_table p keyspace table ≡ true → client_number p k t ≡ client_number p keyspace table → (t ≡ table) × ((k ≡ keyspace) ⊎ AreSidesOfMove p t k keyspace)
   pub writable : (table : List ℕ) (w : Live) → mover p table ≡ Some w → (keyspace : List ℕ) → is_side w keyspace ≡ true → IsWritable p keyspace table → keyspace ≡ owner w
 
@@ -68,9 +73,42 @@ owner_is_side w = by w.switched.primary
 pub source_is_side : (w : Live) → is_side w w.source ≡ true
 source_is_side w = ap (λ b. b || same_text w.target w.source) (itself w.source)
 
+-- the sides of a stream
+pub sides_apart : (w : Live) (stream : StreamName) → w.source ≢ w.target → read_side w stream ≢ written_side w stream
+sides_apart w forward apart = apart
+sides_apart w back apart = λ e. apart (sym e)
+
+pub written_is_side : (w : Live) (stream : StreamName) → is_side w (written_side w stream) ≡ true
+written_is_side w forward = or_right (same_text w.source w.target) (same_text w.target w.target) (itself w.target)
+written_is_side w back = ap (λ b. b || same_text w.target w.source) (itself w.source)
+
+pub side_either : (w : Live) (stream : StreamName) (k : List ℕ) → is_side w k ≡ true → k ≢ written_side w stream → k ≡ read_side w stream
+side_either w stream k side other = by stream other (same_or k w.source) (same_or k w.target)
+  where
+    by : (n : StreamName) → k ≢ written_side w n → (k ≡ w.source) ⊎ (k ≢ w.source) → (k ≡ w.target) ⊎ (k ≢ w.target) → k ≡ read_side w n
+    by forward other (inl e) t = e
+    by forward other (inr e) (inl t) = absurd (other t)
+    by back other s (inl t) = t
+    by back other (inl e) (inr t) = absurd (other e)
+    by n other (inr e) (inr t) =
+        absurd (true≢false (sym side ∙ ap (λ b. b || same_text w.target k) (differs w.source k (λ h. e (sym h))) ∙ differs w.target k (λ h. t (sym h))))
+
 pub client_at_side : (p : Plain) (w : Live) (t : List ℕ) → mover p t ≡ Some w → (k : List ℕ) → is_side w k ≡ true → client_number p k t ≡ number_of p w.source t
 client_at_side p w t found k side =
     ap (λ o. number_of p (option_map_or (λ (u : Live). cond (is_side u k) u.source k) o k) t) found ∙ ap (λ b. number_of p (cond b w.source k) t) side
+
+-- ---- lanes
+
+-- a lane that is found by a number has it
+pub numbered : (w : Live) (n : ℕ) (lane : Lane) → lane_at w n ≡ Some lane → lane.shard ≡ n
+numbered w n lane e = (lane_found w n lane e).1
+
+-- a key stands in the lane of its shard, and in no other
+pub in_lane_is : (w : Live) (n : ℕ) (lane : Lane) → lane_at w n ≡ Some lane → (key : ℕ) → in_lane w lane key ≡ eqb (shard_of w.cuts key) n
+in_lane_is w n lane e key = ap (eqb (shard_of w.cuts key)) (numbered w n lane e)
+
+pub lane_here : (w : Live) (n : ℕ) (lane : Lane) → lane_at w n ≡ Some lane → (key : ℕ) → in_lane w lane key ≡ true → lane_of w key ≡ Some lane
+lane_here w n lane e key is = ap (lane_at w) (eqb-true (shard_of w.cuts key) n (sym (in_lane_is w n lane e key) ∙ is)) ∙ e
 
 -- ---- the row of a table at a keyspace
 
@@ -147,10 +185,45 @@ module _ (p : Plain) (known : Known p) where
 
 -- ---- the same primaries
 
-pub same_primaries : (p : Plain) (old new : Primaries) → RowsStand p old → ((k : List ℕ) → new k ≡ old k) → RowsStand p new
+pub same_primaries : (p : Plain) (old new : Primaries) → RowsStand p old → ((k : List ℕ) (n : ℕ) → new k n ≡ old k n) → RowsStand p new
 same_primaries p old new stands same = record {
-  log = λ k. subst (λ (s : PrimaryState). KeepsEndOf (log_of p k) k s.log) (sym (same k)) (stands.log k);
-  rows = λ k t has key. ap (λ s. row_at s t key) (same k) ∙ stands.rows k t has key;
-  pending = λ name w live. subst (λ (s : PrimaryState). IsPending p w s.log.entries) (sym (same (owner w))) (stands.pending name w live);
-  unread = λ k. subst (λ (s : PrimaryState). StandAbove p k s.log.purged) (sym (same k)) (stands.unread k);
+  log = λ k n. subst (λ (s : PrimaryState). KeepsEndOf (log_of p k n) k n s.log) (sym (same k n)) (stands.log k n);
+  rows = λ k t has key. ap (λ s. row_at s t key) (same k (shard_at p k key)) ∙ stands.rows k t has key;
+  apart = λ k t has key n other. ap (λ s. row_at s t key) (same k n) ∙ stands.apart k t has key n other;
+  pending = λ name w live n lane laned. subst (λ (s : PrimaryState). IsPending p w lane s.log.entries) (sym (same (owner w) (owner_shard w lane))) (stands.pending name w live n lane laned);
+  unread = λ k n. subst (λ (s : PrimaryState). StandAbove p k n s.log.purged) (sym (same k n)) (stands.unread k n);
 }
+
+-- a key of a lane stands at the owner in the lane's shard there
+pub shard_at_owner : (p : Plain) → Known p → (name : List ℕ) (w : Live) → live_at p name ≡ Some w → (lane : Lane) (key : ℕ) → in_lane w lane key ≡ true → shard_at p (owner w) key ≡ owner_shard w lane
+shard_at_owner p known name w live lane key here = by w.switched.primary
+  where
+    by : (b : Bool) → shard_at p (cond b w.target w.source) key ≡ cond b lane.shard 0
+    by true = known.target_by name w live key ∙ eqb-true (shard_of w.cuts key) lane.shard here
+    by false = known.source_one name w live key
+
+-- the shard of the primary that is read is that of the owner, where the stream reads the owner
+pub shard_owned : (w : Live) (lane : Lane) (stream : StreamName) → w.source ≢ w.target → read_side w stream ≡ owner w → read_shard lane stream ≡ owner_shard w lane
+shard_owned w lane stream apart owns = by stream w.switched.primary owns
+  where
+    by : (n : StreamName) (b : Bool) → read_side w n ≡ cond b w.target w.source → read_shard lane n ≡ cond b lane.shard 0
+    by forward true e = absurd (apart e)
+    by forward false e = refl
+    by back true e = refl
+    by back false e = absurd (apart (sym e))
+
+-- one primary, or another one
+pub same_place : (j : List ℕ) (m : ℕ) (k : List ℕ) (n : ℕ) → ((j ≡ k) × (m ≡ n)) ⊎ (j ≡ k → m ≡ n → ⊥)
+same_place j m k n = by (same_or j k) (eqb m n) refl
+  where
+    by : (j ≡ k) ⊎ (j ≢ k) → (b : Bool) → eqb m n ≡ b → ((j ≡ k) × (m ≡ n)) ⊎ (j ≡ k → m ≡ n → ⊥)
+    by (inr other) b e = inr (λ h i. other h)
+    by (inl at) true e = inl (at, eqb-true m n e)
+    by (inl at) false e = inr (λ h i. eqb-false m n e i)
+
+-- what is the same at the one primary that may change is the same at all
+pub same_at_all : {X : Type 0} (f : PrimaryState → X) (old new : Primaries) (k : List ℕ) (n : ℕ) → OthersStay k n old new → f (new k n) ≡ f (old k n)
+    → (other : List ℕ) (m : ℕ) → f (new other m) ≡ f (old other m)
+same_at_all f old new k n others same other m = ⊎_elim
+    (λ (e : (k ≡ other) × (n ≡ m)). subst (λ x. f (new x m) ≡ f (old x m)) e.0 (subst (λ i. f (new k i) ≡ f (old k i)) e.1 same))
+    (λ (apart : k ≡ other → n ≡ m → ⊥). ap f (others other m apart)) (same_place k n other m)

@@ -13,6 +13,7 @@ pub mod WriteLemmas
 pub mod LogLemmas
 mod BeforeLemmas
 mod PurgeLemmas
+mod RangeLemmas
 mod ReaderLemmas
 mod UnfedLemmas
 pub mod UnreadLemmas

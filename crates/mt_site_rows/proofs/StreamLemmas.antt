@@ -1,5 +1,6 @@
 -- What an advance of a stream answers, in the primaries' words and in those of the state.
-use Rattle.mt_plain.specs.Slots.{log_of}
+use Rattle.mt_names.specs.Shards.{shard_of}
+use Rattle.mt_plain.specs.Slots.{is_entry_at, log_of}
 use Rattle.std.proofs.Common.{◌≤◌}
 use Rattle.std.proofs.Common.{◌≡◌, ℕ, zero, suc, ◌-◌, ◌⊎◌, Bool, true, false, not, cond, eqb, List, [], ◌∷◌, take, length, min, slice_get, None, Some, Result, Ok, Err, refl, sym, ap, ◌∙◌, subst, arith, inl, inr, ⊎_elim, map, eqb-true, ltb-true}
 use Rattle.std.proofs.lemmas.Bool.{true≢false, eq-eqb, ltb-false, ne_eqb}
@@ -16,12 +17,12 @@ use Rattle.mt_model.specs.declared.rows.RowChange.{RowChange}
 use Rattle.mt_model.specs.Limits.{longest_log}
 use Rattle.mt_model.specs.Topology.{is_present}
 use Rattle.mt_primary.specs.Primary.{end_of, IsPrimary, PrimaryState, row_at}
-use Rattle.mt_plain.specs.Answers.{Answers, advanced_of}
-use Rattle.mt_plain.specs.Events.{StreamName, StreamState, running, stopped, frozen, Slot, advance, advanced, full, stale, refused}
-use Rattle.mt_plain.specs.Plain.{Live, LogEntry, Plain, is_side, live_at, moves, owner}
-use Rattle.mt_plain.specs.Refuse.{advance_at, advance_refusal, in_workflow, or_else, refusal_of, refuse_if}
+use Rattle.mt_plain.specs.Answers.{Answers, advanced_of, lane_advanced_of, range_at}
+use Rattle.mt_plain.specs.Events.{StreamName, forward, back, StreamState, running, stopped, frozen, Slot, advance, advanced, full, stale, refused}
+use Rattle.mt_plain.specs.Plain.{Lane, Live, LogEntry, Plain, in_lane, is_side, lane_at, live_at, moves, owner, shard_at}
+use Rattle.mt_plain.specs.Refuse.{advance_at, advance_refusal, in_lane_at, in_workflow, or_else, refusal_of, refuse_if}
 use Rattle.mt_plain.specs.Serve.{has_table}
-use Rattle.mt_plain.specs.Slots.{log_length, read_side, readable, room_in_log, running_at, running_by, slot_of, written_side}
+use Rattle.mt_plain.specs.Slots.{log_length, read_shard, read_side, readable, room_in_log, running_at, running_by, slot_of, written_shard, written_side}
 use Rattle.mt_plain.specs.Slots as plain
 use Rattle.mt_plain.specs.Writes.{client_row, row_after_writes}
 use Rattle.mt_stream.specs.declared.fault.StreamFault.{StreamFault}
@@ -32,7 +33,8 @@ use Rattle.mt_stream.specs.Advance as stream_words
 use Rattle.mt_stream.specs.Sources.{HasClientRows}
 use Rattle.mt_stream.specs.Streams.{StreamValue, past}
 use Rattle.mt_site_rows.specs.Answers.{answer_by_stream, refusal_by_stream}
-use Rattle.mt_site_rows.specs.Rows.{Primaries, RowsStand, entry_at, stream_of}
+use Rattle.mt_site_rows.specs.Rows.{HoldsItsKeys, Primaries, RowsStand, entry_at, stream_of}
+use Rattle.mt_site_rows.proofs.FeedLemmas.{test_is}
 use Rattle.mt_site_rows.proofs.KnownLemmas.{Known, client_at_side, has_at_source, owner_is_side, row_at_owner, some_is, source_is_side}
 
 -- ---- lists
@@ -54,21 +56,26 @@ none_left limit n = by (nat_lt n limit) refl
 
 -- ---- entries of a primary's log, as the state has them
 
-module _ (w : Live) (slot : Slot) (k : List ℕ) where
+module _ (w : Live) (lane : Lane) (slot : Slot) (split : HoldsItsKeys w lane) (k : List ℕ) (n : ℕ) where
   abbrev test : RowChange → Bool
-  test = applies (stream_of w slot)
+  test = applies (stream_of w lane slot)
 
-  any_entries : (cs : List RowChange) → list_any (plain.applies w) (map (entry_at k) cs) ≡ list_any test cs
+  one : (c : RowChange) → plain.applies w lane (entry_at k n c) ≡ test c
+  one c = sym (test_is w lane slot split c)
+
+  any_entries : (cs : List RowChange) → list_any (plain.applies w lane) (map (entry_at k n) cs) ≡ list_any test cs
   any_entries [] = refl
-  any_entries (c ∷ cs) = ap (λ b. test c || b) (any_entries cs)
+  any_entries (c ∷ cs) = ap (λ b. b || list_any (plain.applies w lane) (map (entry_at k n) cs)) (one c) ∙ ap (λ b. test c || b) (any_entries cs)
 
-  readable_entries : (room : ℕ) (cs : List RowChange) → readable (plain.applies w) room (map (entry_at k) cs) ≡ readable test room cs
+  readable_entries : (room : ℕ) (cs : List RowChange) → readable (plain.applies w lane) room (map (entry_at k n) cs) ≡ readable test room cs
   readable_entries room [] = refl
-  readable_entries room (c ∷ cs) = ap (λ n. cond (test c && eqb room 0) 0 (suc n)) (readable_entries (cond (test c) (room - 1) room) cs)
+  readable_entries room (c ∷ cs) =
+      ap (λ b. cond (b && eqb room 0) 0 (suc (readable (plain.applies w lane) (cond b (room - 1) room) (map (entry_at k n) cs)))) (one c)
+      ∙ ap (λ m. cond (test c && eqb room 0) 0 (suc m)) (readable_entries (cond (test c) (room - 1) room) cs)
 
-  entry_next : (cs : List RowChange) (i : ℕ) → option_map_or (plain.applies w) (slice_get (map (entry_at k) cs) i) false ≡ option_map_or test (slice_get cs i) false
+  entry_next : (cs : List RowChange) (i : ℕ) → option_map_or (plain.applies w lane) (slice_get (map (entry_at k n) cs) i) false ≡ option_map_or test (slice_get cs i) false
   entry_next [] i = refl
-  entry_next (c ∷ cs) zero = refl
+  entry_next (c ∷ cs) zero = one c
   entry_next (c ∷ cs) (suc i) = entry_next cs i
 
 -- ---- a live workflow's tables are at its sides
@@ -88,110 +95,121 @@ has_at_side p known name w live t moved k side = by (same_text w.source k) refl 
 
 -- ---- a stream of a live workflow
 
-module _ (p : Plain) (known : Known p) (reads : (name : List ℕ) (w : Live) → live_at p name ≡ Some w → (stream : StreamName) (at : ℕ) → running_at (slot_of w stream) ≡ Some at → read_side w stream ≡ owner w)
+module _ (p : Plain) (known : Known p) (reads : (name : List ℕ) (w : Live) → live_at p name ≡ Some w → (lane : Lane) (stream : StreamName) (at : ℕ) → running_at (slot_of w lane stream) ≡ Some at → read_side w stream ≡ owner w)
     (at : Primaries) (stands : RowsStand p at) (name : List ℕ) (w : Live) (live : live_at p name ≡ Some w)
-    (stream : StreamName) (slot : Slot) (there : slot_of w stream ≡ Some slot) (is : IsPrimary (at (read_side w stream))) (held : (at (read_side w stream)).log.purged ≤ slot.position) where
+    (shard : ℕ) (lane : Lane) (laned : lane_at w shard ≡ Some lane) (split : HoldsItsKeys w lane)
+    (stream : StreamName) (slot : Slot) (there : slot_of w lane stream ≡ Some slot) (is : IsPrimary (at (read_side w stream) (read_shard lane stream)))
+    (held : (at (read_side w stream) (read_shard lane stream)).log.purged ≤ slot.position) where
   abbrev pub source : PrimaryState
-  source = at (read_side w stream)
+  source = at (read_side w stream) (read_shard lane stream)
 
   abbrev pub sink : PrimaryState
-  sink = at (written_side w stream)
+  sink = at (written_side w stream) (written_shard lane stream)
 
   abbrev pub value : StreamValue
-  value = stream_of w slot
+  value = stream_of w lane slot
 
-  pub log_is : (k : List ℕ) → log_length p k ≡ end_of (at k)
-  log_is k = sym (length-filter (λ (e : LogEntry). same_text e.keyspace k) p.log) ∙ log-length (log_of p k) k (at k).log (stands.log k)
+  pub log_is : (k : List ℕ) (n : ℕ) → log_length p k n ≡ end_of (at k n)
+  log_is k n = sym (length-filter (is_entry_at k n) p.log) ∙ log-length (log_of p k n) k n (at k n).log (stands.log k n)
 
-  pub past_is : map (entry_at (read_side w stream)) (past value source) ≡ plain.past p w stream slot.position
-  past_is = log-past (log_of p (read_side w stream)) (read_side w stream) source.log (stands.log (read_side w stream)) slot.position held
+  pub past_is : map (entry_at (read_side w stream) (read_shard lane stream)) (past value source) ≡ plain.past p w lane stream slot.position
+  past_is = log-past (log_of p (read_side w stream) (read_shard lane stream)) (read_side w stream) (read_shard lane stream) source.log (stands.log (read_side w stream) (read_shard lane stream)) slot.position held
 
-  room_is : room_in_log p (written_side w stream) ≡ room_in sink
-  room_is = ap (λ n. longest_log - n) (log_is (written_side w stream))
+  room_is : room_in_log p (written_side w stream) (written_shard lane stream) ≡ room_in sink
+  room_is = ap (λ n. longest_log - n) (log_is (written_side w stream) (written_shard lane stream))
 
-  no_room : eqb (room_in_log p (written_side w stream)) 0 ≡ not (has_room sink.log)
+  no_room : eqb (room_in_log p (written_side w stream) (written_shard lane stream)) 0 ≡ not (has_room sink.log)
   no_room = ap (λ n. eqb n 0) room_is ∙ none_left longest_log (end_of sink)
 
   module _ (runs : slot.state ≡ running) where
     pub reads_owner : read_side w stream ≡ owner w
-    reads_owner = reads name w live stream slot.position (ap running_at there ∙ ap (λ state. running_by state slot.position) runs)
+    reads_owner = reads name w live lane stream slot.position (ap running_at there ∙ ap (λ state. running_by state slot.position) runs)
 
     pub side_read : is_side w (read_side w stream) ≡ true
     side_read = subst (λ k. is_side w k ≡ true) (sym reads_owner) (owner_is_side w)
 
-    pub source_row : (table : List ℕ) (key : ℕ) → moves w table ≡ true → row_at source table key ≡ client_row p (read_side w stream) table key
-    source_row table key moved =
-        stands.rows (read_side w stream) table (has_at_side p known name w live table moved (read_side w stream) side_read) key
+    -- a key of the lane stands at the primary that is read
+    pub shard_read : (key : ℕ) → in_lane w lane key ≡ true → shard_at p (read_side w stream) key ≡ read_shard lane stream
+    shard_read key here = by stream
+      where
+        by : (name : StreamName) → shard_at p (read_side w name) key ≡ read_shard lane name
+        by forward = known.source_one name w live key
+        by back = known.target_by name w live key ∙ eqb-true (shard_of w.cuts key) lane.shard here
+
+    pub source_row : (table : List ℕ) (key : ℕ) → moves w table ≡ true → in_lane w lane key ≡ true → row_at source table key ≡ client_row p (read_side w stream) table key
+    source_row table key moved here =
+        ap (λ n. row_at (at (read_side w stream) n) table key) (sym (shard_read key here))
+        ∙ stands.rows (read_side w stream) table (has_at_side p known name w live table moved (read_side w stream) side_read) key
         ∙ row_at_owner p (read_side w stream) table w (known.found name w live table moved) key reads_owner
 
-    pub client_rows : HasClientRows p w source
+    pub client_rows : HasClientRows p w lane source
     client_rows = record {
       moved = known.found name w live;
-      rows = λ table key moved.
+      rows = λ table key moved here.
           let found = known.found name w live table moved in
-          source_row table key moved
+          source_row table key moved here
           ∙ ap (λ n. row_after_writes p.writes n key) (client_at_side p w table found (read_side w stream) side_read ∙ sym (client_at_side p w table found w.source (source_is_side w)));
     }
 
-    module _ (left_is : places (rows_left source w.tables w.copied) ≡ plain.uncopied p w) where
-      pub copy_places : (cs : List RowChange) → places (to_copy value source cs) ≡ plain.to_copy p w (map (entry_at (read_side w stream)) cs)
+    module _ (left_is : places (rows_left source (range_at w.cuts lane.shard) w.tables lane.copied) ≡ plain.uncopied p w lane) where
+      pub copy_places : (cs : List RowChange) → places (to_copy value source cs) ≡ plain.to_copy p w lane (map (entry_at (read_side w stream) (read_shard lane stream)) cs)
       copy_places [] = left_is
       copy_places (c ∷ cs) = refl
 
-      copy_length : (cs : List RowChange) → length (plain.to_copy p w (map (entry_at (read_side w stream)) cs)) ≡ length (to_copy value source cs)
+      copy_length : (cs : List RowChange) → length (plain.to_copy p w lane (map (entry_at (read_side w stream) (read_shard lane stream)) cs)) ≡ length (to_copy value source cs)
       copy_length cs = sym (ap length (copy_places cs)) ∙ length-map (to_copy value source cs) (λ put. (put.table, put.key))
 
       module _ (at_most : ℕ) where
-        taken : (cs : List RowChange) (n : ℕ) → list_any (plain.applies w) (take n (map (entry_at (read_side w stream)) cs)) ≡ list_any (applies value) (take n cs)
-        taken cs n = ap (list_any (plain.applies w)) (take-map (entry_at (read_side w stream)) n cs) ∙ any_entries w slot (read_side w stream) (take n cs)
+        taken : (cs : List RowChange) (n : ℕ) → list_any (plain.applies w lane) (take n (map (entry_at (read_side w stream) (read_shard lane stream)) cs)) ≡ list_any (applies value) (take n cs)
+        taken cs n = ap (list_any (plain.applies w lane)) (take-map (entry_at (read_side w stream) (read_shard lane stream)) n cs) ∙ any_entries w lane slot split (read_side w stream) (read_shard lane stream) (take n cs)
 
         writes_by : (cs : List RowChange)
-            → (list_any (plain.applies w) (take at_most (map (entry_at (read_side w stream)) cs)) || nat_lt 0 (min at_most (length (plain.to_copy p w (map (entry_at (read_side w stream)) cs)))))
+            → (list_any (plain.applies w lane) (take at_most (map (entry_at (read_side w stream) (read_shard lane stream)) cs)) || nat_lt 0 (min at_most (length (plain.to_copy p w lane (map (entry_at (read_side w stream) (read_shard lane stream)) cs)))))
             ≡ (list_any (applies value) (take at_most cs) || nat_lt 0 (min at_most (length (to_copy value source cs))))
-        writes_by cs = ap (λ b. b || nat_lt 0 (min at_most (length (plain.to_copy p w (map (entry_at (read_side w stream)) cs))))) (taken cs at_most)
+        writes_by cs = ap (λ b. b || nat_lt 0 (min at_most (length (plain.to_copy p w lane (map (entry_at (read_side w stream) (read_shard lane stream)) cs))))) (taken cs at_most)
             ∙ ap (λ n. list_any (applies value) (take at_most cs) || nat_lt 0 (min at_most n)) (copy_length cs)
 
-        pub writes_is : plain.writes_any p w stream slot.position at_most ≡ writes_any value source at_most
+        pub writes_is : plain.writes_any p w lane stream slot.position at_most ≡ writes_any value source at_most
         writes_is =
-            ap (λ es. list_any (plain.applies w) (take at_most es) || nat_lt 0 (min at_most (length (plain.to_copy p w es)))) (sym past_is)
+            ap (λ es. list_any (plain.applies w lane) (take at_most es) || nat_lt 0 (min at_most (length (plain.to_copy p w lane es)))) (sym past_is)
             ∙ writes_by (past value source)
 
-        events_is : plain.most_events p w stream slot.position at_most ≡ most_events value source sink at_most
+        events_is : plain.most_events p w lane stream slot.position at_most ≡ most_events value source sink at_most
         events_is =
-            ap (λ room. readable (plain.applies w) room (take at_most (plain.past p w stream slot.position))) room_is
-            ∙ ap (λ es. readable (plain.applies w) (room_in sink) (take at_most es)) (sym past_is)
-            ∙ ap (readable (plain.applies w) (room_in sink)) (take-map (entry_at (read_side w stream)) at_most (past value source))
-            ∙ readable_entries w slot (read_side w stream) (room_in sink) (take at_most (past value source))
+            ap (λ room. readable (plain.applies w lane) room (take at_most (plain.past p w lane stream slot.position))) room_is
+            ∙ ap (λ es. readable (plain.applies w lane) (room_in sink) (take at_most es)) (sym past_is)
+            ∙ ap (readable (plain.applies w lane) (room_in sink)) (take-map (entry_at (read_side w stream) (read_shard lane stream)) at_most (past value source))
+            ∙ readable_entries w lane slot split (read_side w stream) (read_shard lane stream) (room_in sink) (take at_most (past value source))
 
-        rows_is : plain.most_rows p w stream slot.position at_most ≡ most_rows value source sink at_most
+        rows_is : plain.most_rows p w lane stream slot.position at_most ≡ most_rows value source sink at_most
         rows_is =
-            ap (λ room. min room (min at_most (length (plain.to_copy p w (plain.past p w stream slot.position))))) room_is
-            ∙ ap (λ es. min (room_in sink) (min at_most (length (plain.to_copy p w es)))) (sym past_is)
+            ap (λ room. min room (min at_most (length (plain.to_copy p w lane (plain.past p w lane stream slot.position))))) room_is
+            ∙ ap (λ es. min (room_in sink) (min at_most (length (plain.to_copy p w lane es)))) (sym past_is)
             ∙ ap (λ n. min (room_in sink) (min at_most n)) (copy_length (past value source))
 
-        cut_is : (events rows : ℕ) → plain.may_be_cut p w stream slot.position at_most events rows ≡ may_be_cut value source sink at_most events rows
+        cut_is : (events rows : ℕ) → plain.may_be_cut p w lane stream slot.position at_most events rows ≡ may_be_cut value source sink at_most events rows
         cut_is events rows =
-            ap (λ n. cut n (plain.most_rows p w stream slot.position at_most) (plain.past p w stream slot.position)) events_is
-            ∙ ap (λ n. cut (most_events value source sink at_most) n (plain.past p w stream slot.position)) rows_is
+            ap (λ n. cut n (plain.most_rows p w lane stream slot.position at_most) (plain.past p w lane stream slot.position)) events_is
+            ∙ ap (λ n. cut (most_events value source sink at_most) n (plain.past p w lane stream slot.position)) rows_is
             ∙ ap (cut (most_events value source sink at_most) (most_rows value source sink at_most)) (sym past_is)
-            ∙ ap (λ b. (eqb rows 0 && nat_lt events (most_events value source sink at_most) && b && option_map_or (plain.applies w) (slice_get (map (entry_at (read_side w stream)) (past value source)) events) false)
+            ∙ ap (λ b. (eqb rows 0 && nat_lt events (most_events value source sink at_most) && b && option_map_or (plain.applies w lane) (slice_get (map (entry_at (read_side w stream) (read_shard lane stream)) (past value source)) events) false)
             || (eqb events 0 && nat_lt 0 rows && nat_lt rows (most_rows value source sink at_most))) (taken (past value source) events)
             ∙ ap (λ b. (eqb rows 0 && nat_lt events (most_events value source sink at_most) && list_any (applies value) (take events (past value source)) && b)
-            || (eqb events 0 && nat_lt 0 rows && nat_lt rows (most_rows value source sink at_most))) (entry_next w slot (read_side w stream) (past value source) events)
+            || (eqb events 0 && nat_lt 0 rows && nat_lt rows (most_rows value source sink at_most))) (entry_next w lane slot split (read_side w stream) (read_shard lane stream) (past value source) events)
           where
             cut : ℕ → ℕ → List LogEntry → Bool
             cut most most_copied es =
-                (eqb rows 0 && nat_lt events most && list_any (plain.applies w) (take events es) && option_map_or (plain.applies w) (slice_get es events) false)
+                (eqb rows 0 && nat_lt events most && list_any (plain.applies w lane) (take events es) && option_map_or (plain.applies w lane) (slice_get es events) false)
                 || (eqb events 0 && nat_lt 0 rows && nat_lt rows most_copied)
 
   -- ---- the refusals
 
-  module _ (left : slot.state ≡ running → places (rows_left source w.tables w.copied) ≡ plain.uncopied p w) (position at_most : ℕ) where
+  module _ (left : slot.state ≡ running → places (rows_left source (range_at w.cuts lane.shard) w.tables lane.copied) ≡ plain.uncopied p w lane) (position at_most : ℕ) where
     told_running : slot.state ≡ running
-        → or_else (refuse_if (not (eqb position slot.position)) (stale slot.position)) (refuse_if (plain.writes_any p w stream slot.position at_most && eqb (room_in_log p (written_side w stream)) 0) full)
+        → or_else (refuse_if (not (eqb position slot.position)) (stale slot.position)) (refuse_if (plain.writes_any p w lane stream slot.position at_most && eqb (room_in_log p (written_side w stream) (written_shard lane stream)) 0) full)
         ≡ option_map refusal_by_stream (cond (eqb position slot.position) (cond (writes_any value source at_most && not (has_room sink.log)) (Some fault.LogFull) None) (Some (fault.Stale slot.position)))
     told_running runs =
-        ap (λ b. or_else (refuse_if (not (eqb position slot.position)) (stale slot.position)) (refuse_if (b && eqb (room_in_log p (written_side w stream)) 0) full)) (writes_is runs (left runs) at_most)
+        ap (λ b. or_else (refuse_if (not (eqb position slot.position)) (stale slot.position)) (refuse_if (b && eqb (room_in_log p (written_side w stream) (written_shard lane stream)) 0) full)) (writes_is runs (left runs) at_most)
         ∙ ap (λ b. or_else (refuse_if (not (eqb position slot.position)) (stale slot.position)) (refuse_if (writes_any value source at_most && b) full)) no_room
         ∙ by (eqb position slot.position) (writes_any value source at_most && not (has_room sink.log))
       where
@@ -200,14 +218,15 @@ module _ (p : Plain) (known : Known p) (reads : (name : List ℕ) (w : Live) →
         by true false = refl
         by false b = refl
 
-    pub told : refusal_of p (advance name stream position at_most) ≡ option_map refusal_by_stream (stream_words.refusal_of value source sink position at_most)
+    pub told : refusal_of p (advance name stream shard position at_most) ≡ option_map refusal_by_stream (stream_words.refusal_of value source sink position at_most)
     told =
-        ap (λ o. in_workflow o (advance_refusal p stream position at_most)) live
-        ∙ ap (λ o. advance_at p w stream position at_most (running_at o)) there
+        ap (λ o. in_workflow o (advance_refusal p stream shard position at_most)) live
+        ∙ ap (λ o. in_lane_at o (λ l. advance_at p w l stream position at_most (running_at (slot_of w l stream)))) laned
+        ∙ ap (λ o. advance_at p w lane stream position at_most (running_at o)) there
         ∙ by slot.state refl
       where
         by : (state : StreamState) → slot.state ≡ state
-            → advance_at p w stream position at_most (running_by state slot.position)
+            → advance_at p w lane stream position at_most (running_by state slot.position)
             ≡ option_map refusal_by_stream (refused_by state (cond (eqb position slot.position) (cond (writes_any value source at_most && not (has_room sink.log)) (Some fault.LogFull) None) (Some (fault.Stale slot.position))))
         by running e = told_running e
         by stopped e = refl
@@ -228,28 +247,28 @@ module _ (p : Plain) (known : Known p) (reads : (name : List ℕ) (w : Live) →
     -- ---- the counts
 
     counted : (events rows : ℕ) → slot.state ≡ running → HasCounts value source sink at_most events rows
-        → (advanced events rows ≡ advanced_of p stream slot.position at_most (Some w)) ⊎ (plain.may_be_cut p w stream slot.position at_most events rows ≡ true)
+        → (advanced events rows ≡ lane_advanced_of p stream slot.position at_most w (Some lane)) ⊎ (plain.may_be_cut p w lane stream slot.position at_most events rows ≡ true)
     counted events rows runs (inl counts) =
-        inl (ap (λ n. advanced n rows) (counts.0 ∙ sym (events_is runs (left runs) at_most)) ∙ ap (advanced (plain.most_events p w stream slot.position at_most)) (counts.1 ∙ sym (rows_is runs (left runs) at_most)))
+        inl (ap (λ n. advanced n rows) (counts.0 ∙ sym (events_is runs (left runs) at_most)) ∙ ap (advanced (plain.most_events p w lane stream slot.position at_most)) (counts.1 ∙ sym (rows_is runs (left runs) at_most)))
     counted events rows runs (inr cut) = inr (cut_is runs (left runs) at_most events rows ∙ cut)
 
     pub answered : (events rows : ℕ) → stream_words.refusal_of value source sink position at_most ≡ None → HasCounts value source sink at_most events rows
-        → Answers p (advance name stream position at_most) (advanced events rows)
+        → Answers p (advance name stream shard position at_most) (advanced events rows)
     answered events rows none counts =
         let r = ran none in (
           told ∙ ap (option_map refusal_by_stream) none,
           ⊎_elim
-              (λ all. inl (all ∙ sym (ap (advanced_of p stream slot.position at_most) live) ∙ ap (λ n. advanced_of p stream n at_most (live_at p name)) (sym r.1)))
-              (λ cut. inr (ap (λ o. option_map_or (λ v. plain.may_be_cut p v stream position at_most events rows) o false) live ∙ ap (λ n. plain.may_be_cut p w stream n at_most events rows) r.1 ∙ cut))
+              (λ all. inl (all ∙ sym (ap (lane_advanced_of p stream slot.position at_most w) laned) ∙ sym (ap (advanced_of p stream shard slot.position at_most) live) ∙ ap (λ n. advanced_of p stream shard n at_most (live_at p name)) (sym r.1)))
+              (λ cut. inr (ap (λ o. option_map_or (λ v. option_map_or (λ l. plain.may_be_cut p v l stream position at_most events rows) (lane_at v shard) false) o false) live ∙ ap (λ o. option_map_or (λ l. plain.may_be_cut p w l stream position at_most events rows) o false) laned ∙ ap (λ n. plain.may_be_cut p w lane stream n at_most events rows) r.1 ∙ cut))
               (counted events rows r.0 counts),
         )
 
     pub stream_refused : (f : StreamFault) (new : StreamValue) (new_sink : PrimaryState) → Advances value source sink position at_most (Err f) new new_sink
-        → Answers p (advance name stream position at_most) (refused (refusal_by_stream f))
+        → Answers p (advance name stream shard position at_most) (refused (refusal_by_stream f))
     stream_refused fault.Memory new new_sink did =
         let r = ran did.0 in (
           told ∙ ap (option_map refusal_by_stream) did.0,
-          ap (λ o. option_map_or (λ v. plain.writes_any p v stream position at_most) o false) live ∙ ap (λ n. plain.writes_any p w stream n at_most) r.1 ∙ writes_is r.0 (left r.0) at_most ∙ did.1,
+          ap (λ o. option_map_or (λ v. option_map_or (λ l. plain.writes_any p v l stream position at_most) (lane_at v shard) false) o false) live ∙ ap (λ o. option_map_or (λ l. plain.writes_any p w l stream position at_most) o false) laned ∙ ap (λ n. plain.writes_any p w lane stream n at_most) r.1 ∙ writes_is r.0 (left r.0) at_most ∙ did.1,
         )
     stream_refused (fault.Stale n) new new_sink did = told ∙ ap (option_map refusal_by_stream) did.0
     stream_refused fault.Stopped new new_sink did = told ∙ ap (option_map refusal_by_stream) did.0
@@ -257,6 +276,6 @@ module _ (p : Plain) (known : Known p) (reads : (name : List ℕ) (w : Live) →
     stream_refused fault.LogFull new new_sink did = told ∙ ap (option_map refusal_by_stream) did.0
 
     pub stream_answers : (result : Result Advanced StreamFault) (new : StreamValue) (new_sink : PrimaryState) → Advances value source sink position at_most result new new_sink
-        → Answers p (advance name stream position at_most) (answer_by_stream result)
+        → Answers p (advance name stream shard position at_most) (answer_by_stream result)
     stream_answers (Ok counts) new new_sink did = answered counts.events counts.rows did.0 did.1.counts
     stream_answers (Err f) new new_sink did = stream_refused f new new_sink did

@@ -1,7 +1,7 @@
 -- A new table: it has a number that no write has, and the numbers of the tables that are there stay.
 use Rattle.mt_plain.specs.Slots.{log_of}
 use Rattle.std.proofs.Common.{◌≡◌, ◌≢◌, ℕ, suc, ◌<◌, ◌≤◌, ◌⊎◌, Bool, true, false, not, cond, eqb, List, [], ◌∷◌, ◌++◌, drop, take, filter, map, Option, None, Some, refl, sym, ap, ◌∙◌, subst, arith, inl, inr, ⊎_elim}
-use Rattle.std.proofs.lemmas.Bool.{true≢false, or_right}
+use Rattle.std.proofs.lemmas.Bool.{and_parts, true≢false, or_right}
 use Rattle.std.specs.List.{AllByRecursion, list_any}
 use Rattle.std.specs.Map.{lookup}
 use Rattle.std.specs.Option.{option_map_or}
@@ -13,15 +13,17 @@ use Rattle.mt_names.specs.Names.{same_text}
 use Rattle.mt_names.specs.Same.{same_target}
 use Rattle.mt_model.specs.declared.entries.EntryKey.TheVariants as about
 use Rattle.mt_model.specs.declared.rows.RowChange.{RowChange}
-use Rattle.mt_model.specs.Topology.{is_present, value_of, with_table}
+use Rattle.mt_model.specs.Topology.{is_present, value_of, with_new_table, with_table}
+use Rattle.mt_names.specs.Shards.{shard_of}
+use Rattle.mt_laws.proofs.CutLemmas.{cuts_changed}
 use Rattle.mt_primary.specs.Primary.{PrimaryState, row_at}
 use Rattle.mt_plain.specs.Events.{add_table, done, Refusal, exists, no_keyspace}
 use Rattle.mt_plain.specs.Next.{next}
-use Rattle.mt_plain.specs.Plain.{Live, Plain, Write, among, in_keyspace, is_side, live_at, mover, moves, number_of, owner}
+use Rattle.mt_plain.specs.Plain.{Lane, Live, Plain, Write, in_lane, lane_at, lane_of, shard_at, among, in_keyspace, is_side, live_at, mover, moves, number_of, owner}
 use Rattle.mt_plain.specs.Refuse.{or_else, refuse_if}
 use Rattle.mt_plain.specs.Serve.{has_table}
-use Rattle.mt_plain.specs.Writes.{client_number, client_row, is_copied, other_row, row_after_writes, row_by_mover, row_of, writes_to}
-use Rattle.mt_site_rows.specs.Rows.{KeepsEndOf, IsPending, OtherTablesStay, OthersStay, Primaries, RowsStand, is_moved, rows_before, write_of}
+use Rattle.mt_plain.specs.Writes.{client_number, client_row, in_range, lane_row, lane_writes, other_row, row_after_writes, row_by_mover, row_of, writes_to}
+use Rattle.mt_site_rows.specs.Rows.{KeepsEndOf, IsPending, OtherKeyspacesStay, OtherTablesStay, Primaries, RowsStand, is_moved, owner_shard, rows_before, write_of}
 use Rattle.mt_site_rows.proofs.UnreadLemmas.{StreamsGoOn, unread_next}
 use Rattle.mt_site_rows.proofs.KnownLemmas.{Known, client_at_side, differs, has_at_source, itself, row_elsewhere, row_free, same_or, source_is_side}
 
@@ -130,16 +132,23 @@ module _ (p : Plain) (known : Known p) (numbers : KnownNumbers p) (keyspace tabl
         (λ x. any_same (λ t. eqb (number_of q w.source t) x.table) (λ t. eqb (number_of p w.source t) x.table) w.tables (λ t moved. ap (λ n. eqb n x.table) (source_kept t moved)))
         p.writes
 
-    other_kept : (t : List ℕ) → moves w t ≡ true → (key : ℕ) → other_row q w t key ≡ other_row p w t key
-    other_kept t moved key =
-        ap (λ ws. cond (is_copied w t key) (row_after_writes (take w.fed ws) (number_of q w.source t) key) None) writes_kept
-        ∙ ap (λ n. cond (is_copied w t key) (row_after_writes (take w.fed (writes_to p w)) n key) None) (source_kept t moved)
+    lane_kept : (l : Lane) → lane_writes q w l ≡ lane_writes p w l
+    lane_kept l = ap (filter (λ (write : Write). in_lane w l write.key)) writes_kept
 
-    entries_kept : (log : List RowChange) (before left : List RowChange) → filter (is_moved w) log ≡ before ++ left → map (write_of q w) left ≡ map (write_of p w) left
-    entries_kept log before left e =
-        map_same (λ c. is_moved w c ≡ true) (write_of q w) (write_of p w)
-        (λ c moved. ap (λ n. let x : Write = record { table = n; key = c.key; after = c.after } in x) (source_kept c.table moved))
-        left (all_behind (λ c. is_moved w c ≡ true) before left (subst (AllByRecursion (λ c. is_moved w c ≡ true)) e (all_kept (is_moved w) log)))
+    other_kept : (t : List ℕ) → moves w t ≡ true → (key : ℕ) → other_row q w t key ≡ other_row p w t key
+    other_kept t moved key = by (lane_of w key)
+      where
+        by : (o : Option Lane) → option_map_or (λ l. lane_row q w l t key) o None ≡ option_map_or (λ l. lane_row p w l t key) o None
+        by None = refl
+        by (Some l) =
+            ap (λ ws. cond (in_range w.tables l.copied t key) (row_after_writes (take l.fed ws) (number_of q w.source t) key) None) (lane_kept l)
+            ∙ ap (λ n. cond (in_range w.tables l.copied t key) (row_after_writes (take l.fed (lane_writes p w l)) n key) None) (source_kept t moved)
+
+    entries_kept : (l : Lane) (log : List RowChange) (before left : List RowChange) → filter (is_moved w l) log ≡ before ++ left → map (write_of q w) left ≡ map (write_of p w) left
+    entries_kept l log before left e =
+        map_same (λ c. is_moved w l c ≡ true) (write_of q w) (write_of p w)
+        (λ c moved. ap (λ n. let x : Write = record { table = n; key = c.key; after = c.after } in x) (source_kept c.table (and_parts (in_lane w l c.key) (moves w c.table) moved).1))
+        left (all_behind (λ c. is_moved w l c ≡ true) before left (subst (AllByRecursion (λ c. is_moved w l c ≡ true)) e (all_kept (is_moved w l) log)))
 
   -- ---- rows
 
@@ -194,48 +203,63 @@ module _ (p : Plain) (known : Known p) (numbers : KnownNumbers p) (keyspace tabl
 
   -- ---- the primaries
 
-  module _ (old new : Primaries) (stands : RowsStand p old) (others : OthersStay keyspace old new) (stay : OtherTablesStay (table ∷ []) (old keyspace) (new keyspace))
-      (empty : (key : ℕ) → row_at (new keyspace) table key ≡ None) where
-    log_same : (k : List ℕ) → (new k).log ≡ (old k).log
-    log_same k =
-        ⊎_elim (λ (e : keyspace ≡ k). subst (λ x. (new x).log ≡ (old x).log) e stay.log) (λ (e : keyspace ≢ k). ap (λ (s : PrimaryState). s.log) (others k e)) (same_or keyspace k)
+  -- the shards of keyspaces stay
+  shard_kept : (k : List ℕ) (key : ℕ) → shard_at q k key ≡ shard_at p k key
+  shard_kept k key = ap (λ cuts. shard_of cuts key) (cuts_changed (with_new_table table) (λ state. refl) p.topology.keyspaces keyspace k)
 
-    -- each other table
-    row_other : (k t : List ℕ) → about.Present keyspace table ≢ about.Present k t → (key : ℕ) → row_at (new k) t key ≡ row_at (old k) t key → has_table q k t ≡ true → row_at (new k) t key ≡ row_of q k t key
-    row_other k t apart key same has =
-        let had : has_table p k t ≡ true = ap (cond (list_any (λ w. moves w t && same_text w.target k) p.lives) true) (sym (there.others k t apart)) ∙ has in
-        same ∙ stands.rows k t had key ∙ sym (row_kept k t had key)
+  module _ (old new : Primaries) (stands : RowsStand p old) (others : OtherKeyspacesStay keyspace old new) (stay : (n : ℕ) → OtherTablesStay (table ∷ []) (old keyspace n) (new keyspace n))
+      (empty : (n key : ℕ) → row_at (new keyspace n) table key ≡ None) where
+    log_same : (k : List ℕ) (n : ℕ) → (new k n).log ≡ (old k n).log
+    log_same k n =
+        ⊎_elim (λ (e : keyspace ≡ k). subst (λ x. (new x n).log ≡ (old x n).log) e (stay n).log) (λ (e : keyspace ≢ k). ap (λ (s : PrimaryState). s.log) (others k e n)) (same_or keyspace k)
 
-    row_now : (k t : List ℕ) → has_table q k t ≡ true → (key : ℕ) → row_at (new k) t key ≡ row_of q k t key
-    row_now k t has key = ⊎_elim here away (same_or keyspace k)
+    -- which of the tables it is: the new one, or another one, whose rows are as they were
+    which : (k t : List ℕ) (n key : ℕ) → ((keyspace ≡ k) × (table ≡ t)) ⊎ ((about.Present keyspace table ≢ about.Present k t) × (row_at (new k n) t key ≡ row_at (old k n) t key))
+    which k t n key = ⊎_elim here away (same_or keyspace k)
       where
-        away : keyspace ≢ k → row_at (new k) t key ≡ row_of q k t key
-        away e = row_other k t (λ h. e (let same : keyspace ≡ k = cc in same)) key (ap (λ s. row_at s t key) (others k e)) has
+        away : keyspace ≢ k → ((keyspace ≡ k) × (table ≡ t)) ⊎ ((about.Present keyspace table ≢ about.Present k t) × (row_at (new k n) t key ≡ row_at (old k n) t key))
+        away e = inr ((λ h. e (let same : keyspace ≡ k = cc in same)), ap (λ s. row_at s t key) (others k e n))
 
-        at : (u : List ℕ) → has_table q keyspace u ≡ true → (table ≡ u) ⊎ (table ≢ u) → row_at (new keyspace) u key ≡ row_of q keyspace u key
-        at u is (inl e) = subst (λ x. row_at (new keyspace) x key ≡ row_of q keyspace x key) e (empty key ∙ sym (row_new key))
-        at u is (inr e) = row_other keyspace u (λ h. e (let same : table ≡ u = cc in same)) key (stay.rows u (ap (λ b. b || false) (differs table u e)) key) is
+        at : (table ≡ t) ⊎ (table ≢ t) → (keyspace ≡ k) → ((keyspace ≡ k) × (table ≡ t)) ⊎ ((about.Present keyspace table ≢ about.Present k t) × (row_at (new k n) t key ≡ row_at (old k n) t key))
+        at (inl e) same = inl (same, e)
+        at (inr e) same = inr ((λ h. e (let is : table ≡ t = cc in is)), subst (λ x. row_at (new x n) t key ≡ row_at (old x n) t key) same ((stay n).rows t (ap (λ b. b || false) (differs table t e)) key))
 
-        here : keyspace ≡ k → row_at (new k) t key ≡ row_of q k t key
-        here e = subst (λ x. has_table q x t ≡ true → row_at (new x) t key ≡ row_of q x t key) e (λ is. at t is (same_or table t)) has
+        here : keyspace ≡ k → ((keyspace ≡ k) × (table ≡ t)) ⊎ ((about.Present keyspace table ≢ about.Present k t) × (row_at (new k n) t key ≡ row_at (old k n) t key))
+        here e = at (same_or table t) e
 
-    pending_now : (name : List ℕ) (w : Live) → live_at q name ≡ Some w → IsPending q w (new (owner w)).log.entries
-    pending_now name w live = subst (IsPending q w) (sym (ap (λ (l : LogState). l.entries) (log_same (owner w))))
-        (let was = stands.pending name w live in
+    had : (k t : List ℕ) → about.Present keyspace table ≢ about.Present k t → has_table q k t ≡ true → has_table p k t ≡ true
+    had k t apart has = ap (cond (list_any (λ w. moves w t && same_text w.target k) p.lives) true) (sym (there.others k t apart)) ∙ has
+
+    row_now : (k t : List ℕ) → has_table q k t ≡ true → (key : ℕ) → row_at (new k (shard_at q k key)) t key ≡ row_of q k t key
+    row_now k t has key = ap (λ n. row_at (new k n) t key) (shard_kept k key) ∙ ⊎_elim
+        (λ (e : (keyspace ≡ k) × (table ≡ t)). subst (λ x. row_at (new x (shard_at p x key)) t key ≡ row_of q x t key) e.0 (subst (λ u. row_at (new keyspace (shard_at p keyspace key)) u key ≡ row_of q keyspace u key) e.1 (empty (shard_at p keyspace key) key ∙ sym (row_new key))))
+        (λ other. other.1 ∙ stands.rows k t (had k t other.0 has) key ∙ sym (row_kept k t (had k t other.0 has) key))
+        (which k t (shard_at p k key) key)
+
+    apart_now : (k t : List ℕ) → has_table q k t ≡ true → (key n : ℕ) → shard_at q k key ≢ n → row_at (new k n) t key ≡ None
+    apart_now k t has key n elsewhere_ = ⊎_elim
+        (λ (e : (keyspace ≡ k) × (table ≡ t)). subst (λ x. row_at (new x n) t key ≡ None) e.0 (subst (λ u. row_at (new keyspace n) u key ≡ None) e.1 (empty n key)))
+        (λ other. other.1 ∙ stands.apart k t (had k t other.0 has) key n (λ h. elsewhere_ (shard_kept k key ∙ h)))
+        (which k t n key)
+
+    pending_now : (name : List ℕ) (w : Live) → live_at q name ≡ Some w → (n : ℕ) (l : Lane) → lane_at w n ≡ Some l → IsPending q w l (new (owner w) (owner_shard w l)).log.entries
+    pending_now name w live n l laned = subst (IsPending q w l) (sym (ap (λ (log : LogState). log.entries) (log_same (owner w) (owner_shard w l))))
+        (let was = stands.pending name w live n l laned in
         record {
           before = was.before;
           left = was.left;
           entries = was.entries;
-          writes = entries_kept name w live (old (owner w)).log.entries was.before was.left was.entries ∙ was.writes ∙ ap (drop w.fed) (sym (writes_kept name w live));
-          rows = was.rows ∙ ap (λ ws. drop w.fed (rows_before [] ws)) (sym (writes_kept name w live));
+          writes = entries_kept name w live l (old (owner w) (owner_shard w l)).log.entries was.before was.left was.entries ∙ was.writes ∙ ap (drop l.fed) (sym (lane_kept name w live l));
+          rows = was.rows ∙ ap (λ ws. drop l.fed (rows_before [] ws)) (sym (lane_kept name w live l));
         })
 
     pub table_stands : StreamsGoOn p q → RowsStand q new
     table_stands goes = record {
-      log = λ k. subst (KeepsEndOf (log_of p k) k) (sym (log_same k)) (stands.log k);
+      log = λ k n. subst (KeepsEndOf (log_of p k n) k n) (sym (log_same k n)) (stands.log k n);
       rows = row_now;
+      apart = apart_now;
       pending = pending_now;
-      unread = unread_next p q old new stands (λ k. ap (λ (l : LogState). l.purged) (log_same k)) goes;
+      unread = unread_next p q old new stands (λ k n. ap (λ (l : LogState). l.purged) (log_same k n)) goes;
     }
 
 -- an entry of a table says whether it is there

@@ -12,7 +12,10 @@ mod steps;
 mod tables;
 mod writes;
 
-pub use advances::{an_advance_answers_as_the_definitions_allow, an_advance_keeps_rows_and_logs};
+pub use advances::{
+    a_lane_holds_its_keys, an_advance_answers_as_the_definitions_allow,
+    an_advance_keeps_rows_and_logs,
+};
 pub use bridges::tables_made_and_dropped_leave_the_others;
 pub use ends::{a_cancel_keeps_rows_and_logs, a_create_keeps_rows_and_logs};
 pub use opening::the_opening_has_no_rows;

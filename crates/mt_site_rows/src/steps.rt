@@ -4,16 +4,17 @@ ghost use Rattle.mt_laws.specs.WayBack.{IsReached};
 ghost use Rattle.mt_plain.specs.Answers.{Answers};
 ghost use Rattle.mt_plain.specs.Events.{StreamName, Slot, step, done};
 ghost use Rattle.mt_plain.specs.Next.{next};
-ghost use Rattle.mt_plain.specs.Plain.{Live, Plain, live_at, owner};
-ghost use Rattle.mt_plain.specs.Refuse.{is_behind};
-ghost use Rattle.mt_plain.specs.Slots.{read_side, slot_of};
-ghost use Rattle.mt_site_rows.specs.Rows.{Primaries, RowsStand, stream_of};
+ghost use Rattle.mt_plain.specs.Plain.{Lane, Live, Plain, lane_at, live_at, owner};
+ghost use Rattle.mt_plain.specs.Refuse.{lane_is_behind};
+ghost use Rattle.mt_plain.specs.Slots.{read_shard, read_side, slot_of};
+ghost use Rattle.mt_site_rows.specs.Rows.{HoldsItsKeys, Primaries, RowsStand, stream_of};
 ghost use Rattle.mt_stream.specs.Streams.{is_level};
 
 use crate::purges::a_stream_that_reads_the_owner_is_in_use;
 use mt_laws::{
-    a_live_workflow_is_found_by_its_part, all_writes_are_fed_at_the_journal,
-    each_next_state_is_reached, each_table_has_a_number_of_its_own, live_workflows_stand_in_place,
+    a_live_workflow_is_found_by_its_part, a_live_workflow_knows_its_shards,
+    all_writes_are_fed_at_the_journal, each_next_state_is_reached,
+    each_table_has_a_number_of_its_own, live_workflows_stand_in_place,
     only_named_events_change_a_workflow, only_named_events_change_the_state,
     the_owner_alone_serves_the_primary, ways_keep_their_course, what_is_in_use_goes_on,
     what_is_pending_was_not_fed, what_was_fed_stays_fed,
@@ -26,6 +27,7 @@ pub fn a_step_keeps_rows_and_logs()
         → Answers p (step name number) done → RowsStand (next p (step name number) done) at }
 {
     a_live_workflow_is_found_by_its_part();
+    a_live_workflow_knows_its_shards();
     live_workflows_stand_in_place();
     what_was_fed_stays_fed();
     what_is_in_use_goes_on();
@@ -38,11 +40,12 @@ pub fn a_step_keeps_rows_and_logs()
     all_writes_are_fed_at_the_journal();
 }
 
-/// A stream that reads the owner's log is level with its source just where no write to its workflow's tables is left to be fed.
+/// A stream of a lane that reads the owner's log is level with its source just where no write of the lane is left to be fed.
 pub fn a_stream_is_level_where_all_is_fed()
     ensures { (p : Plain) → IsReached p → (at : Primaries) → RowsStand p at → (name : List ℕ) (w : Live) → live_at p name ≡ Some w
-        → (stream : StreamName) (slot : Slot) → slot_of w stream ≡ Some slot → read_side w stream ≡ owner w
-        → is_level (stream_of w slot) (at (read_side w stream)) ≡ not (is_behind p w) }
+        → (shard : ℕ) (lane : Lane) → lane_at w shard ≡ Some lane → HoldsItsKeys w lane
+        → (stream : StreamName) (slot : Slot) → slot_of w lane stream ≡ Some slot → read_side w stream ≡ owner w
+        → is_level (stream_of w lane slot) (at (read_side w stream) (read_shard lane stream)) ≡ not (lane_is_behind p w lane) }
 {
     what_is_pending_was_not_fed();
     a_stream_that_reads_the_owner_is_in_use();

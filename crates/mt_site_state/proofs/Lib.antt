@@ -1,1 +1,2 @@
 pub mod NeededLemmas
+pub mod ShardLemmas

@@ -1,6 +1,6 @@
 -- The core of the controller as a value: the topology, a primary for each keyspace, and the live workflows. All of this page is this
 -- profile's own, unless a comment names a page of Vitess's documentation.
-use Rattle.std.specs.Prelude.{◌≡◌, ℕ, Bool, true, List, [], Option, None, Some, unwrap_or}
+use Rattle.std.specs.Prelude.{◌≡◌, ℕ, zero, suc, Bool, true, List, [], Option, None, Some, unwrap_or}
 use Rattle.std.specs.Map.{lookup, set_value}
 use Rattle.mt_names.specs.Names.{same_text}
 use Rattle.mt_model.specs.Topology.{TopologyState, empty_topology}
@@ -34,6 +34,11 @@ primary_at primaries keyspace = lookup (same_text keyspace) primaries
 -- the primary of a keyspace; one that isn't there is as an empty one
 abbrev pub primary_of : Primaries → List ℕ → PrimaryState
 primary_of primaries keyspace = unwrap_or (primary_at primaries keyspace) empty_primary
+
+-- the primaries by keyspace and shard: a keyspace has one shard yet, which has its primary
+abbrev pub primaries_of : Primaries → (keyspace : List ℕ) → (shard : ℕ) → PrimaryState
+primaries_of primaries keyspace zero = primary_of primaries keyspace
+primaries_of primaries keyspace (suc shard) = empty_primary
 
 -- the live workflow of a name
 abbrev pub workflow_at : Workflows → List ℕ → Option WorkflowState

@@ -7,7 +7,7 @@ use Rattle.mt_primary.specs.Primary.{PrimaryState, end_of}
 use Rattle.mt_primary.specs.Writes.{with_purge}
 use Rattle.mt_stream.specs.Streams.{StreamValue}
 use Rattle.mt_workflow.specs.Workflows.{WorkflowState}
-use Rattle.mt_site_state.specs.Core.{CoreState, Primaries, Workflows, primary_at, primary_of, with_primary}
+use Rattle.mt_site_state.specs.Core.{CoreState, Workflows, primary_at, primary_of, with_primary}
 
 -- whether a stream in a state is in use: it runs, or it is stopped; one that is frozen never reads again
 abbrev pub is_in_use : StreamState → Bool

@@ -1,5 +1,5 @@
 -- Which state of the definitions a core stands for (this profile's own).
-use Rattle.std.specs.Prelude.{◌≡◌, ℕ, List, length, map, Option, None, Some, option_map, is_some, ⊤}
+use Rattle.std.specs.Prelude.{◌≡◌, ℕ, List, [], ◌∷◌, length, map, Option, None, Some, option_map, is_some, ⊤}
 use Rattle.std.specs.List.{AllByRecursion}
 use Rattle.std.specs.Map.{keys_of}
 use Rattle.mt_model.specs.declared.entries.Scope.{Scope}
@@ -9,7 +9,7 @@ use Rattle.mt_workflow.specs.Workflows.{WorkflowState, live_of}
 use Rattle.mt_plain.specs.Answers.{Answers}
 use Rattle.mt_plain.specs.Events.{Event, Answer, forward, back}
 use Rattle.mt_plain.specs.Next.{next}
-use Rattle.mt_plain.specs.Plain.{Live, Plain, has_keyspace, live_at}
+use Rattle.mt_plain.specs.Plain.{Lane, Live, Plain, cuts_of, has_keyspace, live_at}
 use Rattle.mt_plain.specs.Serve.{has_table, refuses}
 use Rattle.mt_plain.specs.Slots.{slot_of}
 use Rattle.mt_laws.specs.Changes.{HasSides}
@@ -18,24 +18,29 @@ use Rattle.mt_laws.specs.WayBack.{IsReached}
 use Rattle.mt_site_topology.specs.Keys.{IsKept}
 use Rattle.mt_site_topology.specs.Stands.{TopologyStands}
 use Rattle.mt_site_rows.specs.Rows.{RowsStand, stream_of}
-use Rattle.mt_site_state.specs.Core.{CoreState, Primaries, Workflows, primary_at, primary_of, workflow_at}
+use Rattle.mt_site_state.specs.Core.{CoreState, Primaries, Workflows, primaries_of, primary_at, primary_of, workflow_at}
 
--- each keyspace of the state has a primary, with the tables that it has there and the own list that refuses what it refuses there
+-- each keyspace of the state has one shard, and a primary with the tables that it has there and the own list that refuses what that shard's
+-- does
 pub record ArePrimaries (p : Plain) (primaries : Primaries) : Type 0 where
   pub there : (keyspace : List ℕ) → is_some (primary_at primaries keyspace) ≡ has_keyspace p keyspace
   pub count : length primaries ≡ length p.topology.keyspaces
+  pub unsharded : (keyspace : List ℕ) → cuts_of p keyspace ≡ []
   pub tables : (keyspace table : List ℕ) → primary.has_table (primary_of primaries keyspace) table ≡ has_table p keyspace table
-  pub denials : (keyspace table : List ℕ) → is_denied_at (primary_of primaries keyspace) table ≡ refuses p keyspace table
+  pub denials : (keyspace table : List ℕ) → is_denied_at (primary_of primaries keyspace) table ≡ refuses p keyspace 0 table
 
--- a workflow stands for a live one: its name, sides and tables, the types that it has switched, the way that is open, and its streams are
--- those of the live one, and what it keeps of the rules is what the topology says in its part as if no workflow were live
+-- a workflow stands for a live one with one lane: its name, sides and tables, the types that it has switched, the way that is open, and its
+-- streams are those of the live one, and what it keeps of the rules is what the topology says in its part as if no workflow were live
 pub record StandsFor (p : Plain) (live : Live) (w : WorkflowState) : Type 0 where
   pub sides : HasSides live (live_of w)
   pub switched : w.switched ≡ live.switched
   pub way : w.way ≡ live.way
   pub kept : IsKept p.topology live w.kept
-  pub forward : w.forward ≡ option_map (stream_of live) (slot_of live forward)
-  pub back : w.back ≡ option_map (stream_of live) (slot_of live back)
+  pub lane : Lane
+  pub alone : live.lanes ≡ lane ∷ []
+  pub shard : lane.shard ≡ 0
+  pub forward : w.forward ≡ option_map (stream_of live lane) (slot_of live lane forward)
+  pub back : w.back ≡ option_map (stream_of live lane) (slot_of live lane back)
 
 -- the same where there may be none
 abbrev pub StandsForAny : Plain → Option Live → Option WorkflowState → Type 0
@@ -53,7 +58,7 @@ pub record StandsWith (p : Plain) (scopes : List Scope) (core : CoreState) : Typ
   pub reached : IsReached p
   pub scopes_are : p.scopes ≡ scopes
   pub topology : TopologyStands p core.topology
-  pub rows : RowsStand p (primary_of core.primaries)
+  pub rows : RowsStand p (primaries_of core.primaries)
   pub primaries : ArePrimaries p core.primaries
   pub workflows : AreWorkflows p core.workflows
 

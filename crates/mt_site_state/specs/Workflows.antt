@@ -5,6 +5,7 @@ use Rattle.std.specs.List.{list_any}
 use Rattle.std.specs.Map.{remove_entry, set_value}
 use Rattle.std.specs.Option.{option_map_or}
 use Rattle.mt_names.specs.Names.{same_text}
+use Rattle.mt_names.specs.Shards.{whole}
 use Rattle.mt_names.specs.Types.{no_types}
 use Rattle.mt_model.specs.declared.entries.Entry.{Entry}
 use Rattle.mt_model.specs.declared.entries.Scope.{Scope}
@@ -26,7 +27,7 @@ use Rattle.mt_workflow.specs.declared.fault.WorkflowFault.{WorkflowFault}
 use Rattle.mt_workflow.specs.declared.fault.WorkflowFault.TheVariants as fault
 use Rattle.mt_workflow.specs.Workflows.{WorkflowState, live_of, new_workflow, slot_of, with_slot}
 use Rattle.mt_plain.specs.Asks.{create_change}
-use Rattle.mt_plain.specs.Events.{StreamName, Slot, Shown, frozen, Answer, done, shown, refused, Refusal, memory, no_keyspace, no_table, workflow_exists, no_workflow, table_in_workflow, rule_conflict, target_has_table, same_keyspace, no_tables, watcher_refused, no_watcher, stream_stopped, full}
+use Rattle.mt_plain.specs.Events.{StreamName, Slot, Shown, ShownLane, frozen, Answer, done, shown, refused, Refusal, memory, no_keyspace, no_table, workflow_exists, no_workflow, table_in_workflow, rule_conflict, target_has_table, same_keyspace, no_tables, watcher_refused, no_watcher, stream_stopped, full}
 use Rattle.mt_plain.specs.Plain.{among, each_once}
 use Rattle.mt_plain.specs.Refuse.{cancel_refusal, most_workflows, or_else, refuse_if}
 use Rattle.mt_plain.specs.Slots.{read_side, written_side}
@@ -167,7 +168,16 @@ AdvancesWorkflow old workflow name at at_most answer new = AdvancesAt (workflow_
 abbrev pub slot_from : StreamValue → Slot
 slot_from stream = record { state = stream.state; position = stream.position }
 
--- what Show tells of a workflow; a forward stream is always there (MoveTables: Show)
+-- what Show tells of a workflow's one lane; a forward stream is always there (MoveTables: Show)
+abbrev pub lane_by : WorkflowState → ShownLane
+lane_by w = record {
+  range = whole;
+  forward = unwrap_or (option_map slot_from w.forward) (record { state = frozen; position = 0 });
+  copied = option_map_or (λ stream. has_ended stream.copied) w.forward false;
+  back = option_map slot_from w.back;
+}
+
+-- what it tells of the workflow (MoveTables: Show)
 abbrev pub shown_by : WorkflowState → Shown
 shown_by w = record {
   workflow = w.name;
@@ -176,9 +186,7 @@ shown_by w = record {
   tables = w.tables;
   switched = w.switched;
   way = w.way;
-  forward = unwrap_or (option_map slot_from w.forward) (record { state = frozen; position = 0 });
-  copied = option_map_or (λ stream. has_ended stream.copied) w.forward false;
-  back = option_map slot_from w.back;
+  lanes = lane_by w ∷ [];
 }
 
 abbrev pub show_at : Option WorkflowState → Answer

@@ -6,6 +6,7 @@ use Rattle.mt_names.proofs.EntryLemmas.{none_from}
 use Rattle.mt_names.specs.declared.types.TabletType.{TabletType}
 use Rattle.mt_names.specs.declared.types.TabletType.TheVariants.{Primary, Replica, Rdonly}
 use Rattle.mt_names.specs.Names.{same_text}
+use Rattle.mt_names.specs.Shards.{shard_count}
 use Rattle.mt_names.specs.declared.types.TypeSet.{TypeSet}
 use Rattle.mt_model.specs.declared.entries.Entry.TheVariants as entry
 use Rattle.mt_model.specs.declared.entries.EntryKey.{EntryKey}
@@ -55,7 +56,7 @@ serve_turned u w v types (about.Present keyspace table) s t = refl
 
 module _ (u : TopologyState) (w : Live) (back : Bool) (change : TypeSet → TypeSet) (rests : w.way ≡ None) where
   abbrev fresh : Way
-  fresh = record { back = back; shards = 1; before = w.switched; after = change w.switched; done = 0; undoing = false }
+  fresh = record { back = back; shards = shard_count w.cuts; before = w.switched; after = change w.switched; done = 0; undoing = false }
 
   types_stay : (n : ℕ) → types_by (with_way_to back change w) n ≡ types_by w n
   types_stay n =

@@ -1,17 +1,18 @@
 -- Keyspaces, tables and rules that are made by hand while workflows are live.
-use Rattle.std.proofs.Common.{◌≡◌, ◌≢◌, ◌⊎◌, ⊎_elim, ℕ, Bool, true, false, cond, ◌||◌, List, [], ◌∷◌, ◌++◌, find, Option, None, Some, is_some, refl, sym, ap, ◌∙◌, subst}
+use Rattle.std.proofs.Common.{◌≡◌, ◌≢◌, ◌⊎◌, ⊎_elim, ℕ, Bool, true, false, cond, if◌then◌else◌, ◌||◌, List, [], ◌∷◌, ◌++◌, find, Option, None, Some, is_some, refl, sym, ap, ◌∙◌, subst}
 use Rattle.std.specs.Map.{lookup}
 use Rattle.std.specs.Option.{option_map_or}
 use Rattle.mt_names.specs.declared.keys.RuleKey.{RuleKey}
 use Rattle.mt_names.specs.declared.keys.RuleTarget.{RuleTarget}
 use Rattle.mt_names.specs.Names.{same_text}
 use Rattle.mt_names.specs.Same.{same_key}
+use Rattle.mt_names.specs.Shards.{Cuts}
 use Rattle.mt_names.proofs.EntryLemmas.{is_some-set_value, lookup-push_new, lookup-push_stood, lookup-remove_entry_elsewhere, lookup-remove_entry_here, none_from, same_or_other, some_from}
 use Rattle.mt_names.proofs.SameLemmas.{same_key_decides, same_text_decides}
 use Rattle.mt_model.specs.declared.entries.Entry.TheVariants as entry
 use Rattle.mt_model.specs.declared.entries.EntryKey.{EntryKey}
 use Rattle.mt_model.specs.declared.entries.EntryKey.TheVariants as about
-use Rattle.mt_model.specs.Topology.{HasDistinctPlaces, KeyspaceState, TopologyState, cuts_at, has_place, keyspace_at, new_keyspace, value_of, with_keyspace, with_mark_place, with_new_table, with_rule, with_rule_place, with_table}
+use Rattle.mt_model.specs.Topology.{HasDistinctPlaces, Keyspaces, KeyspaceState, TopologyState, cuts_at, has_place, keyspace_at, new_keyspace, value_of, with_keyspace, with_mark_place, with_new_table, with_rule, with_rule_place, with_table}
 use Rattle.mt_model.proofs.DistinctLemmas.{distinct-rules, distinct-with_keyspace, distinct-with_rule, distinct-with_table}
 use Rattle.mt_model.proofs.PlaceLemmas.{keyspace_at-stays}
 use Rattle.mt_model.proofs.TopologyLemmas.{keyspace_at-changed_here, read_at-unchanged, rule_at-with_rule_elsewhere, rule_at-with_rule_here, value_of-rules_changed, value_of-with_keyspace, value_of-with_table_elsewhere, value_of-with_table_here, with_mark_place-there, with_rule_place-there}
@@ -45,25 +46,25 @@ module _ (p q : Plain) (lives : q.lives ≡ p.lives) (t next_t : TopologyState) 
 -- ---- a keyspace more
 
 module _ {A : Type 0} (f : KeyspaceState → A) (none : A) where
-  pushed : f (new_keyspace []) ≡ none → (es : List (List ℕ × KeyspaceState)) (name k : List ℕ)
-      → option_map_or f (lookup (same_text k) (es ++ (name, new_keyspace []) ∷ [])) none ≡ option_map_or f (lookup (same_text k) es) none
-  pushed empty es name k = by (lookup (same_text k) es) refl
+  pushed : (cuts : Cuts) → f (new_keyspace cuts) ≡ none → (es : List (List ℕ × KeyspaceState)) (name k : List ℕ)
+      → option_map_or f (lookup (same_text k) (es ++ (name, new_keyspace cuts) ∷ [])) none ≡ option_map_or f (lookup (same_text k) es) none
+  pushed cuts empty es name k = by (lookup (same_text k) es) refl
     where
-      either : (b : Bool) → f (new_keyspace []) ≡ none → option_map_or f (cond b (Some (new_keyspace [])) None) none ≡ none
+      either : (b : Bool) → f (new_keyspace cuts) ≡ none → option_map_or f (cond b (Some (new_keyspace cuts)) None) none ≡ none
       either true is = is
       either false is = refl
 
-      by : (o : Option KeyspaceState) → lookup (same_text k) es ≡ o → option_map_or f (lookup (same_text k) (es ++ (name, new_keyspace []) ∷ [])) none ≡ option_map_or f (lookup (same_text k) es) none
+      by : (o : Option KeyspaceState) → lookup (same_text k) es ≡ o → option_map_or f (lookup (same_text k) (es ++ (name, new_keyspace cuts) ∷ [])) none ≡ option_map_or f (lookup (same_text k) es) none
       by None is =
-          ap (λ o. option_map_or f o none) (lookup-push_new same_text es (name, new_keyspace []) k is) ∙ either (same_text k name) empty
+          ap (λ o. option_map_or f o none) (lookup-push_new same_text es (name, new_keyspace cuts) k is) ∙ either (same_text k name) empty
           ∙ sym (ap (λ o. option_map_or f o none) is)
       by (Some state) is =
-          ap (λ o. option_map_or f o none) (lookup-push_stood same_text es (name, new_keyspace []) k state is) ∙ sym (ap (λ o. option_map_or f o none) is)
+          ap (λ o. option_map_or f o none) (lookup-push_stood same_text es (name, new_keyspace cuts) k state is) ∙ sym (ap (λ o. option_map_or f o none) is)
 
-none_in_new : (t : TopologyState) (name : List ℕ) (key : EntryKey) → has_place (with_keyspace t name []) key ≡ has_place t key
-none_in_new t name (about.Rule key) = refl
-none_in_new t name (about.Denied k n) = pushed (λ s. is_some (lookup (same_text n) s.denied)) false refl t.keyspaces name k
-none_in_new t name (about.Present k n) = pushed (λ s. is_some (lookup (same_text n) s.tables)) false refl t.keyspaces name k
+none_in_new : (t : TopologyState) (name : List ℕ) (cuts : Cuts) (key : EntryKey) → has_place (with_keyspace t name cuts) key ≡ has_place t key
+none_in_new t name cuts (about.Rule key) = refl
+none_in_new t name cuts (about.Denied k n) = pushed (λ s. is_some (lookup (same_text n) s.denied)) false cuts refl t.keyspaces name k
+none_in_new t name cuts (about.Present k n) = pushed (λ s. is_some (lookup (same_text n) s.tables)) false cuts refl t.keyspaces name k
 
 one_more : (es : List (List ℕ × KeyspaceState)) (name k : List ℕ) (s : KeyspaceState) → is_some (lookup (same_text k) (es ++ (name, s) ∷ [])) ≡ (is_some (lookup (same_text k) es) || same_text k name)
 one_more es name k s = by (lookup (same_text k) es) refl
@@ -76,19 +77,46 @@ one_more es name k s = by (lookup (same_text k) es) refl
     by None is = ap is_some (lookup-push_new same_text es (name, s) k is) ∙ either (same_text k name) ∙ sym (ap (λ (o : Option KeyspaceState). is_some o || same_text k name) is)
     by (Some state) is = ap is_some (lookup-push_stood same_text es (name, s) k state is) ∙ sym (ap (λ (o : Option KeyspaceState). is_some o || same_text k name) is)
 
-pub keyspace_stands : (p q : Plain) (t : TopologyState) (name : List ℕ) → q.lives ≡ p.lives → q.topology ≡ with_keyspace p.topology name [] → has_keyspace p name ≡ false → TopologyStands p t → TopologyStands q (with_keyspace t name [])
-keyspace_stands p q t name lives made absent stands = record {
+abbrev cuts_in : Keyspaces → (name : List ℕ) → Cuts → (k : List ℕ) → Cuts
+cuts_in es name cuts k = if is_some (keyspace_at es k) then cuts_at es k else if same_text k name then cuts else []
+
+cuts_with : (es : Keyspaces) (name : List ℕ) (cuts : Cuts) (k : List ℕ) → cuts_at (es ++ (name, new_keyspace cuts) ∷ []) k ≡ cuts_in es name cuts k
+cuts_with es name cuts k = by (keyspace_at es k) refl
+  where
+    read : Option KeyspaceState → Cuts
+    read o = option_map_or (λ s. s.cuts) o []
+
+    chosen : Option KeyspaceState → Cuts
+    chosen o = if is_some o then read o else if same_text k name then cuts else []
+
+    either : (b : Bool) → read (cond b (Some (new_keyspace cuts)) None) ≡ (if b then cuts else [])
+    either true = refl
+    either false = refl
+
+    by : (o : Option KeyspaceState) → keyspace_at es k ≡ o → cuts_at (es ++ (name, new_keyspace cuts) ∷ []) k ≡ cuts_in es name cuts k
+    by None is = ap read (lookup-push_new same_text es (name, new_keyspace cuts) k is) ∙ either (same_text k name) ∙ sym (ap chosen is)
+    by (Some state) is = ap read (lookup-push_stood same_text es (name, new_keyspace cuts) k state is) ∙ sym (ap chosen is)
+
+-- keyspaces that have the same cuts have them with one more
+cuts_pushed : (es fs : Keyspaces) (name : List ℕ) (cuts : Cuts) (k : List ℕ) → is_some (keyspace_at es k) ≡ is_some (keyspace_at fs k) → cuts_at es k ≡ cuts_at fs k
+    → cuts_at (es ++ (name, new_keyspace cuts) ∷ []) k ≡ cuts_at (fs ++ (name, new_keyspace cuts) ∷ []) k
+cuts_pushed es fs name cuts k there same =
+    cuts_with es name cuts k ∙ ap (λ b. if b then cuts_at es k else if same_text k name then cuts else []) there
+    ∙ ap (λ c. if is_some (keyspace_at fs k) then c else if same_text k name then cuts else []) same ∙ sym (cuts_with fs name cuts k)
+
+pub keyspace_stands : (p q : Plain) (t : TopologyState) (name : List ℕ) (cuts : Cuts) → q.lives ≡ p.lives → q.topology ≡ with_keyspace p.topology name cuts → has_keyspace p name ≡ false → TopologyStands p t → TopologyStands q (with_keyspace t name cuts)
+keyspace_stands p q t name cuts lives made absent stands = record {
   served = record {
     keyspaces = λ k.
         one_more t.keyspaces name k _ ∙ ap (λ b. b || same_text k name) (stands.served.keyspaces k) ∙ sym (one_more p.topology.keyspaces name k _)
         ∙ sym (ap (λ (u : TopologyState). is_some (keyspace_at u.keyspaces k)) made);
     shards = λ k.
-        pushed (λ s. s.cuts) [] refl t.keyspaces name k ∙ stands.served.shards k ∙ sym (pushed (λ s. s.cuts) [] refl p.topology.keyspaces name k)
+        cuts_pushed t.keyspaces p.topology.keyspaces name cuts k (stands.served.keyspaces k) (stands.served.shards k)
         ∙ sym (ap (λ (u : TopologyState). cuts_at u.keyspaces k) made);
-    entries = λ key. entry_still p q lives t (with_keyspace t name []) stands key (value_of-with_keyspace t name [] key) (ap (λ u. value_of u key) made ∙ value_of-with_keyspace p.topology name [] key);
-    places = distinct-with_keyspace t name [] (none_from (keyspace_at t.keyspaces name) (stands.served.keyspaces name ∙ absent)) stands.served.places;
+    entries = λ key. entry_still p q lives t (with_keyspace t name cuts) stands key (value_of-with_keyspace t name cuts key) (ap (λ u. value_of u key) made ∙ value_of-with_keyspace p.topology name cuts key);
+    places = distinct-with_keyspace t name cuts (none_from (keyspace_at t.keyspaces name) (stands.served.keyspaces name ∙ absent)) stands.served.places;
   };
-  places = λ key. place_still p q lives t (with_keyspace t name []) stands key (none_in_new t name key) (ap (λ u. has_place u key) made ∙ none_in_new p.topology name key);
+  places = λ key. place_still p q lives t (with_keyspace t name cuts) stands key (none_in_new t name cuts key) (ap (λ u. has_place u key) made ∙ none_in_new p.topology name cuts key);
 }
 
 -- ---- a table more

@@ -65,15 +65,15 @@ module _ (p : Plain) (name : List ℕ) (w v : Live) (live : live_at p name ≡ S
       → rule_at (next p event answer).topology.rules key ≡ rule_at p.topology.rules key
   rule_stays event (refused refusal) given now same = refl
   rule_stays event (shown s) given now same = refl
-  rule_stays (add_keyspace k) done given now same = refl
+  rule_stays (add_keyspace k cuts) done given now same = refl
   rule_stays (add_table k n) done given now same = refl
   rule_stays (edit_rule r target) done given now same = edited r target given.0
   rule_stays (complete workflow) done given now same = completed_other workflow (live_at p workflow) refl now
-  rule_stays (add_keyspace k) (row r) given now same = refl
+  rule_stays (add_keyspace k cuts) (row r) given now same = refl
   rule_stays (add_table k n) (row r) given now same = refl
   rule_stays (edit_rule r target) (row x) given now same = edited r target given.0
   rule_stays (complete workflow) (row r) given now same = completed_other workflow (live_at p workflow) refl now
-  rule_stays (add_keyspace k) (advanced events rows) given now same = refl
+  rule_stays (add_keyspace k cuts) (advanced events rows) given now same = refl
   rule_stays (add_table k n) (advanced events rows) given now same = refl
   rule_stays (edit_rule r target) (advanced events rows) given now same = refl
   rule_stays (complete workflow) (advanced events rows) given now same = refl

@@ -100,6 +100,6 @@ module _ (laws : Laws) (p : Plain) (event : Event) (answer : Answer) (reached : 
 pub rows_change : (event : Event) → IsOfRows event → (¬ (ChangesLives event)) × (¬ (ChangesTopology event))
 rows_change (write keyspace table op) is = (λ h. h, λ h. h)
 rows_change (read keyspace table key tablet_type) is = (λ h. h, λ h. h)
-rows_change (advance workflow name at at_most) is = (λ h. h, λ h. h)
+rows_change (advance workflow name shard at at_most) is = (λ h. h, λ h. h)
 rows_change (show workflow) is = (λ h. h, λ h. h)
 rows_change other is = absurd is

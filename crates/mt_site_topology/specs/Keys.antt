@@ -1,6 +1,6 @@
 -- Keys of entries, those of a part, and the entries that a workflow writes there. All of this page is this profile's own, unless a
 -- comment names a page of Vitess's documentation.
-use Rattle.std.specs.Prelude.{◌≡◌, ℕ, Bool, true, false, ◌==◌, List, [], ◌++◌, filter, length, map, None}
+use Rattle.std.specs.Prelude.{◌≡◌, ℕ, Bool, true, false, ◌==◌, List, [], ◌++◌, filter, map, None}
 use Rattle.std.specs.List.{list_any}
 use Rattle.mt_names.specs.Names.{same_text}
 use Rattle.mt_names.specs.declared.types.TypeSet.{TypeSet}
@@ -11,11 +11,10 @@ use Rattle.mt_model.specs.declared.entries.EntryKey.{EntryKey}
 use Rattle.mt_model.specs.declared.entries.EntryKey.TheVariants as about
 use Rattle.mt_model.specs.Part.{part_keys}
 use Rattle.mt_model.specs.Topology.{Rules, TopologyState, rule_at, value_of}
-use Rattle.mt_plain.specs.Next.{created}
-use Rattle.mt_plain.specs.Plain.{Live, Plain, has_part, rule_keys}
+use Rattle.mt_plain.specs.Next.{all_fed, created}
+use Rattle.mt_plain.specs.Plain.{Live, Plain, cuts_of, has_part, rule_keys}
 use Rattle.mt_plain.specs.Serve.{serve, step_of_entry}
 use Rattle.mt_plain.specs.Slots.{log_length}
-use Rattle.mt_plain.specs.Writes.{writes_to}
 
 -- ---- keys
 
@@ -67,9 +66,7 @@ kept_entries kept w = map (value_of (rules_only kept)) (keys_of_part w)
 
 -- the live workflow that Create makes (MoveTables: Create)
 abbrev pub created_live : Plain → (name source target : List ℕ) → List (List ℕ) → Live
-created_live p name source target tables =
-    let w = created name source target tables (log_length p source) in
-    record w { fed = length (writes_to p w) }
+created_live p name source target tables = all_fed p (created name source target tables (cuts_of p target) (log_length p source 0))
 
 -- ---- Complete
 

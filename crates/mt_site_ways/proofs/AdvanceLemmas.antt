@@ -15,8 +15,8 @@ use Rattle.mt_workflow.specs.Workflows.{WorkflowState, with_slot}
 use Rattle.mt_plain.specs.Answers.{Answers}
 use Rattle.mt_plain.specs.Events.{Answer, StreamName, Way, Refusal, no_workflow, stream_stopped, advance, refused}
 use Rattle.mt_plain.specs.Next.{next}
-use Rattle.mt_plain.specs.Plain.{Live, Plain, live_at}
-use Rattle.mt_plain.specs.Refuse.{advance_at, advance_refusal, in_workflow, refusal_of}
+use Rattle.mt_plain.specs.Plain.{Lane, Live, Plain, lane_at, live_at}
+use Rattle.mt_plain.specs.Refuse.{advance_at, advance_refusal, in_lane_at, in_workflow, refusal_of}
 use Rattle.mt_plain.specs.Slots.{running_at, slot_before_way, slot_of}
 use Rattle.mt_laws.specs.Reached.{IsOnCourse}
 use Rattle.mt_site_rows.specs.Answers.{answer_by_stream}
@@ -68,14 +68,20 @@ module _ (p q : Plain) (old : Workflows) (workflow : List ℕ) (w : WorkflowStat
 -- ---- an advance that is not refused
 
 -- it is of a stream that runs
-stream_runs : (p : Plain) (live : Live) (workflow : List ℕ) (name : StreamName) (at at_most : ℕ) → live_at p workflow ≡ Some live → refusal_of p (advance workflow name at at_most) ≡ None
-    → (position : ℕ) × (running_at (slot_of live name) ≡ Some position)
-stream_runs p live workflow name at at_most is_live none =
-    by (running_at (slot_of live name)) refl (sym (ap (λ o. in_workflow o (advance_refusal p name at at_most)) is_live) ∙ none)
+stream_runs : (p : Plain) (live : Live) (workflow : List ℕ) (name : StreamName) (shard at at_most : ℕ) → live_at p workflow ≡ Some live
+    → refusal_of p (advance workflow name shard at at_most) ≡ None → (lane : Lane) × (position : ℕ) × (running_at (slot_of live lane name) ≡ Some position)
+stream_runs p live workflow name shard at at_most is_live none =
+    in_lane (lane_at live shard) (sym (ap (λ o. in_workflow o (advance_refusal p name shard at at_most)) is_live) ∙ none)
   where
-    by : (o : Option ℕ) → running_at (slot_of live name) ≡ o → advance_at p live name at at_most o ≡ None → (position : ℕ) × (running_at (slot_of live name) ≡ Some position)
-    by None e taken = absurd cc
-    by (Some position) e taken = (position, e)
+    by : (lane : Lane) (o : Option ℕ) → running_at (slot_of live lane name) ≡ o → advance_at p live lane name at at_most o ≡ None
+        → (position : ℕ) × (running_at (slot_of live lane name) ≡ Some position)
+    by lane None e taken = absurd cc
+    by lane (Some position) e taken = (position, e)
+
+    in_lane : (o : Option Lane) → in_lane_at o (λ lane. advance_at p live lane name at at_most (running_at (slot_of live lane name))) ≡ None
+        → (lane : Lane) × (position : ℕ) × (running_at (slot_of live lane name) ≡ Some position)
+    in_lane None taken = absurd cc
+    in_lane (Some lane) taken = let (position, e) = by lane (running_at (slot_of live lane name)) refl taken in (lane, position, e)
 
 -- ---- an advance
 
@@ -83,7 +89,7 @@ module _ (laws : Laws) (p : Plain) (scopes : List Scope) (old new : CoreState) (
     (named : (live : Live) → live_at p workflow ≡ Some live → live.name ≡ workflow)
     (course : (live : Live) → live_at p workflow ≡ Some live → (way : Way) → live.way ≡ Some way → IsOnCourse live way) where
   abbrev Kept : Answer → Type 0
-  Kept answer = (n : List ℕ) → KeepsWay p (next p (advance workflow name at at_most) answer) old.workflows new.workflows n
+  Kept answer = (n : List ℕ) → KeepsWay p (next p (advance workflow name 0 at at_most) answer) old.workflows new.workflows n
 
   unchanged : (answer : Answer) (refusal : Refusal) → answer ≡ refused refusal → new ≡ old → Kept answer
   unchanged answer refusal is same =
@@ -91,23 +97,23 @@ module _ (laws : Laws) (p : Plain) (scopes : List Scope) (old new : CoreState) (
 
   module _ (w : WorkflowState) (found : workflow_at old.workflows workflow ≡ Some w) (live : Live) (is_live : live_at p workflow ≡ Some live) (for : StandsFor p live w) where
     -- no stream is to be given back while one advances
-    by_result : (result : Result Advanced StreamFault) → Answers p (advance workflow name at at_most) (answer_by_stream result)
-        → (v : Live) (way : Way) → live_at (next p (advance workflow name at at_most) (answer_by_stream result)) workflow ≡ Some v → w.way ≡ Some way → SameSlot live v way
-    by_result (Err fault) given v way is_v on unwritten made =
+    by_result : (result : Result Advanced StreamFault) → Answers p (advance workflow name 0 at at_most) (answer_by_stream result)
+        → (v : Live) (way : Way) → live_at (next p (advance workflow name 0 at at_most) (answer_by_stream result)) workflow ≡ Some v → w.way ≡ Some way → SameSlot live v way
+    by_result (Err fault) given v way is_v on unwritten made lane alone =
         let same : live ≡ v = (let e : Some live ≡ Some v = sym is_live ∙ is_v in cc) in
-        sym (ap (λ (l : Live). option_map (stream_of l) (slot_before_way l (other_name way))) same)
-    by_result (Ok counts) given v way is_v on unwritten made =
+        (lane, ap (λ (l : Live). l.lanes) same ∙ alone, sym (ap (λ (l : Live). option_map (stream_of l lane) (slot_before_way l lane (other_name way))) same))
+    by_result (Ok counts) given v way is_v on unwritten made lane alone =
         let on_live = sym for.way ∙ on in
-        let runs = stream_runs p live workflow name at at_most is_live given.0 in
-        absurd (none_runs live way on_live (course live is_live way on_live).within unwritten made name runs.0 runs.1)
+        let (runner, position, runs) = stream_runs p live workflow name 0 at at_most is_live given.0 in
+        absurd (none_runs live way on_live (course live is_live way on_live).within unwritten made runner name position runs)
 
-    stream_keeps : (answer : Answer) (o : Option StreamValue) → AdvancesStream o old w name at at_most answer new → Answers p (advance workflow name at at_most) answer → Kept answer
+    stream_keeps : (answer : Answer) (o : Option StreamValue) → AdvancesStream o old w name at at_most answer new → Answers p (advance workflow name 0 at at_most) answer → Kept answer
     stream_keeps answer None is given = unchanged answer stream_stopped is.0 is.1
     stream_keeps answer (Some stream) is given =
         subst Kept (sym is.4)
-        (λ n. subst (λ workflows. KeepsWay p (next p (advance workflow name at at_most) (answer_by_stream is.0)) old.workflows workflows n) (sym workflows_are)
-        (slot_keeps p (next p (advance workflow name at at_most) (answer_by_stream is.0)) old.workflows workflow w found live is_live name (Some is.1)
-        (by_result is.0 (subst (Answers p (advance workflow name at at_most)) is.4 given)) (laws.elsewhere p (advance workflow name at at_most) (answer_by_stream is.0)) n))
+        (λ n. subst (λ workflows. KeepsWay p (next p (advance workflow name 0 at at_most) (answer_by_stream is.0)) old.workflows workflows n) (sym workflows_are)
+        (slot_keeps p (next p (advance workflow name 0 at at_most) (answer_by_stream is.0)) old.workflows workflow w found live is_live name (Some is.1)
+        (by_result is.0 (subst (Answers p (advance workflow name 0 at at_most)) is.4 given)) (laws.elsewhere p (advance workflow name 0 at at_most) (answer_by_stream is.0)) n))
       where
         workflows_are : new.workflows ≡ set_value (same_text workflow) old.workflows (with_slot w name (Some is.1))
         workflows_are =
@@ -115,11 +121,11 @@ module _ (laws : Laws) (p : Plain) (scopes : List Scope) (old new : CoreState) (
             ∙ ap (λ k. set_value (same_text k) old.workflows (with_slot w name (Some is.1))) (sym for.sides.name ∙ named live is_live)
 
   workflow_keeps : (answer : Answer) (o : Option WorkflowState) → workflow_at old.workflows workflow ≡ o → AdvancesAt o old name at at_most answer new
-      → Answers p (advance workflow name at at_most) answer → Kept answer
+      → Answers p (advance workflow name 0 at at_most) answer → Kept answer
   workflow_keeps answer None none is given = unchanged answer no_workflow is.0 is.1
   workflow_keeps answer (Some w) found is given =
       let (live, is_live, for) = live_of_state p (live_at p workflow) (workflow_at old.workflows workflow) w (stands.workflows.each workflow) found in
       stream_keeps w found live is_live for answer (work.slot_of w name) is given
 
-  pub advance_keeps : (answer : Answer) → AdvancesWorkflow old workflow name at at_most answer new → Answers p (advance workflow name at at_most) answer → Kept answer
+  pub advance_keeps : (answer : Answer) → AdvancesWorkflow old workflow name at at_most answer new → Answers p (advance workflow name 0 at at_most) answer → Kept answer
   advance_keeps answer = workflow_keeps answer (workflow_at old.workflows workflow) refl

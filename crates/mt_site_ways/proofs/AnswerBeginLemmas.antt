@@ -1,64 +1,56 @@
 -- What a begin of a way and Complete are answered.
-use Rattle.std.proofs.Common.{◌≡◌, ℕ, Bool, true, false, not, cond, List, Option, None, Some, option_map, is_some, refl, sym, ap, ◌∙◌, subst}
+use Rattle.std.proofs.Common.{◌≡◌, ℕ, Bool, true, false, not, List, Option, None, Some, option_map, is_some, refl, sym, ap, ◌∙◌, subst}
 use Rattle.std.proofs.lemmas.Bool.{true≢false}
 use Rattle.std.specs.Option.{option_map_or}
 use Rattle.std.specs.Prelude.{◌&&◌, nat_le}
 use Rattle.mt_model.specs.declared.entries.Scope.{Scope}
 use Rattle.mt_names.specs.declared.types.TypeSet.{TypeSet}
 use Rattle.mt_plain.specs.Answers.{Answers}
-use Rattle.mt_plain.specs.Events.{Answer, Event, begin_reverse, begin_switch, complete, refused, Refusal, no_workflow, under_way, nothing_to_switch, nothing_to_reverse, copying, full, not_all_switched, forward, running, stopped, Slot, Way}
+use Rattle.mt_plain.specs.Events.{Answer, Event, begin_reverse, begin_switch, complete, refused, Refusal, no_workflow, under_way, nothing_to_switch, nothing_to_reverse, copying, full, not_all_switched, forward, Slot, Way}
 use Rattle.mt_plain.specs.Next.{types_and, types_without}
-use Rattle.mt_plain.specs.Plain.{Copied, ended, not_begun, up_to, Live, Plain, changes_primary, create_back, live_at, stands_done, start_back}
-use Rattle.mt_plain.specs.Refuse.{at_rest, begin_reverse_refusal, begin_switch_refusal, complete_refusal, has_more, in_workflow, is_still_copying, most_ways, or_else, refusal_of, refuse_if, share_type}
-use Rattle.mt_plain.specs.Slots.{feeding_slot, is_feeding, slot_before_way, slot_by_way, slot_of}
+use Rattle.mt_plain.specs.Plain.{Copied, ended, not_begun, up_to, Lane, Live, Plain, live_at}
+use Rattle.mt_plain.specs.Refuse.{at_rest, begin_reverse_refusal, begin_switch_refusal, complete_refusal, copies_still, has_more, in_workflow, is_still_copying, most_ways, or_else, refusal_of, refuse_if, share_type}
+use Rattle.mt_plain.specs.Slots.{slot_of}
 use Rattle.mt_stream.specs.Streams.{StreamValue, has_ended}
 use Rattle.mt_workflow.specs.Workflows.{WorkflowState, live_of}
 use Rattle.mt_laws.proofs.AnswerLemmas.{refused_as_decided}
 use Rattle.mt_site_rows.specs.Rows.{stream_of}
 use Rattle.mt_site_state.specs.Core.{workflow_at}
 use Rattle.mt_site_state.specs.Stands.{StandsFor}
+use Rattle.mt_site_state.proofs.ShardLemmas.{any_alone}
 use Rattle.mt_site_state.specs.Switching.{BeginsReverse, BeginsReverseAt, BeginsSwitch, BeginsSwitchAt, Completes, CompletesAt, completed, is_copying, no_number_left, way_to, with_way}
 use Rattle.mt_site_state.specs.Ways.{SiteState, SiteStands}
+use Rattle.mt_site_events.proofs.ShowLemmas.{forward_there}
 use Rattle.mt_site_ways.proofs.FoundLemmas.{live_found, no_live}
 use Rattle.mt_site_ways.proofs.RefusalLemmas.{does_answer}
 
 -- ---- whether rows are still to be copied
-
--- a forward stream is always there
-forward_there : (w : Live) (o : Option Way) → is_some (slot_by_way w o forward) ≡ true
-forward_there w None = refl
-forward_there w (Some way) = by (changes_primary way) (is_feeding way forward) (stands_done way create_back)
-  where
-    by : (c f t : Bool) → is_some (cond (not c) (slot_before_way w forward) (cond f (feeding_slot w way (slot_before_way w forward))
-        (cond t (Some (record { state = cond (stands_done way start_back) running stopped; position = w.fresh_at })) (slot_before_way w forward)))) ≡ true
-    by false f t = refl
-    by true true t = refl
-    by true false true = refl
-    by true false false = refl
 
 not_ended : (c : Copied) → not (has_ended c) ≡ is_still_copying c
 not_ended not_begun = refl
 not_ended (up_to table key) = refl
 not_ended ended = refl
 
-copies : (w : Live) (o : Option Slot) → is_some o ≡ true
-    → not (option_map_or (λ (s : StreamValue). has_ended s.copied) (option_map (stream_of w) o) false) ≡ is_still_copying w.copied
-copies w None e = absurd cc
-copies w (Some s) e = not_ended w.copied
+copies : (w : Live) (lane : Lane) (o : Option Slot) → is_some o ≡ true
+    → not (option_map_or (λ (s : StreamValue). has_ended s.copied) (option_map (stream_of w lane) o) false) ≡ is_still_copying lane.copied
+copies w lane None e = absurd cc
+copies w lane (Some s) e = not_ended lane.copied
 
 -- ---- what refuses
 
 module _ (p : Plain) (live : Live) (w : WorkflowState) (stands : StandsFor p live w) where
-  copying_same : is_copying w ≡ is_still_copying live.copied
+  copying_same : is_copying w ≡ copies_still live
   copying_same =
-      ap (λ o. not (option_map_or (λ (s : StreamValue). has_ended s.copied) o false)) stands.forward ∙ copies live (slot_of live forward) (forward_there live live.way)
+      ap (λ o. not (option_map_or (λ (s : StreamValue). has_ended s.copied) o false)) stands.forward
+      ∙ copies live stands.lane (slot_of live stands.lane forward) (forward_there live stands.lane live.way)
+      ∙ sym (any_alone (λ lane. is_still_copying lane.copied) live.lanes stands.lane stands.alone)
 
   switch_same : (types : TypeSet) (begun : ℕ) → begun ≡ p.ways
       → at_rest (live_of w) (or_else (refuse_if (not (has_more types w.switched)) nothing_to_switch) (or_else (refuse_if (is_copying w) copying) (refuse_if (nat_le most_ways begun) full)))
       ≡ begin_switch_refusal p types live
   switch_same types begun same = by w.way stands.way w.switched stands.switched (is_copying w) copying_same begun same
     where
-      by : (way : Option Way) → way ≡ live.way → (switched : TypeSet) → switched ≡ live.switched → (still : Bool) → still ≡ is_still_copying live.copied → (n : ℕ) → n ≡ p.ways
+      by : (way : Option Way) → way ≡ live.way → (switched : TypeSet) → switched ≡ live.switched → (still : Bool) → still ≡ copies_still live → (n : ℕ) → n ≡ p.ways
           → or_else (refuse_if (is_some way) under_way) (or_else (refuse_if (not (has_more types switched)) nothing_to_switch) (or_else (refuse_if still copying) (refuse_if (nat_le most_ways n) full)))
           ≡ begin_switch_refusal p types live
       by way a switched b still c n d = rw (a, b, c, d) refl

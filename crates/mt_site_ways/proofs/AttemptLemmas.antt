@@ -1,5 +1,5 @@
 -- What an attempt leaves of the journal and of the record of an own list, what a step puts away, and what an undo leaves; on values alone.
-use Rattle.std.proofs.Common.{◌≡◌, ◌≢◌, ℕ, Bool, true, false, not, cond, eqb, ◌&&◌, ◌||◌, List, [], ◌∷◌, ◌++◌, map, Option, None, Some, option_map, refl, sym, ap, ◌∙◌}
+use Rattle.std.proofs.Common.{◌≡◌, ◌≢◌, ℕ, Bool, true, false, not, cond, eqb, ◌&&◌, ◌||◌, List, [], ◌∷◌, ◌++◌, map, Option, None, Some, option_map, refl, sym, ap, subst, ◌∙◌}
 use Rattle.std.proofs.lemmas.Bool.{true≢false}
 use Rattle.std.specs.List.{AllByRecursion}
 use Rattle.std.specs.Option.{option_map_or}
@@ -12,8 +12,8 @@ use Rattle.mt_model.specs.Topology.{Marks, TopologyState}
 use Rattle.mt_laws.proofs.LiveLemmas.{all_from_in, any-in, text_differs}
 use Rattle.mt_laws.proofs.WayStepLemmas.{more}
 use Rattle.mt_plain.specs.Events.{StreamName, forward, back, running, stopped, Way}
-use Rattle.mt_plain.specs.Next.{closes, fresh_stepped, live_stepped, types_stepped}
-use Rattle.mt_plain.specs.Plain.{Live, Plain, among, before_way, changes_primary, create_back, owner_by, refresh_source, refresh_target, stands_done, start_back, write_journal}
+use Rattle.mt_plain.specs.Next.{closes, lane_closed, lane_made, lane_stepped, live_stepped, types_stepped}
+use Rattle.mt_plain.specs.Plain.{Lane, Live, Plain, among, before_way, changes_primary, create_back, next_step, owner_by, refresh_source, refresh_target, stands_done, start_back, write_journal}
 use Rattle.mt_plain.specs.Serve.{is_listed_at}
 use Rattle.mt_plain.specs.Slots.{feeding_slot, is_feeding, other_slot, slot_at_rest, slot_before_way, slot_by_way}
 use Rattle.mt_plain.specs.Slots as plain
@@ -151,33 +151,41 @@ none_marked primary (t ∷ ts) all = ap (λ b. (t, b) ∷ marks_of primary ts) a
 
 -- ---- streams
 
+-- a lane that differs in its fresh position and in what was fed alone
+pub record SameRest (lane on : Lane) : Type 0 where
+  pub shard : on.shard ≡ lane.shard
+  pub copied : on.copied ≡ lane.copied
+  pub forward_at : on.forward_at ≡ lane.forward_at
+  pub back_at : on.back_at ≡ lane.back_at
+
 -- a way that a step leaves open: what stood before it stays
 pub open_stepped : (p : Plain) (v : Live) (way : Way) → closes way ≡ false
-    → (types : TypeSet) × (fresh : ℕ) × (live_stepped p v way ≡ record v { switched = types; way = Some (more way); fresh_at = fresh })
-open_stepped p v way goes_on = (
-  types_stepped v way,
-  fresh_stepped p v way,
-  ap (λ l. record v {
-    switched = types_stepped v way;
-    way = cond l None (Some (more way));
-    forward_at = cond (l && changes_primary way && way.back) v.fresh_at v.forward_at;
-    back_at = cond (l && changes_primary way && not way.back) v.fresh_at v.back_at;
-    fresh_at = fresh_stepped p v way;
-  }) goes_on,
-)
+    → live_stepped p v way ≡ record v { switched = types_stepped v way; way = Some (more way); lanes = map (lane_stepped p v way) v.lanes }
+open_stepped p v way goes_on = ap (λ l. record v { switched = types_stepped v way; way = cond l None (Some (more way)); lanes = map (lane_stepped p v way) v.lanes }) goes_on
 
-pub saved_stays : (v : Live) (way now : Way) (types : TypeSet) (fresh : ℕ) (name : StreamName) → v.way ≡ Some way → now.before ≡ way.before
-    → option_map (stream_of (record v { switched = types; way = Some now; fresh_at = fresh })) (slot_before_way (record v { switched = types; way = Some now; fresh_at = fresh }) name)
-    ≡ option_map (stream_of v) (slot_before_way v name)
-saved_stays v way now types fresh name opens before = at_rest now.before name ∙ ap (λ (ts : TypeSet). option_map (stream_of v) (slot_at_rest v ts.primary name)) same
+pub stepped_rest : (p : Plain) (v : Live) (way : Way) (lane : Lane) → closes way ≡ false → SameRest lane (lane_stepped p v way lane)
+stepped_rest p v way lane goes_on = by (eqb (next_step way) create_back)
   where
-    same : now.before ≡ before_way v
-    same = before ∙ sym (ap (λ o. option_map_or (λ (x : Way). x.before) o v.switched) opens)
+    by : (b : Bool) → SameRest lane (cond b (lane_made p v lane) (cond (closes way && changes_primary way) (lane_closed way lane) lane))
+    by true = record { shard = refl; copied = refl; forward_at = refl; back_at = refl }
+    by false =
+        subst (λ l. SameRest lane (cond (l && changes_primary way) (lane_closed way lane) lane)) (sym goes_on) (record { shard = refl; copied = refl; forward_at = refl; back_at = refl })
 
-    at_rest : (ts : TypeSet) (n : StreamName) → option_map (stream_of (record v { switched = types; way = Some now; fresh_at = fresh }))
-        (slot_at_rest (record v { switched = types; way = Some now; fresh_at = fresh }) ts.primary n) ≡ option_map (stream_of v) (slot_at_rest v ts.primary n)
-    at_rest ts forward = refl
-    at_rest ts back = refl
+module _ (v : Live) (way now : Way) (types : TypeSet) (lanes : List Lane) (lane on : Lane) (same : SameRest lane on) where
+  abbrev later : Live
+  later = record v { switched = types; way = Some now; lanes = lanes }
+
+  at_rest : (b : Bool) (n : StreamName) → option_map (stream_of later on) (slot_at_rest on b n) ≡ option_map (stream_of v lane) (slot_at_rest lane b n)
+  at_rest b forward = rw (same.shard, same.copied, same.forward_at) refl
+  at_rest true back = rw (same.shard, same.copied, same.back_at) refl
+  at_rest false back = refl
+
+  pub saved_stays : (name : StreamName) → v.way ≡ Some way → now.before ≡ way.before
+      → option_map (stream_of later on) (slot_before_way later on name) ≡ option_map (stream_of v lane) (slot_before_way v lane name)
+  saved_stays name opens before = at_rest now.before.primary name ∙ ap (λ (ts : TypeSet). option_map (stream_of v lane) (slot_at_rest lane ts.primary name)) is_before
+    where
+      is_before : now.before ≡ before_way v
+      is_before = before ∙ sym (ap (λ o. option_map_or (λ (x : Way). x.before) o v.switched) opens)
 
 not_feeding : (way : Way) → is_feeding way (other_name way) ≡ false
 not_feeding way = by way.back refl
@@ -187,13 +195,13 @@ not_feeding way = by way.back refl
     by false e = e
 
 -- until a way has made a stream, the slot has what stood there before the way
-pub slot_stood : (v : Live) (way : Way) → v.way ≡ Some way → stands_done way create_back ≡ false → plain.slot_of v (other_name way) ≡ slot_before_way v (other_name way)
-slot_stood v way opens not_made =
-    ap (λ o. slot_by_way v o (other_name way)) opens
-    ∙ ap (λ f. cond (not (changes_primary way)) (slot_before_way v (other_name way))
-    (cond f (feeding_slot v way (slot_before_way v (other_name way))) (other_slot v way (slot_before_way v (other_name way))))) (not_feeding way)
+pub slot_stood : (v : Live) (lane : Lane) (way : Way) → v.way ≡ Some way → stands_done way create_back ≡ false → plain.slot_of v lane (other_name way) ≡ slot_before_way v lane (other_name way)
+slot_stood v lane way opens not_made =
+    ap (λ o. slot_by_way v lane o (other_name way)) opens
+    ∙ ap (λ f. cond (not (changes_primary way)) (slot_before_way v lane (other_name way))
+    (cond f (feeding_slot lane way (slot_before_way v lane (other_name way))) (other_slot lane way (slot_before_way v lane (other_name way))))) (not_feeding way)
     ∙ by (changes_primary way)
   where
-    by : (c : Bool) → cond (not c) (slot_before_way v (other_name way)) (other_slot v way (slot_before_way v (other_name way))) ≡ slot_before_way v (other_name way)
-    by true = ap (λ d. cond d (Some (record { state = cond (stands_done way start_back) running stopped; position = v.fresh_at })) (slot_before_way v (other_name way))) not_made
+    by : (c : Bool) → cond (not c) (slot_before_way v lane (other_name way)) (other_slot lane way (slot_before_way v lane (other_name way))) ≡ slot_before_way v lane (other_name way)
+    by true = ap (λ d. cond d (Some (record { state = cond (stands_done way start_back) running stopped; position = lane.fresh_at })) (slot_before_way v lane (other_name way))) not_made
     by false = refl

@@ -2,7 +2,6 @@
 use Rattle.std.proofs.Common.{◌≡◌, ◌≢◌, ℕ, Bool, true, false, not, cond, eqb, List, Some, is_some, sym, ap, ◌∙◌, subst, suc, ◌-◌, ◌≤◌, arith, eqb-true}
 use Rattle.std.specs.Cmp.{both_ways}
 use Rattle.mt_laws.specs.Effects.{list_stepped, list_undone}
-use Rattle.mt_laws.proofs.WayStepLemmas.{one-last_place}
 use Rattle.mt_plain.proofs.PlaceLemmas.{one-last, one-next}
 use Rattle.std.proofs.lemmas.Bool.{or_left, or_right, eq-eqb}
 use Rattle.mt_names.specs.declared.types.TypeSet.{TypeSet}
@@ -11,17 +10,17 @@ use Rattle.mt_model.specs.declared.entries.EntryKey.{EntryKey}
 use Rattle.mt_primary.specs.Primary.{PrimaryState}
 use Rattle.mt_primary.specs.Primary as primary
 use Rattle.mt_plain.specs.Events.{Way}
-use Rattle.mt_plain.specs.Plain.{Live, Plain, has_keyspace, has_part, is_side, moves, part_owner, last_place_of, last_step, next_place, next_step, refresh_source, refresh_target}
+use Rattle.mt_plain.specs.Plain.{Live, Plain, has_keyspace, has_part, is_side, moves, part_owner, last_step, next_place, next_step, place_of_refresh, refresh_source, refresh_target}
 use Rattle.mt_plain.specs.Serve.{has_table, is_listed_at, owned_before, refuses_by, step_of_list}
 use Rattle.mt_laws.specs.Changes.{HasSides}
 use Rattle.mt_laws.specs.Reached.{IsInPlace}
 use Rattle.mt_workflow.specs.Workflows.{WorkflowState, live_of}
 use Rattle.mt_site_rows.specs.Rows.{RowsStand}
 use Rattle.mt_site_rows.proofs.KnownLemmas.{itself}
-use Rattle.mt_site_state.specs.Core.{Primaries, primary_at, primary_of}
+use Rattle.mt_site_state.specs.Core.{Primaries, primaries_of, primary_at, primary_of}
 use Rattle.mt_site_state.specs.Stands.{ArePrimaries}
 use Rattle.mt_site_ways.proofs.ListLemmas.{IsListed, IsNext, same_list, sides_stand}
-use Rattle.mt_site_ways.proofs.NumberLemmas.{list_outside, owned_source, owned_target}
+use Rattle.mt_site_ways.proofs.NumberLemmas.{list_outside, one-refresh, owned_source, owned_target}
 use Rattle.mt_site_ways.proofs.SidesLemmas.{both_set}
 use Rattle.mt_site_ways.proofs.TableLemmas.{source_has, target_has}
 
@@ -32,6 +31,7 @@ pub record IsAt (p : Plain) (old : Primaries) (live : Live) (w : WorkflowState) 
   pub are : ArePrimaries p old
   pub sides : HasSides live (live_of w)
   pub opens : live.way ≡ Some way
+  pub one : way.shards ≤ 1
   pub placed : IsInPlace p.topology live
   pub owned : (key : EntryKey) → has_part live key ≡ true → part_owner p key ≡ Some live
 
@@ -67,20 +67,20 @@ module _ (p : Plain) (old : Primaries) (live : Live) (w : WorkflowState) (way : 
 
 -- whether an own list has the moved tables, where those that change with a step are read with some types, and all others stay
 abbrev pub list_changed : Live → ℕ → TypeSet → (keyspace : List ℕ) → Bool
-list_changed live n types keyspace = cond (eqb n (step_of_list live keyspace)) (is_listed_at live types keyspace) (refuses_by live keyspace)
+list_changed live n types keyspace = cond (eqb n (step_of_list live keyspace)) (is_listed_at live types keyspace) (refuses_by live keyspace 0)
 
 -- with one shard a place is the number of a step
 module _ (live : Live) (way : Way) (one : way.shards ≤ 1) where
-  pub stepped_by_number : (keyspace : List ℕ) → list_stepped live way keyspace ≡ list_changed live (next_step way) way.after keyspace
+  pub stepped_by_number : (keyspace : List ℕ) → list_stepped live way keyspace 0 ≡ list_changed live (next_step way) way.after keyspace
   stepped_by_number keyspace =
-      ap (λ n. cond (eqb n (last_place_of way (step_of_list live keyspace))) (is_listed_at live way.after keyspace) (refuses_by live keyspace)) (sym (one-next way one))
-      ∙ ap (λ n. cond (eqb (next_step way) n) (is_listed_at live way.after keyspace) (refuses_by live keyspace)) (one-last_place way (step_of_list live keyspace) one)
+      ap (λ n. cond (eqb n (place_of_refresh way (step_of_list live keyspace) 0)) (is_listed_at live way.after keyspace) (refuses_by live keyspace 0)) (sym (one-next way one))
+      ∙ ap (λ n. cond (eqb (next_step way) n) (is_listed_at live way.after keyspace) (refuses_by live keyspace 0)) (one-refresh way (step_of_list live keyspace) one)
 
-  pub undone_by_number : (keyspace : List ℕ) → list_undone live way keyspace ≡ list_changed live (last_step way) way.before keyspace
+  pub undone_by_number : (keyspace : List ℕ) → list_undone live way keyspace 0 ≡ list_changed live (last_step way) way.before keyspace
   undone_by_number keyspace =
-      ap (λ n. cond (eqb (next_place way) (suc n)) (is_listed_at live way.before keyspace) (refuses_by live keyspace)) (one-last_place way (step_of_list live keyspace) one)
-      ∙ ap (λ b. cond b (is_listed_at live way.before keyspace) (refuses_by live keyspace)) (by (owned_before live keyspace))
-      ∙ ap (λ n. cond (eqb n (step_of_list live keyspace)) (is_listed_at live way.before keyspace) (refuses_by live keyspace)) (sym (one-last way one))
+      ap (λ n. cond (eqb (next_place way) (suc n)) (is_listed_at live way.before keyspace) (refuses_by live keyspace 0)) (one-refresh way (step_of_list live keyspace) one)
+      ∙ ap (λ b. cond b (is_listed_at live way.before keyspace) (refuses_by live keyspace 0)) (by (owned_before live keyspace))
+      ∙ ap (λ n. cond (eqb n (step_of_list live keyspace)) (is_listed_at live way.before keyspace) (refuses_by live keyspace 0)) (sym (one-last way one))
     where
       less : (k n : ℕ) → eqb k (suc (suc n)) ≡ eqb (k - 1) (suc n)
       less k n =
@@ -92,9 +92,9 @@ module _ (live : Live) (way : Way) (one : way.shards ≤ 1) where
       by false = less (next_place way) 7
 
 module _ (p q : Plain) (old : Primaries) (live : Live) (w : WorkflowState) (way : Way) (at : IsAt p old live w way) (n : ℕ) (types : TypeSet)
-    (next : IsNext p q live (list_changed live n types)) (rows : RowsStand q (primary_of old)) (source target : PrimaryState) where
+    (next : IsNext p q live (list_changed live n types)) (rows : RowsStand q (primaries_of old)) (source target : PrimaryState) where
   abbrev pub Stand : Type 0
-  Stand = ArePrimaries q (both_set old w.source w.target source target) × RowsStand q (primary_of (both_set old w.source w.target source target))
+  Stand = ArePrimaries q (both_set old w.source w.target source target) × RowsStand q (primaries_of (both_set old w.source w.target source target))
 
   -- a primary of a side has the list of the next state
   abbrev pub Listed : List ℕ → PrimaryState → Type 0
@@ -109,9 +109,9 @@ module _ (p q : Plain) (old : Primaries) (live : Live) (w : WorkflowState) (way 
   pub stays : (side : List ℕ) (state : PrimaryState) → state ≡ primary_of old side → eqb n (step_of_list live side) ≡ false → Listed side state
   stays side state is other =
       subst (Listed side) (sym is)
-      (same_list p q live (list_changed live n types) next old at.are rows side (ap (λ b. cond b (is_listed_at live types side) (refuses_by live side)) other))
+      (same_list p q live (list_changed live n types) next old at.are rows side (ap (λ b. cond b (is_listed_at live types side) (refuses_by live side 0)) other))
 
   pub changes : (side : List ℕ) (state : PrimaryState) (listed : Bool) → eqb n (step_of_list live side) ≡ true → is_listed_at live types side ≡ listed
       → IsListed live listed (primary_of old side) state → Listed side state
   changes side state listed here is =
-      subst (λ b. IsListed live b (primary_of old side) state) (sym (ap (λ b. cond b (is_listed_at live types side) (refuses_by live side)) here ∙ is))
+      subst (λ b. IsListed live b (primary_of old side) state) (sym (ap (λ b. cond b (is_listed_at live types side) (refuses_by live side 0)) here ∙ is))

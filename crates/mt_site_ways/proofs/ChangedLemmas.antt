@@ -3,9 +3,11 @@ use Rattle.std.proofs.Common.{◌≡◌, ◌≢◌, ℕ, cond, List, [], ◌∷�
 use Rattle.std.specs.Map.{set_value}
 use Rattle.mt_names.specs.declared.types.TypeSet.{TypeSet}
 use Rattle.mt_names.specs.Names.{same_text}
+use Rattle.mt_names.specs.Shards.{Cuts}
+use Rattle.mt_plain.specs.Answers.{range_at}
 use Rattle.mt_plain.specs.Events.{StreamName, forward, back, Slot, Way}
 use Rattle.mt_plain.specs.Next.{with_live}
-use Rattle.mt_plain.specs.Plain.{Copied, Live, Plain, live_at}
+use Rattle.mt_plain.specs.Plain.{Copied, Lane, Live, Plain, live_at}
 use Rattle.mt_plain.specs.Slots as plain
 use Rattle.mt_laws.specs.Changes.{HasSides}
 use Rattle.mt_laws.proofs.InPlaceLemmas.{live_named}
@@ -26,7 +28,8 @@ stands_for p workflows are name live w is_live found =
     subst (StandsForAny p (Some live)) found (subst (λ o. StandsForAny p o (workflow_at workflows name)) is_live (are.each name))
 
 -- and has its streams
-pub stream-slots : (p : Plain) (live : Live) (w : WorkflowState) → StandsFor p live w → (name : StreamName) → slot_of w name ≡ option_map (stream_of live) (plain.slot_of live name)
+pub stream-slots : (p : Plain) (live : Live) (w : WorkflowState) (for : StandsFor p live w) → (name : StreamName)
+    → slot_of w name ≡ option_map (stream_of live for.lane) (plain.slot_of live for.lane name)
 stream-slots p live w for forward = for.forward
 stream-slots p live w for back = for.back
 
@@ -45,8 +48,9 @@ names_with change name keeps (w ∷ ws) =
 module _ (p q : Plain) (name : List ℕ) (change : Live → Live) (keeps : (v : Live) → HasSides v (change v)) (topology : q.topology ≡ p.topology) (lives : q.lives ≡ with_live change name p.lives)
     (elsewhere : (n : List ℕ) → name ≢ n → live_at q n ≡ live_at p n)
     (workflows : Workflows) (are : AreWorkflows p workflows) (live : Live) (w : WorkflowState) (is_live : live_at p name ≡ Some live) (found : workflow_at workflows name ≡ Some w)
-    (now : Live) (is : change live ≡ now) (copied : live_at q name ≡ Some now → now.copied ≡ live.copied) where
-  for : StandsFor p live w
+    (now : Live) (is : change live ≡ now) (on : Lane) (alone : now.lanes ≡ on ∷ []) (first : on.shard ≡ 0)
+    (copied : on.copied ≡ (stands_for p workflows are name live w is_live found).lane.copied) where
+  abbrev pub for : StandsFor p live w
   for = stands_for p workflows are name live w is_live found
 
   sides : HasSides live now
@@ -60,15 +64,16 @@ module _ (p q : Plain) (name : List ℕ) (change : Live → Live) (keeps : (v : 
       ∙ ap (λ t. Some (cond t (change live) live)) (find_some (λ (x : Live). same_text x.name name) p.lives live is_live).1
       ∙ ap Some is
 
-  same-stream : (o : Option Slot) → option_map (stream_of now) o ≡ option_map (stream_of live) o
+  same-stream : (o : Option Slot) → option_map (stream_of now on) o ≡ option_map (stream_of live for.lane) o
   same-stream None = refl
-  same-stream (Some s) = ap Some (by now.tables (sym sides.tables) now.copied (copied is_now))
+  same-stream (Some s) = ap Some (by now.tables (sym sides.tables) now.cuts (sym sides.cuts) on.shard (first ∙ sym for.shard) on.copied copied)
     where
-      by : (ts : List (List ℕ)) → ts ≡ live.tables → (c : Copied) → c ≡ live.copied → record { tables = ts; copied = c; position = s.position; state = s.state } ≡ stream_of live s
-      by ts a c b = cc
+      by : (ts : List (List ℕ)) → ts ≡ live.tables → (cuts : Cuts) → cuts ≡ live.cuts → (n : ℕ) → n ≡ for.lane.shard → (c : Copied) → c ≡ for.lane.copied
+          → record { tables = ts; range = range_at cuts n; copied = c; position = s.position; state = s.state } ≡ stream_of live for.lane s
+      by ts a cuts b n d c e = rw (a, b, d, e) refl
 
   module _ (way : Option Way) (switched : TypeSet) (there other : Option StreamValue) (same_way : way ≡ now.way) (same_types : switched ≡ now.switched)
-      (there_is : there ≡ option_map (stream_of live) (plain.slot_of now forward)) (other_is : other ≡ option_map (stream_of live) (plain.slot_of now back)) where
+      (there_is : there ≡ option_map (stream_of live for.lane) (plain.slot_of now on forward)) (other_is : other ≡ option_map (stream_of live for.lane) (plain.slot_of now on back)) where
     stands_now : StandsFor q now (with_traffic w way switched there other)
     stands_now = record {
       sides = record {
@@ -76,12 +81,16 @@ module _ (p q : Plain) (name : List ℕ) (change : Live → Live) (keeps : (v : 
         source = sym sides.source ∙ for.sides.source;
         target = sym sides.target ∙ for.sides.target;
         tables = sym sides.tables ∙ for.sides.tables;
+        cuts = sym sides.cuts ∙ for.sides.cuts;
       };
       switched = same_types;
       way = same_way;
       kept = subst (λ u. IsKept u now w.kept) (sym topology) (λ key part. for.kept key (has_part-same live now sides key ∙ part));
-      forward = there_is ∙ sym (same-stream (plain.slot_of now forward));
-      back = other_is ∙ sym (same-stream (plain.slot_of now back));
+      lane = on;
+      alone = alone;
+      shard = first;
+      forward = there_is ∙ sym (same-stream (plain.slot_of now on forward));
+      back = other_is ∙ sym (same-stream (plain.slot_of now on back));
     }
 
     -- the workflows with it in its place are those of the next state

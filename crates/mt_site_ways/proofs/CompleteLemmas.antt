@@ -28,11 +28,13 @@ use Rattle.mt_steps.specs.declared.log.OpenWay.{OpenWay}
 use Rattle.mt_workflow.specs.Workflows.{WorkflowState}
 use Rattle.mt_site_topology.specs.Keys.{IsKept, end_entries, end_entry, end_keys}
 use Rattle.mt_site_topology.specs.Stands.{TopologyStands}
-use Rattle.mt_site_rows.specs.Rows.{OtherTablesStay, OthersStay, RowsStand}
+use Rattle.mt_site_rows.specs.Rows.{OtherKeyspacesStay, OtherTablesStay, RowsStand}
 use Rattle.mt_site_rows.specs.Rows as rows
-use Rattle.mt_site_state.specs.Core.{CoreState, Primaries, Workflows, primary_of, workflow_at}
+use Rattle.mt_site_state.specs.Core.{CoreState, Primaries, Workflows, primaries_of, primary_of, workflow_at}
 use Rattle.mt_site_state.specs.Stands.{AreWorkflows, StandsFor, StandsForAny, StandsWith}
 use Rattle.mt_site_state.specs.Switching.{completed}
+use Rattle.mt_site_state.proofs.ShardLemmas.{keyspaces_stay}
+use Rattle.mt_site_state.proofs.ShardLemmas as shards
 use Rattle.mt_site_state.specs.Ways.{IsOpenOn, SiteStands, SiteState, WaysStand, WaysState, is_under_way, open_at}
 use Rattle.mt_site_events.proofs.MoveCoreLemmas.{live_found, same_or}
 use Rattle.mt_site_events.proofs.GoneLemmas.{distinct_names, live_gone, names_gone}
@@ -95,6 +97,9 @@ module _ (p : Plain) (apart : Apart p.lives) (live : Live) (elsewhere : (n : Lis
       switched = for.switched;
       way = for.way;
       kept = keeps n l v.kept is (same ∙ is) for.kept;
+      lane = for.lane;
+      alone = for.alone;
+      shard = for.shard;
       forward = for.forward;
       back = for.back;
     }
@@ -162,7 +167,7 @@ module _ (p : Plain) (reached : IsReached p)
     (elsewhere : (event : Event) (answer : Answer) (name : List ℕ) → ¬ (IsOf name event) → live_at (next p event answer) name ≡ live_at p name)
     (places : HasDistinctPlaces p.topology)
     (rows_keep : (old new : rows.Primaries) → RowsStand p old → (name : List ℕ) (l : Live) → live_at p name ≡ Some l
-    → Answers p (complete name) done → OthersStay l.source old new → OtherTablesStay l.tables (old l.source) (new l.source)
+    → Answers p (complete name) done → OtherKeyspacesStay l.source old new → ((n : ℕ) → OtherTablesStay l.tables (old l.source n) (new l.source n))
     → RowsStand (next p (complete name) done) new)
     (dropped : (old : PrimaryState) (tables : List (List ℕ)) → OtherTablesStay tables old (fold without_table old tables))
     (gone : (old : PrimaryState) (tables : List (List ℕ)) → IsPrimary old → (table : List ℕ)
@@ -204,10 +209,12 @@ module _ (p : Plain) (reached : IsReached p)
       reached = subst IsReached is_now (reaches (complete live.name) done given);
       scopes_are = stands.core.scopes_are;
       topology = subst (λ u. TopologyStands u (made_of s.core live).topology) is_now (topology s.core.topology live.name live is_live given stands.core.topology);
-      rows = subst (λ u. RowsStand u (primary_of (made_of s.core live).primaries)) is_now
-          (rows_keep (primary_of s.core.primaries) (primary_of (made_of s.core live).primaries) stands.core.rows live.name live is_live given
-          (others_stay p s.core.primaries stands.core.primaries are apart live is_in none (placed live.name live is_live) places (movers live.name live is_live) dropped gone gone_denied)
-          (tables_stay p s.core.primaries stands.core.primaries are apart live is_in none (placed live.name live is_live) places (movers live.name live is_live) dropped gone gone_denied));
+      rows = subst (λ u. RowsStand u (primaries_of (made_of s.core live).primaries)) is_now
+          (rows_keep (primaries_of s.core.primaries) (primaries_of (made_of s.core live).primaries) stands.core.rows live.name live is_live given
+          (keyspaces_stay live.source s.core.primaries (made_of s.core live).primaries
+          (others_stay p s.core.primaries stands.core.primaries are apart live is_in none (placed live.name live is_live) places (movers live.name live is_live) dropped gone gone_denied))
+          (shards.tables_stay live.source s.core.primaries (made_of s.core live).primaries live.tables
+          (tables_stay p s.core.primaries stands.core.primaries are apart live is_in none (placed live.name live is_live) places (movers live.name live is_live) dropped gone gone_denied)));
       primaries = primaries_stand p s.core.primaries stands.core.primaries are apart live is_in none (placed live.name live is_live) places (movers live.name live is_live) dropped gone gone_denied;
       workflows = workflows_stand p apart live same_elsewhere s.core.workflows stands.core.workflows kept_still;
     }

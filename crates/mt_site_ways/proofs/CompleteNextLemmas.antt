@@ -1,5 +1,5 @@
 -- The state behind Complete: which tables are there, who moves them, what numbers they have, and what the own lists refuse.
-use Rattle.std.proofs.Common.{◌≡◌, ◌≢◌, ℕ, Bool, true, false, not, cond, List, Option, None, Some, refl, sym, ap, ◌∙◌}
+use Rattle.std.proofs.Common.{◌≡◌, ◌≢◌, ℕ, Bool, true, false, not, cond, List, [], ◌∷◌, Option, None, Some, refl, sym, ap, ◌∙◌}
 use Rattle.std.proofs.Math.Bool.{and-false}
 use Rattle.std.proofs.lemmas.Bool.{and_from}
 use Rattle.std.specs.List.{list_any}
@@ -9,15 +9,16 @@ use Rattle.mt_names.specs.declared.types.TypeSet.{TypeSet}
 use Rattle.mt_names.specs.Names.{same_text}
 use Rattle.mt_names.proofs.SameLemmas.{same_text_decides}
 use Rattle.mt_model.specs.declared.entries.EntryKey.TheVariants as about
-use Rattle.mt_model.specs.Topology.{HasDistinctPlaces, is_present}
+use Rattle.mt_model.specs.Topology.{HasDistinctPlaces, KeyspaceState, is_present, with_keyspace_state, with_new_table}
 use Rattle.mt_plain.specs.Events.{Way, not_all_switched, under_way}
-use Rattle.mt_plain.specs.Next.{with_completed}
-use Rattle.mt_plain.specs.Plain.{Live, Plain, is_side, mover, moves, number_of, owner, stands_done}
+use Rattle.mt_plain.specs.Next.{with_completed, with_tables, without_tables}
+use Rattle.mt_plain.specs.Plain.{Live, Plain, cuts_of, is_side, mover, moves, number_of, owner, stands_done_at}
 use Rattle.mt_plain.specs.Refuse.{complete_refusal, or_else, refuse_if}
-use Rattle.mt_plain.specs.Serve.{has_table, is_listed_at, refuses, refuses_by, step_of_list, types_by}
+use Rattle.mt_plain.specs.Serve.{has_table, is_listed_at, list_types, refuses, refuses_by, step_of_list}
 use Rattle.mt_plain.specs.Writes.{client_number}
 use Rattle.mt_laws.specs.Reached.{IsInPlace}
 use Rattle.mt_laws.proofs.CompleteLemmas.{absent_at_source, number-elsewhere, number-unmoved, present_at_target, present_elsewhere}
+use Rattle.mt_laws.proofs.CutLemmas.{cuts_changed}
 use Rattle.mt_laws.proofs.EntryValueLemmas.{present_from_value, value_of-completed}
 use Rattle.mt_laws.proofs.LiveLemmas.{Apart, IsIn, any-in, any-nowhere, find_none, text_apart, text_differs, unique}
 use Rattle.mt_laws.proofs.ReachLemmas.{named}
@@ -39,15 +40,15 @@ pub owner_at_target : (w : Live) → complete_refusal w ≡ None → owner w ≡
 owner_at_target w none = ap (λ b. cond b w.target w.source) (at_target w none).1
 
 -- no keyspace but the source refuses a table of the workflow
-pub allowed_before : (w : Live) → complete_refusal w ≡ None → (keyspace : List ℕ) → w.source ≢ keyspace → refuses_by w keyspace ≡ false
+pub allowed_before : (w : Live) → complete_refusal w ≡ None → (keyspace : List ℕ) → w.source ≢ keyspace → refuses_by w keyspace 0 ≡ false
 allowed_before w none keyspace other =
-    ap (λ (t : TypeSet). is_listed_at w t keyspace) (types_at_rest (step_of_list w keyspace))
+    ap (λ (t : TypeSet). is_listed_at w t keyspace) types_at_rest
     ∙ ap (λ b. (b || same_text w.target keyspace) && cond b w.switched.primary (not w.switched.primary)) (text_differs w.source keyspace other)
     ∙ ap (λ b. same_text w.target keyspace && not b) (at_target w none).1
     ∙ and-false (same_text w.target keyspace)
   where
-    types_at_rest : (n : ℕ) → types_by w n ≡ w.switched
-    types_at_rest n = ap (λ o. option_map_or (λ (way : Way). cond (stands_done way n) way.after way.before) o w.switched) (at_target w none).0
+    types_at_rest : list_types w keyspace 0 ≡ w.switched
+    types_at_rest = ap (λ o. option_map_or (λ (way : Way). cond (stands_done_at way (step_of_list w keyspace) 0) way.after way.before) o w.switched) (at_target w none).0
 
 -- ---- the state
 
@@ -61,11 +62,22 @@ module _ (p : Plain) (apart : Apart p.lives) (w : Live) (is_in : IsIn w p.lives)
   pub same_mover : (table : List ℕ) → moves w table ≡ false → mover q table ≡ mover p table
   same_mover = mover_stays p apart w.name w is_in refl
 
-  pub none_refuses : (keyspace table : List ℕ) → moves w table ≡ true → refuses q keyspace table ≡ false
+  pub none_refuses : (keyspace table : List ℕ) → moves w table ≡ true → refuses q keyspace 0 table ≡ false
   none_refuses = allowed_gone p apart w.name w is_in refl
 
-  pub same_refuses : (keyspace table : List ℕ) → moves w table ≡ false → refuses q keyspace table ≡ refuses p keyspace table
+  pub same_refuses : (keyspace table : List ℕ) → moves w table ≡ false → refuses q keyspace 0 table ≡ refuses p keyspace 0 table
   same_refuses = refused_stays p apart w.name w is_in refl
+
+  -- ---- shards
+
+  pub same_cuts : (keyspace : List ℕ) → cuts_of q keyspace ≡ cuts_of p keyspace
+  same_cuts keyspace =
+      cuts_changed (with_tables w.tables) (tables_cut w.tables) (with_keyspace_state (without_tables w.tables) p.topology.keyspaces w.source) w.target keyspace
+      ∙ cuts_changed (without_tables w.tables) (λ state. refl) p.topology.keyspaces w.source keyspace
+    where
+      tables_cut : (tables : List (List ℕ)) (state : KeyspaceState) → (with_tables tables state).cuts ≡ state.cuts
+      tables_cut [] state = refl
+      tables_cut (table ∷ tables) state = tables_cut tables (with_new_table table state)
 
   -- ---- numbers
 

@@ -1,14 +1,15 @@
 -- The entries of a step: what the topology says there before the step, what is recorded of it, and what is written.
-use Rattle.std.proofs.Common.{◌≡◌, ◌≢◌, ℕ, zero, suc, ◌<◌, ◌≤◌, Bool, true, false, cond, eqb, leb, ltb, List, [], ◌∷◌, filter, map, Some, refl, sym, ap, ◌∙◌, arith, eqb-true, lt-ltb, le-leb, ◌-◌}
+use Rattle.std.proofs.Common.{◌≡◌, ◌≢◌, ℕ, ◌<◌, ◌≤◌, Bool, true, false, cond, eqb, leb, ltb, List, [], ◌∷◌, filter, map, Some, refl, sym, ap, ◌∙◌, arith, eqb-true, lt-ltb, le-leb, ◌-◌}
 use Rattle.mt_laws.specs.WayBack.{IsReached}
 use Rattle.mt_laws.proofs.InPlaceLemmas.{live_in}
-use Rattle.mt_laws.proofs.OpenWayLemmas.{reached_one_shard}
+use Rattle.mt_laws.proofs.OpenWayLemmas.{reached_shards}
 use Rattle.mt_plain.proofs.PlaceLemmas.{one-last, one-next, step-first}
 use Rattle.mt_laws.proofs.WayStepLemmas.{first_step-le, last-le}
 use Rattle.std.proofs.lemmas.Bool.{and_from, eqb-false, false_from_ne_true}
 use Rattle.std.proofs.lemmas.List.Elements.{recursion_from_All}
 use Rattle.std.specs.Option.{option_map_or}
 use Rattle.mt_names.specs.declared.types.TypeSet.{TypeSet}
+use Rattle.mt_names.specs.Shards.{shard_count}
 use Rattle.mt_model.specs.declared.entries.Entry.{Entry}
 use Rattle.mt_model.specs.declared.entries.EntryKey.{EntryKey}
 use Rattle.mt_model.specs.Topology.{TopologyState, key_of, value_of}
@@ -26,26 +27,12 @@ use Rattle.mt_site_topology.specs.Stands.{TopologyStands}
 use Rattle.mt_site_state.specs.Stands.{StandsFor}
 use Rattle.mt_steps.proofs.EntryLemmas.{key_of-value_of}
 use Rattle.mt_steps.specs.Entries.{is_of_step, recorded, recorded_of, step_entries}
+use Rattle.mt_steps.proofs.PlanLemmas.{number-step_at}
 use Rattle.mt_steps.specs.Plans.{number, step_at}
 use Rattle.mt_workflow.specs.Workflows.{WorkflowState, keys_of_part, live_of, rules_only, wanted}
 use Rattle.mt_site_ways.proofs.KeepLemmas.{entry_step, eqb_turned, filter_same, filtered_same}
 
 -- ---- numbers
-
-pub numbered : (n : ℕ) → n < 12 → number (step_at n) ≡ n
-numbered zero lt = refl
-numbered (suc zero) lt = refl
-numbered (suc (suc zero)) lt = refl
-numbered (suc (suc (suc zero))) lt = refl
-numbered (suc (suc (suc (suc zero)))) lt = refl
-numbered (suc (suc (suc (suc (suc zero))))) lt = refl
-numbered (suc (suc (suc (suc (suc (suc zero)))))) lt = refl
-numbered (suc (suc (suc (suc (suc (suc (suc zero))))))) lt = refl
-numbered (suc (suc (suc (suc (suc (suc (suc (suc zero)))))))) lt = refl
-numbered (suc (suc (suc (suc (suc (suc (suc (suc (suc zero))))))))) lt = refl
-numbered (suc (suc (suc (suc (suc (suc (suc (suc (suc (suc zero)))))))))) lt = refl
-numbered (suc (suc (suc (suc (suc (suc (suc (suc (suc (suc (suc zero))))))))))) lt = refl
-numbered (suc (suc (suc (suc (suc (suc (suc (suc (suc (suc (suc (suc n)))))))))))) lt = absurd (omega arith)
 
 module _ (way : Way) (within : next_step way < behind_last way) where
   below_twelve : next_step way < 12
@@ -54,14 +41,15 @@ module _ (way : Way) (within : next_step way < behind_last way) where
       omega (arith, within, few)
 
   pub next_numbered : number (step_at (next_step way)) ≡ next_step way
-  next_numbered = numbered (next_step way) below_twelve
+  next_numbered = number-step_at (next_step way) below_twelve
 
   pub last_numbered : number (step_at (last_step way)) ≡ last_step way
-  last_numbered = numbered (last_step way) (let le = last-le way in omega (arith, below_twelve, le))
+  last_numbered = number-step_at (last_step way) (let le = last-le way in omega (arith, below_twelve, le))
 
--- the target of a live workflow has one shard yet
-pub one_shard : (p : Plain) → IsReached p → (name : List ℕ) (live : Live) → live_at p name ≡ Some live → (way : Way) → live.way ≡ Some way → way.shards ≤ 1
-one_shard p reached name live is_live way opens = let one = reached_one_shard p reached live (live_in p name live is_live) way opens in omega arith
+-- a way has one shard where the target has
+pub one_shard : (p : Plain) → IsReached p → (name : List ℕ) (live : Live) → live_at p name ≡ Some live → live.cuts ≡ [] → (way : Way) → live.way ≡ Some way → way.shards ≤ 1
+one_shard p reached name live is_live unsharded way opens =
+    let one : way.shards ≡ 1 = reached_shards p reached live (live_in p name live is_live) way opens ∙ ap shard_count unsharded in omega (arith, one)
 
 -- so the last step stands done, where any does
 pub last_done : (way : Way) → way.shards ≤ 1 → eqb way.done 0 ≡ false → stands_done way (last_step way) ≡ true

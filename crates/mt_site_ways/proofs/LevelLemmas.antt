@@ -1,12 +1,12 @@
 -- Before the journal the stream that feeds on a way is there and reads the owner's log: so it is level just where no write to the
 -- workflow's tables is left to be fed.
-use Rattle.std.proofs.Common.{◌≡◌, ℕ, suc, ◌<◌, Bool, true, false, not, cond, List, Option, None, Some, option_map, is_some, refl, sym, ap, ◌∙◌, arith}
+use Rattle.std.proofs.Common.{◌≡◌, ℕ, suc, ◌<◌, Bool, true, false, not, cond, List, [], ◌∷◌, Option, None, Some, option_map, is_some, refl, sym, ap, ◌∙◌, arith}
 use Rattle.std.proofs.lemmas.Bool.{true≢false, lt-leb}
 use Rattle.std.specs.Option.{option_map_or}
 use Rattle.std.specs.Prelude.{◌&&◌, ◌||◌, nat_le}
 use Rattle.mt_plain.specs.Events.{StreamName, forward, back, Slot, Way}
-use Rattle.mt_plain.specs.Plain.{Live, Plain, catch_up, changes_primary, first_step, next_step, owner, stands_done, switch_reads, write_journal}
-use Rattle.mt_plain.specs.Refuse.{is_behind, will_read_other_side}
+use Rattle.mt_plain.specs.Plain.{Lane, Live, Plain, catch_up, changes_primary, first_step, next_step, owner, stands_done, switch_reads, write_journal}
+use Rattle.mt_plain.specs.Refuse.{is_behind, lane_is_behind, will_read_other_side}
 use Rattle.mt_plain.specs.Slots.{feeding_slot, is_feeding, other_slot, read_side, slot_at_rest, slot_before_way, slot_by_way, slot_of}
 use Rattle.mt_primary.specs.Primary.{PrimaryState}
 use Rattle.mt_stream.specs.Streams.{StreamValue, is_level}
@@ -16,21 +16,22 @@ use Rattle.mt_steps.specs.Streams.{is_fed, serves_other_side}
 use Rattle.mt_laws.specs.Reached.{HandsOver, IsOnCourse}
 use Rattle.mt_site_rows.specs.Rows.{stream_of}
 use Rattle.mt_site_state.specs.Stands.{StandsFor}
+use Rattle.mt_site_state.proofs.ShardLemmas.{any_alone}
 
 -- ---- which streams are there
 
-fed_slot : (w : Live) (way : Way) (o : Option Slot) → is_some o ≡ true → is_some (feeding_slot w way o) ≡ true
-fed_slot w way None e = absurd cc
-fed_slot w way (Some s) e = refl
+fed_slot : (lane : Lane) (way : Way) (o : Option Slot) → is_some o ≡ true → is_some (feeding_slot lane way o) ≡ true
+fed_slot lane way None e = absurd cc
+fed_slot lane way (Some s) e = refl
 
 -- the feeding stream is there if it was there before the way
-feeding_there : (w : Live) (way : Way) (name : StreamName) → is_feeding way name ≡ true → is_some (slot_before_way w name) ≡ true → is_some (slot_by_way w (Some way) name) ≡ true
-feeding_there w way name feeds there = by (changes_primary way) (is_feeding way name) feeds
+feeding_there : (w : Live) (lane : Lane) (way : Way) (name : StreamName) → is_feeding way name ≡ true → is_some (slot_before_way w lane name) ≡ true → is_some (slot_by_way w lane (Some way) name) ≡ true
+feeding_there w lane way name feeds there = by (changes_primary way) (is_feeding way name) feeds
   where
     by : (c f : Bool) → f ≡ true
-        → is_some (cond (not c) (slot_before_way w name) (cond f (feeding_slot w way (slot_before_way w name)) (other_slot w way (slot_before_way w name)))) ≡ true
+        → is_some (cond (not c) (slot_before_way w lane name) (cond f (feeding_slot lane way (slot_before_way w lane name)) (other_slot lane way (slot_before_way w lane name)))) ≡ true
     by false f e = there
-    by true true e = fed_slot w way (slot_before_way w name) there
+    by true true e = fed_slot lane way (slot_before_way w lane name) there
     by true false e = absurd (true≢false (sym e))
 
 -- ---- where a step tests a level
@@ -65,30 +66,34 @@ changes_where_tested w way course is = by (changes_primary way) course.within
 
 -- ---- the level
 
+-- the one lane is behind where the workflow is
+pub one_behind : (p : Plain) (live : Live) (lane : Lane) → live.lanes ≡ lane ∷ [] → lane_is_behind p live lane ≡ is_behind p live
+one_behind p live lane alone = sym (any_alone (lane_is_behind p live) live.lanes lane alone)
+
 module _ (p : Plain) (live : Live) (w : WorkflowState) (for : StandsFor p live w) (way : Way) (opens : live.way ≡ Some way) (course : IsOnCourse live way) (at : List ℕ → PrimaryState)
-    (level : (stream : StreamName) (slot : Slot) → slot_of live stream ≡ Some slot → read_side live stream ≡ owner live
-    → is_level (stream_of live slot) (at (read_side live stream)) ≡ not (is_behind p live)) where
+    (level : (stream : StreamName) (slot : Slot) → slot_of live for.lane stream ≡ Some slot → read_side live stream ≡ owner live
+    → is_level (stream_of live for.lane slot) (at (read_side live stream)) ≡ not (is_behind p live)) where
   -- a stream that reads the owner's log
-  level_at : (stream : StreamName) (side : List ℕ) → read_side live stream ≡ side → owner live ≡ side → is_some (slot_of live stream) ≡ true
-      → (o : Option StreamValue) → o ≡ option_map (stream_of live) (slot_of live stream) → option_map_or (λ (s : StreamValue). is_level s (at side)) o false ≡ not (is_behind p live)
-  level_at stream side reads owns there o is = by (slot_of live stream) refl there
+  level_at : (stream : StreamName) (side : List ℕ) → read_side live stream ≡ side → owner live ≡ side → is_some (slot_of live for.lane stream) ≡ true
+      → (o : Option StreamValue) → o ≡ option_map (stream_of live for.lane) (slot_of live for.lane stream) → option_map_or (λ (s : StreamValue). is_level s (at side)) o false ≡ not (is_behind p live)
+  level_at stream side reads owns there o is = by (slot_of live for.lane stream) refl there
     where
-      by : (slot : Option Slot) → slot_of live stream ≡ slot → is_some slot ≡ true → option_map_or (λ (s : StreamValue). is_level s (at side)) o false ≡ not (is_behind p live)
+      by : (slot : Option Slot) → slot_of live for.lane stream ≡ slot → is_some slot ≡ true → option_map_or (λ (s : StreamValue). is_level s (at side)) o false ≡ not (is_behind p live)
       by None e none = absurd cc
       by (Some slot) e some =
-          ap (λ x. option_map_or (λ (s : StreamValue). is_level s (at side)) x false) (is ∙ ap (option_map (stream_of live)) e)
-          ∙ ap (λ k. is_level (stream_of live slot) (at k)) (sym reads) ∙ level stream slot e (reads ∙ sym owns)
+          ap (λ x. option_map_or (λ (s : StreamValue). is_level s (at side)) x false) (is ∙ ap (option_map (stream_of live for.lane)) e)
+          ∙ ap (λ k. is_level (stream_of live for.lane slot) (at k)) (sym reads) ∙ level stream slot e (reads ∙ sym owns)
 
   owner_is : stands_done way write_journal ≡ false → owner live ≡ cond way.before.primary live.target live.source
   owner_is unwritten = ap (λ types. cond types.primary live.target live.source) (course.before unwritten)
 
   -- before the way the back stream was there just where primary was switched
-  slot_there : (stream : StreamName) → is_feeding way stream ≡ true → is_some (slot_before_way live stream) ≡ true → is_some (slot_of live stream) ≡ true
-  slot_there stream feeds there = ap (λ o. is_some (slot_by_way live o stream)) opens ∙ feeding_there live way stream feeds there
+  slot_there : (stream : StreamName) → is_feeding way stream ≡ true → is_some (slot_before_way live for.lane stream) ≡ true → is_some (slot_of live for.lane stream) ≡ true
+  slot_there stream feeds there = ap (λ o. is_some (slot_by_way live for.lane o stream)) opens ∙ feeding_there live for.lane way stream feeds there
 
-  back_before : way.before.primary ≡ true → is_some (slot_before_way live back) ≡ true
+  back_before : way.before.primary ≡ true → is_some (slot_before_way live for.lane back) ≡ true
   back_before primary =
-      ap (λ o. is_some (slot_at_rest live (option_map_or (λ (v : Way). v.before) o live.switched).primary back)) opens ∙ ap (λ b. is_some (slot_at_rest live b back)) primary
+      ap (λ o. is_some (slot_at_rest for.lane (option_map_or (λ (v : Way). v.before) o live.switched).primary back)) opens ∙ ap (λ b. is_some (slot_at_rest for.lane b back)) primary
 
   pub fed_same : way.before.primary ≡ way.back → stands_done way write_journal ≡ false → is_fed w way (at w.source) (at w.target) ≡ not (is_behind p live)
   fed_same before unwritten = by way.back refl

@@ -16,11 +16,12 @@ use Rattle.mt_primary.specs.Primary.{IsPrimary, PrimaryState, has_table, is_deni
 use Rattle.mt_primary.specs.Writes.{without_table}
 use Rattle.mt_laws.specs.Reached.{IsInPlace}
 use Rattle.mt_laws.proofs.LiveLemmas.{Apart, IsIn}
-use Rattle.mt_site_rows.specs.Rows.{OtherTablesStay, OthersStay}
+use Rattle.mt_site_rows.specs.Rows.{OtherTablesStay}
 use Rattle.mt_site_state.specs.Core.{Primaries, primary_at, primary_of}
 use Rattle.mt_site_state.specs.Stands.{ArePrimaries}
+use Rattle.mt_site_state.proofs.ShardLemmas.{StayBut}
 use Rattle.mt_site_events.proofs.MoveCoreLemmas.{primary-elsewhere, primary-here, same_or}
-use Rattle.mt_site_ways.proofs.CompleteNextLemmas.{allowed_before, none_refuses, same_refuses, table_away, table_left, table_unmoved}
+use Rattle.mt_site_ways.proofs.CompleteNextLemmas.{allowed_before, none_refuses, same_cuts, same_refuses, table_away, table_left, table_unmoved}
 
 -- a keyspace that changes leaves as many as there were
 length_changed : (change : KeyspaceState → KeyspaceState) (keyspaces : Keyspaces) (name : List ℕ) → length (with_keyspace_state change keyspaces name) ≡ length keyspaces
@@ -56,7 +57,7 @@ module _ (p : Plain) (old : Primaries) (stands : ArePrimaries p old) (are : (key
   source_now : primary_of made w.source ≡ after
   source_now = primary-here old w.source source_there.0 after source_there.1
 
-  pub others_stay : OthersStay w.source (primary_of old) (primary_of made)
+  pub others_stay : StayBut w.source old made
   others_stay = primary-elsewhere old w.source source_there.0 after source_there.1
 
   pub tables_stay : OtherTablesStay w.tables before (primary_of made w.source)
@@ -85,25 +86,25 @@ module _ (p : Plain) (old : Primaries) (stands : ArePrimaries p old) (are : (key
 
   -- ---- own lists
 
-  denials_now : (k t : List ℕ) → is_denied_at (primary_of made k) t ≡ plain.refuses q k t
+  denials_now : (k t : List ℕ) → is_denied_at (primary_of made k) t ≡ plain.refuses q k 0 t
   denials_now k t = ⊎_elim at_source elsewhere (same_or w.source k)
     where
-      lost : (b : Bool) → moves w t ≡ b → (not b && is_denied_at before t) ≡ plain.refuses q w.source t
+      lost : (b : Bool) → moves w t ≡ b → (not b && is_denied_at before t) ≡ plain.refuses q w.source 0 t
       lost true moved = sym (none_refuses p apart w is_in w.source t moved)
       lost false other = stands.denials w.source t ∙ sym (same_refuses p apart w is_in w.source t other)
 
-      at_source : w.source ≡ k → is_denied_at (primary_of made k) t ≡ plain.refuses q k t
+      at_source : w.source ≡ k → is_denied_at (primary_of made k) t ≡ plain.refuses q k 0 t
       at_source e =
-          subst (λ x. is_denied_at (primary_of made x) t ≡ plain.refuses q x t) e
+          subst (λ x. is_denied_at (primary_of made x) t ≡ plain.refuses q x 0 t) e
           (ap (λ s. is_denied_at s t) source_now ∙ gone_denied before w.tables (are w.source) t ∙ lost (moves w t) refl)
 
-      same : w.source ≢ k → (b : Bool) → moves w t ≡ b → plain.refuses p k t ≡ plain.refuses q k t
+      same : w.source ≢ k → (b : Bool) → moves w t ≡ b → plain.refuses p k 0 t ≡ plain.refuses q k 0 t
       same other true moved =
-          ap (λ o. option_map_or (λ v. plain.refuses_by v k) o false) (mover_is t moved) ∙ allowed_before w none k other
+          ap (λ o. option_map_or (λ v. plain.refuses_by v k 0) o false) (mover_is t moved) ∙ allowed_before w none k other
           ∙ sym (none_refuses p apart w is_in k t moved)
       same other false not_moved = sym (same_refuses p apart w is_in k t not_moved)
 
-      elsewhere : w.source ≢ k → is_denied_at (primary_of made k) t ≡ plain.refuses q k t
+      elsewhere : w.source ≢ k → is_denied_at (primary_of made k) t ≡ plain.refuses q k 0 t
       elsewhere other = ap (λ s. is_denied_at s t) (others_stay k other) ∙ stands.denials k t ∙ same other (moves w t) refl
 
   -- ---- keyspaces
@@ -122,6 +123,7 @@ module _ (p : Plain) (old : Primaries) (stands : ArePrimaries p old) (are : (key
   primaries_stand = record {
     there = λ k. is_some-set_value same_text old w.source k after ∙ stands.there k ∙ sym (keyspaces_stay k);
     count = length-set_value (same_text w.source) old after ∙ stands.count ∙ sym as_many;
+    unsharded = λ k. same_cuts p apart w is_in k ∙ stands.unsharded k;
     tables = tables_now;
     denials = denials_now;
   }

@@ -1,19 +1,21 @@
 -- What is known where a core stands for a state, and the next state of a way's events.
-use Rattle.std.proofs.Common.{◌≡◌, ℕ, Bool, true, false, cond, List, Option, None, Some, refl, sym, ap, ◌∙◌, subst}
+use Rattle.std.proofs.Common.{◌≡◌, ℕ, ◌<◌, ◌≤◌, Bool, true, false, cond, List, Option, None, Some, refl, sym, ap, ◌∙◌, subst, arith}
 use Rattle.mt_laws.proofs.StepUndoneLemmas.{nothing_done}
+use Rattle.mt_laws.proofs.WayStepLemmas.{done_at_some}
+use Rattle.std.proofs.lemmas.Bool.{false_from_ne_true, true≢false}
 use Rattle.std.proofs.lemmas.List.Sums.{length-filter}
 use Rattle.std.specs.Option.{option_map_or}
 use Rattle.mt_names.specs.declared.types.TypeSet.{TypeSet}
-use Rattle.mt_names.specs.Names.{same_text}
+use Rattle.mt_names.specs.Shards.{shard_count}
 use Rattle.mt_model.specs.declared.entries.EntryKey.{EntryKey}
 use Rattle.mt_model.specs.declared.entries.Scope.{Scope}
 use Rattle.mt_model.specs.Topology.{is_present}
 use Rattle.mt_plain.specs.Events.{Way}
 use Rattle.mt_plain.specs.Next.{with_live, with_way_to}
-use Rattle.mt_plain.specs.Plain.{Live, LogEntry, Plain, has_part, live_at, part_owner, stands_done}
+use Rattle.mt_plain.specs.Plain.{Live, Plain, has_part, live_at, part_owner, refresh_source, refresh_target, stands_done_at}
 use Rattle.mt_plain.specs.Refuse.{new_owner}
-use Rattle.mt_plain.specs.Serve.{has_table, is_listed_at, refuses_by, step_of_list}
-use Rattle.mt_plain.specs.Slots.{log_length, log_of}
+use Rattle.mt_plain.specs.Serve.{has_table, is_listed_at, owned_before, refuses_by, step_of_list}
+use Rattle.mt_plain.specs.Slots.{is_entry_at, log_length, log_of}
 use Rattle.mt_primary.specs.Primary.{end_of}
 use Rattle.mt_laws.specs.Changes.{HasSides}
 use Rattle.mt_laws.specs.Reached.{IsInPlace}
@@ -22,7 +24,7 @@ use Rattle.mt_workflow.specs.Workflows.{WorkflowState}
 use Rattle.mt_site_rows.specs.Rows.{RowsStand}
 use Rattle.mt_site_rows.proofs.LogLemmas.{log-length}
 use Rattle.mt_site_rows.proofs.KeepLemmas.{any_changed}
-use Rattle.mt_site_state.specs.Core.{CoreState, Primaries, primary_of, workflow_at}
+use Rattle.mt_site_state.specs.Core.{CoreState, Primaries, primaries_of, primary_of, workflow_at}
 use Rattle.mt_site_state.specs.Stands.{ArePrimaries, StandsFor, StandsForAny, StandsWith}
 use Rattle.mt_site_ways.proofs.ChangeLemmas.{IsAt}
 
@@ -33,9 +35,9 @@ pub stood : (p : Plain) (scopes : List Scope) (core : CoreState) → StandsWith 
 stood p scopes core stands name live w is_live found =
     subst (λ o. StandsForAny p o (Some w)) is_live (subst (StandsForAny p (live_at p name)) found (stands.workflows.each name))
 
-pub on_way : (p : Plain) (primaries : Primaries) → ArePrimaries p primaries → (live : Live) (w : WorkflowState) → StandsFor p live w → (way : Way) → w.way ≡ Some way
+pub on_way : (p : Plain) (primaries : Primaries) → ArePrimaries p primaries → (live : Live) (w : WorkflowState) → StandsFor p live w → (way : Way) → w.way ≡ Some way → way.shards ≤ 1
     → IsInPlace p.topology live → ((key : EntryKey) → has_part live key ≡ true → part_owner p key ≡ Some live) → IsAt p primaries live w way
-on_way p primaries are live w for way opens placed owned = record { are = are; sides = for.sides; opens = sym for.way ∙ opens; placed = placed; owned = owned }
+on_way p primaries are live w for way opens one placed owned = record { are = are; sides = for.sides; opens = sym for.way ∙ opens; one = one; placed = placed; owned = owned }
 
 -- ---- the tables of the next state
 
@@ -45,27 +47,38 @@ tables_stay p name f same keyspace table = ap (λ b. cond b true (is_present p.t
 
 -- ---- a begin
 
+-- no refresh stands done where no step does
+none_refreshed : (way : Way) (b : Bool) → way.done ≡ 0 → stands_done_at way (cond {A = ℕ} b refresh_source refresh_target) 0 ≡ false
+none_refreshed way b none =
+    false_from_ne_true (stands_done_at way (cond {A = ℕ} b refresh_source refresh_target) 0)
+    (λ t. true≢false (sym (done_at_some way (cond {A = ℕ} b refresh_source refresh_target) 0 0 t (late b)) ∙ nothing_done way 1 none))
+  where
+    late : (b : Bool) → 1 < cond {A = ℕ} b refresh_source refresh_target
+    late true = omega arith
+    late false = omega arith
+
 -- a begin changes no own list
-pub begun_list : (w : Live) (back : Bool) (change : TypeSet → TypeSet) → w.way ≡ None → (keyspace : List ℕ) → refuses_by (with_way_to back change w) keyspace ≡ refuses_by w keyspace
+pub begun_list : (w : Live) (back : Bool) (change : TypeSet → TypeSet) → w.way ≡ None → (keyspace : List ℕ) → refuses_by (with_way_to back change w) keyspace 0 ≡ refuses_by w keyspace 0
 begun_list w back change rests keyspace =
     ap (λ types. is_listed_at w types keyspace)
-    (ap (λ b. cond b (change w.switched) w.switched) (nothing_done (record { back = back; shards = 1; before = w.switched; after = change w.switched; done = 0; undoing = false }) (step_of_list (with_way_to back change w) keyspace) refl)
-    ∙ sym (ap (λ (o : Option Way). option_map_or (λ way. cond (stands_done way (step_of_list w keyspace)) way.after way.before) o w.switched) rests))
+    (ap (λ b. cond b (change w.switched) w.switched)
+    (none_refreshed (record { back = back; shards = shard_count w.cuts; before = w.switched; after = change w.switched; done = 0; undoing = false }) (owned_before (with_way_to back change w) keyspace) refl)
+    ∙ sym (ap (λ (o : Option Way). option_map_or (λ way. cond (stands_done_at way (step_of_list w keyspace) 0) way.after way.before) o w.switched) rests))
 
 -- ---- the end of a log
 
-module _ (p : Plain) (primaries : Primaries) (rows : RowsStand p (primary_of primaries)) where
-  log_same : (keyspace : List ℕ) → end_of (primary_of primaries keyspace) ≡ log_length p keyspace
+module _ (p : Plain) (primaries : Primaries) (rows : RowsStand p (primaries_of primaries)) where
+  log_same : (keyspace : List ℕ) → end_of (primary_of primaries keyspace) ≡ log_length p keyspace 0
   log_same keyspace =
-      sym (log-length (log_of p keyspace) keyspace (primary_of primaries keyspace).log (rows.log keyspace))
-      ∙ length-filter (λ (e : LogEntry). same_text e.keyspace keyspace) p.log
+      sym (log-length (log_of p keyspace 0) keyspace 0 (primary_of primaries keyspace).log (rows.log keyspace 0))
+      ∙ length-filter (is_entry_at keyspace 0) p.log
 
   pub end_same : (live : Live) (way : Way) → live.way ≡ Some way → (source target : List ℕ) → live.source ≡ source → live.target ≡ target
-      → log_end way (primary_of primaries source) (primary_of primaries target) ≡ log_length p (new_owner live)
+      → log_end way (primary_of primaries source) (primary_of primaries target) ≡ log_length p (new_owner live) 0
   end_same live way opens source target is_source is_target =
       by way.before.primary
-      ∙ sym (ap (λ (o : Option Way). log_length p (cond (option_map_or (λ x. x.before) o live.switched).primary live.source live.target)) opens)
+      ∙ sym (ap (λ (o : Option Way). log_length p (cond (option_map_or (λ x. x.before) o live.switched).primary live.source live.target) 0) opens)
     where
-      by : (b : Bool) → end_of (cond b (primary_of primaries source) (primary_of primaries target)) ≡ log_length p (cond b live.source live.target)
-      by true = log_same source ∙ ap (log_length p) (sym is_source)
-      by false = log_same target ∙ ap (log_length p) (sym is_target)
+      by : (b : Bool) → end_of (cond b (primary_of primaries source) (primary_of primaries target)) ≡ log_length p (cond b live.source live.target) 0
+      by true = log_same source ∙ ap (λ k. log_length p k 0) (sym is_source)
+      by false = log_same target ∙ ap (λ k. log_length p k 0) (sym is_target)

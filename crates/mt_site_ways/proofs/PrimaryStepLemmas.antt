@@ -15,7 +15,7 @@ use Rattle.mt_steps.specs.Refreshes.{RefreshesSide, Sites, notice_at}
 use Rattle.mt_steps.specs.Steps.{Attempts}
 use Rattle.mt_workflow.specs.Workflows.{WorkflowState}
 use Rattle.mt_site_rows.specs.Rows.{RowsStand}
-use Rattle.mt_site_state.specs.Core.{Primaries, primary_of}
+use Rattle.mt_site_state.specs.Core.{Primaries, primaries_of, primary_of}
 use Rattle.mt_site_ways.proofs.ChangeLemmas.{IsAt, Listed, Stand, changes, joined, of_source, of_target, source_side, source_tables, stays, target_side, target_tables, list_changed}
 use Rattle.mt_site_ways.proofs.DenialLemmas.{Known, denied_after, refreshed}
 use Rattle.mt_site_ways.proofs.ListLemmas.{IsNext}
@@ -50,7 +50,7 @@ module _ (scopes : List Scope) (may_answer : Answering) (id : ℕ) (t : Topology
   primaries_stay (suc (suc (suc (suc (suc (suc (suc (suc (suc (suc (suc (suc n)))))))))))) a b is = all_stay is.1
 
 module _ (known : Known) (p q : Plain) (primaries : Primaries) (live : Live) (w : WorkflowState) (way : Way) (at : IsAt p primaries live w way)
-    (next : IsNext p q live (list_changed live (next_step way) way.after)) (rows : RowsStand q (primary_of primaries)) (t : TopologyState) (serves : Serves p t)
+    (next : IsNext p q live (list_changed live (next_step way) way.after)) (rows : RowsStand q (primaries_of primaries)) (t : TopologyState) (serves : Serves p t)
     (scopes : List Scope) (may_answer : Answering) (id : ℕ) (old new : Sites)
     (from_source : old.source ≡ primary_of primaries w.source) (from_target : old.target ≡ primary_of primaries w.target) where
   abbrev n : ℕ
@@ -74,7 +74,7 @@ module _ (known : Known) (p q : Plain) (primaries : Primaries) (live : Live) (w 
   told side before state is is_at there here set =
       changes p q primaries live w way at n way.after next rows new.source new.target side state (is_listed_at live way.after side) here refl
       (refreshed known live w.tables at.sides.tables (primary_of primaries side) state there t side (is_listed_at live way.after side)
-      (denied_after p t serves live way at.opens at.owned side is_at (denied_before live way at.opens side here))
+      (denied_after p t serves live way at.opens at.owned side is_at (denied_before live way at.opens at.one side here))
       (subst (λ s. AreDenialsSet s (told_by_refresh side (notice_at t side w.tables) w.tables) state) is set))
 
   by_refresh : (at_target : Bool) → eqb n (step_of_list live w.source) ≡ not at_target → eqb n (step_of_list live w.target) ≡ at_target

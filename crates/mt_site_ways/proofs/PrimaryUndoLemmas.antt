@@ -22,7 +22,7 @@ use Rattle.mt_workflow.specs.Workflows.{WorkflowState}
 use Rattle.mt_site_topology.proofs.BeginLemmas.{or_else-none, refuse_if-none}
 use Rattle.mt_site_rows.specs.Rows.{RowsStand}
 use Rattle.mt_site_rows.proofs.KnownLemmas.{itself}
-use Rattle.mt_site_state.specs.Core.{Primaries, primary_of}
+use Rattle.mt_site_state.specs.Core.{Primaries, primaries_of, primary_of}
 use Rattle.mt_site_state.specs.Stands.{ArePrimaries}
 use Rattle.mt_site_ways.proofs.ChangeLemmas.{IsAt, Listed, Stand, changes, joined, of_source, of_target, sides_apart, source_tables, stays, target_tables, list_changed}
 use Rattle.mt_site_ways.proofs.DenialLemmas.{Known, given_back}
@@ -44,25 +44,25 @@ no_tables w = map (λ table. (table, false)) w.tables
 module _ (p : Plain) (old : Primaries) (live : Live) (w : WorkflowState) (way : Way) (at : IsAt p old live w way)
     (moved : (table : List ℕ) → moves live table ≡ true → mover p table ≡ Some live) where
   -- a list that is still as before the way, at the side that owned the tables then
-  free_list : (side : List ℕ) → refuses_by live side ≡ false → marks_of (primary_of old side) w.tables ≡ no_tables w
+  free_list : (side : List ℕ) → refuses_by live side 0 ≡ false → marks_of (primary_of old side) w.tables ≡ no_tables w
   free_list side free =
       map_named w.tables (λ name. (name, is_denied_at (primary_of old side) name)) (λ table. (table, false))
       (λ name is.
       ap (λ b. (name, b))
       (at.are.denials side name
-      ∙ ap (λ (o : Option Live). option_map_or (λ v. refuses_by v side) o false) (moved name (ap (λ tables. among tables name) at.sides.tables ∙ is))
+      ∙ ap (λ (o : Option Live). option_map_or (λ v. refuses_by v side 0) o false) (moved name (ap (λ tables. among tables name) at.sides.tables ∙ is))
       ∙ free))
 
   module _ (next : next_step way ≡ refresh_source) where
-    source_free : way.before.primary ≡ false → refuses_by live w.source ≡ false
+    source_free : way.before.primary ≡ false → refuses_by live w.source 0 ≡ false
     source_free is =
-        list_before live way at.opens w.source
+        list_before live way at.opens at.one w.source
         (at_first (next_step way) next (owned_before live w.source) ∙ of_source p old live w way at ∙ ap not is)
         ∙ allowed_at_source live way at.opens w.source w.target at.sides.source at.sides.target (sides_apart p old live w way at) is
 
-    target_free : way.before.primary ≡ true → refuses_by live w.target ≡ false
+    target_free : way.before.primary ≡ true → refuses_by live w.target 0 ≡ false
     target_free is =
-        list_before live way at.opens w.target
+        list_before live way at.opens at.one w.target
         (at_first (next_step way) next (owned_before live w.target) ∙ of_target p old live w way at ∙ is)
         ∙ allowed_at_target live way at.opens w.source w.target at.sides.source at.sides.target (sides_apart p old live w way at) is
 
@@ -119,15 +119,15 @@ module _ (way : Way) (early : stands_done way write_journal ≡ false) where
       by false e = e
 
 module _ (known : Known) (p q : Plain) (primaries : Primaries) (live : Live) (w : WorkflowState) (way : Way) (at : IsAt p primaries live w way)
-    (next : IsNext p q live (list_changed live (last_step way) way.before)) (rows : RowsStand q (primary_of primaries)) where
+    (next : IsNext p q live (list_changed live (last_step way) way.before)) (rows : RowsStand q (primaries_of primaries)) where
   abbrev n : ℕ
   n = last_step way
 
   -- where no step stands done no list changes
-  pub none_stands : eqb way.done 0 ≡ true → ArePrimaries q primaries × RowsStand q (primary_of primaries)
+  pub none_stands : eqb way.done 0 ≡ true → ArePrimaries q primaries × RowsStand q (primaries_of primaries)
   none_stands none =
       same_stand p q live (list_changed live (last_step way) way.before) next primaries at.are rows
-      (λ keyspace. ap (λ b. cond b (is_listed_at live way.before keyspace) (refuses_by live keyspace)) (other (owned_before live keyspace)))
+      (λ keyspace. ap (λ b. cond b (is_listed_at live way.before keyspace) (refuses_by live keyspace 0)) (other (owned_before live keyspace)))
     where
       zero_last : n ≡ 0
       zero_last = none_last way (eqb-true way.done 0 none)

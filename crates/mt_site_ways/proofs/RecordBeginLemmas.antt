@@ -44,7 +44,7 @@ module _ (p q : Plain) (scopes : List Scope) (s : SiteState) (stands : SiteStand
     undo = λ f. record {
       entries = λ n t. absurd (true≢false (sym t ∙ nothing_done fresh n refl));
       listed = λ t. absurd (true≢false (sym t ∙ nothing_done fresh refresh_source refl));
-      slot = λ t. absurd (true≢false (sym t ∙ nothing_done fresh create_back refl));
+      slot = λ lane alone t. absurd (true≢false (sym t ∙ nothing_done fresh create_back refl));
     };
   }
 

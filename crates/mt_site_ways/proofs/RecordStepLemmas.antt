@@ -16,12 +16,11 @@ use Rattle.mt_journal.specs.Journal.{entry_of}
 use Rattle.mt_laws.proofs.ChangeLemmas.{live_after, lives_after}
 use Rattle.mt_laws.proofs.ListLemmas.{cond-ap}
 use Rattle.mt_laws.proofs.WayStepLemmas.{before_then, done_by, more, not_before, now_done, undone_by, next-le}
-use Rattle.mt_plain.specs.Events.{StreamName, forward, back, done, step, Way}
-use Rattle.mt_plain.specs.Next.{closes, journal_after, live_stepped, next, on_way_of}
-use Rattle.mt_plain.specs.Plain.{Live, Plain, before_way, behind_last, create_back, has_part, live_at, mover, moves, next_step, owner_by, part_owner, refresh_source, refresh_target, stands_done, write_journal}
-use Rattle.mt_plain.specs.Serve.{is_listed_at, refuses, refuses_by, step_of_list, types_by}
+use Rattle.mt_plain.specs.Events.{done, step, Way}
+use Rattle.mt_plain.specs.Next.{closes, journal_after, lane_stepped, live_stepped, next, on_way_of, types_stepped}
+use Rattle.mt_plain.specs.Plain.{Lane, Live, Plain, before_way, behind_last, create_back, has_part, live_at, mover, moves, next_step, owner_by, part_owner, refresh_source, refresh_target, stands_done, stands_done_at, write_journal}
+use Rattle.mt_plain.specs.Serve.{is_listed_at, refuses, refuses_by, step_of_list}
 use Rattle.mt_plain.specs.Slots.{slot_before_way}
-use Rattle.mt_plain.specs.Slots as plain
 use Rattle.mt_primary.specs.Denials.{marks_of}
 use Rattle.mt_primary.specs.Primary.{is_denied_at}
 use Rattle.mt_site_rows.specs.Rows.{stream_of}
@@ -39,9 +38,11 @@ use Rattle.mt_steps.specs.Streams.{log_end, other_name}
 use Rattle.mt_steps.specs.Undo.{UndoState}
 use Rattle.mt_watch.specs.Asking.{Answering}
 use Rattle.mt_workflow.specs.Workflows.{WorkflowState, live_of, slot_of}
-use Rattle.mt_site_ways.proofs.AttemptLemmas.{all_among, attempt_journal, attempt_listed, none_marked, open_stepped, owner_allowed, put_away_is, saved_stays, slot_stood}
-use Rattle.mt_site_ways.proofs.EntryLemmas.{recorded_before, recorded_elsewhere}
+use Rattle.mt_site_ways.proofs.AttemptLemmas.{all_among, attempt_journal, attempt_listed, none_marked, open_stepped, owner_allowed, put_away_is, saved_stays, slot_stood, stepped_rest}
+use Rattle.mt_site_ways.proofs.ChangedLemmas.{stream-slots}
+use Rattle.mt_site_ways.proofs.EntryLemmas.{one_shard, recorded_before, recorded_elsewhere}
 use Rattle.mt_site_ways.proofs.KeepLemmas.{Keeps, entries_keep, recorded_keeps, step_keeps}
+use Rattle.mt_site_ways.proofs.NumberLemmas.{not_refreshed as not_refreshed_yet}
 use Rattle.mt_site_ways.proofs.RecordOpenLemmas.{goes_on, none_pushed, written-push}
 use Rattle.mt_site_ways.proofs.TopologyLemmas.{one_some}
 
@@ -52,14 +53,14 @@ all_of : {A : Type 0} (P Q : A → Type 0) (xs : List A) → ((x : A) → P x �
 all_of P Q [] each all = tt
 all_of P Q (x ∷ xs) each all = (each x all.0, all_of P Q xs each all.1)
 
-module _ (p : Plain) (s : SiteState) (denials : (k n : List ℕ) → is_denied_at (primary_of s.core.primaries k) n ≡ refuses p k n) (w : WorkflowState) (v : Live) (for : StandsFor p v w)
+module _ (p : Plain) (s : SiteState) (denials : (k n : List ℕ) → is_denied_at (primary_of s.core.primaries k) n ≡ refuses p k 0 n) (w : WorkflowState) (v : Live) (for : StandsFor p v w)
     (mover_is : (table : List ℕ) → moves v table ≡ true → mover p table ≡ Some v) (apart : v.source ≢ v.target) (way : Way) (opens : v.way ≡ Some way)
-    (not_done : stands_done way refresh_source ≡ false) where
+    (not_done : stands_done_at way refresh_source 0 ≡ false) where
   -- before its refresh the old owner's list refuses none of the tables
-  owner_serves : (table : List ℕ) → moves v table ≡ true → refuses p (owner_by v way.before) table ≡ false
+  owner_serves : (table : List ℕ) → moves v table ≡ true → refuses p (owner_by v way.before) 0 table ≡ false
   owner_serves table moved =
-      ap (λ o. option_map_or (λ x. refuses_by x (owner_by v way.before)) o false) (mover_is table moved)
-      ∙ ap (λ n. is_listed_at v (types_by v n) (owner_by v way.before)) at
+      ap (λ o. option_map_or (λ x. refuses_by x (owner_by v way.before) 0) o false) (mover_is table moved)
+      ∙ ap (λ n. is_listed_at v (option_map_or (λ (x : Way). cond (stands_done_at x n 0) x.after x.before) v.way v.switched) (owner_by v way.before)) at
       ∙ ap (λ ts. is_listed_at v ts (owner_by v way.before)) types
       ∙ owner_allowed v apart way.before
     where
@@ -71,9 +72,9 @@ module _ (p : Plain) (s : SiteState) (denials : (k n : List ℕ) → is_denied_a
           ap (λ (ts : TypeSet). cond (same_text (owner_by v ts) (owner_by v way.before)) refresh_source refresh_target) before
           ∙ ap (λ b. cond b refresh_source refresh_target) ((same_text_decides (owner_by v way.before) (owner_by v way.before)).1 refl)
 
-      types : types_by v refresh_source ≡ way.before
+      types : option_map_or (λ (x : Way). cond (stands_done_at x refresh_source 0) x.after x.before) v.way v.switched ≡ way.before
       types =
-          ap (λ o. option_map_or (λ (x : Way). cond (stands_done x refresh_source) x.after x.before) o v.switched) opens
+          ap (λ o. option_map_or (λ (x : Way). cond (stands_done_at x refresh_source 0) x.after x.before) o v.switched) opens
           ∙ ap (λ b. cond b way.after way.before) not_done
 
   pub empty_listed : marks_of (cond way.before.primary (primary_of s.core.primaries w.target) (primary_of s.core.primaries w.source)) w.tables ≡ map (λ table. (table, false)) w.tables
@@ -87,12 +88,6 @@ module _ (p : Plain) (s : SiteState) (denials : (k n : List ℕ) → is_denied_a
     where
       owner_is : cond way.before.primary w.target w.source ≡ owner_by v way.before
       owner_is = ap (λ x. cond way.before.primary x w.source) (sym for.sides.target) ∙ ap (λ x. cond way.before.primary v.target x) (sym for.sides.source)
-
--- ---- streams
-
-slot_for : (p : Plain) (w : WorkflowState) (v : Live) → StandsFor p v w → (name : StreamName) → slot_of w name ≡ option_map (stream_of v) (plain.slot_of v name)
-slot_for p w v for forward = for.forward
-slot_for p w v for back = for.back
 
 -- ---- the live workflow behind a step
 
@@ -182,27 +177,34 @@ module _ (p : Plain) (scopes asked : List Scope) (may_answer : Answering) (s : S
               → cond b (Some (marks_of (cond way.before.primary (sides_of s w).target (sides_of s w).source) w.tables)) o.log.listed ≡ Some (map (λ table. (table, false)) w.tables)
           by true b =
               ap Some (empty_listed p s stands.core.primaries.denials w v for mover_is apart way v_opens
-              (undone_by way refresh_source refresh_source (eqb-true (next_step way) refresh_source b) (omega arith)))
+              (not_refreshed_yet way refresh_source (one_shard p stands.core.reached name v is_live for.sides.cuts way v_opens) (eqb-true (next_step way) refresh_source b)))
           by false b = gives.listed (before_then way refresh_source b done_now)
 
-      slot_give : (live : Live) → live ≡ live_stepped p v way → stands_done (more way) create_back ≡ true
-          → log.slot ≡ option_map (stream_of live) (slot_before_way live (other_name way))
-      slot_give live is_stepped done_now =
+      slot_give : (live : Live) → live ≡ live_stepped p v way → (lane : Lane) → live.lanes ≡ lane ∷ [] → stands_done (more way) create_back ≡ true
+          → log.slot ≡ option_map (stream_of live lane) (slot_before_way live lane (other_name way))
+      slot_give live is_stepped lane alone done_now =
           is.slot ∙ put_away_is w way this o.log.slot ∙ ap (λ n. cond (eqb n create_back) (slot_of w (other_name way)) o.log.slot) is_next
           ∙ by (eqb (next_step way) create_back) refl
           ∙ sym stood
         where
-          by : (b : Bool) → eqb (next_step way) create_back ≡ b → cond b (slot_of w (other_name way)) o.log.slot ≡ option_map (stream_of v) (slot_before_way v (other_name way))
+          by : (b : Bool) → eqb (next_step way) create_back ≡ b
+              → cond b (slot_of w (other_name way)) o.log.slot ≡ option_map (stream_of v for.lane) (slot_before_way v for.lane (other_name way))
           by true b =
-              slot_for p w v for (other_name way)
-              ∙ ap (option_map (stream_of v)) (slot_stood v way v_opens (undone_by way create_back create_back (eqb-true (next_step way) create_back b) (omega arith)))
-          by false b = gives.slot (before_then way create_back b done_now)
+              stream-slots p v w for (other_name way)
+              ∙ ap (option_map (stream_of v for.lane)) (slot_stood v for.lane way v_opens (undone_by way create_back create_back (eqb-true (next_step way) create_back b) (omega arith)))
+          by false b = gives.slot for.lane for.alone (before_then way create_back b done_now)
 
-          stood : option_map (stream_of live) (slot_before_way live (other_name way)) ≡ option_map (stream_of v) (slot_before_way v (other_name way))
+          on : Lane
+          on = lane_stepped p v way for.lane
+
+          is_on : lane ≡ on
+          is_on = let e : lane ∷ [] ≡ on ∷ [] = sym alone ∙ ap (λ (x : Live). x.lanes) is_stepped ∙ ap (map (lane_stepped p v way)) for.alone in cc
+
+          stood : option_map (stream_of live lane) (slot_before_way live lane (other_name way)) ≡ option_map (stream_of v for.lane) (slot_before_way v for.lane (other_name way))
           stood =
-              let r = open_stepped p v way goes in
-              ap (λ (x : Live). option_map (stream_of x) (slot_before_way x (other_name way))) (is_stepped ∙ r.2)
-              ∙ saved_stays v way (more way) r.0 r.1 (other_name way) v_opens refl
+              ap (λ (l : Lane). option_map (stream_of live l) (slot_before_way live l (other_name way))) is_on
+              ∙ ap (λ (x : Live). option_map (stream_of x on) (slot_before_way x on (other_name way))) (is_stepped ∙ open_stepped p v way goes)
+              ∙ saved_stays v way (more way) (types_stepped v way) (map (lane_stepped p v way) v.lanes) for.lane on (stepped_rest p v way for.lane goes) (other_name way) v_opens refl
 
       gives_now : (live : Live) → live ≡ live_stepped p v way → GivesBack live now (more way) log
       gives_now live is_stepped = record { entries = entries_give; listed = listed_give; slot = slot_give live is_stepped }

@@ -1,5 +1,5 @@
 -- What is kept of a way behind an undo of a step of it, and behind its close where no step stands done.
-use Rattle.std.proofs.Common.{◌≡◌, ◌≢◌, ℕ, ◌-◌, Bool, true, false, cond, eqb, length, List, map, None, Some, option_map, refl, sym, ap, ◌∙◌, subst, arith, eqb-true, ◌+◌}
+use Rattle.std.proofs.Common.{[], ◌∷◌, ◌≡◌, ◌≢◌, ℕ, ◌-◌, Bool, true, false, cond, eqb, length, List, map, None, Some, option_map, refl, sym, ap, ◌∙◌, subst, arith, eqb-true, ◌+◌}
 use Rattle.std.proofs.lemmas.Bool.{eqb-false, false_from_ne_true, true≢false}
 use Rattle.std.specs.List.{AllByRecursion}
 use Rattle.std.specs.Map.{set_value}
@@ -16,7 +16,7 @@ use Rattle.mt_laws.proofs.WayStepLemmas.{fewer, undone_by, was_done}
 use Rattle.mt_plain.specs.Answers.{Answers}
 use Rattle.mt_plain.specs.Events.{done, undo, Way}
 use Rattle.mt_plain.specs.Next.{live_undone, next, on_way_of}
-use Rattle.mt_plain.specs.Plain.{Live, Plain, before_way, create_back, last_step, live_at, next_step, refresh_source, stands_done, write_journal, first_step, next_place, step_at_place}
+use Rattle.mt_plain.specs.Plain.{Lane, Live, Plain, before_way, create_back, last_step, live_at, next_step, refresh_source, stands_done, write_journal, first_step, next_place, step_at_place}
 use Rattle.mt_plain.specs.Refuse.{in_workflow, undo_refusal}
 use Rattle.mt_plain.specs.Slots.{slot_before_way}
 use Rattle.mt_site_rows.specs.Rows.{stream_of}
@@ -116,17 +116,21 @@ module _ (p : Plain) (scopes : List Scope) (s : SiteState) (stands : SiteStands 
           ap (λ (x : UndoState). x.listed) is.log ∙ listed_left this o.log.listed (not_this refresh_source done_now)
           ∙ gives.listed (was_done way refresh_source done_now) ∙ ap (λ ts. Some (map (λ table. (table, false)) ts)) (sym keeps.tables)
 
-      slot_give : (live : Live) → live ≡ live_undone v way → stands_done (fewer way) create_back ≡ true
-          → log.slot ≡ option_map (stream_of live) (slot_before_way live (other_name way))
-      slot_give live is_undone done_now =
+      slot_give : (live : Live) → live ≡ live_undone v way → (lane : Lane) → live.lanes ≡ lane ∷ [] → stands_done (fewer way) create_back ≡ true
+          → log.slot ≡ option_map (stream_of live lane) (slot_before_way live lane (other_name way))
+      slot_give live is_undone lane alone done_now =
           ap (λ (x : UndoState). x.slot) is.log ∙ slot_left this o.log.slot (not_this create_back done_now)
-          ∙ gives.slot (was_done way create_back done_now) ∙ sym stood
+          ∙ gives.slot for.lane for.alone (was_done way create_back done_now) ∙ sym stood
         where
-          stood : option_map (stream_of live) (slot_before_way live (other_name way)) ≡ option_map (stream_of v) (slot_before_way v (other_name way))
+          is_lane : lane ≡ for.lane
+          is_lane = let e : lane ∷ [] ≡ for.lane ∷ [] = sym alone ∙ ap (λ (x : Live). x.lanes) is_undone ∙ for.alone in cc
+
+          stood : option_map (stream_of live lane) (slot_before_way live lane (other_name way)) ≡ option_map (stream_of v for.lane) (slot_before_way v for.lane (other_name way))
           stood =
-              ap (λ (x : Live). option_map (stream_of x) (slot_before_way x (other_name way)))
+              ap (λ (l : Lane). option_map (stream_of live l) (slot_before_way live l (other_name way))) is_lane
+              ∙ ap (λ (x : Live). option_map (stream_of x for.lane) (slot_before_way x for.lane (other_name way)))
               (is_undone ∙ ap (λ b. record v { way = cond b None (Some (fewer way)) }) goes)
-              ∙ saved_stays v way (fewer way) v.switched v.fresh_at (other_name way) v_opens refl
+              ∙ saved_stays v way (fewer way) v.switched v.lanes for.lane for.lane (record { shard = refl; copied = refl; forward_at = refl; back_at = refl }) (other_name way) v_opens refl
 
       open_now : (live : Live) → live ≡ live_undone v way → IsOpenOn sides.journal live now (fewer way) u
       open_now live is_undone = record {

@@ -3,14 +3,15 @@ use Rattle.std.proofs.Common.{◌≡◌, ℕ, ◌<◌, Bool, true, false, not, c
 use Rattle.std.proofs.lemmas.Bool.{le-leb, lt-leb}
 use Rattle.std.specs.List.{list_any}
 use Rattle.std.specs.Option.{option_map_or}
-use Rattle.std.specs.Prelude.{◌&&◌, ◌==◌, option_and_then}
+use Rattle.std.specs.Prelude.{◌&&◌, ◌==◌, if◌then◌else◌, nat_lt, option_and_then}
+use Rattle.mt_names.specs.Shards.{shard_count}
 use Rattle.mt_model.specs.declared.entries.Scope.{Scope}
 use Rattle.mt_model.specs.declared.entries.Scope.TheVariants as scope
 use Rattle.mt_model.specs.Topology.{Marks, TopologyState}
 use Rattle.mt_plain.specs.Answers.{Refuses}
 use Rattle.mt_plain.specs.Events.{StreamName, Slot, Way, step, not_level, no_watcher, full}
-use Rattle.mt_plain.specs.Plain.{Live, Plain, catch_up, changes_primary, live_at, next_step, owner, refresh_source, refresh_target, switch_reads, write_journal}
-use Rattle.mt_plain.specs.Refuse.{asked_by_step, asked_keyspace, is_behind, is_next_step, is_of_primary, may_grow, most_journal_entries, new_owner, old_owner, own_refusal, refusal_of, refuse_if, watcher_refusal, will_read_other_side}
+use Rattle.mt_plain.specs.Plain.{Live, Plain, catch_up, changes_primary, create_back, live_at, next_step, owner, refresh_source, refresh_target, switch_reads, write_journal}
+use Rattle.mt_plain.specs.Refuse.{asked_by_step, asked_keyspace, is_behind, is_next_step, is_of_primary, may_grow, most_journal_entries, new_owner, old_owner, own_refusal, refusal_of, refuse_if, steps_that_grow, watcher_refusal, will_read_other_side}
 use Rattle.mt_plain.specs.Slots.{read_side, slot_of}
 use Rattle.mt_primary.specs.Primary.{PrimaryState}
 use Rattle.mt_stream.specs.Streams.{is_level}
@@ -62,8 +63,8 @@ module _ (p : Plain) (live : Live) (w : WorkflowState) (for : StandsFor p live w
 
 module _ (p : Plain) (live : Live) (w : WorkflowState) (for : StandsFor p live w) (way : Way) (opens : live.way ≡ Some way) (course : IsOnCourse live way)
     (hands : changes_primary way ≡ true → HandsOver live way) (at : List ℕ → PrimaryState)
-    (level : (stream : StreamName) (slot : Slot) → slot_of live stream ≡ Some slot → read_side live stream ≡ owner live
-    → is_level (stream_of live slot) (at (read_side live stream)) ≡ not (is_behind p live))
+    (level : (stream : StreamName) (slot : Slot) → slot_of live for.lane stream ≡ Some slot → read_side live stream ≡ owner live
+    → is_level (stream_of live for.lane slot) (at (read_side live stream)) ≡ not (is_behind p live))
     (journal : List JournalEntry) (entries : length journal ≡ p.journal) (mine : List Scope) (may_answer : Answering) (id : ℕ) (t : TopologyState) (listed : Option Marks) where
   abbrev pub sites_now : Sites
   sites_now = record { source = at w.source; target = at w.target; journal = journal; listed = listed }
@@ -96,7 +97,8 @@ module _ (p : Plain) (live : Live) (w : WorkflowState) (for : StandsFor p live w
 
     grows : (n : ℕ) → n ≡ next_step way → may_grow p (step workflow count) ≡ (eqb n refresh_source || (eqb n write_journal || (eqb n refresh_target || false)))
     grows n is =
-        ap (λ l. option_map_or (λ v. list_any (is_next_step v) (refresh_source ∷ write_journal ∷ refresh_target ∷ [])) l false) is_live
+        ap (λ l. option_map_or (λ v. list_any (is_next_step v) (steps_that_grow v)) l false) is_live
+        ∙ ap (λ cuts. list_any (is_next_step live) (refresh_source ∷ write_journal ∷ refresh_target ∷ (if nat_lt 1 (shard_count cuts) then create_back ∷ [] else []))) for.sides.cuts
         ∙ ap (λ o. list_any (λ m. option_map_or (λ (v : Way). next_step v == m) o false) (refresh_source ∷ write_journal ∷ refresh_target ∷ [])) opens
         ∙ ap (λ m. eqb m refresh_source || (eqb m write_journal || (eqb m refresh_target || false))) (sym is)
 

@@ -14,11 +14,12 @@ use Rattle.mt_laws.specs.Reached.{HandsOver, IsOnCourse}
 use Rattle.mt_site_rows.specs.Rows.{stream_of}
 use Rattle.mt_site_state.specs.Core.{CoreState, primary_of}
 use Rattle.mt_site_state.specs.Stands.{StandsFor, StandsWith}
+use Rattle.mt_site_state.proofs.ShardLemmas.{lane_found, read_first}
 use Rattle.mt_site_ways.proofs.LevelLemmas.{changes_where_tested, no_journal, turns_over}
 
 module _ (p : Plain) (scopes : List Scope) (core : CoreState) (stands : StandsWith p scopes core) (name : List ℕ) (live : Live) (is_live : live_at p name ≡ Some live) (w : WorkflowState) (for : StandsFor p live w)
     (way : Way) (course : IsOnCourse live way) (hands : changes_primary way ≡ true → HandsOver live way)
-    (used : (stream : StreamName) (slot : Slot) → slot_of live stream ≡ Some slot → read_side live stream ≡ owner live → slot.state ≢ frozen) where
+    (used : (stream : StreamName) (slot : Slot) → slot_of live for.lane stream ≡ Some slot → read_side live stream ≡ owner live → slot.state ≢ frozen) where
   module _ (tests : tests_level way (next_step way) ≡ true) where
     turned : way.before.primary ≡ way.back
     turned = by (eqb (next_step way) catch_up) refl tests
@@ -38,17 +39,17 @@ module _ (p : Plain) (scopes : List Scope) (core : CoreState) (stands : StandsWi
     owner_is = ap (λ types. cond types.primary live.target live.source) (course.before unwritten) ∙ ap (λ b. cond b live.target live.source) turned
 
   -- a stream that reads the owner
-  kept : (stream : StreamName) (side : List ℕ) → read_side live stream ≡ side → owner live ≡ side → (o : Option StreamValue) → o ≡ option_map (stream_of live) (slot_of live stream)
+  kept : (stream : StreamName) (side : List ℕ) → read_side live stream ≡ side → owner live ≡ side → (o : Option StreamValue) → o ≡ option_map (stream_of live for.lane) (slot_of live for.lane stream)
       → (s : StreamValue) → o ≡ Some s → (primary_of core.primaries side).log.purged ≤ s.position
-  kept stream side reads owns o is s found = by (slot_of live stream) refl
+  kept stream side reads owns o is s found = by (slot_of live for.lane stream) refl
     where
-      by : (slot : Option Slot) → slot_of live stream ≡ slot → (primary_of core.primaries side).log.purged ≤ s.position
-      by None e = absurd (let none : None ≡ Some s = sym (ap (option_map (stream_of live)) e) ∙ sym is ∙ found in cc)
+      by : (slot : Option Slot) → slot_of live for.lane stream ≡ slot → (primary_of core.primaries side).log.purged ≤ s.position
+      by None e = absurd (let none : None ≡ Some s = sym (ap (option_map (stream_of live for.lane)) e) ∙ sym is ∙ found in cc)
       by (Some slot) e =
-          let some : Some (stream_of live slot) ≡ Some s = sym (ap (option_map (stream_of live)) e) ∙ sym is ∙ found in
-          let one : stream_of live slot ≡ s = cc in
+          let some : Some (stream_of live for.lane slot) ≡ Some s = sym (ap (option_map (stream_of live for.lane)) e) ∙ sym is ∙ found in
+          let one : stream_of live for.lane slot ≡ s = cc in
           let held : (primary_of core.primaries (read_side live stream)).log.purged ≤ slot.position
-          = stands.rows.unread (read_side live stream) name live is_live stream slot e (used stream slot e (reads ∙ sym owns)) refl in
+          = stands.rows.unread (read_side live stream) 0 name live is_live 0 for.lane (lane_found p live w for) stream slot e (used stream slot e (reads ∙ sym owns)) refl (read_first p live w for stream) in
           subst (λ (x : StreamValue). (primary_of core.primaries side).log.purged ≤ x.position) one (subst (λ k. (primary_of core.primaries k).log.purged ≤ slot.position) reads held)
 
   pub kept_to_test : KeepsToTest w way (next_step way) (primary_of core.primaries w.source) (primary_of core.primaries w.target)

@@ -19,7 +19,7 @@ use Rattle.mt_steps.specs.Streams.{log_end, workflow_stepped}
 use Rattle.mt_laws.specs.WayBack.{IsReached}
 use Rattle.mt_site_topology.specs.Stands.{TopologyStands}
 use Rattle.mt_site_rows.specs.Rows.{RowsStand}
-use Rattle.mt_site_state.specs.Core.{Primaries, primary_of}
+use Rattle.mt_site_state.specs.Core.{Primaries, primaries_of, primary_of}
 use Rattle.mt_site_state.specs.Stands.{ArePrimaries, AreWorkflows, StandsFor}
 use Rattle.mt_site_state.specs.Switching.{with_sides}
 use Rattle.mt_site_state.specs.Ways.{SiteState, SiteStands, WaysStand, open_at}
@@ -46,7 +46,7 @@ primaries_with old w sides = set_value (same_text w.target) (set_value (same_tex
 
 -- what stands for a state once all its parts do
 pub sides_stand : (q : Plain) (scopes : List Scope) (old : SiteState) (w : WorkflowState) (sides : SidesState) (o : OpenWay) → IsReached q → q.scopes ≡ scopes
-    → TopologyStands q sides.topology → ArePrimaries q (primaries_with old w sides) × RowsStand q (primary_of (primaries_with old w sides))
+    → TopologyStands q sides.topology → ArePrimaries q (primaries_with old w sides) × RowsStand q (primaries_of (primaries_with old w sides))
     → AreWorkflows q (set_value (same_text w.name) old.core.workflows sides.workflow)
     → WaysStand q (with_sides old w sides o).core (with_sides old w sides o).ways → SiteStands q scopes (with_sides old w sides o)
 sides_stand q scopes old w sides o reached are topology primaries workflows ways = record {
@@ -63,7 +63,7 @@ module _ (q : Plain) (scopes mine : List Scope) (may_answer : Answering) (old ne
 
   pub step_stands : IsReached q → q.scopes ≡ scopes
       → TopologyStands q (with_entries old.core.topology (step_entries m.w m.way.after (number (step_at (next_step m.way)))))
-      → ArePrimaries q (primaries_with old m.w m.sides) × RowsStand q (primary_of (primaries_with old m.w m.sides))
+      → ArePrimaries q (primaries_with old m.w m.sides) × RowsStand q (primaries_of (primaries_with old m.w m.sides))
       → (position : ℕ) → log_end m.way (primary_of old.core.primaries m.w.source) (primary_of old.core.primaries m.w.target) ≡ position
       → AreWorkflows q (set_value (same_text m.w.name) old.core.workflows (stepped position))
       → WaysStand q (with_sides old m.w m.sides kept).core (with_sides old m.w m.sides kept).ways → SiteStands q scopes new

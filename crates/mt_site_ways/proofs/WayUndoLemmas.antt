@@ -20,7 +20,7 @@ use Rattle.mt_site_topology.specs.Stands.{TopologyStands}
 use Rattle.mt_site_rows.specs.Rows.{RowsStand}
 use Rattle.mt_site_ways.proofs.FoundLemmas.{set_value-same, there_by}
 use Rattle.mt_site_ways.proofs.EntryLemmas.{last_done}
-use Rattle.mt_site_state.specs.Core.{Primaries, primary_at, primary_of}
+use Rattle.mt_site_state.specs.Core.{Primaries, primaries_of, primary_at, primary_of}
 use Rattle.mt_site_state.specs.Stands.{ArePrimaries, AreWorkflows, StandsFor}
 use Rattle.mt_site_state.specs.Switching.{Undoes, sides_of, with_sides}
 use Rattle.mt_site_state.specs.Ways.{SiteState, SiteStands, WaysStand}
@@ -46,7 +46,7 @@ undone_either q scopes made way old new kept now is last none = by (eqb way.done
 module _ (q : Plain) (scopes : List Scope) (old : SiteState) (w : WorkflowState) (way : Way) (o : OpenWay) where
   pub undo_stands : (sides : SidesState) (log : UndoState) → IsUndone way (step_at (last_step way)) (sides_of old w) o.log sides log → IsReached q → q.scopes ≡ scopes
       → TopologyStands q (with_entries old.core.topology (recorded_of w (number (step_at (last_step way))) o.log.entries))
-      → ArePrimaries q (primaries_with old w sides) × RowsStand q (primary_of (primaries_with old w sides))
+      → ArePrimaries q (primaries_with old w sides) × RowsStand q (primaries_of (primaries_with old w sides))
       → AreWorkflows q (set_value (same_text w.name) old.core.workflows (workflow_undone w way (step_at (last_step way)) o.log.slot))
       → WaysStand q (with_sides old w sides (record { number = o.number; log = log })).core (with_sides old w sides (record { number = o.number; log = log })).ways
       → SiteStands q scopes (with_sides old w sides (record { number = o.number; log = log }))
@@ -71,10 +71,10 @@ module _ (q : Plain) (scopes : List Scope) (old : SiteState) (w : WorkflowState)
         (set_value-same old.core.primaries w.source (primary_of old.core.primaries w.source) (there_by (primary_at old.core.primaries w.source) empty_primary source_there))
         ∙ set_value-same old.core.primaries w.target (primary_of old.core.primaries w.target) (there_by (primary_at old.core.primaries w.target) empty_primary target_there)
 
-    pub closed_stands : IsReached q → q.scopes ≡ scopes → TopologyStands q old.core.topology → ArePrimaries q old.core.primaries × RowsStand q (primary_of old.core.primaries)
+    pub closed_stands : IsReached q → q.scopes ≡ scopes → TopologyStands q old.core.topology → ArePrimaries q old.core.primaries × RowsStand q (primaries_of old.core.primaries)
         → AreWorkflows q (set_value (same_text w.name) old.core.workflows (record w { way = None }))
         → WaysStand q (with_sides old w closed o).core (with_sides old w closed o).ways
         → SiteStands q scopes (with_sides old w closed o)
     closed_stands reached are topology primaries workflows ways =
         sides_stand q scopes old w closed o reached are topology
-        (subst (λ (ps : Primaries). ArePrimaries q ps × RowsStand q (primary_of ps)) (sym primaries_same) primaries) workflows ways
+        (subst (λ (ps : Primaries). ArePrimaries q ps × RowsStand q (primaries_of ps)) (sym primaries_same) primaries) workflows ways

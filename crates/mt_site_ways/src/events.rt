@@ -1,5 +1,5 @@
 //! Laws on the events that are of no way, for the whole controller.
-ghost use Rattle.std.specs.Prelude.{◌≡◌, ℕ, List, Option};
+ghost use Rattle.std.specs.Prelude.{◌≡◌, ℕ, List, [], Option};
 ghost use Rattle.mt_model.specs.declared.entries.Scope.{Scope};
 ghost use Rattle.mt_model.specs.declared.rows.Op.{Op};
 ghost use Rattle.mt_names.specs.declared.keys.RuleKey.{RuleKey};
@@ -25,7 +25,7 @@ use mt_watch::Asks;
 /// A keyspace, a table, a rule by hand, a write and a read step, and leave what is kept of the ways as it is.
 pub fn events_by_hand_step_and_leave_the_ways()
     ensures keyspace { (scopes : List Scope) (old : SiteState) (new : CoreState) (name : List ℕ) (answer : Answer)
-        → AddsKeyspace old.core name answer new → SiteSteps scopes old (add_keyspace name) answer (record old { core = new }) }
+        → AddsKeyspace old.core name answer new → SiteSteps scopes old (add_keyspace name []) answer (record old { core = new }) }
     ensures table { (scopes : List Scope) (old : SiteState) (new : CoreState) (keyspace table : List ℕ) (answer : Answer)
         → AddsTable old.core keyspace table answer new → SiteSteps scopes old (add_table keyspace table) answer (record old { core = new }) }
     ensures rule { (scopes : List Scope) (old : SiteState) (new : CoreState) (key : RuleKey) (target : Option RuleTarget) (answer : Answer)
@@ -60,7 +60,7 @@ pub fn events_on_workflows_step_and_leave_the_ways()
     ensures advance { (scopes : List Scope) (old : SiteState) (new : CoreState) (workflow : List ℕ) (name : StreamName) (at at_most : ℕ) (answer : Answer)
         → AdvancesWorkflow old.core workflow name at at_most answer new
         → ((keyspace : List ℕ) → IsPrimary (primary_of old.core.primaries keyspace))
-        → SiteSteps scopes old (advance workflow name at at_most) answer (record old { core = new }) }
+        → SiteSteps scopes old (advance workflow name 0 at at_most) answer (record old { core = new }) }
     ensures cancel { (scopes : List Scope) (old : SiteState) (new : CoreState) (workflow : List ℕ) (answer : Answer)
         → Cancels old.core workflow answer new → ((keyspace : List ℕ) → IsPrimary (primary_of old.core.primaries keyspace))
         → SiteSteps scopes old (cancel workflow) answer (record old { core = new }) }

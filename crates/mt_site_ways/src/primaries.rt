@@ -13,7 +13,7 @@ ghost use Rattle.mt_plain.specs.Refuse.{new_owner};
 ghost use Rattle.mt_plain.specs.Slots.{log_length};
 ghost use Rattle.mt_primary.specs.Primary.{PrimaryState};
 ghost use Rattle.mt_site_rows.specs.Rows.{RowsStand};
-ghost use Rattle.mt_site_state.specs.Core.{CoreState, primary_of, workflow_at};
+ghost use Rattle.mt_site_state.specs.Core.{CoreState, primaries_of, primary_of, workflow_at};
 ghost use Rattle.mt_site_state.specs.Stands.{ArePrimaries, StandsWith};
 ghost use Rattle.mt_steps.specs.Plans.{step_at};
 ghost use Rattle.mt_steps.specs.Refreshes.{Sites};
@@ -41,7 +41,7 @@ pub fn a_step_leaves_the_primaries<W: Asks>(watchers: &W)
         → old.source ≡ primary_of core.primaries w.source → old.target ≡ primary_of core.primaries w.target
         → Attempts (W.scopes watchers.now) (W.may_answer watchers.now) id core.topology w way (step_at (next_step way)) old (Ok tt) new
         → ArePrimaries (next p (step name at) done) (set_value (same_text w.target) (set_value (same_text w.source) core.primaries new.source) new.target)
-        × RowsStand (next p (step name at) done) (primary_of (set_value (same_text w.target) (set_value (same_text w.source) core.primaries new.source) new.target)) }
+        × RowsStand (next p (step name at) done) (primaries_of (set_value (same_text w.target) (set_value (same_text w.source) core.primaries new.source) new.target)) }
 {
     a_live_workflow_is_found_by_its_part();
     live_workflows_stand_in_place();
@@ -77,11 +77,11 @@ pub fn an_undo_leaves_the_primaries()
         → (last_step way ≡ refresh_source → listed ≡ Some (map (λ table. (table, false)) w.tables))
         → IsGivenBack way.before.primary (given_listed (step_at (last_step way)) listed) (primary_of core.primaries w.source) (primary_of core.primaries w.target) source target
         → ArePrimaries (next p (undo name at) done) (set_value (same_text w.target) (set_value (same_text w.source) core.primaries source) target)
-        × RowsStand (next p (undo name at) done) (primary_of (set_value (same_text w.target) (set_value (same_text w.source) core.primaries source) target)) }
+        × RowsStand (next p (undo name at) done) (primaries_of (set_value (same_text w.target) (set_value (same_text w.source) core.primaries source) target)) }
     ensures none { (p : Plain) (scopes : List Scope) (core : CoreState) → StandsWith p scopes core
         → (name : List ℕ) (live : Live) (w : WorkflowState) (way : Way) (at : ℕ) → live_at p name ≡ Some live
         → workflow_at core.workflows name ≡ Some w → w.way ≡ Some way → Answers p (undo name at) done → (way.done == 0) ≡ true
-        → ArePrimaries (next p (undo name at) done) core.primaries × RowsStand (next p (undo name at) done) (primary_of core.primaries) }
+        → ArePrimaries (next p (undo name at) done) core.primaries × RowsStand (next p (undo name at) done) (primaries_of core.primaries) }
 {
     a_live_workflow_is_found_by_its_part();
     live_workflows_stand_in_place();
@@ -99,11 +99,11 @@ pub fn a_begin_leaves_the_primaries()
     ensures switch { (p : Plain) (scopes : List Scope) (core : CoreState) → StandsWith p scopes core
         → (name : List ℕ) (types : TypeSet) → Answers p (begin_switch name types) done
         → ArePrimaries (next p (begin_switch name types) done) core.primaries
-        × RowsStand (next p (begin_switch name types) done) (primary_of core.primaries) }
+        × RowsStand (next p (begin_switch name types) done) (primaries_of core.primaries) }
     ensures reverse { (p : Plain) (scopes : List Scope) (core : CoreState) → StandsWith p scopes core
         → (name : List ℕ) (types : TypeSet) → Answers p (begin_reverse name types) done
         → ArePrimaries (next p (begin_reverse name types) done) core.primaries
-        × RowsStand (next p (begin_reverse name types) done) (primary_of core.primaries) }
+        × RowsStand (next p (begin_reverse name types) done) (primaries_of core.primaries) }
 {
     a_live_workflow_is_found_by_its_part();
     a_workflow_that_changes_changes_its_own_part();
@@ -115,5 +115,5 @@ pub fn a_log_ends_where_the_definitions_say()
     ensures { (p : Plain) (scopes : List Scope) (core : CoreState) → StandsWith p scopes core
         → (name : List ℕ) (live : Live) (w : WorkflowState) (way : Way) → live_at p name ≡ Some live
         → workflow_at core.workflows name ≡ Some w → w.way ≡ Some way
-        → log_end way (primary_of core.primaries w.source) (primary_of core.primaries w.target) ≡ log_length p (new_owner live) }
+        → log_end way (primary_of core.primaries w.source) (primary_of core.primaries w.target) ≡ log_length p (new_owner live) 0 }
 {}

@@ -1,5 +1,5 @@
 //! Laws on what begins, steps and undos do to the workflows of a core.
-ghost use Rattle.std.specs.Prelude.{◌≡◌, ◌==◌, ℕ, true, false, List, Option, None, Some, option_map};
+ghost use Rattle.std.specs.Prelude.{◌≡◌, ◌==◌, ℕ, true, false, List, [], ◌∷◌, Option, None, Some, option_map};
 ghost use Rattle.std.specs.Map.{set_value};
 ghost use Rattle.mt_laws.specs.WayBack.{IsReached};
 ghost use Rattle.mt_names.specs.Names.{same_text};
@@ -7,7 +7,7 @@ ghost use Rattle.mt_names.specs.declared.types.TypeSet.{TypeSet};
 ghost use Rattle.mt_plain.specs.Answers.{Answers};
 ghost use Rattle.mt_plain.specs.Events.{Way, begin_reverse, begin_switch, done, step, undo};
 ghost use Rattle.mt_plain.specs.Next.{next, types_and, types_without};
-ghost use Rattle.mt_plain.specs.Plain.{Live, Plain, create_back, last_step, live_at, next_step, stands_done};
+ghost use Rattle.mt_plain.specs.Plain.{Lane, Live, Plain, create_back, last_step, live_at, next_step, stands_done};
 ghost use Rattle.mt_plain.specs.Refuse.{new_owner};
 ghost use Rattle.mt_plain.specs.Slots.{log_length, slot_before_way};
 ghost use Rattle.mt_site_rows.specs.Rows.{stream_of};
@@ -47,7 +47,7 @@ pub fn a_step_leaves_the_workflows()
         → (name : List ℕ) (live : Live) (w : WorkflowState) (way : Way) (at : ℕ) → live_at p name ≡ Some live
         → workflow_at workflows name ≡ Some w → w.way ≡ Some way → Answers p (step name at) done
         → AreWorkflows (next p (step name at) done)
-        (set_value (same_text w.name) workflows (workflow_stepped w way (step_at (next_step way)) (log_length p (new_owner live)))) }
+        (set_value (same_text w.name) workflows (workflow_stepped w way (step_at (next_step way)) (log_length p (new_owner live) 0))) }
 {
     a_step_changes_what_changes_with_its_number();
     only_named_events_change_a_workflow();
@@ -60,7 +60,8 @@ pub fn an_undo_leaves_the_workflows()
     ensures last { (p : Plain) → IsReached p → (workflows : Workflows) → AreWorkflows p workflows
         → (name : List ℕ) (live : Live) (w : WorkflowState) (way : Way) (at : ℕ) (kept : Option StreamValue) → live_at p name ≡ Some live
         → workflow_at workflows name ≡ Some w → w.way ≡ Some way → Answers p (undo name at) done → (way.done == 0) ≡ false
-        → (stands_done way create_back ≡ true → kept ≡ option_map (stream_of live) (slot_before_way live (other_name way)))
+        → ((lane : Lane) → live.lanes ≡ lane ∷ [] → stands_done way create_back ≡ true
+        → kept ≡ option_map (stream_of live lane) (slot_before_way live lane (other_name way)))
         → AreWorkflows (next p (undo name at) done)
         (set_value (same_text w.name) workflows (workflow_undone w way (step_at (last_step way)) kept)) }
     ensures none { (p : Plain) → IsReached p → (workflows : Workflows) → AreWorkflows p workflows

@@ -1,5 +1,5 @@
 -- Logs that are purged, one place after the other.
-use Rattle.std.proofs.Common.{◌≡◌, ℕ, suc, zero, List, [], ◌∷◌, length, map, Some, slice_get, refl, sym, ap, arith}
+use Rattle.std.proofs.Common.{◌≡◌, ℕ, suc, zero, List, [], ◌∷◌, length, map, Some, slice_get, refl, sym, ap}
 use Rattle.indexmap.specs.Layout.{set_value_at}
 use Rattle.mt_primary.specs.Primary.{PrimaryState}
 use Rattle.mt_site_state.specs.Core.{Primaries, Workflows}

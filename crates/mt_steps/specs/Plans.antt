@@ -44,10 +44,6 @@ step_at n = slice_index_or all_steps n SwitchReads
 
 -- ---- plans
 
--- how many shards a target has at most (this profile's own)
-abbrev pub most_shards : ℕ
-most_shards = 8
-
 -- a way in a direction that changes these types, with a target of so many shards
 abbrev pub way_of : (back : Bool) → TypeSet → (shards : ℕ) → Way
 way_of back types shards = record { back = back; shards = shards; before = no_types; after = types; done = 0; undoing = false }

@@ -2,6 +2,7 @@
 use Rattle.std.specs.Prelude.{◌≡◌, ◌≤◌, ℕ, suc, ◌&&◌, ◌||◌, ◌==◌, Bool, true, false, not, List, if◌then◌else◌, Option, None, Some, option_map}
 use Rattle.std.specs.Option.{option_map_or}
 use Rattle.mt_names.specs.declared.types.TypeSet.{TypeSet}
+use Rattle.mt_names.specs.Shards.{whole}
 use Rattle.mt_plain.specs.Events.{StreamName, forward, back, running, stopped, frozen, Way}
 use Rattle.mt_plain.specs.Next.{way_undone}
 use Rattle.mt_plain.specs.Plain.{behind_last, catch_up, ended, switch_reads, write_journal}
@@ -50,9 +51,9 @@ KeepsToTest w way step source target = tests_level way step ≡ true → KeepsTo
 
 -- ---- steps
 
--- the stream the other way: it counts as copied, and waits at the end of a log (MoveTables: the reverse workflow)
+-- the stream the other way: it has all keys, counts as copied, and waits at the end of a log (MoveTables: the reverse workflow)
 abbrev pub stopped_stream : List (List ℕ) → (position : ℕ) → StreamValue
-stopped_stream tables position = record { tables = tables; copied = ended; position = position; state = stopped }
+stopped_stream tables position = record { tables = tables; range = whole; copied = ended; position = position; state = stopped }
 
 -- how long the log of the new owner's primary is (How traffic is switched)
 abbrev pub log_end : Way → (source target : PrimaryState) → ℕ

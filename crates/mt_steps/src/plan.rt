@@ -1,8 +1,9 @@
 //! Which steps a way has, and at which places.
 ghost use Rattle.std.specs.Prelude.{◌≡◌, ◌<◌, ◌≤◌, ◌+◌, ℕ, Bool, true, false};
 ghost use Rattle.mt_names.specs.declared.types.TypeSet.{TypeSet};
+ghost use Rattle.mt_names.specs.Shards.{most_shards};
 ghost use Rattle.mt_plain.specs.Plain.{behind_last, first_step};
-ghost use Rattle.mt_steps.specs.Plans.{later_shards, most_shards, place_at, plan_of, step_at, way_of};
+ghost use Rattle.mt_steps.specs.Plans.{later_shards, place_at, plan_of, step_at, way_of};
 
 use crate::step::Step;
 use arrayvec::ArrayVec;

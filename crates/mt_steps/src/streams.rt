@@ -9,7 +9,7 @@ ghost use Rattle.mt_steps.specs.Plans.{number, step_at};
 ghost use Rattle.mt_steps.specs.Streams.{KeepsToFeed, feeding_name, is_fed, is_last, log_end, other_name, put_away, serves_other_side, stopped_stream, streams_undone, types_after, way_after, with_streams};
 
 use crate::step::Step;
-use mt_names::Position;
+use mt_names::{KeyRange, Position};
 use mt_primary::Primary;
 use mt_stream::{Stream, StreamState};
 use mt_workflow::{Slot, Way, Workflow};
@@ -77,7 +77,7 @@ fn put_stopped(workflow: &mut Workflow, slot: Slot, position: Position) -> Optio
     ensures after { workflow.new ≡ with_slot workflow.old (stream_name slot) (Some (stopped_stream workflow.old.tables position)) }
 {
     workflow.facts();
-    let mut stream = Stream::new_running(workflow.table_list(), position);
+    let mut stream = Stream::new_running(workflow.table_list(), KeyRange::whole(), position);
     stream.stop();
     workflow.put_slot(slot, Some(stream))
 }

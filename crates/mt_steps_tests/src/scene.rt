@@ -9,7 +9,7 @@ ghost use Rattle.mt_steps.specs.Streams.{KeepsToFeed};
 ghost use Rattle.mt_stream.specs.Streams.{StreamValue};
 
 use mt_journal::Journal;
-use mt_names::{KeyspaceName, TableName, TypeSet, WorkflowName, table_list};
+use mt_names::{KeyRange, KeyspaceName, TableName, TypeSet, WorkflowName, table_list};
 use mt_primary::{Primary, PrimaryFault};
 use mt_steps::{
     Sides, Step, StepFault, UndoLog, a_record_stays_that_of_its_workflow, do_step, undo_last,
@@ -117,7 +117,11 @@ impl Moved {
     pub fn new(alloc: Global, scene: &Scene, name: &str, listed: &str) -> Option<Self> {
         let mut workflow = workflow_of(alloc, scene, name, listed)?;
         workflow.facts();
-        let stream = Stream::new_running(workflow.table_list(), scene.source.position());
+        let stream = Stream::new_running(
+            workflow.table_list(),
+            KeyRange::whole(),
+            scene.source.position(),
+        );
         workflow.put_slot(Slot::Forward, Some(stream));
         let Ok(log) = UndoLog::reserve(alloc, &workflow) else {
             drop(workflow);

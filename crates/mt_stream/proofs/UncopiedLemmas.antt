@@ -7,9 +7,10 @@ use Rattle.std.specs.Map.{keys_of, lookup}
 use Rattle.std.specs.Option.{option_map_or}
 use Rattle.mt_names.specs.Names.{same_text}
 use Rattle.mt_model.specs.Rows.{Row, RowValue}
-use Rattle.mt_plain.specs.Plain.{Live, Plain, Write, among, is_side, moves, number_of}
+use Rattle.mt_names.specs.Shards.{KeyRange, holds}
+use Rattle.mt_plain.specs.Plain.{Lane, Live, Plain, Write, among, in_lane, is_side, moves, number_of}
 use Rattle.mt_plain.specs.Slots.{keys_of_rows, put_in_order, uncopied}
-use Rattle.mt_plain.specs.Writes.{client_number, client_row, in_range, is_copied, row_after_write, row_after_writes}
+use Rattle.mt_plain.specs.Writes.{client_number, client_row, in_range, row_after_write, row_after_writes}
 use Rattle.mt_primary.specs.Primary.{IsPrimary, PrimaryState}
 use Rattle.mt_primary.specs.Writes.{RowPut}
 use Rattle.mt_stream.specs.Advance.{left_in, places, row_copied, rows_left, rows_of}
@@ -222,7 +223,7 @@ written number key (w ∷ ws) before e = by (eqb w.table number) refl (eqb w.key
 
 -- ---- the rows that are left
 
-module _ (p : Plain) (w : Live) (source : PrimaryState) (is : IsPrimary source) (stands : HasClientRows p w source) where
+module _ (p : Plain) (w : Live) (lane : Lane) (source : PrimaryState) (is : IsPrimary source) (stands : HasClientRows p w lane source) where
   module _ (table : List ℕ) (moved : moves w table ≡ true) where
     -- its number among the clients' tables is that at the source
     number-is : client_number p w.source table ≡ number_of p w.source table
@@ -233,9 +234,9 @@ module _ (p : Plain) (w : Live) (source : PrimaryState) (is : IsPrimary source) 
         by false = refl
 
     -- the keys with a row are the definitions' ones
-    has-keys : (k : ℕ) → has (keys_of (rows_of source table)) k ≡ has (keys_of_rows p w table) k
-    has-keys k =
-        has-rows (rows_of source table) k ∙ ap is_some (sym (row_at-lookup source table k) ∙ stands.rows table k moved)
+    has-keys : (k : ℕ) → in_lane w lane k ≡ true → has (keys_of (rows_of source table)) k ≡ has (keys_of_rows p w table) k
+    has-keys k here =
+        has-rows (rows_of source table) k ∙ ap is_some (sym (row_at-lookup source table k) ∙ stands.rows table k moved here)
         ∙ by (is_some (client_row p w.source table k)) refl
         ∙ sym (has-filter (λ key. is_some (client_row p w.source table key)) (fold put_in_order [] (keys_written (number_of p w.source table) p.writes)) k)
       where
@@ -247,10 +248,16 @@ module _ (p : Plain) (w : Live) (source : PrimaryState) (is : IsPrimary source) 
             there ∙ sym (ap (λ b. b && is_some (client_row p w.source table k)) named ∙ there)
         by false none = none ∙ sym (ap (λ b. has (fold put_in_order [] (keys_written (number_of p w.source table) p.writes)) k && b) none ∙ and_right (has (fold put_in_order [] (keys_written (number_of p w.source table) p.writes)) k) false refl)
 
-    keys-are : keys_of (rows_of source table) ≡ keys_of_rows p w table
+    has-lane : (k : ℕ) → (b : Bool) → in_lane w lane k ≡ b → (has (keys_of (rows_of source table)) k && b) ≡ (has (keys_of_rows p w table) k && b)
+    has-lane k true here = ap (λ h. h && true) (has-keys k here)
+    has-lane k false out = and_right (has (keys_of (rows_of source table)) k) false refl ∙ sym (and_right (has (keys_of_rows p w table) k) false refl)
+
+    keys-are : filter (in_lane w lane) (keys_of (rows_of source table)) ≡ filter (in_lane w lane) (keys_of_rows p w table)
     keys-are =
-        same-up (keys_of (rows_of source table)) (keys_of_rows p w table) (up-rows (rows_of source table) (rows-ascend source table is))
-        (up-filter (λ key. is_some (client_row p w.source table key)) (fold put_in_order [] (keys_written (number_of p w.source table) p.writes)) (up-fold (keys_written (number_of p w.source table) p.writes) [] tt)) has-keys
+        same-up (filter (in_lane w lane) (keys_of (rows_of source table))) (filter (in_lane w lane) (keys_of_rows p w table))
+        (up-filter (in_lane w lane) (keys_of (rows_of source table)) (up-rows (rows_of source table) (rows-ascend source table is)))
+        (up-filter (in_lane w lane) (keys_of_rows p w table) (up-filter (λ key. is_some (client_row p w.source table key)) (fold put_in_order [] (keys_written (number_of p w.source table) p.writes)) (up-fold (keys_written (number_of p w.source table) p.writes) [] tt)))
+        (λ k. has-filter (in_lane w lane) (keys_of (rows_of source table)) k ∙ has-lane k (in_lane w lane k) refl ∙ sym (has-filter (in_lane w lane) (keys_of_rows p w table) k))
 
 -- the places of rows that pass are those of their keys
 places-passing : (table : List ℕ) (test : ℕ → Bool) (rs : List (ℕ × RowValue))
@@ -271,9 +278,27 @@ places-flat f g (t ∷ ts) agree =
     ∙ ap (λ l. l ++ places (flat_map f ts)) (agree t (rw (same-self t) refl))
     ∙ ap (λ l. g t ++ l) (places-flat f g ts (λ u named. agree u (or_right (same_text t u) (among ts u) named)))
 
-pub left-uncopied : (p : Plain) (w : Live) (source : PrimaryState) → IsPrimary source → HasClientRows p w source → places (rows_left source w.tables w.copied) ≡ uncopied p w
-left-uncopied p w source is stands =
-    places-flat (left_in source w.tables w.copied) (λ table. map (λ key. (table, key)) (filter (λ key. not (is_copied w table key)) (keys_of_rows p w table))) w.tables
+-- two tests, one behind the other
+filter-both : (f g : ℕ → Bool) (ks : List ℕ) → filter (λ k. f k && g k) ks ≡ filter g (filter f ks)
+filter-both f g [] = refl
+filter-both f g (k ∷ ks) = by (f k) (filter-both f g ks)
+  where
+    by : (b : Bool) → filter (λ k. f k && g k) ks ≡ filter g (filter f ks) → cond (b && g k) (k ∷ filter (λ k. f k && g k) ks) (filter (λ k. f k && g k) ks) ≡ filter g (cond b (k ∷ filter f ks) (filter f ks))
+    by true again = ap (λ l. cond (g k) (k ∷ l) l) again
+    by false again = again
+
+keys-agree : (f g : ℕ → Bool) (ks : List ℕ) → ((k : ℕ) → f k ≡ g k) → filter f ks ≡ filter g ks
+keys-agree f g [] agree = refl
+keys-agree f g (k ∷ ks) agree = ap (λ b. cond b (k ∷ filter f ks) (filter f ks)) (agree k) ∙ ap (λ l. cond (g k) (k ∷ l) l) (keys-agree f g ks agree)
+
+pub left-uncopied : (p : Plain) (w : Live) (lane : Lane) (range : KeyRange) (source : PrimaryState) → IsPrimary source → HasClientRows p w lane source → ((key : ℕ) → holds range key ≡ in_lane w lane key)
+    → places (rows_left source range w.tables lane.copied) ≡ uncopied p w lane
+left-uncopied p w lane range source is stands held =
+    places-flat (left_in source range w.tables lane.copied) (λ table. map (λ key. (table, key)) (filter (λ key. in_lane w lane key && not (in_range w.tables lane.copied table key)) (keys_of_rows p w table))) w.tables
     (λ table moved.
-    places-passing table (λ key. not (in_range w.tables w.copied table key)) (rows_of source table)
-    ∙ ap (λ ks. map (λ key. (table, key)) (filter (λ key. not (is_copied w table key)) ks)) (keys-are p w source is stands table moved))
+    places-passing table (λ key. holds range key && not (in_range w.tables lane.copied table key)) (rows_of source table)
+    ∙ ap (map (λ key. (table, key)))
+    (keys-agree (λ key. holds range key && not (in_range w.tables lane.copied table key)) (λ key. in_lane w lane key && not (in_range w.tables lane.copied table key)) (keys_of (rows_of source table)) (λ key. ap (λ b. b && not (in_range w.tables lane.copied table key)) (held key))
+    ∙ filter-both (in_lane w lane) (λ key. not (in_range w.tables lane.copied table key)) (keys_of (rows_of source table))
+    ∙ ap (filter (λ key. not (in_range w.tables lane.copied table key))) (keys-are p w lane source is stands table moved)
+    ∙ sym (filter-both (in_lane w lane) (λ key. not (in_range w.tables lane.copied table key)) (keys_of_rows p w table))))

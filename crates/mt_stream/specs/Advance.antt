@@ -5,6 +5,7 @@ use Rattle.std.specs.Option.{option_map_or}
 use Rattle.mt_model.specs.declared.rows.RowChange.{RowChange}
 use Rattle.mt_model.specs.Limits.{longest_log}
 use Rattle.mt_model.specs.Rows.{RowValue}
+use Rattle.mt_names.specs.Shards.{KeyRange, holds}
 use Rattle.mt_plain.specs.Events.{StreamState, running, stopped, frozen}
 use Rattle.mt_plain.specs.Plain.{Copied}
 use Rattle.mt_plain.specs.Slots.{copied_after, readable}
@@ -20,13 +21,13 @@ use Rattle.mt_stream.specs.Streams.{StreamValue, past}
 
 -- ---- what there is to do
 
--- whether a change is written at the sink: its row is of one of the tables, and lies in the copied range
-abbrev pub is_written : (tables : List (List ℕ)) → Copied → RowChange → Bool
-is_written tables copied change = is_applied tables copied change.table change.key
+-- whether a change is written at the sink: its key stands in the range, its row is of one of the tables, and lies in the copied range
+abbrev pub is_written : KeyRange → (tables : List (List ℕ)) → Copied → RowChange → Bool
+is_written keys tables copied change = holds keys change.key && is_applied tables copied change.table change.key
 
 -- the same, of a stream
 abbrev pub applies : StreamValue → RowChange → Bool
-applies s = is_written s.tables s.copied
+applies s = is_written s.range s.tables s.copied
 
 -- how many entries a primary's log can take
 abbrev pub room_in : PrimaryState → ℕ
@@ -40,17 +41,17 @@ rows_of p table = option_map_or (λ t. t.rows) (table_at p table) []
 abbrev pub row_copied : List ℕ → ℕ × RowValue → RowPut
 row_copied table row = record { table = table; key = row.0; after = Some row.1 }
 
--- the rows of one table that are left to copy: those outside of the copied range
-abbrev pub left_in : PrimaryState → (tables : List (List ℕ)) → Copied → List ℕ → List RowPut
-left_in source tables copied table = map (row_copied table) (filter (λ row. not (in_range tables copied table row.0)) (rows_of source table))
+-- the rows of one table that are left to copy: those in the key range and outside of the copied range
+abbrev pub left_in : PrimaryState → KeyRange → (tables : List (List ℕ)) → Copied → List ℕ → List RowPut
+left_in source keys tables copied table = map (row_copied table) (filter (λ row. holds keys row.0 && not (in_range tables copied table row.0)) (rows_of source table))
 
 -- the rows of all tables that are left to copy, in the order of the tables named and then of keys
-abbrev pub rows_left : PrimaryState → (tables : List (List ℕ)) → Copied → List RowPut
-rows_left source tables copied = flat_map (left_in source tables copied) tables
+abbrev pub rows_left : PrimaryState → KeyRange → (tables : List (List ℕ)) → Copied → List RowPut
+rows_left source keys tables copied = flat_map (left_in source keys tables copied) tables
 
 -- the rows that an advance may copy: none as long as an entry stands past the position
 abbrev pub to_copy : StreamValue → PrimaryState → List RowChange → List RowPut
-to_copy s source [] = rows_left source s.tables s.copied
+to_copy s source [] = rows_left source s.range s.tables s.copied
 to_copy s source (e ∷ es) = []
 
 -- where rows stand: their tables and keys

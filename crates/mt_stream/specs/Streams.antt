@@ -1,7 +1,8 @@
--- A stream: its tables, how far their rows are copied, the position up to which it has read its source's log, and what it does.
-use Rattle.std.specs.Prelude.{◌≢◌, ℕ, ◌<◌, Bool, true, false, not, List, [], length, slice_index_or, AllPairs}
+-- A stream: its tables, the range of its keys, how far their rows are copied, the position up to which it has read its source's log, and what it does.
+use Rattle.std.specs.Prelude.{◌≢◌, ℕ, ◌<◌, Bool, true, false, not, ◌&&◌, List, [], length, slice_index_or, AllPairs}
 use Rattle.std.specs.List.{list_any}
 use Rattle.mt_model.specs.declared.rows.RowChange.{RowChange}
+use Rattle.mt_names.specs.Shards.{KeyRange, holds}
 use Rattle.mt_plain.specs.Events.{StreamState, running, stopped, frozen}
 use Rattle.mt_plain.specs.Plain.{Copied, not_begun, up_to, ended, among}
 use Rattle.mt_primary.specs.Primary.{PrimaryState}
@@ -14,6 +15,7 @@ use Rattle.mt_stream.specs.declared.stream.StreamState.TheVariants as from
 -- a stream, in the words of the definitions
 pub record StreamValue : Type 0 where
   pub tables : List (List ℕ)
+  pub range : KeyRange
   pub copied : Copied
   pub position : ℕ
   pub state : StreamState
@@ -54,6 +56,6 @@ has_ended other = false
 abbrev pub past : StreamValue → PrimaryState → List RowChange
 past s source = entries_from source s.position
 
--- whether it is level with its source: no entry about one of its tables stands past its position
+-- whether it is level with its source: no entry about one of its tables and a key in its range stands past its position
 abbrev pub is_level : StreamValue → PrimaryState → Bool
-is_level s source = not (list_any (λ change. among s.tables change.table) (past s source))
+is_level s source = not (list_any (λ change. holds s.range change.key && among s.tables change.table) (past s source))

@@ -1,14 +1,15 @@
 //! Copying rows: each is the first one behind the last one copied.
 ghost use Rattle.std.specs.Prelude.{◌≡◌, ◌≢◌, ℕ, true, List, AllPairs};
+ghost use Rattle.std.specs.Option.{option_map};
 ghost use Rattle.mt_plain.specs.Plain.{among};
 ghost use Rattle.mt_primary.specs.Primary.{has_table};
-ghost use Rattle.mt_stream.specs.Loops.{CopiesRows, IsFirstLeft, first_behind};
+ghost use Rattle.mt_stream.specs.Loops.{CopiesRows, IsFirstLeft, behind_start, first_behind, next_in};
 ghost use Rattle.mt_stream.specs.Streams.{IsPlaced, copied_from};
 
 use crate::fault::StreamFault;
 use crate::following::put_row;
 use crate::stream::CopiedRange;
-use mt_names::TableName;
+use mt_names::{KeyRange, TableName};
 use mt_primary::Primary;
 use mt_shared::SharedValue;
 
@@ -34,8 +35,39 @@ fn first_behind(tables: &[TableName], range: CopiedRange) -> (usize, Option<u64>
     }
 }
 
+/// Behind which key the keys of a range come that come behind another one.
+fn behind_start(first: u64, last: Option<u64>) -> Option<u64>
+    ensures { result ≡ behind_start first last }
+{
+    match last {
+        None if first == 0 => None,
+        None => Some(first - 1),
+        Some(last) if last < first => Some(first - 1),
+        Some(last) => Some(last),
+    }
+}
+
+/// The first row of a table in the key range that comes behind a key, if there is one.
+fn first_in<'a>(
+    keys: &KeyRange,
+    source: &'a Primary,
+    at: usize,
+    table: &TableName,
+    behind: Option<u64>,
+) -> Option<(u64, &'a SharedValue)>
+    ensures { option_map (λ row. (row.0, row.1.now)) result ≡ next_in source.now keys.now table.now behind }
+{
+    source.what_holds();
+    let from = behind_start(keys.first_key(), behind);
+    match source.lent_row_after_placed(at, table, from) {
+        Some((key, value)) if keys.holds(key) => Some((key, value)),
+        _ => None,
+    }
+}
+
 /// The first row that is left to copy, if there is one. Its table is looked for first at a place of the source.
 fn first_left<'a>(
+    keys: &KeyRange,
     tables: &[TableName],
     range: CopiedRange,
     source: &'a Primary,
@@ -43,12 +75,12 @@ fn first_left<'a>(
 ) -> Option<LeftRow<'a>>
     requires distinct { AllPairs ◌≢◌ tables.now }
     requires placed { IsPlaced tables.now range }
-    ensures { IsFirstLeft source.now tables.now (copied_from tables.now range) result }
+    ensures { IsFirstLeft source.now keys.now tables.now (copied_from tables.now range) result }
 {
     source.what_holds();
     let (start, mut behind) = first_behind(tables, range);
     for place in start..tables.len() {
-        if let Some((key, value)) = source.lent_row_after_placed(at, &tables[place], behind) {
+        if let Some((key, value)) = first_in(keys, source, at, &tables[place], behind) {
             return Some(LeftRow { place, key, value });
         }
         behind = None;
@@ -59,6 +91,7 @@ fn first_left<'a>(
 /// Copies up to so many rows, and answers how many; the range is then as far, and has ended if none was left. A row that
 /// is refused ends it; at the first one that is answered, and then nothing changed.
 pub fn copy_rows(
+    keys: &KeyRange,
     tables: &[TableName],
     range: &mut CopiedRange,
     source: &Primary,
@@ -69,12 +102,12 @@ pub fn copy_rows(
     requires placed { IsPlaced tables.now range.old }
     requires there { (table : List ℕ) → among tables.now table ≡ true → has_table sink.old table ≡ true }
     ensures placed { IsPlaced tables.now range.new }
-    ensures copies { CopiesRows tables.now (copied_from tables.now range.old) source.now sink.old max result (copied_from tables.now range.new) sink.new }
+    ensures copies { CopiesRows keys.now tables.now (copied_from tables.now range.old) source.now sink.old max result (copied_from tables.now range.new) sink.new }
 {
     let mut copied_last = tables.len();
     let mut at = 0;
     for copied in 0..max {
-        let Some(row) = first_left(tables, *range, source, at) else {
+        let Some(row) = first_left(keys, tables, *range, source, at) else {
             *range = CopiedRange::Ended;
             return Ok(copied);
         };

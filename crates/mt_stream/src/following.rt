@@ -1,9 +1,10 @@
 //! Reading the source's log: the entries past a position are written at the sink, or passed over.
-ghost use Rattle.std.specs.Prelude.{◌≡◌, ◌≢◌, ℕ, ◌≤◌, true, List, AllPairs, length};
+ghost use Rattle.std.specs.Prelude.{◌≡◌, ◌≢◌, ℕ, ◌≤◌, ◌&&◌, true, List, AllPairs, length};
 ghost use Rattle.std.specs.List.{list_any};
 ghost use Rattle.std.specs.Option.{option_copied};
 ghost use Rattle.mt_plain.specs.Plain.{among};
-ghost use Rattle.mt_plain.specs.Writes.{place_of};
+ghost use Rattle.mt_names.specs.Shards.{holds};
+ghost use Rattle.mt_plain.specs.Writes.{is_applied, place_of};
 ghost use Rattle.mt_log.specs.Log.{entry_in};
 ghost use Rattle.mt_primary.specs.Primary.{end_of, has_table};
 ghost use Rattle.mt_primary.specs.Reads.{entries_from};
@@ -13,9 +14,21 @@ ghost use Rattle.mt_stream.specs.Streams.{IsPlaced, copied_from};
 
 use crate::fault::StreamFault;
 use crate::stream::CopiedRange;
-use mt_names::{Position, TableName};
+use mt_names::{KeyRange, Position, TableName};
 use mt_primary::{Primary, PrimaryFault, RowChange};
 use mt_shared::SharedValue;
+
+/// Which entries are written at the sink: those about a key in the range whose row is of one of the tables, and in the copied
+/// range.
+#[derive(Clone, Copy)]
+pub struct Filter<'a> {
+    /// The range of the keys.
+    pub keys: &'a KeyRange,
+    /// The tables, each of them once.
+    pub tables: &'a [TableName],
+    /// How far the rows are copied.
+    pub range: CopiedRange,
+}
 
 /// The entry at a position that is kept, if the log has one there.
 fn kept_entry(source: &Primary, position: Position) -> Option<&RowChange>
@@ -28,14 +41,26 @@ fn kept_entry(source: &Primary, position: Position) -> Option<&RowChange>
     }
 }
 
-/// Whether an entry from a position on is about one of these tables.
-pub fn names_any(tables: &[TableName], position: Position, source: &Primary) -> bool
+/// Whether an entry is about one of these tables, and a key in the range.
+fn is_about(keys: &KeyRange, tables: &[TableName], change: &RowChange) -> bool
+    ensures { result ≡ (holds keys.now change.now.key && among tables.now change.now.table) }
+{
+    keys.holds(change.key) && tables.contains(change.table.name())
+}
+
+/// Whether an entry from a position on is about one of these tables, and a key in the range.
+pub fn names_any(
+    keys: &KeyRange,
+    tables: &[TableName],
+    position: Position,
+    source: &Primary,
+) -> bool
     requires kept { source.now.log.purged ≤ position }
-    ensures { result ≡ list_any (λ change. among tables.now change.table) (entries_from source.now position) }
+    ensures { result ≡ list_any (λ change. holds keys.now change.key && among tables.now change.table) (entries_from source.now position) }
 {
     for at in position..source.position() {
         if let Some(change) = kept_entry(source, at) {
-            if tables.contains(change.table.name()) {
+            if is_about(keys, tables, change) {
                 return true;
             }
         }
@@ -55,11 +80,11 @@ fn place_of(tables: &[TableName], table: &TableName) -> usize
     tables.len()
 }
 
-/// Whether an entry is written at the sink: its row is of one of the tables, and in the copied range.
-fn is_written(tables: &[TableName], range: CopiedRange, change: &RowChange) -> bool
+/// Whether an entry's row is of one of the tables, and in the copied range.
+fn is_copied(tables: &[TableName], range: CopiedRange, change: &RowChange) -> bool
     requires distinct { AllPairs ◌≢◌ tables.now }
     requires placed { IsPlaced tables.now range }
-    ensures { result ≡ is_written tables.now (copied_from tables.now range) change.now }
+    ensures { result ≡ is_applied tables.now (copied_from tables.now range) change.now.table change.now.key }
 {
     let place = place_of(tables, change.table.name());
     match range {
@@ -67,6 +92,15 @@ fn is_written(tables: &[TableName], range: CopiedRange, change: &RowChange) -> b
         CopiedRange::UpTo(last, key) => place < last || place == last && change.key <= key,
         CopiedRange::Ended => place < tables.len(),
     }
+}
+
+/// Whether an entry is written at the sink.
+fn is_written(filter: Filter<'_>, change: &RowChange) -> bool
+    requires distinct { AllPairs ◌≢◌ filter.tables.now }
+    requires placed { IsPlaced filter.tables.now filter.range }
+    ensures { result ≡ is_written filter.entry.keys.now filter.entry.tables.now (copied_from filter.entry.tables.now filter.entry.range) change.now }
+{
+    filter.keys.holds(change.key) && is_copied(filter.tables, filter.range, change)
 }
 
 /// Puts a row at the sink, or takes it away if there is none: `S4 LogFull`, then `S0 Memory`, and then nothing changed.
@@ -88,17 +122,16 @@ pub fn put_row(
 
 /// Writes an entry at the sink, or passes over it, and answers whether it was written.
 fn follow_entry(
-    tables: &[TableName],
-    range: CopiedRange,
+    filter: Filter<'_>,
     change: &RowChange,
     sink: &mut Primary,
 ) -> Result<bool, StreamFault>
-    requires distinct { AllPairs ◌≢◌ tables.now }
-    requires placed { IsPlaced tables.now range }
-    requires there { (table : List ℕ) → among tables.now table ≡ true → has_table sink.old table ≡ true }
-    ensures { FollowsEntry tables.now (copied_from tables.now range) change.now sink.old result sink.new }
+    requires distinct { AllPairs ◌≢◌ filter.tables.now }
+    requires placed { IsPlaced filter.tables.now filter.range }
+    requires there { (table : List ℕ) → among filter.tables.now table ≡ true → has_table sink.old table ≡ true }
+    ensures { FollowsEntry filter.entry.keys.now filter.entry.tables.now (copied_from filter.entry.tables.now filter.entry.range) change.now sink.old result sink.new }
 {
-    if !is_written(tables, range, change) {
+    if !is_written(filter, change) {
         return Ok(false);
     }
     put_row(sink, change.table.name(), change.key, change.after.as_ref())?;
@@ -108,19 +141,18 @@ fn follow_entry(
 /// Reads up to so many entries from a position on, and answers how many. A change that is refused ends it; at the first
 /// one that is answered, and then nothing changed.
 pub fn read_entries(
-    tables: &[TableName],
-    range: CopiedRange,
+    filter: Filter<'_>,
     position: Position,
     source: &Primary,
     sink: &mut Primary,
     max: u16,
 ) -> Result<u16, StreamFault>
-    requires distinct { AllPairs ◌≢◌ tables.now }
-    requires placed { IsPlaced tables.now range }
+    requires distinct { AllPairs ◌≢◌ filter.tables.now }
+    requires placed { IsPlaced filter.tables.now filter.range }
     requires kept { source.now.log.purged ≤ position }
     requires within { position ≤ end_of source.now }
-    requires there { (table : List ℕ) → among tables.now table ≡ true → has_table sink.old table ≡ true }
-    ensures { ReadsEntries tables.now (copied_from tables.now range) (entries_from source.now position) sink.old max result sink.new }
+    requires there { (table : List ℕ) → among filter.tables.now table ≡ true → has_table sink.old table ≡ true }
+    ensures { ReadsEntries filter.entry.keys.now filter.entry.tables.now (copied_from filter.entry.tables.now filter.entry.range) (entries_from source.now position) sink.old max result sink.new }
 {
     let _end = source.position();
     let mut written = false;
@@ -128,7 +160,7 @@ pub fn read_entries(
         let Some(change) = kept_entry(source, position + u64::from(read)) else {
             return Ok(read);
         };
-        match follow_entry(tables, range, change, sink) {
+        match follow_entry(filter, change, sink) {
             Ok(more) => written = written || more,
             Err(_) if written => return Ok(read),
             Err(fault) => return Err(fault),

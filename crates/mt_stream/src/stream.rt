@@ -9,9 +9,9 @@ ghost use Rattle.mt_stream.specs.Streams.{has_ended, is_level, state_from};
 
 use crate::copying::copy_rows;
 use crate::fault::StreamFault;
-use crate::following::{names_any, read_entries};
+use crate::following::{Filter, names_any, read_entries};
 use arrayvec::ArrayVec;
-use mt_names::{MAX_TABLES, Position, TableName};
+use mt_names::{KeyRange, MAX_TABLES, Position, TableName};
 use mt_primary::Primary;
 use std::marker::Model;
 
@@ -47,12 +47,14 @@ pub struct Advanced {
     pub rows: u16,
 }
 
-/// A stream: it copies the rows of some tables from one primary to another, and then writes there what the log of the
-/// first tells of them. It owns neither of the primaries. (Vitess: a VReplication stream of MoveTables, with its copy
-/// phase, its catchup, and its position in the source's binary log)
+/// A stream: it copies the rows of some tables, those with a key in its range, from one primary to another, and then writes
+/// there what the log of the first tells of them. It owns neither of the primaries. (Vitess: a VReplication stream of
+/// MoveTables, with its copy phase, its catchup, and its position in the source's binary log; its filter has the key range
+/// of a shard)
 #[derive(Drop)]
 pub struct Stream {
     tables: ArrayVec<TableName, MAX_TABLES>,
+    keys: KeyRange,
     range: CopiedRange,
     position: Position,
     state: StreamState,
@@ -63,34 +65,40 @@ impl Model for Stream {
 
     ghost Value = { StreamValue };
 
-    ghost view = { λ s. record { tables = s.tables.items; copied = copied_from s.tables.items s.range; position = s.position; state = state_from s.state } };
+    ghost view = { λ s. record { tables = s.tables.items; range = s.keys; copied = copied_from s.tables.items s.range; position = s.position; state = state_from s.state } };
 
     ghost invariant = { λ s. IsStream s.tables.items s.range };
 }
 
 impl Stream {
-    /// A stream that has copied nothing yet, and reads the log from this position on. It runs. Each table is named once.
-    /// (Vitess: a stream of MoveTables that begins with its copy phase)
-    pub fn new_copy(tables: ArrayVec<TableName, MAX_TABLES>, at: Position) -> Self
+    /// A stream of the keys in a range that has copied nothing yet, and reads the log from this position on. It runs. Each
+    /// table is named once. (Vitess: a stream of MoveTables that begins with its copy phase)
+    pub fn new_copy(tables: ArrayVec<TableName, MAX_TABLES>, range: KeyRange, at: Position) -> Self
         requires { AllPairs ◌≢◌ tables.items }
-        ensures { result ≡ record { tables = tables.items; copied = not_begun; position = at; state = running } }
+        ensures { result ≡ record { tables = tables.items; range = range; copied = not_begun; position = at; state = running } }
     {
         Stream {
             tables,
+            keys: range,
             range: CopiedRange::NotBegun,
             position: at,
             state: StreamState::Running,
         }
     }
 
-    /// A stream that counts as copied from its start, and reads the log from this position on. It runs. Each table is
-    /// named once. (Vitess: the stream of the reverse workflow, which has no copy phase)
-    pub fn new_running(tables: ArrayVec<TableName, MAX_TABLES>, at: Position) -> Self
+    /// A stream of the keys in a range that counts as copied from its start, and reads the log from this position on. It
+    /// runs. Each table is named once. (Vitess: the stream of the reverse workflow, which has no copy phase)
+    pub fn new_running(
+        tables: ArrayVec<TableName, MAX_TABLES>,
+        range: KeyRange,
+        at: Position,
+    ) -> Self
         requires { AllPairs ◌≢◌ tables.items }
-        ensures { result ≡ record { tables = tables.items; copied = ended; position = at; state = running } }
+        ensures { result ≡ record { tables = tables.items; range = range; copied = ended; position = at; state = running } }
     {
         Stream {
             tables,
+            keys: range,
             range: CopiedRange::Ended,
             position: at,
             state: StreamState::Running,
@@ -139,14 +147,14 @@ impl Stream {
         self.state = StreamState::Frozen;
     }
 
-    /// Whether it is level with its source: no entry about one of its tables stands past its position. It takes no
-    /// memory, and looks at the entries past the position alone. (Vitess: how traffic is switched, the wait until the
-    /// stream has caught up with the source's position)
+    /// Whether it is level with its source: no entry about one of its tables and a key in its range stands past its
+    /// position. It takes no memory, and looks at the entries past the position alone. (Vitess: how traffic is switched,
+    /// the wait until the stream has caught up with the source's position)
     pub fn is_level(&self, source: &Primary) -> bool
         requires kept { source.now.log.purged ≤ self.now.position }
         ensures { result ≡ is_level self.now source.now }
     {
-        !names_any(&self.tables, self.position, source)
+        !names_any(&self.keys, &self.tables, self.position, source)
     }
 
     /// What refuses an advance before anything is read: `S2 Stopped` or `S3 Frozen`, then `S1 Stale`.
@@ -163,19 +171,20 @@ impl Stream {
     }
 
     /// Advances the stream, which stands at this position, by so many entries or rows at most. If entries stand past the
-    /// position in the source's log it reads them: it writes those of its tables whose row is in the copied range, and
-    /// passes over the others. Else it copies rows, in the order of the tables and then of keys; the copy ends where
-    /// fewer are left than may be copied. The answer has the counts, 0 of both if nothing is left.
+    /// position in the source's log it reads them: it writes those of its tables whose key is in its range and whose row is
+    /// in the copied range, and passes over the others. Else it copies rows with a key in its range, in the order of the
+    /// tables and then of keys; the copy ends where fewer are left than may be copied. The answer has the counts, 0 of both
+    /// if nothing is left.
     ///
     /// The first of these that holds is answered, and then stream and sink are as they were: `S2 Stopped` or
     /// `S3 Frozen`; `S1 Stale` with the stream's position, if that is another one; `S4 LogFull` and `S0 Memory` of the
     /// first change. A later change that is refused ends the advance, which answers what it did. Nothing but an advance
     /// takes memory, and that at the sink.
     ///
-    /// A sink that has, of the stream's tables, the rows of the copied range as they were at the source at the stream's
-    /// position, and no others, has them so behind the advance too. The source's log keeps the entries from the position of
-    /// a stream that runs on. (Vitess: a VReplication stream, which copies in primary key order, and between applies from
-    /// the source's binary log what concerns the rows already copied)
+    /// A sink that has, of the stream's tables and the keys in its range, the rows of the copied range as they were at the
+    /// source at the stream's position, and no others, has them so behind the advance too. The source's log keeps the
+    /// entries from the position of a stream that runs on. (Vitess: a VReplication stream, which copies in primary key
+    /// order, and between applies from the source's binary log what concerns the rows already copied)
     pub fn advance(
         &mut self,
         source: &Primary,
@@ -195,11 +204,16 @@ impl Stream {
             return Err(fault);
         }
         if self.position < source.position() {
-            let events = read_entries(&self.tables, self.range, self.position, source, sink, max)?;
+            let filter = Filter {
+                keys: &self.keys,
+                tables: &self.tables,
+                range: self.range,
+            };
+            let events = read_entries(filter, self.position, source, sink, max)?;
             self.position += u64::from(events);
             return Ok(Advanced { events, rows: 0 });
         }
-        let rows = copy_rows(&self.tables, &mut self.range, source, sink, max)?;
+        let rows = copy_rows(&self.keys, &self.tables, &mut self.range, source, sink, max)?;
         Ok(Advanced { events: 0, rows })
     }
 }

@@ -1,6 +1,7 @@
 //! Where an allocation fails, the answer of an advance is `Memory` or what was done until then, and a refusal changes nothing.
 
 use crate::pair::{Pair, Step, primary_with};
+use mt_names::KeyRange;
 use std::alloc::Global;
 use std::test::Fail;
 
@@ -15,7 +16,7 @@ fn pair_of(alloc: Global) -> Result<Pair, Fail> {
     let tables = ["a", "b"];
     let source = primary_with(alloc, &tables)?;
     let sink = primary_with(alloc, &tables)?;
-    Ok(Pair::new(source, sink, "b,a", 24, true)?)
+    Ok(Pair::new(source, sink, "b,a", KeyRange::whole(), 24, true)?)
 }
 
 /// Whether so many advances go on.

@@ -3,7 +3,9 @@ ghost use Rattle.std.specs.Prelude.{◌≡◌, true, All};
 ghost use Rattle.mt_primary.specs.Primary.{has_table};
 
 use arrayvec::ArrayVec;
-use mt_names::{MAX_TABLES, NameFault, Position, TableName, TabletType, Value, table_list};
+use mt_names::{
+    KeyRange, MAX_TABLES, NameFault, Position, TableName, TabletType, Value, table_list,
+};
 use mt_primary::{Op, Primary, PrimaryFault};
 use mt_stream::{Advanced, Stream, StreamFault, StreamState};
 use std::alloc::Global;
@@ -69,19 +71,21 @@ impl Model for Pair {
 }
 
 impl Pair {
-    /// A stream of the tables that a text lists, from this position on, which copies their rows first or counts as copied.
+    /// A stream of the tables that a text lists and of a range of keys, from this position on, which copies their rows
+    /// first or counts as copied.
     pub fn new(
         source: Primary,
         sink: Primary,
         listed: &str,
+        range: KeyRange,
         at: Position,
         copies: bool,
     ) -> Result<Self, NameFault> {
         let (tables, named) = (table_list(listed)?, table_list(listed)?);
         let stream = if copies {
-            Stream::new_copy(named, at)
+            Stream::new_copy(named, range, at)
         } else {
-            Stream::new_running(named, at)
+            Stream::new_running(named, range, at)
         };
         Ok(Pair {
             source,

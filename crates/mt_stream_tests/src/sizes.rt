@@ -1,6 +1,7 @@
 //! Streams of many rows: `bench/streams.py` says how many, and measures how long they take.
 
 use crate::pair::{Pair, Step, primary_with};
+use mt_names::KeyRange;
 use std::alloc::Global;
 use std::env;
 use std::env::VarError;
@@ -12,7 +13,7 @@ const AT_MOST: u16 = 1000;
 /// A stream of one table, which reads its rows and then the log from a position on.
 fn pair_of(alloc: Global, at: u64) -> Result<Pair, Fail> {
     let (source, sink) = (primary_with(alloc, &["a"])?, primary_with(alloc, &["a"])?);
-    Ok(Pair::new(source, sink, "a", at, true)?)
+    Ok(Pair::new(source, sink, "a", KeyRange::whole(), at, true)?)
 }
 
 /// Whether so many rows are inserted.

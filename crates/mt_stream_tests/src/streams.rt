@@ -1,20 +1,28 @@
 //! A stream between two primaries by direct calls.
 
 use crate::pair::{Pair, Step, primary_with};
-use mt_names::Position;
+use mt_names::{KeyRange, Position};
 use mt_stream::{StreamFault, StreamState};
 use std::alloc::Global;
 use std::test::Fail;
 
-/// A stream of the tables that a text lists, from this position on, between two primaries that have four tables.
-fn pair_of(alloc: Global, listed: &str, at: Position, copies: bool) -> Result<Pair, Fail> {
+/// A stream of the tables that a text lists and of a range of keys, from this position on, between two primaries that
+/// have four tables.
+fn pair_of(
+    alloc: Global,
+    listed: &str,
+    range: &str,
+    at: Position,
+    copies: bool,
+) -> Result<Pair, Fail> {
     let tables = ["a", "b", "c", "d"];
     let source = primary_with(alloc, &tables)?;
     let sink = primary_with(alloc, &tables)?;
-    Ok(Pair::new(source, sink, listed, at, copies)?)
+    let range = KeyRange::parse(range)?;
+    Ok(Pair::new(source, sink, listed, range, at, copies)?)
 }
 
-/// Whether lists of steps, one behind the other, answer what they are to at such a stream.
+/// Whether lists of steps, one behind the other, answer what they are to at such a stream of all keys.
 fn all_so(
     alloc: Global,
     listed: &str,
@@ -22,7 +30,19 @@ fn all_so(
     copies: bool,
     lists: &[&[Step<'_>]],
 ) -> Result<bool, Fail> {
-    let mut pair = pair_of(alloc, listed, at, copies)?;
+    all_so_in(alloc, listed, "-", at, copies, lists)
+}
+
+/// Whether lists of steps, one behind the other, answer what they are to at such a stream.
+fn all_so_in(
+    alloc: Global,
+    listed: &str,
+    range: &str,
+    at: Position,
+    copies: bool,
+    lists: &[&[Step<'_>]],
+) -> Result<bool, Fail> {
+    let mut pair = pair_of(alloc, listed, range, at, copies)?;
     for steps in lists {
         if !pair.all_so(steps) {
             return Ok(false);
@@ -267,5 +287,57 @@ static TO_THE_END: [Step<'static>; 10] = [
 #[test]
 fn entries_of_the_copied_range_are_written(rt: HostRuntime) -> Result<(), Fail> {
     assert!(rt; all_so(rt.alloc(), "b,a", 1, true, &[&BETWEEN, &TO_THE_END])?);
+    Ok(())
+}
+
+/// The first key of the upper half of all keys.
+const HALF: u64 = 9_223_372_036_854_775_808;
+
+/// Of the lower half the last row is copied, and the first one of the upper half isn't. An entry of that is passed over, and
+/// doesn't count for whether the stream is level.
+static LOWER_HALF: [Step<'static>; 17] = [
+    Step::Insert("a", 1, b"x"),
+    Step::Insert("a", HALF, b"z"),
+    Step::Insert("a", HALF - 1, b"y"),
+    Step::Advances(3, 9, 0, 2),
+    Step::Stands(3, true, true),
+    Step::Row("a", 1, Some(b"x")),
+    Step::Row("a", HALF - 1, Some(b"y")),
+    Step::Row("a", HALF, None),
+    Step::SinkAt(2),
+    Step::Update("a", HALF, b"w"),
+    Step::Stands(3, true, true),
+    Step::Update("a", HALF - 1, b"v"),
+    Step::Stands(3, true, false),
+    Step::Advances(3, 9, 2, 0),
+    Step::Row("a", HALF, None),
+    Step::Row("a", HALF - 1, Some(b"v")),
+    Step::SinkAt(3),
+];
+
+/// Of the upper half the first row is copied, in each table, and the last one of the lower half isn't.
+static UPPER_HALF: [Step<'static>; 16] = [
+    Step::Insert("b", u64::MAX, b"z"),
+    Step::Insert("b", HALF, b"y"),
+    Step::Insert("b", HALF - 1, b"x"),
+    Step::Insert("a", 0, b"t"),
+    Step::Insert("a", HALF, b"u"),
+    Step::Advances(5, 1, 0, 1),
+    Step::Row("b", HALF, Some(b"y")),
+    Step::Advances(5, 9, 0, 2),
+    Step::Row("b", u64::MAX, Some(b"z")),
+    Step::Row("b", HALF - 1, None),
+    Step::Row("a", HALF, Some(b"u")),
+    Step::Row("a", 0, None),
+    Step::Stands(5, true, true),
+    Step::Delete("b", HALF - 1),
+    Step::Stands(5, true, true),
+    Step::SinkAt(3),
+];
+
+#[test]
+fn a_stream_has_the_keys_of_its_range_alone(rt: HostRuntime) -> Result<(), Fail> {
+    assert!(rt; all_so_in(rt.alloc(), "a", "-80", 3, true, &[&LOWER_HALF])?);
+    assert!(rt; all_so_in(rt.alloc(), "b,a", "80-", 5, true, &[&UPPER_HALF])?);
     Ok(())
 }

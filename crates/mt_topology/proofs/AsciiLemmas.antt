@@ -1,5 +1,5 @@
 -- A dump of names has no high byte, in either version; so it is UTF-8.
-use Rattle.std.proofs.Common.{◌≡◌, ◌≤◌, ℕ, ◌&&◌, ◌||◌, ◌==◌, nat_le, nat_lt, Bool, true, false, List, [], ◌∷◌, ◌++◌, codes, map, Option, None, Some, IfSome, IsUtf8, refl, sym, ap, ◌∙◌, arith}
+use Rattle.std.proofs.Common.{◌≡◌, ◌≤◌, ℕ, nat_le, nat_lt, Bool, true, false, List, [], ◌∷◌, ◌++◌, codes, map, Option, None, Some, IfSome, IsUtf8, refl, sym, ap, ◌∙◌, arith}
 use Rattle.std.proofs.Math.Bool.{and-false}
 use Rattle.std.proofs.lemmas.Bool.{and_parts, lt-leb, ltb-false, ne_eqb, true≢false}
 use Rattle.std.proofs.lemmas.List.Elements.{recursion_from_All}
@@ -19,7 +19,6 @@ use Rattle.mt_model.specs.Documents.{array, denied_sorted, dump_text, keyspace_t
 use Rattle.mt_model.specs.Topology.{KeyspaceState, TopologyState}
 use Rattle.mt_rules.specs.Values.{IsNamed}
 use Rattle.mt_keyspace.specs.Values.{IsDenialText, IsNamedKeyspace, IsReadRange}
-use Rattle.mt_keyspace.specs.Written.{denied_in_order}
 use Rattle.mt_topology.specs.Values.{IsNamedTopology}
 use Rattle.mt_topology.specs.Versions.{dump_text_one, keyspace_text_one}
 use Rattle.mt_topology.proofs.DumpLemmas.{range_allowed}

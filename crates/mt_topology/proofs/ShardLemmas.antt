@@ -1,13 +1,11 @@
 -- The shards of a keyspace are read back from the texts of their ranges.
-use Rattle.std.proofs.Common.{◌≡◌, ◌<◌, ◌≤◌, ◌+◌, ◌==◌, ℕ, suc, nat_lt, not, ◌&&◌, Bool, true, false, if◌then◌else◌, List, [], ◌∷◌, ◌++◌, length, map, Option, Some, option_and_then, Result, Ok, Err, append_assoc, append-nil, refl, sym, ap, ◌∙◌, arith, length-append, ltb-true}
+use Rattle.std.proofs.Common.{◌≡◌, ◌<◌, ◌≤◌, ◌+◌, ℕ, suc, nat_lt, ◌&&◌, true, false, if◌then◌else◌, List, [], ◌∷◌, ◌++◌, length, map, Some, option_and_then, Ok, Err, append_assoc, append-nil, refl, sym, ap, ◌∙◌, arith, length-append, ltb-true}
 use Rattle.std.proofs.lemmas.Bool.{and_parts, le-ltb, ne_eqb}
 use Rattle.std.specs.List.{AllByRecursion}
 use Rattle.serde_json.specs.Data.{string}
 use Rattle.serde_json.specs.View.{items_of}
-use Rattle.mt_names.specs.declared.fault.NameFault.{NameFault}
-use Rattle.mt_names.specs.declared.fault.NameFault.TheVariants.{NotCovering, TooMany}
+use Rattle.mt_names.specs.declared.fault.NameFault.TheVariants.{TooMany}
 use Rattle.mt_names.specs.Names.{same_text}
-use Rattle.mt_names.specs.Results.{◌>>=◌}
 use Rattle.mt_names.specs.Shards.{AreCuts, Bound, Cuts, KeyRange, ascend_from, bound_value, cuts_behind, cuts_of_ranges, is_bound, is_open, most_shards, range_text, ranges_from, ranges_of, shards_from, with_range}
 use Rattle.mt_names.proofs.EntryLemmas.{same_itself}
 use Rattle.mt_names.proofs.SameLemmas.{same_text_decides}

@@ -4,6 +4,7 @@ use Rattle.std.specs.Option.{option_map_or}
 use Rattle.mt_names.specs.declared.keys.RuleKey.{RuleKey}
 use Rattle.mt_names.specs.declared.types.TypeSet.{TypeSet}
 use Rattle.mt_names.specs.Names.{same_text}
+use Rattle.mt_names.specs.Shards.{whole}
 use Rattle.mt_names.specs.Tables.{most_tables}
 use Rattle.mt_names.specs.Types.{no_types}
 use Rattle.mt_model.specs.declared.entries.Entry.{Entry}
@@ -57,13 +58,10 @@ live_of w = record {
   source = w.source;
   target = w.target;
   tables = w.tables;
+  cuts = [];
   switched = w.switched;
   way = w.way;
-  fed = 0;
-  copied = not_begun;
-  forward_at = 0;
-  back_at = 0;
-  fresh_at = 0;
+  lanes = [];
 }
 
 -- some rules as a topology without keyspaces (this profile's own)
@@ -119,9 +117,10 @@ feeding w side = if same_text w.source side then back else forward
 
 -- ---- a new workflow
 
--- the stream of a new workflow: it has copied nothing, runs, and reads the source's log from a position on (MoveTables: the copy phase)
+-- the stream of a new workflow: it has all keys, has copied nothing, runs, and reads the source's log from a position on
+-- (MoveTables: the copy phase)
 abbrev pub new_stream : List (List ℕ) → (position : ℕ) → StreamValue
-new_stream tables position = record { tables = tables; copied = not_begun; position = position; state = running }
+new_stream tables position = record { tables = tables; range = whole; copied = not_begun; position = position; state = running }
 
 -- a new workflow of distinct tables: nothing is switched, no way is open, and it keeps the rules that stand (MoveTables: Create)
 abbrev pub new_workflow : Rules → (name source target : List ℕ) → List (List ℕ) → (position : ℕ) → WorkflowState

@@ -20,8 +20,8 @@ use arrayvec::ArrayVec;
 use indexmap::{IndexMap, IndexSet};
 use mt_model::{Entry, EntryKey};
 use mt_names::{
-    KeyspaceName, MAX_TABLES, Position, RuleKey, RuleTarget, TableName, TabletType, TypeSet,
-    WorkflowName,
+    KeyRange, KeyspaceName, MAX_TABLES, Position, RuleKey, RuleTarget, TableName, TabletType,
+    TypeSet, WorkflowName,
 };
 use mt_primary::Primary;
 use mt_stream::{Advanced, Stream, StreamFault, StreamState};
@@ -430,7 +430,7 @@ fn first_streams(
     ensures value { IfOk result (λ streams. streams.value ≡ record { forward = Some (new_stream tables.now position); back = None }) }
     ensures memory { IfErr result (λ fault. fault ≡ WorkflowFault.Memory) }
 {
-    let forward = Some(Stream::new_copy(table_list(tables), position));
+    let forward = Some(Stream::new_copy(table_list(tables), KeyRange::whole(), position));
     match Box::new(
         alloc,
         Streams {

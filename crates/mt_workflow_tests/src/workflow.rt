@@ -1,7 +1,7 @@
 //! A workflow by direct calls.
 
 use crate::made::workflow_of;
-use mt_names::{KeyspaceName, TableName, TypeSet, table_list};
+use mt_names::{KeyRange, KeyspaceName, TableName, TypeSet, table_list};
 use mt_stream::{Stream, StreamState};
 use mt_workflow::{Slot, Way, Workflow};
 use std::test::Fail;
@@ -75,7 +75,7 @@ fn stands_at(stream: Option<Stream>, position: u64) -> bool {
 
 /// Whether a back stream is put where none stood, beside the forward one.
 fn puts_back(workflow: &mut Workflow) -> bool {
-    let stream = Stream::new_running(workflow.table_list(), 3);
+    let stream = Stream::new_running(workflow.table_list(), KeyRange::whole(), 3);
     workflow.put_slot(Slot::Back, Some(stream)).is_none()
         && position(workflow, Slot::Back) == Some(3)
         && position(workflow, Slot::Forward) == Some(7)

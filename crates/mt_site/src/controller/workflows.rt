@@ -111,9 +111,9 @@ impl Core {
     ) -> Result<Advanced, Reason>
         ensures does { AdvancesAndPurges self.old.core workflow.now (stream_name stream) at max (advanced_from result) self.new.core }
         ensures ways { self.new.ways ≡ self.old.ways }
-        ensures steps { (scopes : List Scope) → SiteSteps scopes self.old (plain.advance workflow.now (stream_name stream) at max) (advanced_from result) self.new }
+        ensures steps { (scopes : List Scope) → SiteSteps scopes self.old (plain.advance workflow.now (stream_name stream) 0 at max) (advanced_from result) self.new }
         ensures unchanged { OnErr result (self.new ≡ self.old) }
-        ensures headline { (scopes : List Scope) → KeepsTheHeadline scopes self.old (plain.advance workflow.now (stream_name stream) at max ∷ []) (advanced_from result ∷ []) self.new }
+        ensures headline { (scopes : List Scope) → KeepsTheHeadline scopes self.old (plain.advance workflow.now (stream_name stream) 0 at max ∷ []) (advanced_from result ∷ []) self.new }
         ensures stood { (scopes : List Scope) → IsSiteWith scopes self.old → IsSiteWith scopes self.new }
         ensures purged { IsPurged self.old.core → IsPurged self.new.core }
     {
@@ -140,7 +140,7 @@ impl Core {
     ) -> Result<Advanced, Reason>
         ensures does { AdvancesWorkflow self.old.core workflow.now (stream_name stream) at max (advanced_from result) self.new.core }
         ensures ways { self.new.ways ≡ self.old.ways }
-        ensures steps { (scopes : List Scope) → SiteSteps scopes self.old (plain.advance workflow.now (stream_name stream) at max) (advanced_from result) self.new }
+        ensures steps { (scopes : List Scope) → SiteSteps scopes self.old (plain.advance workflow.now (stream_name stream) 0 at max) (advanced_from result) self.new }
         ensures unchanged { OnErr result (self.new ≡ self.old) }
     {
         workflows_of_a_core_stand_in_place();

@@ -1,4 +1,3 @@
--- By computing.
 use Rattle.mt_laws.proofs.CopyLemmas.{read_copied, read_uncopied}
 use Rattle.mt_laws.proofs.copies.the_other_side_answers_by_the_writes_that_were_fed.Goals as goal
 

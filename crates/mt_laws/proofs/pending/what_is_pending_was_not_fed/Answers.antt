@@ -6,7 +6,7 @@ pub returns : goal.returns
 returns c = record {
   one_for_one = pending_not_fed;
   counted = pending_counted;
-  level = λ p reached name w live stream s there reads.
-      (none_pending p reached name w live stream s there reads, all_fed p reached name w live stream s there reads);
+  level = λ p reached name w live shard lane found stream s there reads.
+      (none_pending p reached name w live shard lane found stream s there reads, all_fed p reached name w live shard lane found stream s there reads);
   behind = behind_if_any;
 }

@@ -1,4 +1,3 @@
--- The feeding stream stops before the journal, the one that is made starts behind it.
 use Rattle.mt_laws.proofs.StreamLemmas.{never_both_run, runs_at_the_owner}
 use Rattle.mt_laws.proofs.streams.a_stream_that_runs_reads_the_owner.Goals as goal
 

@@ -1,4 +1,3 @@
--- A stream that a way makes begins at the end of its log.
 use Rattle.mt_laws.proofs.PositionLemmas.{position_never_falls, position_within}
 use Rattle.mt_laws.proofs.streams.positions_never_fall.Goals as goal
 

@@ -1,5 +1,5 @@
 -- The name is read, or is in fault.
-use Rattle.std.proofs.Common.{◌≡◌, Ok, refl}
+use Rattle.std.proofs.Common.{◌≡◌, [], Ok, refl}
 use Rattle.std.proofs.lemmas.Result.{err_from_is_err_and}
 use Rattle.mt_names.specs.Names.{read_keyspace}
 use Rattle.mt_plain.specs.Events as plain
@@ -11,11 +11,11 @@ pub returns-in_err-keyspace-clause-named : goal.returns-in_err-keyspace-clause-n
 returns-in_err-keyspace-clause-named g c =
     let e = err_from_is_err_and c.from_residual.result c.from_residual.ensures.1 in
     let same : e.0 ≡ c.in_err-keyspace.field-0.0 = search (e.2) in
-    rw (e.1, same) (then_err (λ k. Ok (event (plain.add_keyspace k))) (read_keyspace c.args.name.now) c.in_err-keyspace.field-0.0 c.in_err-keyspace.ensures.value, refl, refl)
+    rw (e.1, same) (then_err (λ k. Ok (event (plain.add_keyspace k []))) (read_keyspace c.args.name.now) c.in_err-keyspace.field-0.0 c.in_err-keyspace.ensures.value, refl, refl)
 
 pub returns-clause-named : goal.returns-clause-named
 returns-clause-named g c = (
-  event (plain.add_keyspace c.in_ok-keyspace.keyspace),
-  then_ok (λ k. Ok (event (plain.add_keyspace k))) (read_keyspace c.args.name.now) c.in_ok-keyspace.keyspace _ c.in_ok-keyspace.ensures.value refl,
+  event (plain.add_keyspace c.in_ok-keyspace.keyspace []),
+  then_ok (λ k. Ok (event (plain.add_keyspace k []))) (read_keyspace c.args.name.now) c.in_ok-keyspace.keyspace _ c.in_ok-keyspace.ensures.value refl,
   c.command.ensures.answered,
 )

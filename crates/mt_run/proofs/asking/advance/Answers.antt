@@ -10,7 +10,7 @@ use Rattle.mt_run.proofs.asking.advance.Goals as goal
 
 pub returns-clause-answered : goal.returns-clause-answered
 returns-clause-answered g c = λ scopes.
-    answered scopes c.args.cached.now.site.core c.advance.new.self.core (plain.advance c.args.workflow.now (stream_name c.args.stream) c.args.at c.args.max) (advanced_from c.advance.result)
+    answered scopes c.args.cached.now.site.core c.advance.new.self.core (plain.advance c.args.workflow.now (stream_name c.args.stream) 0 c.args.at c.args.max) (advanced_from c.advance.result)
     c.args.waiting.now.items c.tell_advanced.new.waiting.items c.tell_advanced.ensures (c.advance.ensures.steps scopes)
 
 pub invariant_of-cached : goal.invariant_of-cached

@@ -4,13 +4,13 @@ use Rattle.mt_plain.specs.Events as plain
 use Rattle.mt_plain.specs.Script.{drive, event}
 use Rattle.mt_script.specs.declared.lines.WorkflowAsked.TheVariants as asked
 use Rattle.mt_workflow.specs.Workflows.{stream_name}
-use Rattle.mt_run.proofs.AskLemmas.{types_read, workflow_read}
+use Rattle.mt_run.proofs.AskLemmas.{drive_alike, types_read, workflow_read}
 use Rattle.mt_run.proofs.asking.workflow.Goals as goal
 
 pub returns-in-Advance-clause-named : goal.returns-in-Advance-clause-named
 returns-in-Advance-clause-named g c =
     let w = c.in_ok-workflow.field-0 in
-    let request = event (plain.advance w (stream_name c.in-Advance.stream) c.in-Advance.at c.in-Advance.max) in
+    let request = event (plain.advance w (stream_name c.in-Advance.stream) 0 c.in-Advance.at c.in-Advance.max) in
     (request, workflow_read c.args.name.now c.args.asked (asked.Advance c.in-Advance.stream c.in-Advance.at c.in-Advance.max) w request c.in-Advance.is c.in_ok-workflow.ensures.value refl, c.advance.ensures.answered (g.A.Asks.scopes c.args.cached.now.site.watchers))
 
 pub returns-in_ok-parse-in-BeginSwitch-clause-named : goal.returns-in_ok-parse-in-BeginSwitch-clause-named
@@ -41,13 +41,13 @@ pub returns-in_ok-types-in-Switch-clause-named : goal.returns-in_ok-types-in-Swi
 returns-in_ok-types-in-Switch-clause-named g c =
     let w = c.in_ok-workflow.field-0 in
     let request = drive w c.in_ok-types-in-Switch.types false in
-    (request, workflow_read c.args.name.now c.args.asked (asked.Switch c.in-Switch.types) w request c.in-Switch.is c.in_ok-workflow.ensures.value (types_read (λ t. drive w t false) c.in-Switch.types.now c.in_ok-types-in-Switch.types c.in_ok-types-in-Switch.ensures.value), c.drive_whole.ensures.answered)
+    (request, workflow_read c.args.name.now c.args.asked (asked.Switch c.in-Switch.types) w request c.in-Switch.is c.in_ok-workflow.ensures.value (types_read (λ t. drive w t false) c.in-Switch.types.now c.in_ok-types-in-Switch.types c.in_ok-types-in-Switch.ensures.value), drive_alike _ _ _ _ _ _ _ _ false _ _ _ _ c.drive_whole.new.cached.site.core _ refl refl refl refl refl refl refl c.drive_whole.ensures.answered)
 
 pub returns-in_ok-types-in-Reverse-clause-named : goal.returns-in_ok-types-in-Reverse-clause-named
 returns-in_ok-types-in-Reverse-clause-named g c =
     let w = c.in_ok-workflow.field-0 in
     let request = drive w c.in_ok-types-in-Reverse.types true in
-    (request, workflow_read c.args.name.now c.args.asked (asked.Reverse c.in-Reverse.types) w request c.in-Reverse.is c.in_ok-workflow.ensures.value (types_read (λ t. drive w t true) c.in-Reverse.types.now c.in_ok-types-in-Reverse.types c.in_ok-types-in-Reverse.ensures.value), c.drive_whole-in-Reverse.ensures.answered)
+    (request, workflow_read c.args.name.now c.args.asked (asked.Reverse c.in-Reverse.types) w request c.in-Reverse.is c.in_ok-workflow.ensures.value (types_read (λ t. drive w t true) c.in-Reverse.types.now c.in_ok-types-in-Reverse.types c.in_ok-types-in-Reverse.ensures.value), drive_alike _ _ _ _ _ _ _ _ true _ _ _ _ c.drive_whole-in-Reverse.new.cached.site.core _ refl refl refl refl refl refl refl c.drive_whole-in-Reverse.ensures.answered)
 
 pub returns-in-Cancel-clause-named : goal.returns-in-Cancel-clause-named
 returns-in-Cancel-clause-named g c =

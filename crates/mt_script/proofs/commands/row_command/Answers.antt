@@ -1,7 +1,7 @@
 -- What was read of the words is what is commanded.
-use Rattle.std.proofs.Common.{option_map, if◌then◌else◌, None, Some, sym, ap, ◌∙◌, rules}
-use Rattle.mt_plain.specs.Script.{change, command, get}
-use Rattle.mt_script.specs.Lines.{row_from, verb_text}
+use Rattle.std.proofs.Common.{rules}
+use Rattle.mt_plain.specs.Script.{change, get}
+use Rattle.mt_script.specs.Lines.{verb_text}
 use Rattle.mt_script.proofs.RowLemmas.{row-found, row-none}
 use Rattle.mt_script.proofs.commands.row_command.Goals as goal
 

@@ -1,5 +1,5 @@
 -- Each event by itself; one that is of no way leaves what is kept of them.
-use Rattle.std.proofs.Common.{List, subst}
+use Rattle.std.proofs.Common.{zero, suc, List, [], ◌∷◌, subst}
 use Rattle.mt_model.specs.declared.entries.Scope.{Scope}
 use Rattle.mt_plain.specs.Events as plain
 use Rattle.mt_site_state.specs.Ways.{SiteSteps}
@@ -19,11 +19,13 @@ returns g c old new event answer applies primaries = by event applies
     by : (e : plain.Event) → Applies scopes (g.W.Asks.may_answer c.args.watchers.now) old e answer new → SiteSteps scopes old e answer new
     by (plain.write k t op) is = leaves (plain.write k t op) is.1 (c.events_by_hand_step_and_leave_the_ways.ensures.write scopes old new.core k t op answer is.0)
     by (plain.read k t key type) is = leaves (plain.read k t key type) is.1 (c.events_by_hand_step_and_leave_the_ways.ensures.read scopes old new.core k t key type answer is.0)
-    by (plain.add_keyspace k) is = leaves (plain.add_keyspace k) is.1 (c.events_by_hand_step_and_leave_the_ways.ensures.keyspace scopes old new.core k answer is.0)
+    by (plain.add_keyspace k []) is = leaves (plain.add_keyspace k []) is.1 (c.events_by_hand_step_and_leave_the_ways.ensures.keyspace scopes old new.core k answer is.0)
+    by (plain.add_keyspace k (cut ∷ cuts)) is = absurd is
     by (plain.add_table k t) is = leaves (plain.add_table k t) is.1 (c.events_by_hand_step_and_leave_the_ways.ensures.table scopes old new.core k t answer is.0)
     by (plain.edit_rule key target) is = leaves (plain.edit_rule key target) is.1 (c.events_by_hand_step_and_leave_the_ways.ensures.rule scopes old new.core key target answer is.0)
     by (plain.create w s t tables) is = leaves (plain.create w s t tables) is.1 (c.a_create_steps_and_leaves_the_ways.ensures old new.core w s t tables answer is.0)
-    by (plain.advance w name at max) is = leaves (plain.advance w name at max) is.1 (c.events_on_workflows_step_and_leave_the_ways.ensures.advance scopes old new.core w name at max answer is.0 primaries)
+    by (plain.advance w name zero at max) is = leaves (plain.advance w name 0 at max) is.1 (c.events_on_workflows_step_and_leave_the_ways.ensures.advance scopes old new.core w name at max answer is.0 primaries)
+    by (plain.advance w name (suc shard) at max) is = absurd is
     by (plain.begin_switch w types) is = c.a_begin_steps.ensures.switch scopes old new w types answer is
     by (plain.begin_reverse w types) is = c.a_begin_steps.ensures.reverse scopes old new w types answer is
     by (plain.step w at) is = c.a_step_steps.ensures.steps old new w at answer is

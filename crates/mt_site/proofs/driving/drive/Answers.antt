@@ -23,7 +23,7 @@ returns-in_err-command-clause-drives g c =
     let new = c.command.new.self.core in
     let e = err_from_is_err_and c.from_residual.result c.from_residual.ensures.1 in
     subst (λ r. DrivesFrom scopes old c.args.workflow.now c.args.types c.args.back r new) (sym e.1)
-    (refused_begin scopes old new c.args.workflow.now c.args.types c.args.back e.0 399
+    (refused_begin scopes old new c.args.workflow.now c.args.types c.args.back e.0 1399
     (turn_taken scopes old new start (plain.ends (Err (refusal_from e.0))) (event_of_command c.begin_of.result) (done_by c.command.result) c.command.ensures.steps
     (λ p stands. c.begin_of.ensures p) (λ q stands. ap (λ r. plain.heard q start (done_by r)) c.in_err-command.was ∙ ap (λ r. plain.ends (Err (refusal_from r))) (sym e.2))))
 
@@ -41,7 +41,7 @@ loop-init g c =
     let law = c.a_drive_fits_in_the_turns_that_are_left.ensures in
     record {
       watchers = c.command.ensures.watchers;
-      way = goes_further scopes old old new start start (plain.steps c.args.workflow.now 64) 399 law.goes_on
+      way = goes_further scopes old old new start start (plain.steps c.args.workflow.now 64) 1399 law.goes_on
           (starts scopes old start (λ p. law.begins p c.args.workflow.now c.args.types c.args.back))
           (turn_taken scopes old new start (plain.goes_on (plain.steps c.args.workflow.now 64)) (event_of_command c.begin_of.result) (done_by c.command.result) c.command.ensures.steps
           (λ p stands. c.begin_of.ensures p)
@@ -60,8 +60,8 @@ returns-in-Ends-clause-drives g c =
     let turn : Turns scopes now driving (plain.ends (Ok (driven_from c.driven.result))) new
     = subst (λ w. Turns (g.W.Asks.scopes w) now driving (plain.ends (Ok (driven_from c.driven.result))) new) c.loop.invariant.watchers
     (subst (λ d. Turns (g.W.Asks.scopes c.loop.site.watchers) now driving (plain.ends (Ok d)) new) (sym c.driven.ensures) c.in-Ends.ensures) in
-    let left : 400 - c.loop.counter ≡ suc (399 - c.loop.counter) = omega (arith, c.loop-test.true) in
-    ends_so scopes old now new start driving c.driven.result (399 - c.loop.counter)
+    let left : 1400 - c.loop.counter ≡ suc (1399 - c.loop.counter) = omega (arith, c.loop-test.true) in
+    ends_so scopes old now new start driving c.driven.result (1399 - c.loop.counter)
     (subst (λ n. IsOnItsWay scopes old start n driving now) left c.loop.invariant.way) turn
 
 pub returns-in-Ends-clause-headline : goal.returns-in-Ends-clause-headline
@@ -81,10 +81,10 @@ loop-preserved g c =
     let after = turn_from name c.in-GoesOn.next in
     let turn : Turns scopes now driving (plain.goes_on after) new
     = subst (λ w. Turns (g.W.Asks.scopes w) now driving (plain.goes_on after) new) c.loop.invariant.watchers c.in-GoesOn.ensures in
-    let left : 400 - c.loop.counter ≡ suc (400 - (c.loop.counter + 1)) = omega (arith, c.loop-test.true) in
+    let left : 1400 - c.loop.counter ≡ suc (1400 - (c.loop.counter + 1)) = omega (arith, c.loop-test.true) in
     record {
       watchers = c.loop.invariant.watchers;
-      way = goes_further scopes old now new start driving after (400 - (c.loop.counter + 1)) c.a_drive_fits_in_the_turns_that_are_left.ensures.goes_on
+      way = goes_further scopes old now new start driving after (1400 - (c.loop.counter + 1)) c.a_drive_fits_in_the_turns_that_are_left.ensures.goes_on
           (subst (λ n. IsOnItsWay scopes old start n driving now) left c.loop.invariant.way) turn;
     }
 
@@ -96,7 +96,7 @@ returns-clause-drives g c =
     let old = c.args.site.now.core in
     let now = c.loop.site.core in
     let driving = turn_from name c.loop.turn in
-    let none : 400 - c.loop.counter ≡ 0 = omega (arith, c.loop-test.false) in
+    let none : 1400 - c.loop.counter ≡ 0 = omega (arith, c.loop-test.false) in
     never_out scopes old now now start driving (Ok (driven.Stopped (refusal.Other reason.NotLevel) 0)) c.a_drive_fits_in_the_turns_that_are_left.ensures.never_runs_out
     (subst (λ n. IsOnItsWay scopes old start n driving now) none c.loop.invariant.way)
 

@@ -7,5 +7,5 @@ use Rattle.mt_site.proofs.driving.drive.Given as goal
 abbrev pub invariant-loop : goal.invariant-loop
 invariant-loop g l = record {
   watchers : l.site.watchers ≡ l.fn.site.watchers;
-  way : IsOnItsWay (g.W.Asks.scopes l.fn.site.watchers) l.fn.site.core (begins l.fn.workflow l.fn.types l.fn.back) (400 - l.counter) (turn_from l.fn.workflow l.turn) l.site.core;
+  way : IsOnItsWay (g.W.Asks.scopes l.fn.site.watchers) l.fn.site.core (begins l.fn.workflow l.fn.types l.fn.back) (1400 - l.counter) (turn_from l.fn.workflow l.turn) l.site.core;
 }

@@ -2,7 +2,7 @@ use Rattle.std.proofs.Common.{refl, sym, ◌∙◌}
 use Rattle.mt_plain.specs.Answers.{Answers}
 use Rattle.mt_plain.specs.Events.{create, done}
 use Rattle.mt_plain.specs.Next.{created}
-use Rattle.mt_plain.specs.Plain.{each_once}
+use Rattle.mt_plain.specs.Plain.{cuts_of, each_once}
 use Rattle.mt_plain.specs.Slots.{log_length}
 use Rattle.mt_workflow.specs.Workflows.{live_of}
 use Rattle.mt_site_topology.specs.Keys.{created_live, rules_only}
@@ -14,6 +14,6 @@ pub returns : goal.returns
 returns c = λ p scopes core stands workflow source target tables none.
     let given : Answers p (create workflow source target tables) done = (sym (c.a_create_is_refused_as_the_definitions_refuse_it.ensures p scopes core stands workflow source target tables) ∙ none, refl) in
     let w = new_of core workflow source target (each_once tables) in
-    same_change (rules_only w.kept) p.topology (live_of w) (created workflow source target (each_once tables) (log_length p source)) refl refl refl
+    same_change (rules_only w.kept) p.topology (live_of w) (created workflow source target (each_once tables) (cuts_of p target) (log_length p source 0)) refl refl refl
     (c.create_writes_the_part.ensures.kept p core.topology workflow source target tables (created_live p workflow source target (each_once tables)) stands.reached given
     (c.create_writes_the_part.ensures.live p workflow source target tables given) stands.topology)

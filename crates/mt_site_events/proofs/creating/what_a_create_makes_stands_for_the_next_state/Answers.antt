@@ -8,8 +8,9 @@ use Rattle.mt_plain.specs.Next.{next}
 use Rattle.mt_plain.specs.Plain.{each_once}
 use Rattle.mt_workflow.specs.Workflows.{live_of}
 use Rattle.mt_site_topology.specs.Keys.{created_live}
-use Rattle.mt_site_state.specs.Core.{primary_of, with_primary}
+use Rattle.mt_site_state.specs.Core.{primaries_of, primary_of, with_primary}
 use Rattle.mt_site_state.specs.Workflows.{change_of, new_of, target_made}
+use Rattle.mt_site_state.proofs.ShardLemmas.{keyspaces_stay, no_row, tables_stay}
 use Rattle.mt_site_events.proofs.ListLemmas.{at_named}
 use Rattle.mt_site_events.proofs.RefusedLemmas.{passes}
 use Rattle.mt_site_events.proofs.RoomLemmas.{CanMove}
@@ -34,5 +35,8 @@ returns c = λ p scopes core stands workflow source target tables none.
     made (stands.primaries.there target ∙ all.there) sides all.can reached
     (c.create_writes_the_part.ensures.stands p core.topology workflow source target tables v stands.reached given live stands.topology)
     (c.entries_follow_from_sides_types_and_way.ensures.part v (live_of w) w.kept no_types refl refl refl)
-    (λ others there. c.a_create_keeps_rows_and_logs.ensures p stands.reached (primary_of core.primaries) (primary_of (with_primary core.primaries target (target_made w notice))) stands.rows
-    workflow source target tables given others there.stay there.empty)
+    (λ others there.
+    let new = with_primary core.primaries target (target_made w notice) in
+    c.a_create_keeps_rows_and_logs.ensures p stands.reached (primaries_of core.primaries) (primaries_of new) stands.rows
+    workflow source target tables given (keyspaces_stay target core.primaries new others) (tables_stay target core.primaries new (each_once tables) there.stay)
+    (λ table m. no_row target core.primaries new table (there.empty table m)))

@@ -5,6 +5,7 @@ use Rattle.mt_plain.specs.Plain.{Live, live_at}
 use Rattle.mt_workflow.specs.Workflows.{WorkflowState}
 use Rattle.mt_site_state.specs.Core.{CoreState, workflow_at}
 use Rattle.mt_site_state.specs.Stands.{HasState, StandsFor}
+use Rattle.mt_site_state.proofs.ShardLemmas.{lane_found}
 use Rattle.mt_site_events.proofs.FoundLemmas.{live_of_state}
 use Rattle.mt_site_events.proofs.FactStreamLemmas.{has_forward, stream_kept, stream_tables, stream_within}
 use Rattle.mt_site_events.proofs.streams.streams_of_a_core_lie_in_their_logs.Goals as goal
@@ -21,7 +22,7 @@ returns c =
           (λ h. let (live, there, stands) = stood core h name w at in stream_tables h.state live w stands stream s in_slot);
       position = λ core is name w stream s at in_slot. ∥∥₁_elim is (search props)
           (λ h. let (live, there, stands) = stood core h name w at in
-          stream_within core h live w stands stream s in_slot (c.positions_never_fall.ensures.within h.state h.reached name live there stream));
+          stream_within core h live w stands stream s in_slot (c.positions_never_fall.ensures.within h.state h.reached name live there 0 stands.lane (lane_found h.state live w stands) stream));
       kept = λ core is name w stream s at in_slot moves. ∥∥₁_elim is (search props)
           (λ h. let (live, there, stands) = stood core h name w at in stream_kept core h live w stands name there stream s in_slot moves);
     }

@@ -15,8 +15,10 @@ returns c =
       fed = c.what_was_fed_stays_fed.ensures.never_more p reached;
       apart = c.each_table_has_a_number_of_its_own.ensures.apart p reached;
       writable = c.the_owner_alone_serves_the_primary.ensures.writable p reached;
+      source_one = c.a_live_workflow_knows_its_shards.ensures.source p reached;
+      target_by = c.a_live_workflow_knows_its_shards.ensures.target p reached;
     } in
-    λ p reached at stands name w live stream slot there is held.
+    λ p reached at stands name w live shard lane laned split stream slot there is held.
     let reads = c.a_stream_that_runs_reads_the_owner.ensures.owner p reached in
-    stream_answers p (known p reached) reads at stands name w live stream slot there is held
-    (λ runs. c.the_rows_left_are_the_uncopied_rows.ensures p w _ is (client_rows p (known p reached) reads at stands name w live stream slot there is held runs))
+    stream_answers p (known p reached) reads at stands name w live shard lane laned split stream slot there is held
+    (λ runs. c.the_rows_left_are_the_uncopied_rows.ensures p w lane _ _ is (client_rows p (known p reached) reads at stands name w live shard lane laned split stream slot there is held runs) split)

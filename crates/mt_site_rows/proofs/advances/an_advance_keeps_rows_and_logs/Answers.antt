@@ -17,6 +17,8 @@ returns c =
       fed = c.what_was_fed_stays_fed.ensures.never_more p reached;
       apart = c.each_table_has_a_number_of_its_own.ensures.apart p reached;
       writable = c.the_owner_alone_serves_the_primary.ensures.writable p reached;
+      source_one = c.a_live_workflow_knows_its_shards.ensures.source p reached;
+      target_by = c.a_live_workflow_knows_its_shards.ensures.target p reached;
     } in
     let streams : (p : Plain) → IsReached p → KnownStreams p = λ p reached.
     record {
@@ -25,11 +27,11 @@ returns c =
       counted = c.what_is_pending_was_not_fed.ensures.counted p reached;
       catches = c.what_was_not_fed_makes_the_rows_of_the_owner.ensures.rows p reached;
     } in
-    λ p reached old new stands name w live stream slot there is held has others position at_most result value.
+    λ p reached old new stands name w live shard lane laned split stream slot there is held has others position at_most result value.
     let reads = c.a_stream_that_runs_reads_the_owner.ensures.owner p reached in
-    advance_keeps p (known p reached) (streams p reached) old new stands name w live stream slot there is held others has
-    (λ runs. c.the_rows_left_are_the_uncopied_rows.ensures p w _ is (client_rows p (known p reached) reads old stands name w live stream slot there is held runs))
+    advance_keeps p (known p reached) (streams p reached) old new stands name w live shard lane laned split stream slot there is held has others
+    (λ runs. c.the_rows_left_are_the_uncopied_rows.ensures p w lane _ _ is (client_rows p (known p reached) reads old stands name w live shard lane laned split stream slot there is held runs) split)
     (λ event answer given. streams _ (c.each_next_state_is_reached.ensures.next p reached event answer given))
-    (λ at most events rows. c.an_advance_writes_one_log.ensures p name w live stream at most events rows)
+    (λ at most events rows. c.an_advance_writes_one_log.ensures p name w live stream shard at most events rows lane laned)
     c.the_copied_range_follows_the_source.ensures (c.what_is_in_use_goes_on.ensures p reached)
     position at_most value result

@@ -19,6 +19,8 @@ returns c =
       fed = c.what_was_fed_stays_fed.ensures.never_more p reached;
       apart = c.each_table_has_a_number_of_its_own.ensures.apart p reached;
       writable = c.the_owner_alone_serves_the_primary.ensures.writable p reached;
+      source_one = c.a_live_workflow_knows_its_shards.ensures.source p reached;
+      target_by = c.a_live_workflow_knows_its_shards.ensures.target p reached;
     } in
     λ p reached old new stands name w live given others stay.
     cancel_stands p (known p reached) old new stands name w live (sym (ap (λ o. in_workflow o cancel_refusal) live) ∙ given.0)

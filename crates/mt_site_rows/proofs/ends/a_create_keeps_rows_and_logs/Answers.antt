@@ -17,6 +17,8 @@ returns c =
       fed = c.what_was_fed_stays_fed.ensures.never_more p reached;
       apart = c.each_table_has_a_number_of_its_own.ensures.apart p reached;
       writable = c.the_owner_alone_serves_the_primary.ensures.writable p reached;
+      source_one = c.a_live_workflow_knows_its_shards.ensures.source p reached;
+      target_by = c.a_live_workflow_knows_its_shards.ensures.target p reached;
     } in
     λ p reached old new stands name source target tables given others stay empty.
     create_stands p (known p reached) old new stands name source target (each_once tables) (free_name p name _ given.0) others stay empty

@@ -12,5 +12,7 @@ returns c = λ p reached old new stands keyspace table op there has denies other
       fed = c.what_was_fed_stays_fed.ensures.never_more p reached;
       apart = c.each_table_has_a_number_of_its_own.ensures.apart p reached;
       writable = c.the_owner_alone_serves_the_primary.ensures.writable p reached;
+      source_one = c.a_live_workflow_knows_its_shards.ensures.source p reached;
+      target_by = c.a_live_workflow_knows_its_shards.ensures.target p reached;
     })
     old new stands keyspace table op there has denies others (c.what_is_in_use_goes_on.ensures p reached)

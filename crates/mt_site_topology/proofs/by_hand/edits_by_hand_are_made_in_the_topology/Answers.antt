@@ -12,8 +12,8 @@ use Rattle.mt_site_topology.proofs.by_hand.edits_by_hand_are_made_in_the_topolog
 
 pub returns : goal.returns
 returns c = record {
-  keyspace = λ p t name given stands.
-      keyspace_stands p (next p (add_keyspace name) done) t name refl refl
+  keyspace = λ p t name cuts given stands.
+      keyspace_stands p (next p (add_keyspace name cuts) done) t name cuts refl refl
       (refuse_if-none (has_keyspace p name) exists (or_else-none (refuse_if (has_keyspace p name) exists) _ given.0).0) stands;
   table = λ p t keyspace table given stands.
       table_stands p (next p (add_table keyspace table) done) t keyspace table refl refl

@@ -23,11 +23,11 @@ returns c =
           let change = with_way_to false (λ switched. types_and switched types) in
           stays laws p (begin_switch name types) done reached given (λ h. h) t stands (λ h. h)
           (λ key. begun_entry p (next p (begin_switch name types) done) t w false (λ switched. types_and switched types) (at_rest-none w _ none) stands (laws.owned p reached name w live) key
-          (c.a_workflow_that_changes_changes_its_own_part.ensures.entries p reached name w live change (λ v. record { name = refl; source = refl; target = refl; tables = refl }) key));
+          (c.a_workflow_that_changes_changes_its_own_part.ensures.entries p reached name w live change (λ v. record { name = refl; source = refl; target = refl; tables = refl; cuts = refl }) key));
       reverse = λ p t name types reached given stands.
           let (w, live, none) = in_workflow-none (live_at p name) (begin_reverse_refusal p types) given.0 in
           let change = with_way_to true (λ switched. types_without switched types) in
           stays laws p (begin_reverse name types) done reached given (λ h. h) t stands (λ h. h)
           (λ key. begun_entry p (next p (begin_reverse name types) done) t w true (λ switched. types_without switched types) (at_rest-none w _ none) stands (laws.owned p reached name w live) key
-          (c.a_workflow_that_changes_changes_its_own_part.ensures.entries p reached name w live change (λ v. record { name = refl; source = refl; target = refl; tables = refl }) key));
+          (c.a_workflow_that_changes_changes_its_own_part.ensures.entries p reached name w live change (λ v. record { name = refl; source = refl; target = refl; tables = refl; cuts = refl }) key));
     }

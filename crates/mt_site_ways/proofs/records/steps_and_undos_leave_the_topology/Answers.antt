@@ -27,7 +27,7 @@ returns c =
           let for = stands_for p s.core.workflows name w live stands.workflows found is_live in
           let opened = sym for.way ∙ opens in
           undo_leaves p (next p (undo name at) done) s.core.topology w live for way (c.ways_keep_their_course.ensures.course p stands.reached name live is_live way opened).within
-          (one_shard p stands.reached name live is_live way opened) log gives some
+          (one_shard p stands.reached name live is_live for.sides.cuts way opened) log gives some
           (c.steps_and_undos_write_what_is_theirs.ensures.undo p s.core.topology name live way w.kept at stands.reached is_live opened for.kept given stands.topology);
       closed = λ p scopes s stands name w way at found opens given none.
           let r = live_for p s.core.workflows name w stands.workflows found in

@@ -5,6 +5,7 @@ use Rattle.std.proofs.Props.{props}
 use Rattle.mt_plain.specs.Plain.{live_at}
 use Rattle.mt_site_events.proofs.FoundLemmas.{live_of_state}
 use Rattle.mt_site_state.specs.Core.{workflow_at}
+use Rattle.mt_site_state.proofs.ShardLemmas.{lane_found}
 use Rattle.mt_site_ways.proofs.TestLemmas.{kept_to_test}
 use Rattle.mt_site_ways.proofs.stays.what_a_step_looks_at_is_kept.Goals as goal
 
@@ -15,4 +16,4 @@ returns c = λ s is name w way found on tests stream at. ∥∥₁_elim is (hlev
     let opens = sym for.way ∙ on in
     kept_to_test h.state h.state.scopes s.core h.stands.core name live is_live w for way
     (c.ways_keep_their_course.ensures.course h.state h.reached name live is_live way opens) (c.ways_keep_their_course.ensures.writes h.state h.reached name live is_live way opens)
-    (c.a_stream_that_reads_the_owner_is_in_use.ensures h.state h.reached name live is_live) tests stream at)
+    (c.a_stream_that_reads_the_owner_is_in_use.ensures h.state h.reached name live is_live 0 for.lane (lane_found h.state live w for)) tests stream at)

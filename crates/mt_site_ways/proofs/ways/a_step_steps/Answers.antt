@@ -29,7 +29,7 @@ returns g c =
     (c.each_next_state_is_reached.ensures.next p reached (step workflow at) done given) stands.core.scopes_are
     (c.steps_and_undos_leave_the_topology.ensures.step p scopes old stands.core workflow m.w m.way at m.found m.opens given)
     (c.a_step_leaves_the_primaries.ensures p scopes old.core stands.core workflow live m.w m.way at m.o.number (sites (sides_of old m.w) m.o.log) (sites m.sides m.log) is_live m.found m.opens given refl refl m.is.attempt)
-    (log_length p (new_owner live)) (c.a_log_ends_where_the_definitions_say.ensures p scopes old.core stands.core workflow live m.w m.way is_live m.found m.opens)
+    (log_length p (new_owner live) 0) (c.a_log_ends_where_the_definitions_say.ensures p scopes old.core stands.core workflow live m.w m.way is_live m.found m.opens)
     (c.a_step_leaves_the_workflows.ensures p reached old.core.workflows stands.core.workflows workflow live m.w m.way at is_live m.found m.opens given)
     (c.what_is_kept_of_the_ways_stays.ensures.step p scopes old stands workflow m.w m.way m.o at m.sides m.log m.found m.opens
     (kept_at p old workflow live m.w m.o for (c.a_live_workflow_is_found_by_its_part.ensures.named p workflow live is_live) m.kept) given m.is) in

@@ -32,7 +32,7 @@ returns g c =
     undo_stands q scopes old m.w m.way m.o m.sides m.log is reached_next stands.core.scopes_are
     (c.steps_and_undos_leave_the_topology.ensures.undo p scopes old stands.core workflow live m.w m.way at m.o.log is_live m.found m.opens given some gives)
     (c.an_undo_leaves_the_primaries.ensures.last p scopes old.core stands.core workflow live m.w m.way at m.o.log.listed m.sides.source m.sides.target is_live m.found m.opens given some
-    (λ last. gives.listed (refresh_done m.way (one_shard p reached workflow live is_live m.way (sym for.way ∙ m.opens)) some last)) is.listed)
+    (λ last. gives.listed (refresh_done m.way (one_shard p reached workflow live is_live for.sides.cuts m.way (sym for.way ∙ m.opens)) some last)) is.listed)
     (c.an_undo_leaves_the_workflows.ensures.last p reached old.core.workflows stands.core.workflows workflow live m.w m.way at m.o.log.slot is_live m.found m.opens given some gives.slot)
     (c.what_is_kept_of_the_ways_stays.ensures.undo p scopes old stands workflow m.w m.way m.o at m.sides m.log m.found m.opens kept given some is))
     (λ none sides log.

@@ -14,7 +14,7 @@ use Rattle.mt_stream.proofs.copying.copy_rows.Goals as goal
 
 pub returns-in_default-clause-copies : goal.returns-in_default-clause-copies
 returns-in_default-clause-copies c =
-    copied-to_end c.args.tables.now (copied_from c.args.tables.now c.args.range.now) c.args.source.now c.args.sink.now c.args.max c.loop-copied.copied (copied_from c.args.tables.now c.loop-copied.range) c.loop-copied.sink c.loop-copied.invariant.copying
+    copied-to_end c.args.keys.now c.args.tables.now (copied_from c.args.tables.now c.args.range.now) c.args.source.now c.args.sink.now c.args.max c.loop-copied.copied (copied_from c.args.tables.now c.loop-copied.range) c.loop-copied.sink c.loop-copied.invariant.copying
     c.loop-copied-test.true c.in_default.ensures
 
 pub put_row-requires : goal.put_row-requires
@@ -34,7 +34,7 @@ loop-copied-preserved c =
     subst (λ t. IsPut c.loop-copied.sink (record { table = t; key = c.in-Some.row.key; after = Some c.in-Some.row.value.now }) c.put_row.new.sink) read c.in-Ok.ensures.1 in
     record {
       placed = c.in-Some.ensures.0;
-      copying = copying-more tables copied c.args.source.now c.args.sink.now c.args.max c.loop-copied.copied (copied_from tables c.loop-copied.range) c.loop-copied.sink c.loop-copied.invariant.copying
-          (put_left tables c.in-Some.row) (rows_left c.args.source.now tables (up_to (table_left tables c.in-Some.row) c.in-Some.row.key)) c.in-Some.ensures.1
+      copying = copying-more c.args.keys.now tables copied c.args.source.now c.args.sink.now c.args.max c.loop-copied.copied (copied_from tables c.loop-copied.range) c.loop-copied.sink c.loop-copied.invariant.copying
+          (put_left tables c.in-Some.row) (rows_left c.args.source.now c.args.keys.now tables (up_to (table_left tables c.in-Some.row) c.in-Some.row.key)) c.in-Some.ensures.1
           c.put_row.new.sink refl c.in-Ok.ensures.0 put;
     }

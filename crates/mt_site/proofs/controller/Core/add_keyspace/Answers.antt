@@ -25,7 +25,7 @@ pub invariant_of-self : goal.invariant_of-self
 invariant_of-self c =
     let old : SiteState = site c.self.inside.topology c.self.inside.primaries.entries c.self.inside.workflows.entries c.self.inside.opened.entries c.self.inside.journal c.self.inside.begun in
     let core : CoreState = record { topology = c.add_keyspace.new.topology; primaries = c.add_keyspace.new.primaries.entries; workflows = c.self.inside.workflows.entries } in
-    c.a_site_stays_one.ensures.stays [] old (record old { core = core }) (add_keyspace c.args.name.now) (done_by c.add_keyspace.result) tt
+    c.a_site_stays_one.ensures.stays [] old (record old { core = core }) (add_keyspace c.args.name.now []) (done_by c.add_keyspace.result) tt
     (λ more. c.events_by_hand_step_and_leave_the_ways.ensures.keyspace _ old core c.args.name.now (done_by c.add_keyspace.result) (c.add_keyspace.ensures c.self.inside.workflows.entries)) c.self.invariant
 
 pub returns-clause-does : goal.returns-clause-does

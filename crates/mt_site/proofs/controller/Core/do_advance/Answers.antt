@@ -25,7 +25,7 @@ pub invariant_of-self : goal.invariant_of-self
 invariant_of-self c =
     let old : SiteState = site c.self.inside.topology c.self.inside.primaries.entries c.self.inside.workflows.entries c.self.inside.opened.entries c.self.inside.journal c.self.inside.begun in
     let core : CoreState = record old.core { primaries = c.advance.new.primaries.entries; workflows = c.advance.new.workflows.entries } in
-    c.a_site_stays_one.ensures.stays [] old (record old { core = core }) (advance c.args.workflow.now (stream_name c.args.stream) c.args.at c.args.max) (advanced_from c.advance.result) tt
+    c.a_site_stays_one.ensures.stays [] old (record old { core = core }) (advance c.args.workflow.now (stream_name c.args.stream) 0 c.args.at c.args.max) (advanced_from c.advance.result) tt
     (λ more. c.events_on_workflows_step_and_leave_the_ways.ensures.advance _ old core c.args.workflow.now (stream_name c.args.stream) c.args.at c.args.max (advanced_from c.advance.result) (c.advance.ensures core.topology) c.each_is_a_primary.ensures) c.self.invariant
 
 pub returns-clause-does : goal.returns-clause-does
@@ -38,7 +38,7 @@ returns-clause-steps c = λ scopes.
     let old : SiteState = site c.self.inside.topology c.self.inside.primaries.entries c.self.inside.workflows.entries c.self.inside.opened.entries c.self.inside.journal c.self.inside.begun in
     let core : CoreState = record old.core { primaries = c.advance.new.primaries.entries; workflows = c.advance.new.workflows.entries } in
     let told = advanced_from c.advance.result in
-    subst (λ s. SiteSteps scopes s (advance c.args.workflow.now (stream_name c.args.stream) c.args.at c.args.max) told (record old { core = core })) c.self.view_is
+    subst (λ s. SiteSteps scopes s (advance c.args.workflow.now (stream_name c.args.stream) 0 c.args.at c.args.max) told (record old { core = core })) c.self.view_is
     (c.events_on_workflows_step_and_leave_the_ways.ensures.advance scopes old core c.args.workflow.now (stream_name c.args.stream) c.args.at c.args.max told (c.advance.ensures core.topology) c.each_is_a_primary.ensures)
 
 pub returns-clause-unchanged : goal.returns-clause-unchanged

@@ -3,7 +3,7 @@ use Rattle.std.proofs.Common.{refl, sym, ap, ◌∙◌}
 use Rattle.std.proofs.lemmas.Bool.{eq-eqb, le-ltb, lt-ltb, ne_eqb}
 use Rattle.mt_plain.specs.Writes.{place_of}
 use Rattle.mt_stream.proofs.PlaceLemmas.{distinct_from, written_ended, written_up_to}
-use Rattle.mt_stream.proofs.following.is_written.Goals as goal
+use Rattle.mt_stream.proofs.following.is_copied.Goals as goal
 
 pub returns-then-place-last : goal.returns-then-place-last
 returns-then-place-last c =
