@@ -11,6 +11,7 @@ use Rattle.mt_plain.specs.Events.{write, read, add_keyspace, add_table, create, 
 use Rattle.mt_plain.specs.Output.{Told, told, told_request, told_then, watchers_of}
 use Rattle.mt_plain.specs.Plain.{Plain, opening}
 use Rattle.mt_plain.specs.Script.{Request, event, write_through, read_through, drive, read_line}
+use Rattle.mt_plain.specs.Serve.{IsWritable}
 use Rattle.mt_rows.specs.Answers.{commerce, customer, corder, value}
 use Rattle.mt_rows.specs.Workflows.{Gets, after_events, begun, live, made, mv, plain}
 
@@ -141,6 +142,14 @@ abbrev pub half_opened : Plain
 half_opened =
     after_events all_copied (begin_switch mv all_types ∷ step mv 0 ∷ step mv 1 ∷ step mv 2 ∷ step mv 3 ∷ step mv 4 ∷ step mv 5 ∷ step mv 6 ∷ step mv 7 ∷ step mv 8 ∷ [])
 
+-- all is switched, and a way back whose refresh of the first shard stands done, or that of both
+abbrev pub half_closed : Plain
+half_closed =
+    after_events half_opened (step mv 9 ∷ step mv 10 ∷ step mv 11 ∷ step mv 12 ∷ begin_reverse mv all_types ∷ step mv 0 ∷ step mv 1 ∷ step mv 2 ∷ [])
+
+abbrev pub both_closed : Plain
+both_closed = after_events half_closed (step mv 3 ∷ [])
+
 abbrev pub no_shard_here : Type 0
 no_shard_here = Gets halved (advance mv forward 2 2 100) (refused no_shard)
 
@@ -221,3 +230,14 @@ a_primary_read_is_answered_in_the_shard_that_is_open = Gets half_opened (read cu
 
 abbrev pub a_primary_read_is_denied_in_the_other : Type 0
 a_primary_read_is_denied_in_the_other = Gets half_opened (read customer corder half Primary) (refused denied)
+
+-- ---- where a table is writable
+
+abbrev pub a_target_is_writable_at_its_first_shard : Type 0
+a_target_is_writable_at_its_first_shard = IsWritable half_opened customer corder
+
+abbrev pub a_target_is_writable_at_its_last_shard : Type 0
+a_target_is_writable_at_its_last_shard = IsWritable half_closed customer corder
+
+abbrev pub a_target_is_writable_at_no_shard : Type 0
+a_target_is_writable_at_no_shard = ¬ (IsWritable both_closed customer corder)

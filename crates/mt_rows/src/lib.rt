@@ -76,7 +76,8 @@ pub use repeated_tables::a_table_named_twice_counts_once;
 pub use served_routes::routes_of_what_is_served_are_a_view;
 pub use served_topologies::topologies_are_served_by_what_they_say;
 pub use sharded_targets::{
-    shards_are_refused, shards_have_lanes_of_their_own, tables_move_to_shards,
+    a_target_is_writable_at_some_shard, shards_are_refused, shards_have_lanes_of_their_own,
+    tables_move_to_shards,
 };
 pub use shards_one::{first_scripts_of_shards, second_scripts_of_shards};
 pub use shards_two::{fourth_scripts_of_shards, third_scripts_of_shards};
