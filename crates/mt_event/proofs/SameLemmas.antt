@@ -84,8 +84,8 @@ same_way = of_way.ghosts.eq
 same_way_decides : DecidesEquality same_way
 same_way_decides =
     struct_decides way.struct.as_values (λ x y e. ap (λ v. way.struct.make v tt) e) _ (pair_decides same_bool _ same_bool_decides
-    (pair_decides same_types _ same_types_decides (pair_decides same_types _ same_types_decides
-    (pair_decides same_number _ same_number_decides (last_decides same_bool same_bool_decides)))))
+    (pair_decides same_number _ same_number_decides (pair_decides same_types _ same_types_decides (pair_decides same_types _ same_types_decides
+    (pair_decides same_number _ same_number_decides (last_decides same_bool same_bool_decides))))))
 
 abbrev same_shown : Shown → Shown → Bool
 same_shown = of_shown.ghosts.eq

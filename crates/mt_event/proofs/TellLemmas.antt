@@ -154,7 +154,7 @@ stream-returns : (s : ShownStream) → back_stream (shown_stream_from s) ≡ s
 stream-returns s = λ i. record { state = state-returns s.state i; position = s.position }
 
 abbrev back_way : plain.Way → Way
-back_way w = record { back = w.back; before = w.before; after = w.after; done = w.done; undoing = w.undoing }
+back_way w = record { back = w.back; shards = w.shards; before = w.before; after = w.after; done = w.done; undoing = w.undoing }
 
 option-returns : {A B : Type 0} (tell : A → B) (back : B → A) → ((a : A) → back (tell a) ≡ a) → (o : Option A) → option_map back (option_map tell o) ≡ o
 option-returns tell back returns None = refl

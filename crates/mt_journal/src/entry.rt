@@ -1,6 +1,7 @@
 //! An entry of the journal.
 
-use mt_names::{Position, WorkflowName};
+use arrayvec::ArrayVec;
+use mt_names::{MAX_SHARDS, Position, WorkflowName};
 
 /// What stands in the journal of one switch or reversal of writes. (Vitess: a row of `resharding_journal`, with the
 /// positions at which the streams were stopped)
@@ -14,6 +15,6 @@ pub struct JournalEntry {
     pub back: bool,
     /// The position of the source's primary.
     pub source_position: Position,
-    /// The position of the target's primary.
-    pub target_position: Position,
+    /// The positions of the target's primaries, in the order of its shards.
+    pub target_positions: ArrayVec<Position, MAX_SHARDS>,
 }

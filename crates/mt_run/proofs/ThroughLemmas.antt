@@ -35,7 +35,7 @@ advance_leaves old new workflow name at at_most answer = of_workflow (workflow_a
 
     of_workflow : (w : Option WorkflowState) → AdvancesAt w old name at at_most answer new → new.topology ≡ old.topology
     of_workflow None is = ap topology_of is.1
-    of_workflow (Some w) is = of_stream w (slot_of w name) is
+    of_workflow (Some w) is = of_stream w (slot_of w 0 name) is
 
 -- and so does the purge behind it
 pub advance_leaves_topology : (old new : CoreState) (workflow : List ℕ) (name : StreamName) (at at_most : ℕ) (answer : Answer) → AdvancesAndPurges old workflow name at at_most answer new

@@ -20,7 +20,7 @@ use Rattle.mt_site.specs.Advance.{AdvancesOne, answer_by_slot}
 pub one_from : (old new : Primaries) (w after : WorkflowState) (name : StreamName) (at at_most : ℕ) (answer : Answer) (result : Option (Result Advanced StreamFault)) (o moved : Option StreamValue) (sink : PrimaryState)
     → is_some o ≡ true → answer ≡ answer_by_slot result
     → AdvancesSlot o (primary_of old (read_side (live_of w) name)) (primary_of old (written_side (live_of w) name)) at at_most result moved sink
-    → after ≡ with_slot w name moved → new ≡ set_value (same_text (written_side (live_of w) name)) old sink
+    → after ≡ with_slot w 0 name moved → new ≡ set_value (same_text (written_side (live_of w) name)) old sink
     → AdvancesOne o old w name at at_most answer after new
 one_from old new w after name at at_most answer result None moved sink there told advances rest put = absurd cc
 one_from old new w after name at at_most answer (Some result) (Some s) (Some advanced) sink there told advances rest put = (result, advanced, sink, advances, told, rest, put)
@@ -37,7 +37,7 @@ advanced topology primaries new workflows later name w after stream at at_most a
     let by_workflows : Workflows → CoreState = λ ws. record { topology = topology; primaries = primaries; workflows = ws } in
     (did.0, ap by_primaries did.2 ∙ ap by_workflows kept)
 advanced topology primaries new workflows later name w after stream at at_most answer (Some s) named found is (result, moved, sink, advances, told, slot, put) =
-    let there : WorkflowState = with_slot w stream (Some moved) in
+    let there : WorkflowState = with_slot w 0 stream (Some moved) in
     let here : later ≡ set_value (same_text w.name) workflows there = is ∙ ap (set_value (same_text name) workflows) slot ∙ ap (λ n. set_value (same_text n) workflows there) (sym named) in
     let by_primaries : Primaries → CoreState = λ ps. record { topology = topology; primaries = ps; workflows = later } in
     let by_workflows : Workflows → CoreState = λ ws. record { topology = topology; primaries = set_value (same_text (written_side (live_of w) stream)) primaries sink; workflows = ws } in

@@ -1,9 +1,9 @@
 -- What is refused leaves the core as it was.
-use Rattle.std.proofs.Common.{◌≡◌, ℕ, Bool, true, false, List, Option, None, Some, Result, Ok, Err, is_some, unwrap_or, refl, sym, ap, ◌∙◌}
+use Rattle.std.proofs.Common.{◌≡◌, ℕ, Bool, true, false, List, [], ◌∷◌, Option, None, Some, Result, Ok, Err, is_some, unwrap_or, refl, sym, ap, ◌∙◌}
 use Rattle.std.proofs.lemmas.Bool.{true≢false}
 use Rattle.std.proofs.lemmas.Map.Steps.{set_value_same}
 use Rattle.std.specs.Map.{set_value}
-use Rattle.std.specs.Prelude.{⊤}
+use Rattle.std.specs.Prelude.{⊤, option_and_then, slice_get}
 use Rattle.std.specs.Result.{OnErr}
 use Rattle.mt_names.specs.Names.{same_text}
 use Rattle.mt_model.specs.declared.faults.PrimaryFault.{PrimaryFault}
@@ -21,7 +21,7 @@ use Rattle.mt_stream.specs.declared.stream.Advanced.{Advanced}
 use Rattle.mt_stream.specs.declared.fault.StreamFault.TheVariants as stream
 use Rattle.mt_stream.specs.Advance.{Advances}
 use Rattle.mt_stream.specs.Streams.{StreamValue}
-use Rattle.mt_workflow.specs.Workflows.{WorkflowState, live_of, slot_of, with_slot}
+use Rattle.mt_workflow.specs.Workflows.{LaneState, WorkflowState, change_lane, lane_slot, live_of, slot_of, with_lane_slot, with_slot}
 use Rattle.mt_site_state.specs.ByHand.{WritesAt}
 use Rattle.mt_site_state.specs.Core.{CoreState, Does, Primaries, Workflows, primary_at, primary_of, workflow_at}
 use Rattle.mt_site_state.specs.Workflows.{AdvancesAt, AdvancesStream, CancelsAt, cancelled}
@@ -58,9 +58,13 @@ advance_leaves : (s after : StreamValue) (source sink now : PrimaryState) (at at
 advance_leaves s after source sink now at at_most stream.Memory is = (is.2, is.3)
 advance_leaves s after source sink now at at_most other is = (is.1, is.2)
 
-slot_again : (w : WorkflowState) (name : StreamName) (s : StreamValue) → slot_of w name ≡ Some s → with_slot w name (Some s) ≡ w
-slot_again w forward s there = let with_forward : Option StreamValue → WorkflowState = λ o. record w { forward = o } in ap with_forward (sym there)
-slot_again w back s there = let with_back : Option StreamValue → WorkflowState = λ o. record w { back = o } in ap with_back (sym there)
+slot_again : (w : WorkflowState) (name : StreamName) (s : StreamValue) → slot_of w 0 name ≡ Some s → with_slot w 0 name (Some s) ≡ w
+slot_again w name s there = ap (λ lanes. record w { lanes = lanes }) (by name w.lanes there)
+  where
+    by : (n : StreamName) (lanes : List LaneState) → option_and_then (lane_slot n) (slice_get lanes 0) ≡ Some s → change_lane 0 (with_lane_slot n (Some s)) lanes ≡ lanes
+    by n [] there = refl
+    by forward (lane ∷ lanes) there = ap (λ o. record lane { forward = o } ∷ lanes) (sym there)
+    by back (lane ∷ lanes) there = ap (λ o. record lane { back = o } ∷ lanes) (sym there)
 
 module _ (old new : CoreState) (workflow : List ℕ) (name : StreamName) (at at_most : ℕ)
     (named : (w : WorkflowState) → workflow_at old.workflows workflow ≡ Some w → w.name ≡ workflow)
@@ -69,7 +73,7 @@ module _ (old new : CoreState) (workflow : List ℕ) (name : StreamName) (at at_
   found_again keyspace None found is = absurd (true≢false (sym is))
   found_again keyspace (Some state) found is = found
 
-  stream_leaves : (w : WorkflowState) → workflow_at old.workflows workflow ≡ Some w → (r : code.Reason) (o : Option StreamValue) → slot_of w name ≡ o
+  stream_leaves : (w : WorkflowState) → workflow_at old.workflows workflow ≡ Some w → (r : code.Reason) (o : Option StreamValue) → slot_of w 0 name ≡ o
       → AdvancesStream o old w name at at_most (refused (reason_from r)) new → new ≡ old
   stream_leaves w found r None slot is = is.1
   stream_leaves w found r (Some s) slot (Ok counts, after, sink, advances, told, made) = absurd cc
@@ -78,17 +82,17 @@ module _ (old new : CoreState) (workflow : List ℕ) (name : StreamName) (at at_
       let kept = advance_leaves s after _ (primary_of old.primaries side) sink at at_most f advances in
       let primaries_again : set_value (same_text side) old.primaries sink ≡ old.primaries =
       ap (set_value (same_text side) old.primaries) kept.1 ∙ set_value_same (same_text side) old.primaries (primary_of old.primaries side) (found_again side (primary_at old.primaries side) refl (there w found)) in
-      let workflows_again : set_value (same_text w.name) old.workflows (with_slot w name (Some after)) ≡ old.workflows =
-      ap (λ v. set_value (same_text w.name) old.workflows (with_slot w name (Some v))) kept.0 ∙ ap (set_value (same_text w.name) old.workflows) (slot_again w name s slot)
+      let workflows_again : set_value (same_text w.name) old.workflows (with_slot w 0 name (Some after)) ≡ old.workflows =
+      ap (λ v. set_value (same_text w.name) old.workflows (with_slot w 0 name (Some v))) kept.0 ∙ ap (set_value (same_text w.name) old.workflows) (slot_again w name s slot)
       ∙ set_value_same (same_text w.name) old.workflows w (ap (workflow_at old.workflows) (named w found) ∙ found) in
-      let with_primaries : Primaries → CoreState = λ ps. record old { primaries = ps; workflows = set_value (same_text w.name) old.workflows (with_slot w name (Some after)) } in
+      let with_primaries : Primaries → CoreState = λ ps. record old { primaries = ps; workflows = set_value (same_text w.name) old.workflows (with_slot w 0 name (Some after)) } in
       let with_workflows : Workflows → CoreState = λ ws. record old { workflows = ws } in
       made ∙ ap with_primaries primaries_again ∙ ap with_workflows workflows_again
 
   pub advances_leave : (result : Result Advanced code.Reason) (o : Option WorkflowState) → workflow_at old.workflows workflow ≡ o → AdvancesAt o old name at at_most (advanced_from result) new → OnErr result (new ≡ old)
   advances_leave (Ok reply) o found is = tt
   advances_leave (Err r) None found is = is.1
-  advances_leave (Err r) (Some w) found is = stream_leaves w found r (slot_of w name) refl is
+  advances_leave (Err r) (Some w) found is = stream_leaves w found r (slot_of w 0 name) refl is
 
 -- ---- Cancel
 

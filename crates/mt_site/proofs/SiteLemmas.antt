@@ -1,5 +1,5 @@
 -- The whole controller as a value: its core beside what it keeps of the ways.
-use Rattle.std.proofs.Common.{◌≡◌, ◌≢◌, ◌<◌, ℕ, Bool, true, List, [], ◌∷◌, map, Option, None, Some, Result, Ok, Err, is_ok, is_some, refl, sym, ap, subst, cond, arith, All, ◌∙◌}
+use Rattle.std.proofs.Common.{◌≡◌, ◌≢◌, ◌<◌, ℕ, Bool, true, List, [], ◌∷◌, length, map, Option, None, Some, Result, Ok, Err, is_ok, is_some, refl, sym, ap, subst, cond, arith, All, ◌∙◌}
 use Rattle.std.proofs.lemmas.Bool.{or_right, true≢false}
 use Rattle.std.proofs.lemmas.List.Elements.{All-append, All-from_recursion}
 use Rattle.std.specs.List.{AllByRecursion}
@@ -103,9 +103,11 @@ pub can_step : (s : SiteState) (name : List ℕ)
     → ((w : WorkflowState) (way : Way) (o : OpenWay) → workflow_at s.core.workflows name ≡ Some w → w.way ≡ Some way → open_at s.ways.opened name ≡ Some o
     → stands_done way write_journal ≡ false → entry_of s.ways.journal o.number ≡ None)
     → ((w : WorkflowState) (way : Way) → workflow_at s.core.workflows name ≡ Some w → w.way ≡ Some way
-    → KeepsToTest w way (next_step way) (primary_of s.core.primaries w.source) (primary_of s.core.primaries w.target))
+    → KeepsToTest w way (next_step way) (primary_of s.core.primaries w.source) (primary_of s.core.primaries w.target ∷ []))
+    → ((w : WorkflowState) → workflow_at s.core.workflows name ≡ Some w → length w.lanes ≡ 1)
+    → ((w : WorkflowState) (way : Way) → workflow_at s.core.workflows name ≡ Some w → w.way ≡ Some way → way.shards ≡ length w.lanes)
     → CanStep s.core.topology s.core.primaries s.core.workflows s.ways.journal s.ways.opened name
-can_step s name named source target apart places there kept within unused unread = record {
+can_step s name named source target apart places there kept within unused unread one shards = record {
   there = there;
   each = λ w way o found on opened. record {
     named = named w found;
@@ -116,6 +118,8 @@ can_step s name named source target apart places there kept within unused unread
     within = few way (within w way found on);
     kept = kept w way o found on opened;
     unused = unused w way o found on opened;
+    one = one w found;
+    shards = shards w way found on;
     unread = unread w way found on;
   };
 }

@@ -16,6 +16,7 @@ use Rattle.mt_plain.specs.Next.{next}
 use Rattle.mt_plain.specs.Plain.{Live, Plain, live_at}
 use Rattle.mt_site_state.specs.Core.{workflow_at}
 use Rattle.mt_site_state.specs.Stands.{StandsForAny}
+use Rattle.mt_site_state.proofs.ShardLemmas.{no_cuts}
 use Rattle.mt_site_state.specs.Ways.{SiteStands, SiteState, SiteSteps}
 use Rattle.mt_workflow.specs.Workflows.{WorkflowState}
 use Rattle.mt_event.specs.declared.driven.Driven.{Driven}
@@ -48,7 +49,7 @@ no_more_lanes q scopes s name stands = by (live_at q name) (workflow_at s.core.w
     by : (o : Option Live) (found : Option WorkflowState) → StandsForAny q o found → nat_lt 1 (option_map_or (λ w. shard_count w.cuts) o 0) ≡ false
     by None found is = refl
     by (Some live) None is = absurd is
-    by (Some live) (Some w) is = ap (λ cuts. nat_lt 1 (shard_count cuts)) is.sides.cuts
+    by (Some live) (Some w) is = ap (λ cuts. nat_lt 1 (shard_count cuts)) (no_cuts q live w is)
 
 -- what follows from any answer to an undo
 pub undone : (q : Plain) (workflow : List ℕ) (why : Reason) (way : Option Way) (answer : Answer) (said : Heard) → way ≡ way_of q workflow

@@ -36,12 +36,12 @@ abbrev pub answer_by_slot : Option (Result Advanced StreamFault) → Answer
 answer_by_slot None = refused stream_stopped
 answer_by_slot (Some result) = answer_by_stream result
 
--- the stream advances, if there is one, and the primary that it writes takes the place of the one that stood there
+-- the stream of the first shard advances, if there is one, and the primary that it writes takes the place of the one that stood there
 abbrev pub AdvancesBetween : Primaries → WorkflowState → StreamName → (at at_most : ℕ) → Option (Result Advanced StreamFault) → WorkflowState → Primaries → Type 0
 AdvancesBetween old w name at at_most answer after new =
     (sink : PrimaryState)
-    × AdvancesSlot (slot_of w name) (primary_of old (read_side (live_of w) name)) (primary_of old (written_side (live_of w) name)) at at_most answer (slot_of after name) sink
-    × (after ≡ with_slot w name (slot_of after name)) × (new ≡ set_value (same_text (written_side (live_of w) name)) old sink)
+    × AdvancesSlot (slot_of w 0 name) (primary_of old (read_side (live_of w) name)) (primary_of old (written_side (live_of w) name)) at at_most answer (slot_of after 0 name) sink
+    × (after ≡ with_slot w 0 name (slot_of after 0 name)) × (new ≡ set_value (same_text (written_side (live_of w) name)) old sink)
 
 -- a stream of a workflow stands between two primaries: those of its two sides are there, its position lies in the log that it reads, which
 -- keeps the entries from there on if the stream runs, and its tables are there where it writes
@@ -53,10 +53,10 @@ pub record IsBetween (primaries : Primaries) (w : WorkflowState) (name : StreamN
   pub kept : stream.state ≡ running → (primary_of primaries (read_side (live_of w) name)).log.purged ≤ stream.position
   pub there : (table : List ℕ) → among stream.tables table ≡ true → has_table (primary_of primaries (written_side (live_of w) name)) table ≡ true
 
--- so does that of a live workflow, if there is one; and the workflow stands under its own name
+-- so does that of the first shard of a live workflow's target, if there is one; and the workflow stands under its own name
 pub record CanAdvance (primaries : Primaries) (workflows : Workflows) (workflow : List ℕ) (name : StreamName) : Type 0 where
   pub named : (w : WorkflowState) → workflow_at workflows workflow ≡ Some w → w.name ≡ workflow
-  pub between : (w : WorkflowState) → workflow_at workflows workflow ≡ Some w → (stream : StreamValue) → slot_of w name ≡ Some stream → IsBetween primaries w name stream
+  pub between : (w : WorkflowState) → workflow_at workflows workflow ≡ Some w → (stream : StreamValue) → slot_of w 0 name ≡ Some stream → IsBetween primaries w name stream
 
 -- the workflow and the primaries behind an advance of a stream, if there is one
 abbrev pub AdvancesOne : Option StreamValue → Primaries → WorkflowState → StreamName → (at at_most : ℕ) → Answer → WorkflowState → Primaries → Type 0
@@ -64,5 +64,5 @@ AdvancesOne None old w name at at_most answer after new = (answer ≡ refused st
 AdvancesOne (Some stream) old w name at at_most answer after new =
     (result : Result Advanced StreamFault) × (advanced : StreamValue) × (sink : PrimaryState)
     × Advances stream (primary_of old (read_side (live_of w) name)) (primary_of old (written_side (live_of w) name)) at at_most result advanced sink
-    × (answer ≡ answer_by_stream result) × (after ≡ with_slot w name (Some advanced))
+    × (answer ≡ answer_by_stream result) × (after ≡ with_slot w 0 name (Some advanced))
     × (new ≡ set_value (same_text (written_side (live_of w) name)) old sink)

@@ -59,7 +59,7 @@ fn written_side(workflow: &Workflow, slot: Slot) -> &KeyspaceName
     }
 }
 
-/// Advances a stream that a workflow has, where it stands, between the primaries of the workflow's sides. It takes the one that is
+/// Advances a stream that a workflow has for its target's first shard, where it stands, between the primaries of the workflow's sides. It takes the one that is
 /// written out of its place meanwhile, and leaves an empty one there, which takes no memory.
 fn advance_between(
     alloc: Global,
@@ -69,14 +69,14 @@ fn advance_between(
     at: Position,
     max: u16,
 ) -> Option<Result<Advanced, StreamFault>>
-    requires there { is_some (slot_of workflow.old (stream_name slot)) ≡ true }
-    requires between { (s : StreamValue) → slot_of workflow.old (stream_name slot) ≡ Some s → IsBetween primaries.old.entries workflow.old (stream_name slot) s }
+    requires there { is_some (slot_of workflow.old 0 (stream_name slot)) ≡ true }
+    requires between { (s : StreamValue) → slot_of workflow.old 0 (stream_name slot) ≡ Some s → IsBetween primaries.old.entries workflow.old (stream_name slot) s }
     ensures { AdvancesBetween primaries.old.entries workflow.old (stream_name slot) at max result workflow.new primaries.new.entries }
 {
     let read = place_of(primaries, read_side(workflow, slot));
     let written = place_of(primaries, written_side(workflow, slot));
     let mut sink = exchange_at(primaries, written, Primary::new(alloc));
-    let result = workflow.advance(slot, &primaries[read], &mut sink, at, max);
+    let result = workflow.advance(0, slot, &primaries[read], &mut sink, at, max);
     exchange_at(primaries, written, sink);
     result
 }
@@ -90,10 +90,10 @@ fn advance_stream(
     at: Position,
     max: u16,
 ) -> Result<Advanced, Reason>
-    requires { (s : StreamValue) → slot_of workflow.old (stream_name slot) ≡ Some s → IsBetween primaries.old.entries workflow.old (stream_name slot) s }
-    ensures { AdvancesOne (slot_of workflow.old (stream_name slot)) primaries.old.entries workflow.old (stream_name slot) at max (advanced_from result) workflow.new primaries.new.entries }
+    requires { (s : StreamValue) → slot_of workflow.old 0 (stream_name slot) ≡ Some s → IsBetween primaries.old.entries workflow.old (stream_name slot) s }
+    ensures { AdvancesOne (slot_of workflow.old 0 (stream_name slot)) primaries.old.entries workflow.old (stream_name slot) at max (advanced_from result) workflow.new primaries.new.entries }
 {
-    if workflow.slot(slot).is_none() {
+    if workflow.slot(0, slot).is_none() {
         return Err(Reason::StreamStopped);
     }
     told(advance_between(alloc, primaries, workflow, slot, at, max))

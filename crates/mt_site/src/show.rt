@@ -1,7 +1,8 @@
 //! What is told of a workflow.
-ghost use Rattle.std.specs.Prelude.{◌≡◌, true, is_some, option_map};
+ghost use Rattle.std.specs.Prelude.{◌≡◌, true, is_some, length, option_map};
 ghost use Rattle.mt_event.specs.Events.{lent_shown, shown_stream_from};
-ghost use Rattle.mt_workflow.specs.Workflows.{WorkflowState};
+ghost use Rattle.mt_plain.specs.Events.{back, forward};
+ghost use Rattle.mt_workflow.specs.Workflows.{WorkflowState, slot_of};
 ghost use Rattle.mt_site_state.specs.Core.{workflow_at};
 ghost use Rattle.mt_site_state.specs.Workflows.{show_at, shown_by, slot_from};
 ghost use Rattle.std.specs.Prelude.{Some};
@@ -23,13 +24,14 @@ fn shown_stream(stream: &Stream) -> ShownStream
     }
 }
 
-/// What is told of a workflow, which has a forward stream.
+/// What is told of a workflow, which has one lane with a forward stream.
 fn shown(workflow: &Workflow) -> ShownOf<'_>
-    requires { is_some workflow.now.forward ≡ true }
+    requires one { length workflow.now.lanes ≡ 1 }
+    requires there { is_some (slot_of workflow.now 0 forward) ≡ true }
     ensures { lent_shown result ≡ shown_by workflow.now }
 {
     workflow.facts();
-    let forward = workflow.slot(Slot::Forward).unwrap();
+    let forward = workflow.slot(0, Slot::Forward).unwrap();
     ShownOf {
         workflow: workflow.name(),
         source: workflow.source(),
@@ -45,9 +47,9 @@ fn shown(workflow: &Workflow) -> ShownOf<'_>
 
 /// What is told of a workflow's back stream, if it has one.
 fn shown_back(workflow: &Workflow) -> Option<ShownStream>
-    ensures { option_map shown_stream_from result ≡ option_map slot_from workflow.now.back }
+    ensures { option_map shown_stream_from result ≡ option_map slot_from (slot_of workflow.now 0 back) }
 {
-    match workflow.slot(Slot::Back) {
+    match workflow.slot(0, Slot::Back) {
         None => None,
         Some(stream) => Some(shown_stream(stream)),
     }
@@ -55,7 +57,8 @@ fn shown_back(workflow: &Workflow) -> Option<ShownStream>
 
 /// Tells of a live workflow: `F7 NoWorkflow`. It takes no memory.
 pub(crate) fn show<'a>(workflows: &'a Workflows, name: &WorkflowName) -> Result<ShownOf<'a>, Reason>
-    requires { (w : WorkflowState) → workflow_at workflows.now.entries name.now ≡ Some w → is_some w.forward ≡ true }
+    requires one { (w : WorkflowState) → workflow_at workflows.now.entries name.now ≡ Some w → length w.lanes ≡ 1 }
+    requires there { (w : WorkflowState) → workflow_at workflows.now.entries name.now ≡ Some w → is_some (slot_of w 0 forward) ≡ true }
     ensures { shown_answer result ≡ show_at (workflow_at workflows.now.entries name.now) }
 {
     match mt_few::get(workflows, name) {

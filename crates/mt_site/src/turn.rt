@@ -95,7 +95,7 @@ fn feeding(core: &Core, workflow: &WorkflowName) -> (Slot, Position)
         Some(way) if way.back => Slot::Back,
         _ => Slot::Forward,
     };
-    match found.slot(slot) {
+    match found.slot(0, slot) {
         None => (slot, 0),
         Some(stream) => (slot, stream.position()),
     }

@@ -1,19 +1,20 @@
 -- An advance, from core to core.
 use Rattle.std.proofs.Common.{◌≡◌, ◌≢◌, ℕ, Bool, true, false, List, [], ◌∷◌, find, map, Option, None, Some, option_map, is_some, refl, sym, ap, ◌∙◌, subst, cond, unwrap_or, not, eqb, ◌&&◌, ◌≤◌}
-use Rattle.std.specs.Prelude.{Result, Ok, Err}
+use Rattle.std.specs.Prelude.{Result, Ok, Err, option_and_then, slice_get}
 use Rattle.std.specs.Map.{set_value}
 use Rattle.mt_model.specs.declared.entries.Scope.{Scope}
 use Rattle.mt_model.specs.Topology.{Rules, TopologyState}
 use Rattle.mt_names.specs.Names.{same_text}
+use Rattle.mt_names.specs.Shards.{KeyRange}
 use Rattle.mt_names.proofs.EntryLemmas.{some_from}
 use Rattle.mt_names.proofs.SameLemmas.{same_text_decides}
 use Rattle.mt_laws.specs.Advances.{IsAfterAdvance, advanced_live}
-use Rattle.mt_laws.specs.Changes.{HasSides, IsOf, IsOfRows}
+use Rattle.mt_laws.specs.Changes.{IsOf, IsOfRows}
 use Rattle.mt_laws.specs.WayBack.{IsReached}
 use Rattle.mt_laws.proofs.InPlaceLemmas.{live_in}
 use Rattle.mt_laws.proofs.PartLemmas.{there_at_source, there_at_target}
 use Rattle.mt_laws.proofs.ReachLemmas.{reached_has_parts}
-use Rattle.mt_plain.specs.Answers.{Answers}
+use Rattle.mt_plain.specs.Answers.{Answers, range_at}
 use Rattle.mt_plain.specs.Events.{Answer, Event, StreamName, StreamState, forward, back, running, stopped, frozen, Slot, advance, advanced, refused, stream_stopped}
 use Rattle.mt_plain.specs.Next.{next, with_advance, with_live}
 use Rattle.mt_plain.specs.Plain.{Lane, Live, Plain, has_keyspace, lane_at, live_at, moves}
@@ -26,8 +27,8 @@ use Rattle.mt_site_topology.specs.Keys.{IsKept}
 use Rattle.mt_site_topology.specs.Stands.{TopologyStands}
 use Rattle.mt_site_state.specs.Core as core
 use Rattle.mt_site_state.specs.Core.{CoreState, primaries_of, primary_at, primary_of, workflow_at}
-use Rattle.mt_site_state.specs.Stands.{StandsFor, StandsWith}
-use Rattle.mt_site_state.proofs.ShardLemmas.{StayBut, has_keys, lane_found, read_first, written_first}
+use Rattle.mt_site_state.specs.Stands.{StandsFor, StandsWith, lane_state}
+use Rattle.mt_site_state.proofs.ShardLemmas.{StayBut, has_keys, lane_found, no_cuts, one_lane, read_first, slot_is, written_first}
 use Rattle.mt_site_state.proofs.ShardLemmas as shards
 use Rattle.mt_site_state.specs.Workflows.{AdvancesAt, AdvancesStream, AdvancesWorkflow, with_advanced}
 use Rattle.mt_stream.specs.declared.fault.StreamFault.{StreamFault}
@@ -36,7 +37,7 @@ use Rattle.mt_stream.specs.declared.stream.Advanced.{Advanced}
 use Rattle.mt_stream.specs.Advance.{Advances, refusal_of, refused_by, writes_any}
 use Rattle.mt_log.specs.Log.{has_room}
 use Rattle.mt_stream.specs.Streams.{StreamValue}
-use Rattle.mt_workflow.specs.Workflows.{WorkflowState, live_of, with_slot}
+use Rattle.mt_workflow.specs.Workflows.{LaneState, WorkflowState, change_lane, cuts_in, lane_slot, live_of, with_lane_slot, with_slot}
 use Rattle.mt_workflow.specs.Workflows as work
 use Rattle.mt_site_events.proofs.MoveCoreLemmas.{live_found, no_live, primaries-set, primary-elsewhere, primary-here, primary-keeps, set_value-same, workflows-set}
 use Rattle.mt_site_events.proofs.MoveStreamLemmas.{alone_adv, first_adv, other_of, other_stays}
@@ -93,6 +94,11 @@ names_advanced p stream at at_most events rows (Some w) = names_with (λ v. live
 
 -- ---- the stream that advances
 
+-- lanes with the same range and the same streams
+alike : (r s : KeyRange) → r ≡ s → (f g : Option StreamValue) → f ≡ g → (b c : Option StreamValue) → b ≡ c
+    → (let x : LaneState = record { range = r; forward = f; back = b } in x) ≡ (let x : LaneState = record { range = s; forward = g; back = c } in x)
+alike r s e0 f g e1 b c e2 = cc
+
 stream_slot : (live : Live) (lane : Lane) (o : Option Slot) (stream : StreamValue) → option_map (stream_of live lane) o ≡ Some stream → (slot : Slot) × (o ≡ Some slot) × (stream ≡ stream_of live lane slot)
 stream_slot live lane None stream e = absurd cc
 stream_slot live lane (Some slot) stream e = (slot, refl, let is : stream_of live lane slot ≡ stream = cc in sym is)
@@ -102,10 +108,6 @@ no_slot live lane None e = refl
 no_slot live lane (Some slot) e = absurd cc
 
 module _ (p : Plain) (live : Live) (w : WorkflowState) (stands : StandsFor p live w) where
-  slot_stands : (n : StreamName) → work.slot_of w n ≡ option_map (stream_of live stands.lane) (slot_of live stands.lane n)
-  slot_stands forward = stands.forward
-  slot_stands back = stands.back
-
   reads_same : (n : StreamName) → read_side (live_of w) n ≡ read_side live n
   reads_same forward = sym stands.sides.source
   reads_same back = sym stands.sides.target
@@ -114,29 +116,33 @@ module _ (p : Plain) (live : Live) (w : WorkflowState) (stands : StandsFor p liv
   writes_same forward = sym stands.sides.target
   writes_same back = sym stands.sides.source
 
-  slot_again : (n : StreamName) (stream : StreamValue) → work.slot_of w n ≡ Some stream → with_slot w n (Some stream) ≡ w
-  slot_again forward stream e = ap (λ o. record w { forward = o }) (sym e)
-  slot_again back stream e = ap (λ o. record w { back = o }) (sym e)
+  slot_again : (n : StreamName) (stream : StreamValue) → work.slot_of w 0 n ≡ Some stream → with_slot w 0 n (Some stream) ≡ w
+  slot_again n stream e = ap (λ lanes. record w { lanes = lanes }) (by n w.lanes e)
+    where
+      by : (n : StreamName) (lanes : List LaneState) → option_and_then (lane_slot n) (slice_get lanes 0) ≡ Some stream → change_lane 0 (with_lane_slot n (Some stream)) lanes ≡ lanes
+      by n [] e = refl
+      by forward (lane ∷ lanes) e = ap (λ o. record lane { forward = o } ∷ lanes) (sym e)
+      by back (lane ∷ lanes) e = ap (λ o. record lane { back = o } ∷ lanes) (sym e)
 
 -- ---- a stream that is there
 
 module _ (p : Plain) (scopes : List Scope) (old : CoreState) (stands : StandsWith p scopes old) (workflow : List ℕ) (w : WorkflowState) (found : workflow_at old.workflows workflow ≡ Some w)
     (live : Live) (is_live : live_at p workflow ≡ Some live) (for : StandsFor p live w) (named : live.name ≡ workflow) (name : StreamName) (slot : Slot) (there : slot_of live for.lane name ≡ Some slot)
-    (has : work.slot_of w name ≡ Some (stream_of live for.lane slot)) where
+    (has : work.slot_of w 0 name ≡ Some (stream_of live for.lane slot)) where
   abbrev pub side : List ℕ
   side = written_side live name
 
   abbrev pub core_after : StreamValue → PrimaryState → CoreState
   core_after after sink = record old {
     primaries = set_value (same_text side) old.primaries sink;
-    workflows = set_value (same_text workflow) old.workflows (with_slot w name (Some after));
+    workflows = set_value (same_text workflow) old.workflows (with_slot w 0 name (Some after));
   }
 
   pub core_is : (after : StreamValue) (sink : PrimaryState) → with_advanced old w name after sink ≡ core_after after sink
   core_is after sink = by (written_side (live_of w) name) (writes_same p live w for name) w.name (sym for.sides.name ∙ named)
     where
       by : (k : List ℕ) → k ≡ side → (n : List ℕ) → n ≡ workflow
-          → record old { primaries = set_value (same_text k) old.primaries sink; workflows = set_value (same_text n) old.workflows (with_slot w name (Some after)) } ≡ core_after after sink
+          → record old { primaries = set_value (same_text k) old.primaries sink; workflows = set_value (same_text n) old.workflows (with_slot w 0 name (Some after)) } ≡ core_after after sink
       by k a n b = rw (a, b) refl
 
   is_keyspace : (n : StreamName) → has_keyspace p (written_side live n) ≡ true
@@ -148,13 +154,13 @@ module _ (p : Plain) (scopes : List Scope) (old : CoreState) (stands : StandsWit
 
   pub same_again : core_after (stream_of live for.lane slot) (primary_of old.primaries side) ≡ old
   same_again =
-      ap (λ (ps : core.Primaries). let c : CoreState = record old { primaries = ps; workflows = set_value (same_text workflow) old.workflows (with_slot w name (Some (stream_of live for.lane slot))) } in c) primaries_again
+      ap (λ (ps : core.Primaries). let c : CoreState = record old { primaries = ps; workflows = set_value (same_text workflow) old.workflows (with_slot w 0 name (Some (stream_of live for.lane slot))) } in c) primaries_again
       ∙ ap (λ (ws : core.Workflows). let c : CoreState = record old { workflows = ws } in c) workflows_again
     where
       primaries_again : set_value (same_text side) old.primaries (primary_of old.primaries side) ≡ old.primaries
       primaries_again = set_value-same old.primaries side (primary_of old.primaries side) (sink_there.1 ∙ ap Some (sym (ap (λ o. unwrap_or o empty_primary) sink_there.1)))
 
-      workflows_again : set_value (same_text workflow) old.workflows (with_slot w name (Some (stream_of live for.lane slot))) ≡ old.workflows
+      workflows_again : set_value (same_text workflow) old.workflows (with_slot w 0 name (Some (stream_of live for.lane slot))) ≡ old.workflows
       workflows_again = ap (set_value (same_text workflow) old.workflows) (slot_again p live w for name (stream_of live for.lane slot) has) ∙ set_value-same old.workflows workflow w found
 
   read_tables : (n : StreamName) (table : List ℕ) → moves live table ≡ true → has_table (primary_of old.primaries (read_side live n)) table ≡ true
@@ -219,15 +225,27 @@ module _ (p : Plain) (scopes : List Scope) (old : CoreState) (stands : StandsWit
       other : option_map (stream_of adv on) (slot_of adv on (other_of name)) ≡ option_map (stream_of live for.lane) (slot_of live for.lane (other_of name))
       other = other_stays p q stands.reached reached_q workflow live is_live for.lane for.alone for.shard name at at_most events rows now slot there
 
-      sides : HasSides adv (live_of w)
-      sides = record { name = for.sides.name; source = for.sides.source; target = for.sides.target; tables = for.sides.tables; cuts = for.sides.cuts }
+      -- the lane with the stream that has advanced
+      lane_now : (n : StreamName) → Some after ≡ option_map (stream_of adv on) (slot_of adv on n)
+          → option_map (stream_of adv on) (slot_of adv on (other_of n)) ≡ option_map (stream_of live for.lane) (slot_of live for.lane (other_of n))
+          → with_lane_slot n (Some after) (lane_state live for.lane) ≡ lane_state adv on
+      lane_now forward a b = alike _ _ (ap (range_at live.cuts) (for.shard ∙ sym first)) _ _ a _ _ (sym b)
+      lane_now back a b = alike _ _ (ap (range_at live.cuts) (for.shard ∙ sym first)) _ _ (sym b) _ _ a
 
-      stands_for : (n : StreamName) → Some after ≡ option_map (stream_of adv on) (slot_of adv on n)
-          → option_map (stream_of adv on) (slot_of adv on (other_of n)) ≡ option_map (stream_of live for.lane) (slot_of live for.lane (other_of n)) → StandsFor q adv (with_slot w n (Some after))
-      stands_for forward a b =
-          record { sides = sides; switched = for.switched; way = for.way; kept = kept_q adv now; lane = on; alone = alone; shard = first; forward = a; back = for.back ∙ sym b }
-      stands_for back a b =
-          record { sides = sides; switched = for.switched; way = for.way; kept = kept_q adv now; lane = on; alone = alone; shard = first; forward = for.forward ∙ sym b; back = a }
+      lanes_now : (with_slot w 0 name (Some after)).lanes ≡ lane_state adv on ∷ []
+      lanes_now = ap (change_lane 0 (with_lane_slot name (Some after))) (one_lane p live w for) ∙ ap (λ l. l ∷ []) (lane_now name this other)
+
+      stands_for : StandsFor q adv (with_slot w 0 name (Some after))
+      stands_for = record {
+        sides = record { name = for.sides.name; source = for.sides.source; target = for.sides.target; tables = for.sides.tables; cuts = no_cuts p live w for ∙ sym (ap cuts_in lanes_now) };
+        switched = for.switched;
+        way = for.way;
+        kept = kept_q adv now;
+        lane = on;
+        alone = alone;
+        shard = first;
+        lanes = lanes_now ∙ sym (ap (map (lane_state adv)) alone);
+      }
 
       names : map (λ (l : Live). l.name) q.lives ≡ map (λ (l : Live). l.name) p.lives
       names = names_advanced p name at at_most events rows (live_at p workflow)
@@ -241,7 +259,7 @@ module _ (p : Plain) (scopes : List Scope) (old : CoreState) (stands : StandsWit
         primaries = primaries-set p q is_after.topology old.primaries stands.primaries side sink
             (λ k t. sink_keeps sink (λ s. has_table s t) (tables_stay (primary_of old.primaries side) sink made t) k ∙ stands.primaries.tables k t ∙ sym (is_after.present k t))
             (λ k t. sink_keeps sink (λ s. is_denied_at s t) (denied t) k ∙ stands.primaries.denials k t ∙ sym (is_after.refused k 0 t));
-        workflows = workflows-set p q is_after.topology old.workflows stands.workflows workflow w (with_slot w name (Some after)) found adv now (stands_for name this other) elsewhere names;
+        workflows = workflows-set p q is_after.topology old.workflows stands.workflows workflow w (with_slot w 0 name (Some after)) found adv now stands_for elsewhere names;
       }
 
 -- ---- the law
@@ -284,15 +302,15 @@ module _ (p : Plain) (reached : IsReached p)
           ap (λ o. in_workflow o (advance_refusal p name 0 at at_most)) is_live
           ∙ ap (λ o. in_lane_at o (λ lane. advance_at p live lane name at at_most (running_at (slot_of live lane name)))) (lane_found p live w for)
 
-      stopped_steps : work.slot_of w name ≡ None → answer ≡ refused stream_stopped → new ≡ old → Stepped scopes workflow name at at_most answer new
+      stopped_steps : work.slot_of w 0 name ≡ None → answer ≡ refused stream_stopped → new ≡ old → Stepped scopes workflow name at at_most answer new
       stopped_steps none is same =
-          let no : slot_of live for.lane name ≡ None = no_slot live for.lane (slot_of live for.lane name) (sym (slot_stands p live w for name) ∙ none) in
+          let no : slot_of live for.lane name ≡ None = no_slot live for.lane (slot_of live for.lane name) (sym (slot_is p live w for name) ∙ none) in
           subst (λ a. Stepped scopes workflow name at at_most a new) (sym is) (
             refusal_is ∙ ap (λ o. advance_at p live for.lane name at at_most (running_at o)) no,
             subst (StandsWith p scopes) (sym same) stands,
           )
 
-      module _ (slot : Slot) (there : slot_of live for.lane name ≡ Some slot) (has : work.slot_of w name ≡ Some (stream_of live for.lane slot)) (after : StreamValue) (sink : PrimaryState) where
+      module _ (slot : Slot) (there : slot_of live for.lane name ≡ Some slot) (has : work.slot_of w 0 name ≡ Some (stream_of live for.lane slot)) (after : StreamValue) (sink : PrimaryState) where
         abbrev made : CoreState
         made = core_after p scopes old stands workflow w found live is_live for (named workflow live is_live) name slot there has after sink
 
@@ -382,10 +400,10 @@ module _ (p : Plain) (reached : IsReached p)
             (subst (Stepped scopes workflow name at at_most (answer_by_stream result))
             (sym (same ∙ core_is p scopes old stands workflow w found live is_live for (named workflow live is_live) name slot there has after sink)) (by_state slot.state refl result is))
 
-      stream_steps : (o : Option StreamValue) → work.slot_of w name ≡ o → AdvancesStream o old w name at at_most answer new → Stepped scopes workflow name at at_most answer new
+      stream_steps : (o : Option StreamValue) → work.slot_of w 0 name ≡ o → AdvancesStream o old w name at at_most answer new → Stepped scopes workflow name at at_most answer new
       stream_steps None none is = stopped_steps none is.0 is.1
       stream_steps (Some stream) has is =
-          let r = stream_slot live for.lane (slot_of live for.lane name) stream (sym (slot_stands p live w for name) ∙ has) in
+          let r = stream_slot live for.lane (slot_of live for.lane name) stream (sym (slot_is p live w for name) ∙ has) in
           made_steps r.0 r.1 (has ∙ ap Some r.2) is.1 is.2 is.0
           (subst (λ k. Advances (stream_of live for.lane r.0) (primary_of old.primaries (read_side live name)) (primary_of old.primaries k) at at_most is.0 is.1 is.2) (writes_same p live w for name)
           (subst (λ k. Advances (stream_of live for.lane r.0) (primary_of old.primaries k) (primary_of old.primaries (written_side (live_of w) name)) at at_most is.0 is.1 is.2) (reads_same p live w for name)
@@ -399,7 +417,7 @@ module _ (p : Plain) (reached : IsReached p)
         (ap (λ o. in_workflow o (advance_refusal p name 0 at at_most)) no, subst (StandsWith p scopes) (sym is.1) stands)
     at_steps (Some w) found is =
         let r = live_found p (live_at p workflow) (workflow_at old.workflows workflow) w found (stands.workflows.each workflow) in
-        stream_steps w found r.0 r.1 r.2 (work.slot_of w name) refl is
+        stream_steps w found r.0 r.1 r.2 (work.slot_of w 0 name) refl is
 
     pub advance_steps : AdvancesWorkflow old workflow name at at_most answer new → Stepped scopes workflow name at at_most answer new
     advance_steps = at_steps (workflow_at old.workflows workflow) refl

@@ -27,7 +27,7 @@ module _ (more : List Scope) (p : Plain) where
   any_wide None None stands = stands
   any_wide None (Some w) stands = stands
   any_wide (Some live) None stands = stands
-  any_wide (Some live) (Some w) stands = record { sides = stands.sides; switched = stands.switched; way = stands.way; kept = stands.kept; lane = stands.lane; alone = stands.alone; shard = stands.shard; forward = stands.forward; back = stands.back }
+  any_wide (Some live) (Some w) stands = record { sides = stands.sides; switched = stands.switched; way = stands.way; kept = stands.kept; lane = stands.lane; alone = stands.alone; shard = stands.shard; lanes = stands.lanes }
 
   pub stands_wide : (core : CoreState) → IsReached (wider more p) → Stands p core → Stands (wider more p) core
   stands_wide core reached stands = record {

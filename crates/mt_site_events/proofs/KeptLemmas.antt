@@ -37,8 +37,7 @@ module _ (laws : Laws) (p : Plain) (event : Event) (answer : Answer) (reached : 
     lane = stands.lane;
     alone = stands.alone;
     shard = stands.shard;
-    forward = stands.forward;
-    back = stands.back;
+    lanes = stands.lanes;
   }
 
   stays_for_any : (name : List ℕ) (o : Option Live) (w : Option WorkflowState) → live_at p name ≡ o → StandsForAny p o w → StandsForAny (next p event answer) o w

@@ -77,8 +77,7 @@ stands-elsewhere p q same (Some live) (Some w) stands = record {
   lane = stands.lane;
   alone = stands.alone;
   shard = stands.shard;
-  forward = stands.forward;
-  back = stands.back;
+  lanes = stands.lanes;
 }
 
 -- the live workflow of a name that the core finds, and the other way round

@@ -1,5 +1,5 @@
 -- Cores whose logs are purged below what is needed.
-use Rattle.std.proofs.Common.{◌≡◌, ◌≢◌, ℕ, zero, suc, ◌-◌, ◌≤◌, ◌<◌, Bool, true, false, cond, List, [], ◌∷◌, map, Option, None, Some, is_some, option_map, unwrap_or, refl, sym, ap, subst, ◌∙◌, arith, ⊎_elim}
+use Rattle.std.proofs.Common.{◌≡◌, ◌≢◌, ℕ, zero, suc, ◌-◌, ◌≤◌, ◌<◌, Bool, true, false, cond, List, [], ◌∷◌, fold, map, Option, None, Some, is_some, option_map, unwrap_or, refl, sym, ap, subst, ◌∙◌, arith, ⊎_elim}
 use Rattle.std.proofs.lemmas.List.{length-map}
 use Rattle.mt_names.proofs.SameLemmas.{same_text_decides}
 use Rattle.mt_names.specs.Names.{same_text}
@@ -10,15 +10,16 @@ use Rattle.mt_plain.specs.Slots.{read_side, slot_of}
 use Rattle.mt_primary.specs.Primary.{PrimaryState, empty_primary, end_of, has_table, is_denied_at}
 use Rattle.mt_primary.specs.Writes.{with_purge}
 use Rattle.mt_workflow.specs.Workflows.{WorkflowState}
+use Rattle.mt_workflow.specs.Workflows as work
 use Rattle.mt_site_topology.specs.Stands.{TopologyStands}
 use Rattle.mt_site_rows.specs.Purges.{ArePurged}
 use Rattle.mt_site_rows.specs.Rows.{RowsStand, StandAbove, stream_of}
 use Rattle.mt_site_rows.specs.Rows as rows
 use Rattle.mt_site_state.specs.Core.{CoreState, Primaries, Workflows, primaries_of, primary_at, primary_of, workflow_at}
-use Rattle.mt_site_state.specs.Purges.{PurgesAll, PurgesCore, PurgesOne, first_needed, has_whole_segments, is_in_use, least_of, least_with, with_purge_of, with_purges, without_unneeded}
+use Rattle.mt_site_state.specs.Purges.{PurgesAll, PurgesCore, PurgesOne, first_needed, has_whole_segments, is_in_use, least_at, least_of, least_with, with_purge_of, with_purges, without_unneeded}
 use Rattle.mt_site_state.specs.Stands.{AreWorkflows, StandsFor, StandsWith}
 use Rattle.mt_site_state.proofs.NeededLemmas.{needed-le, needed-one, purge-none, with-le, with-stream}
-use Rattle.mt_site_state.proofs.ShardLemmas.{lane_is}
+use Rattle.mt_site_state.proofs.ShardLemmas.{lane_is, shards_are, slot_is}
 use Rattle.mt_site_events.proofs.FoundLemmas.{state_of_live}
 use Rattle.mt_site_events.proofs.MadeLemmas.{changed_count, changed_elsewhere, changed_here, changed_there}
 use Rattle.mt_site_events.proofs.MoveCoreLemmas.{same_or}
@@ -42,19 +43,23 @@ module _ (p : Plain) (scopes : List Scope) (old : CoreState) (stands : StandsWit
       needed-one old.workflows keyspace name end slot.position w found
       (low w for stream (subst (λ l. slot_of live l stream ≡ Some slot) (lane_is p live w for n lane laned) there) reads)
     where
-      low : (w : WorkflowState) (for : StandsFor p live w) → (which : StreamName) → slot_of live for.lane which ≡ Some slot → read_side live which ≡ keyspace → (least : ℕ) → least_of keyspace least w ≤ slot.position
-      low w for forward at reads least =
-          let has : w.forward ≡ Some (stream_of live for.lane slot) = for.forward ∙ ap (option_map (stream_of live for.lane)) at in
+      low_at : (w : WorkflowState) (for : StandsFor p live w) → (which : StreamName) → work.slot_of w 0 which ≡ Some (stream_of live for.lane slot) → read_side live which ≡ keyspace
+          → (least : ℕ) → least_at keyspace w least 0 ≤ slot.position
+      low_at w for forward has reads least =
           let side : same_text keyspace w.source ≡ true = (same_text_decides keyspace w.source).1 (sym reads ∙ for.sides.source) in
-          let a : least_with keyspace w.source w.forward least ≤ slot.position
+          let a : least_with keyspace w.source (work.slot_of w 0 forward) least ≤ slot.position
           = subst (λ o. least_with keyspace w.source o least ≤ slot.position) (sym has) (with-stream keyspace w.source (stream_of live for.lane slot) least side (in-use slot.state moves)) in
-          let b = with-le keyspace w.target w.back (least_with keyspace w.source w.forward least) in
+          let b = with-le keyspace w.target (work.slot_of w 0 back) (least_with keyspace w.source (work.slot_of w 0 forward) least) in
           omega (arith, a, b)
-      low w for back at reads least =
-          let has : w.back ≡ Some (stream_of live for.lane slot) = for.back ∙ ap (option_map (stream_of live for.lane)) at in
+      low_at w for back has reads least =
           let side : same_text keyspace w.target ≡ true = (same_text_decides keyspace w.target).1 (sym reads ∙ for.sides.target) in
-          subst (λ o. least_with keyspace w.target o (least_with keyspace w.source w.forward least) ≤ slot.position) (sym has)
-          (with-stream keyspace w.target (stream_of live for.lane slot) (least_with keyspace w.source w.forward least) side (in-use slot.state moves))
+          subst (λ o. least_with keyspace w.target o (least_with keyspace w.source (work.slot_of w 0 forward) least) ≤ slot.position) (sym has)
+          (with-stream keyspace w.target (stream_of live for.lane slot) (least_with keyspace w.source (work.slot_of w 0 forward) least) side (in-use slot.state moves))
+
+      low : (w : WorkflowState) (for : StandsFor p live w) → (which : StreamName) → slot_of live for.lane which ≡ Some slot → read_side live which ≡ keyspace → (least : ℕ) → least_of keyspace least w ≤ slot.position
+      low w for which at reads least =
+          subst (λ shards. fold (least_at keyspace w) least shards ≤ slot.position) (sym (shards_are p live w for))
+          (low_at w for which (slot_is p live w for which ∙ ap (option_map (stream_of live for.lane)) at) reads least)
 
   module _ (new : CoreState) (purges : PurgesCore old new) where
     are-purged : ArePurged p (primaries_of old.primaries) (primaries_of new.primaries)

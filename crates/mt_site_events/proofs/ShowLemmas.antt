@@ -3,7 +3,6 @@ use Rattle.std.proofs.Common.{◌≡◌, ℕ, Bool, true, false, not, cond, List
 use Rattle.std.specs.Option.{option_map_or}
 use Rattle.mt_model.specs.declared.entries.Scope.{Scope}
 use Rattle.mt_names.specs.declared.types.TypeSet.{TypeSet}
-use Rattle.mt_names.specs.Shards.{KeyRange, whole}
 use Rattle.mt_plain.specs.Answers.{Answers, lane_shown, range_at, show_of, shown_of}
 use Rattle.mt_plain.specs.Events.{Answer, show, forward, back, running, frozen, stopped, shown, ShownLane, Slot, Way}
 use Rattle.mt_plain.specs.Next.{next}
@@ -14,7 +13,7 @@ use Rattle.mt_stream.specs.Streams.{StreamValue, has_ended}
 use Rattle.mt_workflow.specs.Workflows.{WorkflowState}
 use Rattle.mt_site_rows.specs.Rows.{stream_of}
 use Rattle.mt_site_state.specs.Core.{CoreState, workflow_at}
-use Rattle.mt_site_state.specs.Stands.{StandsFor, StandsForAny, StandsWith}
+use Rattle.mt_site_state.specs.Stands.{StandsFor, StandsForAny, StandsWith, lane_state}
 use Rattle.mt_site_state.specs.Workflows.{ShowsWorkflow, lane_by, show_at, shown_by, slot_from}
 
 -- ---- a forward stream is always there
@@ -49,37 +48,30 @@ copy_of : (w : Live) (lane : Lane) (o : Option Slot) → is_some o ≡ true → 
 copy_of w lane None e = absurd cc
 copy_of w lane (Some s) e = ended_copy lane.copied
 
-module _ (p : Plain) (live : Live) (w : WorkflowState) (stands : StandsFor p live w) where
-  abbrev lane : Lane
-  lane = stands.lane
-
-  forward_shown : unwrap_or (option_map slot_from w.forward) (record { state = frozen; position = 0 }) ≡ unwrap_or (slot_of live lane forward) (record { state = frozen; position = lane.forward_at })
+module _ (live : Live) (lane : Lane) where
+  forward_shown : unwrap_or (option_map slot_from (lane_state live lane).forward) (record { state = frozen; position = 0 })
+      ≡ unwrap_or (slot_of live lane forward) (record { state = frozen; position = lane.forward_at })
   forward_shown =
-      ap (λ o. unwrap_or (option_map slot_from o) (record { state = frozen; position = 0 })) stands.forward
-      ∙ ap (λ o. unwrap_or o (record { state = frozen; position = 0 })) (slots_back live lane (slot_of live lane forward))
+      ap (λ o. unwrap_or o (record { state = frozen; position = 0 })) (slots_back live lane (slot_of live lane forward))
       ∙ any_default (slot_of live lane forward) (record { state = frozen; position = 0 }) (record { state = frozen; position = lane.forward_at }) (forward_there live lane live.way)
 
-  copy_shown : option_map_or (λ (s : StreamValue). has_ended s.copied) w.forward false ≡ not (is_still_copying lane.copied)
-  copy_shown = ap (λ o. option_map_or (λ (s : StreamValue). has_ended s.copied) o false) stands.forward ∙ copy_of live lane (slot_of live lane forward) (forward_there live lane live.way)
-
-  back_shown : option_map slot_from w.back ≡ slot_of live lane back
-  back_shown = ap (λ o. option_map slot_from o) stands.back ∙ slots_back live lane (slot_of live lane back)
-
-  range_shown : whole ≡ range_at live.cuts lane.shard
-  range_shown = sym (ap (λ cuts. range_at cuts lane.shard) stands.sides.cuts ∙ ap (range_at []) stands.shard)
-
-  lane_same : lane_by w ≡ lane_shown live lane
-  lane_same = by whole range_shown _ forward_shown _ copy_shown _ back_shown
+  lane_same : lane_by (lane_state live lane) ≡ lane_shown live lane
+  lane_same = by _ forward_shown _ (copy_of live lane (slot_of live lane forward) (forward_there live lane live.way)) _ (slots_back live lane (slot_of live lane back))
     where
-      by : (r : KeyRange) → r ≡ range_at live.cuts lane.shard → (f : Slot) → f ≡ unwrap_or (slot_of live lane forward) (record { state = frozen; position = lane.forward_at })
+      by : (f : Slot) → f ≡ unwrap_or (slot_of live lane forward) (record { state = frozen; position = lane.forward_at })
           → (c : Bool) → c ≡ not (is_still_copying lane.copied) → (b : Option Slot) → b ≡ slot_of live lane back
-          → record { range = r; forward = f; copied = c; back = b } ≡ lane_shown live lane
-      by r e0 f e1 c e2 b e3 = cc
+          → record { range = range_at live.cuts lane.shard; forward = f; copied = c; back = b } ≡ lane_shown live lane
+      by f e1 c e2 b e3 = cc
 
+lanes_same : (live : Live) (lanes : List Lane) → map lane_by (map (lane_state live) lanes) ≡ map (lane_shown live) lanes
+lanes_same live [] = refl
+lanes_same live (lane ∷ lanes) = ap (λ l. l ∷ map lane_by (map (lane_state live) lanes)) (lane_same live lane) ∙ ap (λ ls. lane_shown live lane ∷ ls) (lanes_same live lanes)
+
+module _ (p : Plain) (live : Live) (w : WorkflowState) (stands : StandsFor p live w) where
   pub shown_same : shown_by w ≡ shown_of live
   shown_same =
       by w.name (sym stands.sides.name) w.source (sym stands.sides.source) w.target (sym stands.sides.target) w.tables (sym stands.sides.tables) w.switched stands.switched w.way stands.way
-      (lane_by w ∷ []) (ap (λ l. l ∷ []) lane_same ∙ sym (ap (map (lane_shown live)) stands.alone))
+      (map lane_by w.lanes) (ap (map lane_by) stands.lanes ∙ lanes_same live live.lanes)
     where
       by : (n : List ℕ) → n ≡ live.name → (s : List ℕ) → s ≡ live.source → (t : List ℕ) → t ≡ live.target → (ts : List (List ℕ)) → ts ≡ live.tables
           → (types : TypeSet) → types ≡ live.switched → (way : Option Way) → way ≡ live.way → (ls : List ShownLane) → ls ≡ map (lane_shown live) live.lanes

@@ -6,7 +6,7 @@ use Rattle.std.specs.List.{AllByRecursion, range_with_len}
 use Rattle.std.specs.Option.{option_map_or}
 use Rattle.std.specs.Prelude.{Ok}
 use Rattle.mt_names.specs.Names.{same_text}
-use Rattle.mt_names.specs.Shards.{shard_count}
+use Rattle.mt_names.specs.Shards.{ranges_of, shard_count, whole}
 use Rattle.mt_names.specs.Types.{no_types}
 use Rattle.mt_names.proofs.EntryLemmas.{lookup-push_elsewhere, lookup-push_here, none_from, same_or_other}
 use Rattle.mt_names.proofs.SameLemmas.{same_text_decides}
@@ -14,14 +14,16 @@ use Rattle.mt_model.specs.declared.entries.Entry.{Entry}
 use Rattle.mt_model.specs.declared.entries.Scope.{Scope}
 use Rattle.mt_model.specs.declared.entries.Scope.TheVariants as scope
 use Rattle.mt_model.specs.Part.{with_entries, with_places}
+use Rattle.mt_model.specs.Topology.{cuts_at}
 use Rattle.mt_watch.specs.Asking.{Answering, AsksEach}
 use Rattle.mt_watch.specs.Notices.{notice_of}
-use Rattle.mt_workflow.specs.Workflows.{WorkflowState, live_of, new_stream}
+use Rattle.mt_workflow.specs.Workflows.{WorkflowState, cuts_in, live_of}
+use Rattle.mt_workflow.specs.Workflows as work
 use Rattle.mt_plain.specs.Answers.{Answers, range_at}
-use Rattle.mt_plain.specs.Events.{Answer, done, row, advanced, shown, refused, memory, watcher_refused, create, running}
+use Rattle.mt_plain.specs.Events.{Answer, done, row, advanced, shown, refused, memory, watcher_refused, create}
 use Rattle.mt_plain.specs.Next.{lane_fed, new_lane, next}
 use Rattle.mt_plain.specs.Next as plain
-use Rattle.mt_plain.specs.Plain.{Lane, Live, Plain, cuts_of, each_once, live_at, not_begun}
+use Rattle.mt_plain.specs.Plain.{Lane, Live, Plain, cuts_of, each_once, live_at}
 use Rattle.mt_plain.specs.Refuse.{is_of_primary, refusal_of}
 use Rattle.mt_plain.specs.Slots.{is_entry_at, log_length, log_of}
 use Rattle.mt_laws.specs.WayBack.{IsReached}
@@ -31,7 +33,7 @@ use Rattle.mt_primary.specs.Primary.{end_of}
 use Rattle.mt_site_rows.specs.Rows.{RowsStand}
 use Rattle.mt_site_rows.proofs.LogLemmas.{log-length}
 use Rattle.mt_site_state.specs.Core.{CoreState, primaries_of, primary_at, primary_of, with_primary, workflow_at}
-use Rattle.mt_site_state.specs.Stands.{AreWorkflows, StandsFor, StandsForAny, StandsWith}
+use Rattle.mt_site_state.specs.Stands.{AreWorkflows, StandsFor, StandsForAny, StandsWith, lane_state}
 use Rattle.mt_site_state.proofs.ShardLemmas.{StayBut}
 use Rattle.mt_site_state.specs.Workflows.{CreatesSet, change_of, create_refusal, new_of, target_made, with_created}
 use Rattle.mt_site_events.specs.Made.{AreMadeDenied}
@@ -62,18 +64,31 @@ module _ (p : Plain) (scopes : List Scope) (old : CoreState) (stands : StandsWit
   abbrev lane : Lane
   lane = lane_fed p made (new_lane (log_length p source 0) 0)
 
+  no_cuts : cuts_at old.topology.keyspaces target ≡ []
+  no_cuts = stands.topology.served.shards target ∙ stands.primaries.unsharded target
+
+  alone : v.lanes ≡ lane ∷ []
+  alone = ap (λ cuts. map (lane_fed p made) (map (new_lane (log_length p source 0)) (range_with_len 0 (shard_count cuts)))) (stands.primaries.unsharded target)
+
   stands_new : IsKept p.topology v w.kept → StandsFor q v w
   stands_new kept = record {
-    sides = record { name = refl; source = refl; target = refl; tables = refl; cuts = stands.primaries.unsharded target };
+    sides = record {
+      name = refl;
+      source = refl;
+      target = refl;
+      tables = refl;
+      cuts = stands.primaries.unsharded target ∙ sym (ap (λ cuts. cuts_in (map (work.new_lane tables (end_of (primary_of old.primaries source))) (ranges_of cuts))) no_cuts);
+    };
     switched = refl;
     way = refl;
     kept = kept;
     lane = lane;
-    alone = ap (λ cuts. map (lane_fed p made) (map (new_lane (log_length p source 0)) (range_with_len 0 (shard_count cuts)))) (stands.primaries.unsharded target);
+    alone = alone;
     shard = refl;
-    forward = ap (λ n. Some (new_stream tables n)) log_same
-        ∙ ap (λ cuts. Some (record { tables = tables; range = range_at cuts 0; copied = not_begun; position = log_length p source 0; state = running })) (sym (stands.primaries.unsharded target));
-    back = refl;
+    lanes = ap (λ cuts. map (work.new_lane tables (end_of (primary_of old.primaries source))) (ranges_of cuts)) no_cuts
+        ∙ ap (λ n. work.new_lane tables n whole ∷ []) log_same
+        ∙ ap (λ cuts. work.new_lane tables (log_length p source 0) (range_at cuts 0) ∷ []) (sym (stands.primaries.unsharded target))
+        ∙ sym (ap (map (lane_state v)) alone);
   }
 
   stands_still : (l : Option Live) (x : Option WorkflowState) → StandsForAny p l x → StandsForAny q l x
@@ -81,7 +96,7 @@ module _ (p : Plain) (scopes : List Scope) (old : CoreState) (stands : StandsWit
   stands_still None (Some x) still = still
   stands_still (Some l) None still = still
   stands_still (Some l) (Some x) still =
-      record { sides = still.sides; switched = still.switched; way = still.way; kept = still.kept; lane = still.lane; alone = still.alone; shard = still.shard; forward = still.forward; back = still.back }
+      record { sides = still.sides; switched = still.switched; way = still.way; kept = still.kept; lane = still.lane; alone = still.alone; shard = still.shard; lanes = still.lanes }
 
   module _ (free : live_at p workflow ≡ None) (live : live_at q workflow ≡ Some v) (elsewhere : (name : List ℕ) → workflow ≢ name → live_at q name ≡ live_at p name) (kept : IsKept p.topology v w.kept) where
     workflows_now : AreWorkflows q (old.workflows ++ (workflow, w) ∷ [])

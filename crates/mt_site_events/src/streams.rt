@@ -1,6 +1,6 @@
 //! Laws on the streams of a core's workflows.
 ghost use Rattle.std.specs.Prelude.{◌≡◌, ◌≢◌, ℕ, ◌≤◌, true, List, Some, is_some};
-ghost use Rattle.mt_plain.specs.Events.{StreamName, frozen};
+ghost use Rattle.mt_plain.specs.Events.{StreamName, forward, frozen};
 ghost use Rattle.mt_plain.specs.Slots.{read_side};
 ghost use Rattle.mt_primary.specs.Primary.{end_of};
 ghost use Rattle.mt_site_state.specs.Core.{CoreState, primary_of, workflow_at};
@@ -14,14 +14,14 @@ use mt_laws::positions_never_fall;
 /// the primary that it reads, which keeps the entries from there on, unless the stream is frozen.
 pub fn streams_of_a_core_lie_in_their_logs()
     ensures forward { (core : CoreState) → IsCore core → (name : List ℕ) (w : WorkflowState)
-        → workflow_at core.workflows name ≡ Some w → is_some w.forward ≡ true }
-    ensures tables { (core : CoreState) → IsCore core → (name : List ℕ) (w : WorkflowState) (stream : StreamName) (s : StreamValue)
-        → workflow_at core.workflows name ≡ Some w → slot_of w stream ≡ Some s → s.tables ≡ w.tables }
-    ensures position { (core : CoreState) → IsCore core → (name : List ℕ) (w : WorkflowState) (stream : StreamName) (s : StreamValue)
-        → workflow_at core.workflows name ≡ Some w → slot_of w stream ≡ Some s
+        → workflow_at core.workflows name ≡ Some w → is_some (slot_of w 0 forward) ≡ true }
+    ensures tables { (core : CoreState) → IsCore core → (name : List ℕ) (w : WorkflowState) (shard : ℕ) (stream : StreamName) (s : StreamValue)
+        → workflow_at core.workflows name ≡ Some w → slot_of w shard stream ≡ Some s → s.tables ≡ w.tables }
+    ensures position { (core : CoreState) → IsCore core → (name : List ℕ) (w : WorkflowState) (shard : ℕ) (stream : StreamName) (s : StreamValue)
+        → workflow_at core.workflows name ≡ Some w → slot_of w shard stream ≡ Some s
         → s.position ≤ end_of (primary_of core.primaries (read_side (live_of w) stream)) }
-    ensures kept { (core : CoreState) → IsCore core → (name : List ℕ) (w : WorkflowState) (stream : StreamName) (s : StreamValue)
-        → workflow_at core.workflows name ≡ Some w → slot_of w stream ≡ Some s → s.state ≢ frozen
+    ensures kept { (core : CoreState) → IsCore core → (name : List ℕ) (w : WorkflowState) (shard : ℕ) (stream : StreamName) (s : StreamValue)
+        → workflow_at core.workflows name ≡ Some w → slot_of w shard stream ≡ Some s → s.state ≢ frozen
         → (primary_of core.primaries (read_side (live_of w) stream)).log.purged ≤ s.position }
 {
     positions_never_fall();

@@ -1,5 +1,5 @@
 -- What of a log is needed, and a log that is purged below it.
-use Rattle.std.proofs.Common.{◌≡◌, ◌⊎◌, inl, inr, ℕ, suc, ◌+◌, ◌-◌, ◌≤◌, ◌<◌, Bool, true, false, cond, List, [], ◌∷◌, drop, Option, None, Some, leb, refl, sym, ap, subst, ◌∙◌, arith}
+use Rattle.std.proofs.Common.{◌≡◌, ◌⊎◌, inl, inr, ℕ, suc, ◌+◌, ◌-◌, ◌≤◌, ◌<◌, Bool, true, false, cond, List, [], ◌∷◌, drop, fold, Option, None, Some, leb, refl, sym, ap, subst, ◌∙◌, arith}
 use Rattle.std.proofs.Math.Nat.{min-le_left, min-le_right}
 use Rattle.std.proofs.lemmas.Bool.Decides.{leb_tells}
 use Rattle.std.proofs.lemmas.List.{length-drop}
@@ -9,9 +9,11 @@ use Rattle.mt_log.specs.Log.{LogState, purged_by, without_first}
 use Rattle.mt_primary.specs.Primary.{PrimaryState, end_of}
 use Rattle.mt_primary.specs.Writes.{with_purge}
 use Rattle.mt_stream.specs.Streams.{StreamValue}
-use Rattle.mt_workflow.specs.Workflows.{WorkflowState}
+use Rattle.mt_plain.specs.Events.{forward, back}
+use Rattle.mt_workflow.specs.Workflows.{WorkflowState, slot_of}
+use Rattle.mt_steps.specs.Shards.{shards_of}
 use Rattle.mt_site_state.specs.Core.{Workflows, workflow_at}
-use Rattle.mt_site_state.specs.Purges.{first_needed, is_in_use, least_of, least_with}
+use Rattle.mt_site_state.specs.Purges.{first_needed, is_in_use, least_at, least_of, least_with}
 
 -- ---- the least position
 
@@ -26,11 +28,21 @@ with-le keyspace side (Some stream) least = by (same_text keyspace side && is_in
     by true = min-le_left least stream.position
     by false = le-refl least
 
-pub of-le : (keyspace : List ℕ) (least : ℕ) (w : WorkflowState) → least_of keyspace least w ≤ least
-of-le keyspace least w =
-    let a = with-le keyspace w.source w.forward least in
-    let b = with-le keyspace w.target w.back (least_with keyspace w.source w.forward least) in
+pub at-le : (keyspace : List ℕ) (w : WorkflowState) (least shard : ℕ) → least_at keyspace w least shard ≤ least
+at-le keyspace w least shard =
+    let a = with-le keyspace w.source (slot_of w shard forward) least in
+    let b = with-le keyspace w.target (slot_of w shard back) (least_with keyspace w.source (slot_of w shard forward) least) in
     omega (arith, a, b)
+
+pub of-le : (keyspace : List ℕ) (least : ℕ) (w : WorkflowState) → least_of keyspace least w ≤ least
+of-le keyspace least w = each (shards_of w) least
+  where
+    each : (shards : List ℕ) (least : ℕ) → fold (least_at keyspace w) least shards ≤ least
+    each [] least = le-refl least
+    each (shard ∷ shards) least =
+        let a = at-le keyspace w least shard in
+        let b = each shards (least_at keyspace w least shard) in
+        omega (arith, a, b)
 
 pub needed-le : (workflows : Workflows) (keyspace : List ℕ) (end : ℕ) → first_needed workflows keyspace end ≤ end
 needed-le [] keyspace end = le-refl end
@@ -80,9 +92,17 @@ with-next keyspace side (Some stream) from low high near = by (same_text keyspac
     by true = both near
     by false = near
 
+at-next : (keyspace : List ℕ) (w : WorkflowState) (from low high shard : ℕ) → NextTo from low high → NextTo from (least_at keyspace w low shard) (least_at keyspace w high shard)
+at-next keyspace w from low high shard near =
+    with-next keyspace w.target (slot_of w shard back) from (least_with keyspace w.source (slot_of w shard forward) low) (least_with keyspace w.source (slot_of w shard forward) high)
+    (with-next keyspace w.source (slot_of w shard forward) from low high near)
+
 of-next : (keyspace : List ℕ) (w : WorkflowState) (from low high : ℕ) → NextTo from low high → NextTo from (least_of keyspace low w) (least_of keyspace high w)
-of-next keyspace w from low high near =
-    with-next keyspace w.target w.back from (least_with keyspace w.source w.forward low) (least_with keyspace w.source w.forward high) (with-next keyspace w.source w.forward from low high near)
+of-next keyspace w from = each (shards_of w)
+  where
+    each : (shards : List ℕ) (low high : ℕ) → NextTo from low high → NextTo from (fold (least_at keyspace w) low shards) (fold (least_at keyspace w) high shards)
+    each [] low high near = near
+    each (shard ∷ shards) low high near = each shards (least_at keyspace w low shard) (least_at keyspace w high shard) (at-next keyspace w from low high shard near)
 
 fold-next : (workflows : Workflows) (keyspace : List ℕ) (from low high : ℕ) → NextTo from low high → NextTo from (first_needed workflows keyspace low) (first_needed workflows keyspace high)
 fold-next [] keyspace from low high near = near

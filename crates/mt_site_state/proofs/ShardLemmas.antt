@@ -1,18 +1,21 @@
 -- The primaries by keyspace and shard, where each keyspace has one shard; and the one lane of a live workflow.
-use Rattle.std.proofs.Common.{◌≡◌, ◌≢◌, inl, ℕ, zero, suc, Bool, true, false, cond, eqb, List, [], ◌∷◌, find, None, Some, refl, sym, ap, ◌∙◌, subst}
-use Rattle.std.specs.List.{list_any}
-use Rattle.std.specs.Prelude.{◌||◌}
+use Rattle.std.proofs.Common.{◌≡◌, ◌≢◌, inl, ℕ, zero, suc, Bool, true, false, cond, eqb, List, [], ◌∷◌, find, length, map, None, Some, refl, sym, ap, ◌∙◌, subst}
+use Rattle.std.specs.List.{list_any, range_with_len}
+use Rattle.std.specs.Prelude.{◌||◌, option_and_then, option_map, slice_get}
 use Rattle.mt_names.specs.Shards.{holds, shard_of}
 use Rattle.mt_primary.specs.Primary.{empty_primary, row_at}
 use Rattle.mt_plain.specs.Answers.{range_at}
 use Rattle.mt_plain.specs.Events.{StreamName, forward, back}
 use Rattle.mt_plain.specs.Plain.{Lane, Live, Plain, lane_at, shard_at}
-use Rattle.mt_plain.specs.Slots.{read_shard, written_shard}
+use Rattle.mt_plain.specs.Slots.{read_shard, slot_of, written_shard}
 use Rattle.mt_laws.proofs.LiveLemmas.{IsIn}
-use Rattle.mt_site_rows.specs.Rows.{HoldsItsKeys, OtherKeyspacesStay, OtherTablesStay, OthersStay}
+use Rattle.mt_site_rows.specs.Rows.{HoldsItsKeys, OtherKeyspacesStay, OtherTablesStay, OthersStay, stream_of}
 use Rattle.mt_site_state.specs.Core.{Primaries, primaries_of, primary_of}
-use Rattle.mt_site_state.specs.Stands.{ArePrimaries, StandsFor}
-use Rattle.mt_workflow.specs.Workflows.{WorkflowState}
+use Rattle.mt_site_state.specs.Stands.{ArePrimaries, StandsFor, lane_state}
+use Rattle.mt_steps.specs.Shards.{shards_of}
+use Rattle.mt_stream.specs.Streams.{StreamValue}
+use Rattle.mt_workflow.specs.Workflows.{WorkflowState, cuts_in, lane_slot}
+use Rattle.mt_workflow.specs.Workflows as workflow
 
 -- ---- primaries
 
@@ -68,6 +71,24 @@ any_alone test lanes lane alone = ap (list_any test) alone ∙ by (test lane)
     by false = refl
 
 module _ (p : Plain) (live : Live) (w : WorkflowState) (for : StandsFor p live w) where
+  pub one_lane : w.lanes ≡ lane_state live for.lane ∷ []
+  one_lane = for.lanes ∙ ap (map (lane_state live)) for.alone
+
+  pub no_cuts : live.cuts ≡ []
+  no_cuts = for.sides.cuts ∙ ap cuts_in one_lane
+
+  pub shards_are : shards_of w ≡ 0 ∷ []
+  shards_are = ap (λ lanes. range_with_len 0 (length lanes)) one_lane
+
+  -- its streams are those of the live one
+  pub slot_is : (stream : StreamName) → workflow.slot_of w 0 stream ≡ option_map (stream_of live for.lane) (slot_of live for.lane stream)
+  slot_is forward = ap (λ lanes. option_and_then (lane_slot forward) (slice_get lanes 0)) one_lane
+  slot_is back = ap (λ lanes. option_and_then (lane_slot back) (slice_get lanes 0)) one_lane
+
+  pub slot_first : (n : ℕ) (stream : StreamName) (s : StreamValue) → workflow.slot_of w n stream ≡ Some s → workflow.slot_of w 0 stream ≡ Some s
+  slot_first zero stream s at = at
+  slot_first (suc n) stream s at = absurd (let none : None ≡ Some s = sym (ap (λ lanes. option_and_then (lane_slot stream) (slice_get lanes (suc n))) one_lane) ∙ at in cc)
+
   pub lane_found : lane_at live 0 ≡ Some for.lane
   lane_found = ap (find (λ (lane : Lane). eqb lane.shard 0)) for.alone ∙ ap (λ n. cond (eqb n 0) (Some for.lane) None) for.shard
 
@@ -82,8 +103,8 @@ module _ (p : Plain) (live : Live) (w : WorkflowState) (for : StandsFor p live w
 
   pub has_keys : HoldsItsKeys live for.lane
   has_keys key =
-      ap (λ cuts. holds (range_at cuts for.lane.shard) key) for.sides.cuts ∙ ap (λ n. holds (range_at [] n) key) for.shard
-      ∙ sym (ap (λ cuts. eqb (shard_of cuts key) for.lane.shard) for.sides.cuts ∙ ap (eqb 0) for.shard)
+      ap (λ cuts. holds (range_at cuts for.lane.shard) key) no_cuts ∙ ap (λ n. holds (range_at [] n) key) for.shard
+      ∙ sym (ap (λ cuts. eqb (shard_of cuts key) for.lane.shard) no_cuts ∙ ap (eqb 0) for.shard)
 
   pub read_first : (stream : StreamName) → read_shard for.lane stream ≡ 0
   read_first forward = refl

@@ -2,11 +2,12 @@
 -- are purged file by file).
 use Rattle.std.specs.Prelude.{◌≡◌, ℕ, ◌+◌, ◌-◌, ◌%◌, ◌==◌, ◌≤◌, ◌<◌, Bool, true, false, ◌&&◌, if◌then◌else◌, List, fold, length, map, min, Option, None, Some, is_some}
 use Rattle.mt_names.specs.Names.{same_text}
-use Rattle.mt_plain.specs.Events.{Answer, done, refused, StreamState, frozen}
+use Rattle.mt_plain.specs.Events.{Answer, done, refused, StreamState, forward, back, frozen}
 use Rattle.mt_primary.specs.Primary.{PrimaryState, end_of}
 use Rattle.mt_primary.specs.Writes.{with_purge}
 use Rattle.mt_stream.specs.Streams.{StreamValue}
-use Rattle.mt_workflow.specs.Workflows.{WorkflowState}
+use Rattle.mt_workflow.specs.Workflows.{WorkflowState, slot_of}
+use Rattle.mt_steps.specs.Shards.{shards_of}
 use Rattle.mt_site_state.specs.Core.{CoreState, Workflows, primary_at, primary_of, with_primary}
 
 -- whether a stream in a state is in use: it runs, or it is stopped; one that is frozen never reads again
@@ -19,9 +20,13 @@ abbrev pub least_with : (keyspace side : List ℕ) → Option StreamValue → �
 least_with keyspace side None least = least
 least_with keyspace side (Some stream) least = if same_text keyspace side && is_in_use stream.state then min least stream.position else least
 
+-- a position, or that of a stream of a shard of a workflow's target, if it is less
+abbrev pub least_at : (keyspace : List ℕ) → WorkflowState → ℕ → (shard : ℕ) → ℕ
+least_at keyspace w least shard = least_with keyspace w.target (slot_of w shard back) (least_with keyspace w.source (slot_of w shard forward) least)
+
 -- a position, or that of a stream of a workflow, if it is less
 abbrev pub least_of : (keyspace : List ℕ) → ℕ → WorkflowState → ℕ
-least_of keyspace least w = least_with keyspace w.target w.back (least_with keyspace w.source w.forward least)
+least_of keyspace least w = fold (least_at keyspace w) least (shards_of w)
 
 -- the first entry of a keyspace's log that is needed: the least position of the streams that read it and are in use, and the log's end if
 -- there is none

@@ -5,8 +5,8 @@ use Rattle.std.specs.Map.{keys_of}
 use Rattle.mt_model.specs.declared.entries.Scope.{Scope}
 use Rattle.mt_primary.specs.Primary.{is_denied_at}
 use Rattle.mt_primary.specs.Primary as primary
-use Rattle.mt_workflow.specs.Workflows.{WorkflowState, live_of}
-use Rattle.mt_plain.specs.Answers.{Answers}
+use Rattle.mt_workflow.specs.Workflows.{LaneState, WorkflowState, live_of}
+use Rattle.mt_plain.specs.Answers.{Answers, range_at}
 use Rattle.mt_plain.specs.Events.{Event, Answer, forward, back}
 use Rattle.mt_plain.specs.Next.{next}
 use Rattle.mt_plain.specs.Plain.{Lane, Live, Plain, cuts_of, has_keyspace, live_at}
@@ -29,8 +29,16 @@ pub record ArePrimaries (p : Plain) (primaries : Primaries) : Type 0 where
   pub tables : (keyspace table : List ℕ) → primary.has_table (primary_of primaries keyspace) table ≡ has_table p keyspace table
   pub denials : (keyspace table : List ℕ) → is_denied_at (primary_of primaries keyspace) table ≡ refuses p keyspace 0 table
 
+-- a lane of a live workflow as a workflow has it: the key range of its shard, and its streams
+abbrev pub lane_state : Live → Lane → LaneState
+lane_state live lane = record {
+  range = range_at live.cuts lane.shard;
+  forward = option_map (stream_of live lane) (slot_of live lane forward);
+  back = option_map (stream_of live lane) (slot_of live lane back);
+}
+
 -- a workflow stands for a live one with one lane: its name, sides and tables, the types that it has switched, the way that is open, and its
--- streams are those of the live one, and what it keeps of the rules is what the topology says in its part as if no workflow were live
+-- lanes are those of the live one, and what it keeps of the rules is what the topology says in its part as if no workflow were live
 pub record StandsFor (p : Plain) (live : Live) (w : WorkflowState) : Type 0 where
   pub sides : HasSides live (live_of w)
   pub switched : w.switched ≡ live.switched
@@ -39,8 +47,7 @@ pub record StandsFor (p : Plain) (live : Live) (w : WorkflowState) : Type 0 wher
   pub lane : Lane
   pub alone : live.lanes ≡ lane ∷ []
   pub shard : lane.shard ≡ 0
-  pub forward : w.forward ≡ option_map (stream_of live lane) (slot_of live lane forward)
-  pub back : w.back ≡ option_map (stream_of live lane) (slot_of live lane back)
+  pub lanes : w.lanes ≡ map (lane_state live) live.lanes
 
 -- the same where there may be none
 abbrev pub StandsForAny : Plain → Option Live → Option WorkflowState → Type 0

@@ -1,14 +1,15 @@
 -- What an event on a way does to the controller: a way is begun, forward or back; its next step is done, or its last one undone; and a
 -- workflow is completed (MoveTables: SwitchTraffic, ReverseTraffic, Complete). All of this page is this profile's own, unless a comment
 -- names a page of Vitess's documentation.
-use Rattle.std.specs.Prelude.{◌≡◌, ⊤, ℕ, suc, Bool, true, false, not, ◌==◌, nat_le, List, [], ◌∷◌, ◌++◌, fold, Option, None, Some, Result, Ok, Err}
+use Rattle.std.specs.Prelude.{◌≡◌, ⊤, ℕ, suc, Bool, true, false, not, ◌==◌, nat_le, List, [], ◌∷◌, ◌++◌, fold, length, Option, None, Some, Result, Ok, Err}
+use Rattle.std.specs.List.{list_all}
 use Rattle.std.specs.Map.{remove_entry, set_value}
 use Rattle.std.specs.Option.{option_map_or}
 use Rattle.mt_names.specs.declared.types.TypeSet.{TypeSet}
 use Rattle.mt_names.specs.Names.{same_text}
 use Rattle.mt_model.specs.declared.entries.Scope.{Scope}
 use Rattle.mt_model.specs.Part.{with_entries, without_places}
-use Rattle.mt_plain.specs.Events.{Answer, done, refused, Refusal, memory, no_workflow, nothing_to_switch, nothing_to_reverse, copying, past_journal, stale, undoing, full, nothing_under_way, Way}
+use Rattle.mt_plain.specs.Events.{Answer, forward, done, refused, Refusal, memory, no_workflow, nothing_to_switch, nothing_to_reverse, copying, past_journal, stale, undoing, full, nothing_under_way, Way}
 use Rattle.mt_plain.specs.Next.{types_and, types_without}
 use Rattle.mt_plain.specs.Plain.{last_step, next_step, stands_done, write_journal}
 use Rattle.mt_plain.specs.Refuse.{at_rest, complete_refusal, has_more, most_ways, or_else, refuse_if, share_type}
@@ -17,11 +18,12 @@ use Rattle.mt_steps.specs.declared.fault.StepFault.{StepFault}
 use Rattle.mt_steps.specs.declared.log.OpenWay.{OpenWay}
 use Rattle.mt_steps.specs.Faults as step
 use Rattle.mt_steps.specs.Plans.{step_at}
+use Rattle.mt_steps.specs.Shards.{shards_of, target_at}
 use Rattle.mt_steps.specs.Steps.{IsUndone, SidesState, Steps}
 use Rattle.mt_steps.specs.Undo.{UndoState, new_log}
 use Rattle.mt_stream.specs.Streams.{has_ended}
 use Rattle.mt_watch.specs.Asking.{Answering}
-use Rattle.mt_workflow.specs.Workflows.{WorkflowState, live_of}
+use Rattle.mt_workflow.specs.Workflows.{WorkflowState, live_of, slot_of}
 use Rattle.mt_site_topology.specs.Keys.{end_entries, end_keys}
 use Rattle.mt_site_state.specs.Core.{CoreState, primary_of, with_primary, workflow_at}
 use Rattle.mt_site_state.specs.Ways.{OpenWays, SiteState, open_at}
@@ -42,7 +44,7 @@ with_workflow core w = record core { workflows = set_value (same_text w.name) co
 
 -- the way that changes the switched types to these
 abbrev pub way_to : WorkflowState → (backward : Bool) → (types : TypeSet) → Way
-way_to w backward types = record { back = backward; shards = 1; before = w.switched; after = types; done = 0; undoing = false }
+way_to w backward types = record { back = backward; shards = length w.lanes; before = w.switched; after = types; done = 0; undoing = false }
 
 -- it is open on the workflow, and gets the next number, the first one 1; what is kept for its undo is kept from now on
 abbrev pub with_way : SiteState → WorkflowState → Way → SiteState
@@ -54,9 +56,13 @@ with_way s w way = record {
   };
 }
 
+-- whether all rows of a shard of a workflow's target are copied
+abbrev pub has_copied_at : WorkflowState → (shard : ℕ) → Bool
+has_copied_at w shard = option_map_or (λ stream. has_ended stream.copied) (slot_of w shard forward) false
+
 -- whether a workflow still has rows to copy
 abbrev pub is_copying : WorkflowState → Bool
-is_copying w = not (option_map_or (λ stream. has_ended stream.copied) w.forward false)
+is_copying w = not (list_all (has_copied_at w) (shards_of w))
 
 -- a limit: of the numbers of ways
 abbrev pub no_number_left : SiteState → Option Refusal
@@ -85,12 +91,12 @@ BeginsReverse old workflow types answer new = BeginsReverseAt (workflow_at old.c
 
 -- ---- a step, and an undo
 
--- what a step of a workflow's way works on
+-- what a step of a workflow's way works on; the target has one shard yet
 abbrev pub sides_of : SiteState → WorkflowState → SidesState
 sides_of s w = record {
   topology = s.core.topology;
   source = primary_of s.core.primaries w.source;
-  target = primary_of s.core.primaries w.target;
+  targets = primary_of s.core.primaries w.target ∷ [];
   workflow = w;
   journal = s.ways.journal;
 }
@@ -105,7 +111,7 @@ abbrev pub with_sides : SiteState → WorkflowState → SidesState → OpenWay �
 with_sides s w sides o = record {
   core = record {
     topology = sides.topology;
-    primaries = set_value (same_text w.target) (set_value (same_text w.source) s.core.primaries sides.source) sides.target;
+    primaries = set_value (same_text w.target) (set_value (same_text w.source) s.core.primaries sides.source) (target_at sides.targets 0);
     workflows = set_value (same_text w.name) s.core.workflows sides.workflow;
   };
   ways = record s.ways { opened = open_after s.ways.opened w.name o sides.workflow.way; journal = sides.journal };

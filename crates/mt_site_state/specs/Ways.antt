@@ -1,6 +1,6 @@
 -- The whole state of the controller: its core, and what it keeps of the ways. Which state of the definitions it stands for. All of this
 -- page is this profile's own, unless a comment names a page of Vitess's documentation.
-use Rattle.std.specs.Prelude.{◌≡◌, ℕ, ◌≤◌, Bool, true, false, List, [], ◌∷◌, length, map, Option, None, Some, is_some, option_map}
+use Rattle.std.specs.Prelude.{◌≡◌, ℕ, ◌≤◌, Bool, true, false, List, [], length, map, Option, None, Some, is_some, option_map}
 use Rattle.std.specs.List.{AllByRecursion, IsDistinct}
 use Rattle.std.specs.Map.{keys_of, lookup}
 use Rattle.std.specs.Option.{option_map_or}
@@ -11,12 +11,13 @@ use Rattle.mt_journal.specs.Journal.{entry_of}
 use Rattle.mt_steps.specs.declared.log.OpenWay.{OpenWay}
 use Rattle.mt_steps.specs.Entries.{recorded_of, step_entries}
 use Rattle.mt_steps.specs.Streams.{other_name}
+use Rattle.mt_steps.specs.Steps.{listed_at}
 use Rattle.mt_steps.specs.Undo.{IsLogOf, UndoState}
 use Rattle.mt_workflow.specs.Workflows.{WorkflowState}
 use Rattle.mt_plain.specs.Answers.{Answers}
 use Rattle.mt_plain.specs.Events.{Answer, Event, Way}
 use Rattle.mt_plain.specs.Next.{next}
-use Rattle.mt_plain.specs.Plain.{Lane, Live, Plain, create_back, live_at, refresh_source, stands_done, write_journal}
+use Rattle.mt_plain.specs.Plain.{Live, Plain, create_back, live_at, refresh_source, stands_done, write_journal}
 use Rattle.mt_plain.specs.Slots.{slot_before_way}
 use Rattle.mt_laws.specs.Texts.{BringsNames}
 use Rattle.mt_laws.specs.WayBack.{IsReached}
@@ -63,13 +64,13 @@ IsGiven begun number = (1 ≤ number) × (number ≤ begun)
 -- ---- what is kept of an open way
 
 -- as long as the journal isn't written, what is kept gives back what stood before each step that stands done: the entries of the step as
--- they were before the way, an own list without the tables, and the stream of the one lane that was there in place of the one that the way has
+-- they were before the way, an own list without the tables, and for each lane the stream that was there in place of the one that the way has
 -- made
 pub record GivesBack (live : Live) (w : WorkflowState) (way : Way) (log : UndoState) : Type 0 where
   pub entries : (n : ℕ) → stands_done way n ≡ true → recorded_of w n log.entries ≡ step_entries w way.before n
-  pub listed : stands_done way refresh_source ≡ true → log.listed ≡ Some (map (λ table. (table, false)) w.tables)
-  pub slot : (lane : Lane) → live.lanes ≡ lane ∷ [] → stands_done way create_back ≡ true
-      → log.slot ≡ option_map (stream_of live lane) (slot_before_way live lane (other_name way))
+  pub listed : stands_done way refresh_source ≡ true → listed_at log 0 ≡ Some (map (λ table. (table, false)) w.tables)
+  pub slots : stands_done way create_back ≡ true
+      → log.slots ≡ map (λ lane. option_map (stream_of live lane) (slot_before_way live lane (other_name way))) live.lanes
 
 -- an open way is that of a workflow: what is kept is kept for it, and until the journal has the way's entry it gives back what stood before
 pub record IsOpenOn (journal : List JournalEntry) (live : Live) (w : WorkflowState) (way : Way) (o : OpenWay) : Type 0 where

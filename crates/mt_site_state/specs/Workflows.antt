@@ -1,11 +1,10 @@
 -- What an event on a workflow does to a core: it is created, advanced, cancelled and shown (MoveTables: Create, Cancel, Show). All of this
 -- page is this profile's own, unless a comment names a page of Vitess's documentation.
-use Rattle.std.specs.Prelude.{◌≡◌, ℕ, Bool, true, false, not, ◌==◌, ◌||◌, nat_le, List, [], ◌∷◌, ◌++◌, fold, length, Option, None, Some, is_some, unwrap_or, option_map, Result, Ok, Err}
+use Rattle.std.specs.Prelude.{◌≡◌, ℕ, Bool, true, false, not, ◌==◌, ◌||◌, nat_le, List, [], ◌∷◌, ◌++◌, fold, length, Option, None, Some, is_some, unwrap_or, option_map, map, Result, Ok, Err}
 use Rattle.std.specs.List.{list_any}
 use Rattle.std.specs.Map.{remove_entry, set_value}
 use Rattle.std.specs.Option.{option_map_or}
 use Rattle.mt_names.specs.Names.{same_text}
-use Rattle.mt_names.specs.Shards.{whole}
 use Rattle.mt_names.specs.Types.{no_types}
 use Rattle.mt_model.specs.declared.entries.Entry.{Entry}
 use Rattle.mt_model.specs.declared.entries.Scope.{Scope}
@@ -25,7 +24,7 @@ use Rattle.mt_stream.specs.Streams.{StreamValue, has_ended}
 use Rattle.mt_workflow.specs.Creates as create
 use Rattle.mt_workflow.specs.declared.fault.WorkflowFault.{WorkflowFault}
 use Rattle.mt_workflow.specs.declared.fault.WorkflowFault.TheVariants as fault
-use Rattle.mt_workflow.specs.Workflows.{WorkflowState, live_of, new_workflow, slot_of, with_slot}
+use Rattle.mt_workflow.specs.Workflows.{LaneState, WorkflowState, live_of, new_workflow, slot_of, with_slot}
 use Rattle.mt_plain.specs.Asks.{create_change}
 use Rattle.mt_plain.specs.Events.{StreamName, Slot, Shown, ShownLane, frozen, Answer, done, shown, refused, Refusal, memory, no_keyspace, no_table, workflow_exists, no_workflow, table_in_workflow, rule_conflict, target_has_table, same_keyspace, no_tables, watcher_refused, no_watcher, stream_stopped, full}
 use Rattle.mt_plain.specs.Plain.{among, each_once}
@@ -78,10 +77,10 @@ create_refusal core scopes workflow source target tables =
 
 -- ---- Create: what it makes
 
--- the new workflow: it keeps the rules that stand in its part, and its stream reads the source's log from its end on
+-- the new workflow: it keeps the rules that stand in its part, and its streams read the source's log from its end on
 abbrev pub new_of : CoreState → (workflow source target : List ℕ) → List (List ℕ) → WorkflowState
 new_of core workflow source target tables =
-    new_workflow core.topology.rules workflow source target tables (end_of (primary_of core.primaries source))
+    new_workflow core.topology workflow source target tables (end_of (primary_of core.primaries source))
 
 -- the change with which the watchers of the target's primary are asked
 abbrev pub change_of : WorkflowState → List Entry
@@ -140,14 +139,14 @@ Cancels old workflow answer new = CancelsAt (workflow_at old.workflows workflow)
 
 -- ---- Advance
 
--- the core with another stream of a workflow, and another primary at the side that the stream writes
+-- the core with another stream of the first shard of a workflow's target, and another primary at the side that the stream writes
 abbrev pub with_advanced : CoreState → WorkflowState → StreamName → StreamValue → (sink : PrimaryState) → CoreState
 with_advanced core w name stream sink = record core {
   primaries = set_value (same_text (written_side (live_of w) name)) core.primaries sink;
-  workflows = set_value (same_text w.name) core.workflows (with_slot w name (Some stream));
+  workflows = set_value (same_text w.name) core.workflows (with_slot w 0 name (Some stream));
 }
 
--- a stream of a workflow advances between the primaries of its sides (MoveTables: the copy phase and the catchup)
+-- a stream of that shard advances between the primaries of its sides (MoveTables: the copy phase and the catchup)
 abbrev pub AdvancesStream : Option StreamValue → CoreState → WorkflowState → StreamName → (at at_most : ℕ) → Answer → CoreState → Type 0
 AdvancesStream None old w name at at_most answer new = (answer ≡ refused stream_stopped) × (new ≡ old)
 AdvancesStream (Some stream) old w name at at_most answer new =
@@ -157,7 +156,7 @@ AdvancesStream (Some stream) old w name at at_most answer new =
 
 abbrev pub AdvancesAt : Option WorkflowState → CoreState → StreamName → (at at_most : ℕ) → Answer → CoreState → Type 0
 AdvancesAt None old name at at_most answer new = (answer ≡ refused no_workflow) × (new ≡ old)
-AdvancesAt (Some w) old name at at_most answer new = AdvancesStream (slot_of w name) old w name at at_most answer new
+AdvancesAt (Some w) old name at at_most answer new = AdvancesStream (slot_of w 0 name) old w name at at_most answer new
 
 abbrev pub AdvancesWorkflow : CoreState → (workflow : List ℕ) → StreamName → (at at_most : ℕ) → Answer → CoreState → Type 0
 AdvancesWorkflow old workflow name at at_most answer new = AdvancesAt (workflow_at old.workflows workflow) old name at at_most answer new
@@ -168,13 +167,13 @@ AdvancesWorkflow old workflow name at at_most answer new = AdvancesAt (workflow_
 abbrev pub slot_from : StreamValue → Slot
 slot_from stream = record { state = stream.state; position = stream.position }
 
--- what Show tells of a workflow's one lane; a forward stream is always there (MoveTables: Show)
-abbrev pub lane_by : WorkflowState → ShownLane
-lane_by w = record {
-  range = whole;
-  forward = unwrap_or (option_map slot_from w.forward) (record { state = frozen; position = 0 });
-  copied = option_map_or (λ stream. has_ended stream.copied) w.forward false;
-  back = option_map slot_from w.back;
+-- what Show tells of a lane; a forward stream is always there (MoveTables: Show)
+abbrev pub lane_by : LaneState → ShownLane
+lane_by lane = record {
+  range = lane.range;
+  forward = unwrap_or (option_map slot_from lane.forward) (record { state = frozen; position = 0 });
+  copied = option_map_or (λ stream. has_ended stream.copied) lane.forward false;
+  back = option_map slot_from lane.back;
 }
 
 -- what it tells of the workflow (MoveTables: Show)
@@ -186,7 +185,7 @@ shown_by w = record {
   tables = w.tables;
   switched = w.switched;
   way = w.way;
-  lanes = lane_by w ∷ [];
+  lanes = map lane_by w.lanes;
 }
 
 abbrev pub show_at : Option WorkflowState → Answer

@@ -46,6 +46,7 @@ static EVENTS: [Ask; 33] = [
 /// A way with a step done.
 const STEPPED: Way = Way {
     back: false,
+    shards: 1,
     before: TypeSet::NONE,
     after: TypeSet::ALL,
     done: 1,
@@ -55,6 +56,7 @@ const STEPPED: Way = Way {
 /// That way once a step was undone.
 const UNDOING: Way = Way {
     back: false,
+    shards: 1,
     before: TypeSet::NONE,
     after: TypeSet::ALL,
     done: 1,

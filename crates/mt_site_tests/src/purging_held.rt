@@ -117,6 +117,7 @@ const REVERSE_UNDONE: [Act; 25] = [
             TypeSet::ALL,
             Some(Way {
                 back: true,
+                shards: 1,
                 before: TypeSet::ALL,
                 after: TypeSet::NONE,
                 done: 5,

@@ -62,6 +62,7 @@ const OPENED: [Act; 3] = [
             TypeSet::NONE,
             Some(Way {
                 back: false,
+                shards: 1,
                 before: TypeSet::NONE,
                 after: TypeSet::ALL,
                 done: 0,
@@ -83,6 +84,7 @@ const READS_SWITCHED: [Act; 6] = [
             TypeSet::NONE,
             Some(Way {
                 back: false,
+                shards: 1,
                 before: TypeSet::NONE,
                 after: TypeSet::ALL,
                 done: 1,
@@ -130,6 +132,7 @@ const BEFORE_JOURNAL: [Act; 13] = [
             TypeSet::NONE,
             Some(Way {
                 back: false,
+                shards: 1,
                 before: TypeSet::NONE,
                 after: TypeSet::ALL,
                 done: 5,
@@ -147,6 +150,7 @@ const BEFORE_JOURNAL: [Act; 13] = [
             TypeSet::NONE,
             Some(Way {
                 back: false,
+                shards: 1,
                 before: TypeSet::NONE,
                 after: TypeSet::ALL,
                 done: 6,
@@ -168,6 +172,7 @@ const PAST_JOURNAL: [Act; 17] = [
             TypeSet::ALL,
             Some(Way {
                 back: false,
+                shards: 1,
                 before: TypeSet::NONE,
                 after: TypeSet::ALL,
                 done: 7,
@@ -217,6 +222,7 @@ const REVERSED: [Act; 34] = [
             TypeSet::ALL,
             Some(Way {
                 back: true,
+                shards: 1,
                 before: TypeSet::ALL,
                 after: TypeSet::NONE,
                 done: 0,
@@ -250,6 +256,7 @@ const REVERSED: [Act; 34] = [
             TypeSet::ALL,
             Some(Way {
                 back: true,
+                shards: 1,
                 before: TypeSet::ALL,
                 after: TypeSet::NONE,
                 done: 6,
@@ -267,6 +274,7 @@ const REVERSED: [Act; 34] = [
             TypeSet::NONE,
             Some(Way {
                 back: true,
+                shards: 1,
                 before: TypeSet::ALL,
                 after: TypeSet::NONE,
                 done: 7,
@@ -352,6 +360,7 @@ const SOURCE_REFUSES: [Act; 10] = [
             TypeSet::NONE,
             Some(Way {
                 back: false,
+                shards: 1,
                 before: TypeSet::NONE,
                 after: TypeSet::ALL,
                 done: 2,
@@ -383,6 +392,7 @@ const TARGET_REFUSES: [Act; 11] = [
             TypeSet::ALL,
             Some(Way {
                 back: false,
+                shards: 1,
                 before: TypeSet::NONE,
                 after: TypeSet::ALL,
                 done: 8,

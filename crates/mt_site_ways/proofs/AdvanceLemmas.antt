@@ -1,12 +1,11 @@
 -- An advance keeps each way: a stream moves on where none is to be given back.
 use Rattle.std.proofs.Common.{◌≡◌, ◌≢◌, ⊎_elim, ℕ, List, Option, None, Some, refl, sym, ap, ◌∙◌, subst}
 use Rattle.std.specs.Map.{set_value}
-use Rattle.std.specs.Prelude.{option_map, Result, Ok, Err}
+use Rattle.std.specs.Prelude.{map, Result, Ok, Err}
 use Rattle.mt_names.specs.Names.{same_text}
 use Rattle.mt_names.proofs.EntryLemmas.{lookup-set_value_elsewhere, lookup-set_value_here, same_or_other}
 use Rattle.mt_names.proofs.SameLemmas.{same_text_decides}
 use Rattle.mt_model.specs.declared.entries.Scope.{Scope}
-use Rattle.mt_steps.specs.Streams.{other_name}
 use Rattle.mt_stream.specs.declared.fault.StreamFault.{StreamFault}
 use Rattle.mt_stream.specs.declared.stream.Advanced.{Advanced}
 use Rattle.mt_stream.specs.Streams.{StreamValue}
@@ -17,52 +16,51 @@ use Rattle.mt_plain.specs.Events.{Answer, StreamName, Way, Refusal, no_workflow,
 use Rattle.mt_plain.specs.Next.{next}
 use Rattle.mt_plain.specs.Plain.{Lane, Live, Plain, lane_at, live_at}
 use Rattle.mt_plain.specs.Refuse.{advance_at, advance_refusal, in_lane_at, in_workflow, refusal_of}
-use Rattle.mt_plain.specs.Slots.{running_at, slot_before_way, slot_of}
+use Rattle.mt_plain.specs.Slots.{running_at, slot_of}
 use Rattle.mt_laws.specs.Reached.{IsOnCourse}
 use Rattle.mt_site_rows.specs.Answers.{answer_by_stream}
-use Rattle.mt_site_rows.specs.Rows.{stream_of}
 use Rattle.mt_site_events.proofs.FoundLemmas.{live_of_state}
 use Rattle.mt_site_state.specs.Core.{CoreState, Workflows, workflow_at}
 use Rattle.mt_site_state.specs.Stands.{StandsFor, StandsWith}
 use Rattle.mt_site_state.specs.Ways.{IsOpenOn}
 use Rattle.mt_site_state.specs.Workflows.{AdvancesAt, AdvancesStream, AdvancesWorkflow}
-use Rattle.mt_site_ways.proofs.WholeOpenLemmas.{SameSlot, none_runs, open_with_slot, way_with_slot}
+use Rattle.mt_site_ways.proofs.WholeOpenLemmas.{SameSlots, none_runs, open_with_slot, saved}
 use Rattle.mt_site_ways.proofs.WaysLemmas.{KeepsWay, Laws, WasOpen, is_under_way-found, same_keeps}
 
 -- ---- a workflow with another stream
 
 module _ (p q : Plain) (old : Workflows) (workflow : List ℕ) (w : WorkflowState) (found : workflow_at old workflow ≡ Some w) (before : Live) (is_before : live_at p workflow ≡ Some before)
-    (name : StreamName) (s : Option StreamValue) (same : (live : Live) (way : Way) → live_at q workflow ≡ Some live → w.way ≡ Some way → SameSlot before live way)
+    (name : StreamName) (s : Option StreamValue) (same : (live : Live) (way : Way) → live_at q workflow ≡ Some live → w.way ≡ Some way → SameSlots before live way)
     (elsewhere : (n : List ℕ) → workflow ≢ n → live_at q n ≡ live_at p n) where
   abbrev new : Workflows
-  new = set_value (same_text workflow) old (with_slot w name s)
+  new = set_value (same_text workflow) old (with_slot w 0 name s)
 
-  found_now : workflow_at new workflow ≡ Some (with_slot w name s)
-  found_now = lookup-set_value_here same_text same_text_decides old workflow (with_slot w name s) w found
+  found_now : workflow_at new workflow ≡ Some (with_slot w 0 name s)
+  found_now = lookup-set_value_here same_text same_text_decides old workflow (with_slot w 0 name s) w found
 
   was_open : (live : Live) (v : WorkflowState) (way : Way) → live_at q workflow ≡ Some live → workflow_at new workflow ≡ Some v → v.way ≡ Some way → WasOpen p old workflow live v way
   was_open live v way is_live found_v on =
-      let is : with_slot w name s ≡ v = (let e : Some (with_slot w name s) ≡ Some v = sym found_now ∙ found_v in cc) in
-      let on_w : w.way ≡ Some way = sym (way_with_slot w name s) ∙ ap (λ (x : WorkflowState). x.way) is ∙ on in
+      let is : with_slot w 0 name s ≡ v = (let e : Some (with_slot w 0 name s) ≡ Some v = sym found_now ∙ found_v in cc) in
+      let on_w : w.way ≡ Some way = ap (λ (x : WorkflowState). x.way) is ∙ on in
       record {
         before = before;
         w = w;
         is_live = is_before;
         found = found;
         on = on_w;
-        stays = λ journal o opened. subst (λ x. IsOpenOn journal live x way o) is (open_with_slot journal before live w way o (same live way is_live on_w) name s opened);
+        stays = λ journal o opened. subst (λ x. IsOpenOn journal live x way o) is (open_with_slot journal before live w way o (same live way is_live on_w) 0 name s opened);
       }
 
   here : KeepsWay p q old new workflow
   here = record {
-    there = is_under_way-found new workflow (with_slot w name s) w.way found_now (way_with_slot w name s) ∙ sym (is_under_way-found old workflow w w.way found refl);
+    there = is_under_way-found new workflow (with_slot w 0 name s) w.way found_now refl ∙ sym (is_under_way-found old workflow w w.way found refl);
     each = was_open;
   }
 
   pub slot_keeps : (n : List ℕ) → KeepsWay p q old new n
   slot_keeps n =
       ⊎_elim (λ (e : workflow ≡ n). subst (KeepsWay p q old new) e here)
-      (λ other. same_keeps p q old new n (elsewhere n other) (lookup-set_value_elsewhere same_text same_text_decides old workflow n (with_slot w name s) other))
+      (λ other. same_keeps p q old new n (elsewhere n other) (lookup-set_value_elsewhere same_text same_text_decides old workflow n (with_slot w 0 name s) other))
       (same_or_other same_text same_text_decides workflow n)
 
 -- ---- an advance that is not refused
@@ -98,11 +96,11 @@ module _ (laws : Laws) (p : Plain) (scopes : List Scope) (old new : CoreState) (
   module _ (w : WorkflowState) (found : workflow_at old.workflows workflow ≡ Some w) (live : Live) (is_live : live_at p workflow ≡ Some live) (for : StandsFor p live w) where
     -- no stream is to be given back while one advances
     by_result : (result : Result Advanced StreamFault) → Answers p (advance workflow name 0 at at_most) (answer_by_stream result)
-        → (v : Live) (way : Way) → live_at (next p (advance workflow name 0 at at_most) (answer_by_stream result)) workflow ≡ Some v → w.way ≡ Some way → SameSlot live v way
-    by_result (Err fault) given v way is_v on unwritten made lane alone =
+        → (v : Live) (way : Way) → live_at (next p (advance workflow name 0 at at_most) (answer_by_stream result)) workflow ≡ Some v → w.way ≡ Some way → SameSlots live v way
+    by_result (Err fault) given v way is_v on unwritten made =
         let same : live ≡ v = (let e : Some live ≡ Some v = sym is_live ∙ is_v in cc) in
-        (lane, ap (λ (l : Live). l.lanes) same ∙ alone, sym (ap (λ (l : Live). option_map (stream_of l lane) (slot_before_way l lane (other_name way))) same))
-    by_result (Ok counts) given v way is_v on unwritten made lane alone =
+        sym (ap (λ (l : Live). map (saved l way) l.lanes) same)
+    by_result (Ok counts) given v way is_v on unwritten made =
         let on_live = sym for.way ∙ on in
         let (runner, position, runs) = stream_runs p live workflow name 0 at at_most is_live given.0 in
         absurd (none_runs live way on_live (course live is_live way on_live).within unwritten made runner name position runs)
@@ -115,17 +113,17 @@ module _ (laws : Laws) (p : Plain) (scopes : List Scope) (old new : CoreState) (
         (slot_keeps p (next p (advance workflow name 0 at at_most) (answer_by_stream is.0)) old.workflows workflow w found live is_live name (Some is.1)
         (by_result is.0 (subst (Answers p (advance workflow name 0 at at_most)) is.4 given)) (laws.elsewhere p (advance workflow name 0 at at_most) (answer_by_stream is.0)) n))
       where
-        workflows_are : new.workflows ≡ set_value (same_text workflow) old.workflows (with_slot w name (Some is.1))
+        workflows_are : new.workflows ≡ set_value (same_text workflow) old.workflows (with_slot w 0 name (Some is.1))
         workflows_are =
             ap (λ (c : CoreState). c.workflows) is.5
-            ∙ ap (λ k. set_value (same_text k) old.workflows (with_slot w name (Some is.1))) (sym for.sides.name ∙ named live is_live)
+            ∙ ap (λ k. set_value (same_text k) old.workflows (with_slot w 0 name (Some is.1))) (sym for.sides.name ∙ named live is_live)
 
   workflow_keeps : (answer : Answer) (o : Option WorkflowState) → workflow_at old.workflows workflow ≡ o → AdvancesAt o old name at at_most answer new
       → Answers p (advance workflow name 0 at at_most) answer → Kept answer
   workflow_keeps answer None none is given = unchanged answer no_workflow is.0 is.1
   workflow_keeps answer (Some w) found is given =
       let (live, is_live, for) = live_of_state p (live_at p workflow) (workflow_at old.workflows workflow) w (stands.workflows.each workflow) found in
-      stream_keeps w found live is_live for answer (work.slot_of w name) is given
+      stream_keeps w found live is_live for answer (work.slot_of w 0 name) is given
 
   pub advance_keeps : (answer : Answer) → AdvancesWorkflow old workflow name at at_most answer new → Answers p (advance workflow name 0 at at_most) answer → Kept answer
   advance_keeps answer = workflow_keeps answer (workflow_at old.workflows workflow) refl

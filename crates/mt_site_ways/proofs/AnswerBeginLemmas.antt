@@ -1,6 +1,7 @@
 -- What a begin of a way and Complete are answered.
-use Rattle.std.proofs.Common.{◌≡◌, ℕ, Bool, true, false, not, List, Option, None, Some, option_map, is_some, refl, sym, ap, ◌∙◌, subst}
+use Rattle.std.proofs.Common.{◌≡◌, ℕ, Bool, true, false, not, length, List, Option, None, Some, option_map, is_some, refl, sym, ap, ◌∙◌, subst}
 use Rattle.std.proofs.lemmas.Bool.{true≢false}
+use Rattle.std.specs.List.{list_all, range_with_len}
 use Rattle.std.specs.Option.{option_map_or}
 use Rattle.std.specs.Prelude.{◌&&◌, nat_le}
 use Rattle.mt_model.specs.declared.entries.Scope.{Scope}
@@ -17,8 +18,8 @@ use Rattle.mt_laws.proofs.AnswerLemmas.{refused_as_decided}
 use Rattle.mt_site_rows.specs.Rows.{stream_of}
 use Rattle.mt_site_state.specs.Core.{workflow_at}
 use Rattle.mt_site_state.specs.Stands.{StandsFor}
-use Rattle.mt_site_state.proofs.ShardLemmas.{any_alone}
-use Rattle.mt_site_state.specs.Switching.{BeginsReverse, BeginsReverseAt, BeginsSwitch, BeginsSwitchAt, Completes, CompletesAt, completed, is_copying, no_number_left, way_to, with_way}
+use Rattle.mt_site_state.proofs.ShardLemmas.{any_alone, one_lane, slot_is}
+use Rattle.mt_site_state.specs.Switching.{BeginsReverse, BeginsReverseAt, BeginsSwitch, BeginsSwitchAt, Completes, CompletesAt, completed, has_copied_at, is_copying, no_number_left, way_to, with_way}
 use Rattle.mt_site_state.specs.Ways.{SiteState, SiteStands}
 use Rattle.mt_site_events.proofs.ShowLemmas.{forward_there}
 use Rattle.mt_site_ways.proofs.FoundLemmas.{live_found, no_live}
@@ -38,10 +39,16 @@ copies w lane (Some s) e = not_ended lane.copied
 
 -- ---- what refuses
 
+and_true : (b : Bool) → (b && true) ≡ b
+and_true true = refl
+and_true false = refl
+
 module _ (p : Plain) (live : Live) (w : WorkflowState) (stands : StandsFor p live w) where
   copying_same : is_copying w ≡ copies_still live
   copying_same =
-      ap (λ o. not (option_map_or (λ (s : StreamValue). has_ended s.copied) o false)) stands.forward
+      ap (λ n. not (list_all (has_copied_at w) (range_with_len 0 n))) (ap length (one_lane p live w stands))
+      ∙ ap not (and_true (has_copied_at w 0))
+      ∙ ap (λ o. not (option_map_or (λ (s : StreamValue). has_ended s.copied) o false)) (slot_is p live w stands forward)
       ∙ copies live stands.lane (slot_of live stands.lane forward) (forward_there live stands.lane live.way)
       ∙ sym (any_alone (λ lane. is_still_copying lane.copied) live.lanes stands.lane stands.alone)
 

@@ -29,6 +29,8 @@ use Rattle.mt_site_rows.specs.Rows.{HoldsItsKeys, stream_of}
 use Rattle.mt_site_state.specs.Core.{primaries_of, primary_of, workflow_at}
 use Rattle.mt_site_state.specs.Stands.{StandsFor}
 use Rattle.mt_site_state.specs.Switching.{OrRefused, StepsAt, StepsKept, StepsWay, StepsWorkflow, answer_by_step, sides_of, step_refusal}
+use Rattle.mt_steps.specs.Shards.{next_shard}
+use Rattle.mt_steps.specs.Steps.{listed_at}
 use Rattle.mt_site_state.specs.Ways.{SiteState, SiteStands, open_at}
 use Rattle.mt_site_state.proofs.ShardLemmas.{has_keys, lane_found, read_first}
 use Rattle.mt_site_ways.proofs.LevelLemmas.{one_behind}
@@ -94,14 +96,14 @@ module _ (p : Plain) (scopes mine : List Scope) (may_answer : Answering) (old ne
           subst (Answers p (step workflow at)) (sym is) (
             own ∙ ap (own_refusal p live way) (sym n)
                 ∙ taken p live w for way opened (course workflow live is_live way opened) (hands workflow live is_live way opened) (primary_of old.core.primaries) level_here
-                old.ways.journal stands.ways.journal mine may_answer o.number old.core.topology o.log.listed
+                old.ways.journal stands.ways.journal mine may_answer o.number old.core.topology (listed_at o.log (next_shard way))
                 (λ k has. subst (λ l. has_scope l (scope.Primary k) ≡ true) (sym stands.core.scopes_are) (wide k has)) (step_at (next_step way)) n _ steps.attempt,
             refl,
           )
       stepped own o (Err f) sides log steps is =
           subst (Answers p (step workflow at)) (sym is)
           (not_taken p live w for way opened (course workflow live is_live way opened) (hands workflow live is_live way opened) (primary_of old.core.primaries) level_here
-          old.ways.journal stands.ways.journal mine may_answer o.number old.core.topology o.log.listed
+          old.ways.journal stands.ways.journal mine may_answer o.number old.core.topology (listed_at o.log (next_shard way))
           (stands.core.scopes_are ∙ alone (faults.refusal_of f) is) workflow at is_live own (step_at (next_step way)) (number_at live way (course workflow live is_live way opened)) f _ steps.0)
 
       kept : refusal_of p (step workflow at) ≡ own_refusal p live way (next_step way) → (k : Option OpenWay) → StepsKept k old mine may_answer w way answer new → Answers p (step workflow at) answer

@@ -24,24 +24,25 @@ use Rattle.mt_steps.specs.declared.step.Step.{Step}
 use Rattle.mt_steps.specs.declared.step.Step.TheVariants.{SwitchReads, DenySource, RefreshSource, CatchUp, StopFeeding, CreateBack, Journal, AllowTarget, RefreshTarget, SwitchWriteRules, StartBack, FreezeOld}
 use Rattle.mt_steps.specs.Plans.{number}
 use Rattle.mt_steps.specs.Refreshes.{RefreshesSide, Sites}
-use Rattle.mt_steps.specs.Steps.{Attempts, journal_entry, left_listed, left_slot}
+use Rattle.mt_steps.specs.Shards.{next_shard, target_at}
+use Rattle.mt_steps.specs.Steps.{Attempts, journal_entry, left_listed, left_slots}
 use Rattle.mt_steps.specs.Streams.{other_name, put_away}
 use Rattle.mt_stream.specs.Streams.{StreamValue}
 use Rattle.mt_watch.specs.Asking.{Answering}
-use Rattle.mt_workflow.specs.Workflows.{WorkflowState, slot_of}
+use Rattle.mt_workflow.specs.Workflows.{WorkflowState, lane_slot}
 
 -- ---- what may be refused
 
 module _ (scopes : List Scope) (may_answer : Answering) (id : ℕ) (t : TopologyState) (w : WorkflowState) (way : Way) (old new : Sites) where
   -- the journal has one entry more behind its own step
   pub attempt_journal : (step : Step) → Attempts scopes may_answer id t w way step old (Ok tt) new
-      → new.journal ≡ cond (eqb (number step) write_journal) (old.journal ++ journal_entry id w way old.source old.target ∷ []) old.journal
+      → new.journal ≡ cond (eqb (number step) write_journal) (old.journal ++ journal_entry id w way old.source old.targets ∷ []) old.journal
   attempt_journal SwitchReads is = ap (λ (x : Sites). x.journal) is.1
   attempt_journal DenySource is = ap (λ (x : Sites). x.journal) is.1
   attempt_journal RefreshSource is = by way.before.primary is
     where
-      by : (b : Bool) → RefreshesSide scopes may_answer t w b old (Ok tt) new → new.journal ≡ old.journal
-      by true r = r.2
+      by : (b : Bool) → RefreshesSide scopes may_answer t w b (next_shard way) old (Ok tt) new → new.journal ≡ old.journal
+      by true r = r.3
       by false r = r.2
   attempt_journal CatchUp is = ap (λ (x : Sites). x.journal) is.1
   attempt_journal StopFeeding is = ap (λ (x : Sites). x.journal) is.1
@@ -50,21 +51,21 @@ module _ (scopes : List Scope) (may_answer : Answering) (id : ℕ) (t : Topology
   attempt_journal AllowTarget is = ap (λ (x : Sites). x.journal) is.1
   attempt_journal RefreshTarget is = by (not way.before.primary) is
     where
-      by : (b : Bool) → RefreshesSide scopes may_answer t w b old (Ok tt) new → new.journal ≡ old.journal
-      by true r = r.2
+      by : (b : Bool) → RefreshesSide scopes may_answer t w b (next_shard way) old (Ok tt) new → new.journal ≡ old.journal
+      by true r = r.3
       by false r = r.2
   attempt_journal SwitchWriteRules is = ap (λ (x : Sites). x.journal) is.1
   attempt_journal StartBack is = ap (λ (x : Sites). x.journal) is.1
   attempt_journal FreezeOld is = ap (λ (x : Sites). x.journal) is.1
 
-  -- the first refresh records the own list of the old owner's primary
+  -- the first refresh records the own list of the old owner's primary, at the target that of the shard
   pub attempt_listed : (step : Step) → eqb (number step) refresh_target ≡ false → Attempts scopes may_answer id t w way step old (Ok tt) new
-      → new.listed ≡ cond (eqb (number step) refresh_source) (Some (marks_of (cond way.before.primary old.target old.source) w.tables)) old.listed
+      → new.listed ≡ cond (eqb (number step) refresh_source) (Some (marks_of (cond way.before.primary (target_at old.targets (next_shard way)) old.source) w.tables)) old.listed
   attempt_listed SwitchReads other is = ap (λ (x : Sites). x.listed) is.1
   attempt_listed DenySource other is = ap (λ (x : Sites). x.listed) is.1
   attempt_listed RefreshSource other is = by way.before.primary is
     where
-      by : (b : Bool) → RefreshesSide scopes may_answer t w b old (Ok tt) new → new.listed ≡ Some (marks_of (cond b old.target old.source) w.tables)
+      by : (b : Bool) → RefreshesSide scopes may_answer t w b (next_shard way) old (Ok tt) new → new.listed ≡ Some (marks_of (cond b (target_at old.targets (next_shard way)) old.source) w.tables)
       by true r = r.0.2
       by false r = r.0.2
   attempt_listed CatchUp other is = ap (λ (x : Sites). x.listed) is.1
@@ -77,7 +78,7 @@ module _ (scopes : List Scope) (may_answer : Answering) (id : ℕ) (t : Topology
   attempt_listed StartBack other is = ap (λ (x : Sites). x.listed) is.1
   attempt_listed FreezeOld other is = ap (λ (x : Sites). x.listed) is.1
 
-pub put_away_is : (w : WorkflowState) (way : Way) (step : Step) (kept : Option StreamValue) → put_away w way step kept ≡ cond (eqb (number step) create_back) (slot_of w (other_name way)) kept
+pub put_away_is : (w : WorkflowState) (way : Way) (step : Step) (kept : List (Option StreamValue)) → put_away w way step kept ≡ cond (eqb (number step) create_back) (map (lane_slot (other_name way)) w.lanes) kept
 put_away_is w way SwitchReads kept = refl
 put_away_is w way DenySource kept = refl
 put_away_is w way RefreshSource kept = refl
@@ -93,33 +94,33 @@ put_away_is w way FreezeOld kept = refl
 
 -- ---- what an undo leaves in the record
 
-pub listed_left : (step : Step) (listed : Option Marks) → eqb (number step) refresh_source ≡ false → left_listed step listed ≡ listed
-listed_left SwitchReads listed other = refl
-listed_left DenySource listed other = refl
-listed_left RefreshSource listed other = absurd (true≢false other)
-listed_left CatchUp listed other = refl
-listed_left StopFeeding listed other = refl
-listed_left CreateBack listed other = refl
-listed_left Journal listed other = refl
-listed_left AllowTarget listed other = refl
-listed_left RefreshTarget listed other = refl
-listed_left SwitchWriteRules listed other = refl
-listed_left StartBack listed other = refl
-listed_left FreezeOld listed other = refl
+pub listed_left : (step : Step) (shard : ℕ) (listed : List (Option Marks)) → eqb (number step) refresh_source ≡ false → left_listed step shard listed ≡ listed
+listed_left SwitchReads shard listed other = refl
+listed_left DenySource shard listed other = refl
+listed_left RefreshSource shard listed other = absurd (true≢false other)
+listed_left CatchUp shard listed other = refl
+listed_left StopFeeding shard listed other = refl
+listed_left CreateBack shard listed other = refl
+listed_left Journal shard listed other = refl
+listed_left AllowTarget shard listed other = refl
+listed_left RefreshTarget shard listed other = refl
+listed_left SwitchWriteRules shard listed other = refl
+listed_left StartBack shard listed other = refl
+listed_left FreezeOld shard listed other = refl
 
-pub slot_left : (step : Step) (slot : Option StreamValue) → eqb (number step) create_back ≡ false → left_slot step slot ≡ slot
-slot_left SwitchReads slot other = refl
-slot_left DenySource slot other = refl
-slot_left RefreshSource slot other = refl
-slot_left CatchUp slot other = refl
-slot_left StopFeeding slot other = refl
-slot_left CreateBack slot other = absurd (true≢false other)
-slot_left Journal slot other = refl
-slot_left AllowTarget slot other = refl
-slot_left RefreshTarget slot other = refl
-slot_left SwitchWriteRules slot other = refl
-slot_left StartBack slot other = refl
-slot_left FreezeOld slot other = refl
+pub slots_left : (step : Step) (slots : List (Option StreamValue)) → eqb (number step) create_back ≡ false → left_slots step slots ≡ slots
+slots_left SwitchReads slots other = refl
+slots_left DenySource slots other = refl
+slots_left RefreshSource slots other = refl
+slots_left CatchUp slots other = refl
+slots_left StopFeeding slots other = refl
+slots_left CreateBack slots other = absurd (true≢false other)
+slots_left Journal slots other = refl
+slots_left AllowTarget slots other = refl
+slots_left RefreshTarget slots other = refl
+slots_left SwitchWriteRules slots other = refl
+slots_left StartBack slots other = refl
+slots_left FreezeOld slots other = refl
 
 -- ---- own lists
 

@@ -100,8 +100,7 @@ module _ (p : Plain) (apart : Apart p.lives) (live : Live) (elsewhere : (n : Lis
       lane = for.lane;
       alone = for.alone;
       shard = for.shard;
-      forward = for.forward;
-      back = for.back;
+      lanes = for.lanes;
     }
 
     other : (n : List ℕ) → live.name ≢ n → StandsForAny q (live_at q n) (workflow_at left n)

@@ -3,7 +3,7 @@ use Rattle.std.proofs.Common.{◌≡◌, ◌≢◌, ℕ, ◌<◌, ◌≤◌, Boo
 use Rattle.mt_laws.specs.WayBack.{IsReached}
 use Rattle.mt_laws.proofs.InPlaceLemmas.{live_in}
 use Rattle.mt_laws.proofs.OpenWayLemmas.{reached_shards}
-use Rattle.mt_plain.proofs.PlaceLemmas.{one-last, one-next, step-first}
+use Rattle.mt_plain.proofs.PlaceLemmas.{one-last, one-next, one-step, step-first}
 use Rattle.mt_laws.proofs.WayStepLemmas.{first_step-le, last-le}
 use Rattle.std.proofs.lemmas.Bool.{and_from, eqb-false, false_from_ne_true}
 use Rattle.std.proofs.lemmas.List.Elements.{recursion_from_All}
@@ -14,7 +14,7 @@ use Rattle.mt_model.specs.declared.entries.Entry.{Entry}
 use Rattle.mt_model.specs.declared.entries.EntryKey.{EntryKey}
 use Rattle.mt_model.specs.Topology.{TopologyState, key_of, value_of}
 use Rattle.mt_plain.specs.Events.{Way}
-use Rattle.mt_plain.specs.Plain.{Live, Plain, before_way, behind_last, changes_primary, first_step, has_part, last_step, next_step, part_owner, stands_done, live_at, next_place}
+use Rattle.mt_plain.specs.Plain.{Live, Plain, before_way, behind_last, changes_primary, first_step, has_part, last_step, next_step, part_owner, stands_done, live_at, next_place, repeated_step, shard_at_place}
 use Rattle.mt_plain.specs.Serve.{serve, step_of_entry, types_by}
 use Rattle.mt_laws.proofs.ListLemmas.{cond-either}
 use Rattle.mt_site_topology.proofs.BeginLemmas.{serve_turned}
@@ -50,6 +50,15 @@ module _ (way : Way) (within : next_step way < behind_last way) where
 pub one_shard : (p : Plain) → IsReached p → (name : List ℕ) (live : Live) → live_at p name ≡ Some live → live.cuts ≡ [] → (way : Way) → live.way ≡ Some way → way.shards ≤ 1
 one_shard p reached name live is_live unsharded way opens =
     let one : way.shards ≡ 1 = reached_shards p reached live (live_in p name live is_live) way opens ∙ ap shard_count unsharded in omega (arith, one)
+
+-- each of its places is for the first shard
+pub first_shard : (way : Way) (place : ℕ) → way.shards ≤ 1 → shard_at_place way place ≡ 0
+first_shard way place one =
+    ap (λ n. cond (eqb n (repeated_step way)) (place - repeated_step way) 0) (one-step way place one) ∙ by (eqb place (repeated_step way)) refl
+  where
+    by : (b : Bool) → eqb place (repeated_step way) ≡ b → cond {A = ℕ} b (place - repeated_step way) 0 ≡ 0
+    by true e = let same = eqb-true place (repeated_step way) e in omega (arith, same)
+    by false e = refl
 
 -- so the last step stands done, where any does
 pub last_done : (way : Way) → way.shards ≤ 1 → eqb way.done 0 ≡ false → stands_done way (last_step way) ≡ true

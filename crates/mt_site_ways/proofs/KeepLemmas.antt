@@ -9,16 +9,16 @@ use Rattle.mt_model.specs.declared.entries.Entry.{Entry}
 use Rattle.mt_model.specs.declared.entries.EntryKey.{EntryKey}
 use Rattle.mt_model.specs.declared.entries.EntryKey.TheVariants as about
 use Rattle.mt_model.specs.Topology.{key_of}
-use Rattle.mt_plain.specs.Events.{StreamName, forward, back, Way}
+use Rattle.mt_plain.specs.Events.{Way}
 use Rattle.mt_plain.specs.Plain.{Live, allow_target, before_way, deny_source}
 use Rattle.mt_plain.specs.Serve.{serve, step_of_entry}
 use Rattle.mt_site_topology.proofs.BeginLemmas.{serve_turned}
 use Rattle.mt_steps.specs.declared.step.Step.{Step}
 use Rattle.mt_steps.specs.declared.step.Step.TheVariants.{SwitchReads, DenySource, RefreshSource, CatchUp, StopFeeding, CreateBack, Journal, AllowTarget, RefreshTarget, SwitchWriteRules, StartBack, FreezeOld}
 use Rattle.mt_steps.specs.Entries.{is_of_step, recorded_of, step_entries, step_keys}
-use Rattle.mt_steps.specs.Streams.{feeding_name, other_name, streams_undone, with_streams, workflow_stepped, workflow_undone}
+use Rattle.mt_steps.specs.Streams.{streams_undone, with_streams, workflow_stepped, workflow_undone}
 use Rattle.mt_stream.specs.Streams.{StreamValue}
-use Rattle.mt_workflow.specs.Workflows.{WorkflowState, keys_of_part, live_of, rules_only, wanted, with_slot}
+use Rattle.mt_workflow.specs.Workflows.{LaneState, WorkflowState, keys_of_part, live_of, rules_only, wanted}
 
 -- ---- lists
 
@@ -60,46 +60,49 @@ pub record Keeps (w v : WorkflowState) : Type 0 where
 keeps_itself : (w : WorkflowState) → Keeps w w
 keeps_itself w = record { name = refl; source = refl; target = refl; tables = refl; kept = refl }
 
-slot_keeps : (w : WorkflowState) (name : StreamName) (s : Option StreamValue) → Keeps w (with_slot w name s)
-slot_keeps w forward s = record { name = refl; source = refl; target = refl; tables = refl; kept = refl }
-slot_keeps w back s = record { name = refl; source = refl; target = refl; tables = refl; kept = refl }
+lanes_keep : (w : WorkflowState) (lanes : List LaneState) → Keeps w (record w { lanes = lanes })
+lanes_keep w lanes = record { name = refl; source = refl; target = refl; tables = refl; kept = refl }
 
-streams_keep : (w : WorkflowState) (way : Way) (step : Step) (position : ℕ) → Keeps w (with_streams w way step position)
-streams_keep w way SwitchReads position = keeps_itself w
-streams_keep w way DenySource position = keeps_itself w
-streams_keep w way RefreshSource position = keeps_itself w
-streams_keep w way CatchUp position = keeps_itself w
-streams_keep w way StopFeeding position = slot_keeps w (feeding_name way) _
-streams_keep w way CreateBack position = slot_keeps w (other_name way) _
-streams_keep w way Journal position = keeps_itself w
-streams_keep w way AllowTarget position = keeps_itself w
-streams_keep w way RefreshTarget position = keeps_itself w
-streams_keep w way SwitchWriteRules position = keeps_itself w
-streams_keep w way StartBack position = slot_keeps w (other_name way) _
-streams_keep w way FreezeOld position = slot_keeps w (feeding_name way) _
+frozen_keep : (w : WorkflowState) (a b : List LaneState) (backward : Bool) → Keeps w (cond backward (record w { lanes = a }) (record w { lanes = b }))
+frozen_keep w a b true = lanes_keep w a
+frozen_keep w a b false = lanes_keep w b
 
-undone_keep : (w : WorkflowState) (way : Way) (step : Step) (s : Option StreamValue) → Keeps w (streams_undone w way step s)
-undone_keep w way SwitchReads s = keeps_itself w
-undone_keep w way DenySource s = keeps_itself w
-undone_keep w way RefreshSource s = keeps_itself w
-undone_keep w way CatchUp s = keeps_itself w
-undone_keep w way StopFeeding s = slot_keeps w (feeding_name way) _
-undone_keep w way CreateBack s = slot_keeps w (other_name way) s
-undone_keep w way Journal s = keeps_itself w
-undone_keep w way AllowTarget s = keeps_itself w
-undone_keep w way RefreshTarget s = keeps_itself w
-undone_keep w way SwitchWriteRules s = keeps_itself w
-undone_keep w way StartBack s = keeps_itself w
-undone_keep w way FreezeOld s = keeps_itself w
+streams_keep : (w : WorkflowState) (way : Way) (step : Step) (ends : List ℕ) → Keeps w (with_streams w way step ends)
+streams_keep w way SwitchReads ends = keeps_itself w
+streams_keep w way DenySource ends = keeps_itself w
+streams_keep w way RefreshSource ends = keeps_itself w
+streams_keep w way CatchUp ends = keeps_itself w
+streams_keep w way StopFeeding ends = lanes_keep w _
+streams_keep w way CreateBack ends = lanes_keep w _
+streams_keep w way Journal ends = keeps_itself w
+streams_keep w way AllowTarget ends = keeps_itself w
+streams_keep w way RefreshTarget ends = keeps_itself w
+streams_keep w way SwitchWriteRules ends = keeps_itself w
+streams_keep w way StartBack ends = lanes_keep w _
+streams_keep w way FreezeOld ends = frozen_keep w _ _ way.back
 
-pub step_keeps : (w : WorkflowState) (way : Way) (step : Step) (position : ℕ) → Keeps w (workflow_stepped w way step position)
-step_keeps w way step position =
-    let k = streams_keep w way step position in
+undone_keep : (w : WorkflowState) (way : Way) (step : Step) (kept : List (Option StreamValue)) → Keeps w (streams_undone w way step kept)
+undone_keep w way SwitchReads kept = keeps_itself w
+undone_keep w way DenySource kept = keeps_itself w
+undone_keep w way RefreshSource kept = keeps_itself w
+undone_keep w way CatchUp kept = keeps_itself w
+undone_keep w way StopFeeding kept = lanes_keep w _
+undone_keep w way CreateBack kept = lanes_keep w _
+undone_keep w way Journal kept = keeps_itself w
+undone_keep w way AllowTarget kept = keeps_itself w
+undone_keep w way RefreshTarget kept = keeps_itself w
+undone_keep w way SwitchWriteRules kept = keeps_itself w
+undone_keep w way StartBack kept = keeps_itself w
+undone_keep w way FreezeOld kept = keeps_itself w
+
+pub step_keeps : (w : WorkflowState) (way : Way) (step : Step) (ends : List ℕ) → Keeps w (workflow_stepped w way step ends)
+step_keeps w way step ends =
+    let k = streams_keep w way step ends in
     record { name = k.name; source = k.source; target = k.target; tables = k.tables; kept = k.kept }
 
-pub undo_keeps : (w : WorkflowState) (way : Way) (step : Step) (s : Option StreamValue) → Keeps w (workflow_undone w way step s)
-undo_keeps w way step s =
-    let k = undone_keep w way step s in
+pub undo_keeps : (w : WorkflowState) (way : Way) (step : Step) (kept : List (Option StreamValue)) → Keeps w (workflow_undone w way step kept)
+undo_keeps w way step kept =
+    let k = undone_keep w way step kept in
     record { name = k.name; source = k.source; target = k.target; tables = k.tables; kept = k.kept }
 
 -- ---- its entries

@@ -1,7 +1,8 @@
 -- Before the journal the stream that feeds on a way is there and reads the owner's log: so it is level just where no write to the
 -- workflow's tables is left to be fed.
-use Rattle.std.proofs.Common.{◌≡◌, ℕ, suc, ◌<◌, Bool, true, false, not, cond, List, [], ◌∷◌, Option, None, Some, option_map, is_some, refl, sym, ap, ◌∙◌, arith}
+use Rattle.std.proofs.Common.{◌≡◌, ℕ, suc, ◌<◌, Bool, true, false, not, cond, List, [], ◌∷◌, length, Option, None, Some, option_map, is_some, refl, sym, ap, ◌∙◌, arith}
 use Rattle.std.proofs.lemmas.Bool.{true≢false, lt-leb}
+use Rattle.std.specs.List.{list_all, range_with_len}
 use Rattle.std.specs.Option.{option_map_or}
 use Rattle.std.specs.Prelude.{◌&&◌, ◌||◌, nat_le}
 use Rattle.mt_plain.specs.Events.{StreamName, forward, back, Slot, Way}
@@ -12,11 +13,11 @@ use Rattle.mt_primary.specs.Primary.{PrimaryState}
 use Rattle.mt_stream.specs.Streams.{StreamValue, is_level}
 use Rattle.mt_workflow.specs.Workflows.{WorkflowState}
 use Rattle.mt_workflow.specs.Workflows as workflow
-use Rattle.mt_steps.specs.Streams.{is_fed, serves_other_side}
+use Rattle.mt_steps.specs.Streams.{is_fed, is_fed_at, serves_other_side}
 use Rattle.mt_laws.specs.Reached.{HandsOver, IsOnCourse}
 use Rattle.mt_site_rows.specs.Rows.{stream_of}
 use Rattle.mt_site_state.specs.Stands.{StandsFor}
-use Rattle.mt_site_state.proofs.ShardLemmas.{any_alone}
+use Rattle.mt_site_state.proofs.ShardLemmas.{any_alone, one_lane, slot_is}
 
 -- ---- which streams are there
 
@@ -66,6 +67,10 @@ changes_where_tested w way course is = by (changes_primary way) course.within
 
 -- ---- the level
 
+and_true : (b : Bool) → (b && true) ≡ b
+and_true true = refl
+and_true false = refl
+
 -- the one lane is behind where the workflow is
 pub one_behind : (p : Plain) (live : Live) (lane : Lane) → live.lanes ≡ lane ∷ [] → lane_is_behind p live lane ≡ is_behind p live
 one_behind p live lane alone = sym (any_alone (lane_is_behind p live) live.lanes lane alone)
@@ -95,32 +100,34 @@ module _ (p : Plain) (live : Live) (w : WorkflowState) (for : StandsFor p live w
   back_before primary =
       ap (λ o. is_some (slot_at_rest for.lane (option_map_or (λ (v : Way). v.before) o live.switched).primary back)) opens ∙ ap (λ b. is_some (slot_at_rest for.lane b back)) primary
 
-  pub fed_same : way.before.primary ≡ way.back → stands_done way write_journal ≡ false → is_fed w way (at w.source) (at w.target) ≡ not (is_behind p live)
-  fed_same before unwritten = by way.back refl
+  pub fed_same : way.before.primary ≡ way.back → stands_done way write_journal ≡ false → is_fed w way (at w.source) (at w.target ∷ []) ≡ not (is_behind p live)
+  fed_same before unwritten =
+      ap (λ n. list_all (is_fed_at w way (at w.source) (at w.target ∷ [])) (range_with_len 0 n)) (ap length (one_lane p live w for))
+      ∙ and_true (is_fed_at w way (at w.source) (at w.target ∷ []) 0) ∙ by way.back refl
     where
-      by : (b : Bool) → way.back ≡ b → is_fed w way (at w.source) (at w.target) ≡ not (is_behind p live)
+      by : (b : Bool) → way.back ≡ b → is_fed_at w way (at w.source) (at w.target ∷ []) 0 ≡ not (is_behind p live)
       by true e =
-          ap (λ b. option_map_or (λ (s : StreamValue). is_level s (cond b (at w.target) (at w.source))) (workflow.slot_of w (cond b back forward)) false) e
+          ap (λ b. option_map_or (λ (s : StreamValue). is_level s (cond b (at w.target) (at w.source))) (workflow.slot_of w 0 (cond b back forward)) false) e
           ∙ level_at back w.target for.sides.target (owner_is unwritten ∙ ap (λ b. cond b live.target live.source) (before ∙ e) ∙ for.sides.target)
-          (slot_there back e (back_before (before ∙ e))) w.back for.back
+          (slot_there back e (back_before (before ∙ e))) (workflow.slot_of w 0 back) (slot_is p live w for back)
       by false e =
-          ap (λ b. option_map_or (λ (s : StreamValue). is_level s (cond b (at w.target) (at w.source))) (workflow.slot_of w (cond b back forward)) false) e
+          ap (λ b. option_map_or (λ (s : StreamValue). is_level s (cond b (at w.target) (at w.source))) (workflow.slot_of w 0 (cond b back forward)) false) e
           ∙ level_at forward w.source for.sides.source (owner_is unwritten ∙ ap (λ b. cond b live.target live.source) (before ∙ e) ∙ for.sides.source)
-          (slot_there forward (ap not e) refl) w.forward for.forward
+          (slot_there forward (ap not e) refl) (workflow.slot_of w 0 forward) (slot_is p live w for forward)
 
   -- what a switch of reads tests, and the catch-up
   pub reads_same : switch_reads ≡ next_step way
-      → (not (serves_other_side way) || is_fed w way (at w.source) (at w.target)) ≡ not (will_read_other_side live way && is_behind p live)
+      → (not (serves_other_side way) || is_fed w way (at w.source) (at w.target ∷ [])) ≡ not (will_read_other_side live way && is_behind p live)
   reads_same is = by (serves_other_side way) refl ∙ ap (λ b. not (b && is_behind p live)) (sym will)
     where
       will : will_read_other_side live way ≡ serves_other_side way
       will = ap (λ o. cond way.back (option_map_or (λ (v : Way). v.before) o live.switched).primary (not (option_map_or (λ (v : Way). v.before) o live.switched).primary)) opens
 
-      by : (b : Bool) → serves_other_side way ≡ b → (not (serves_other_side way) || is_fed w way (at w.source) (at w.target)) ≡ not (serves_other_side way && is_behind p live)
+      by : (b : Bool) → serves_other_side way ≡ b → (not (serves_other_side way) || is_fed w way (at w.source) (at w.target ∷ [])) ≡ not (serves_other_side way && is_behind p live)
       by true e =
-          ap (λ b. not b || is_fed w way (at w.source) (at w.target)) e ∙ fed_same (turns_over way e) (no_journal way switch_reads (omega arith) is)
+          ap (λ b. not b || is_fed w way (at w.source) (at w.target ∷ [])) e ∙ fed_same (turns_over way e) (no_journal way switch_reads (omega arith) is)
           ∙ ap (λ b. not (b && is_behind p live)) (sym e)
-      by false e = ap (λ b. not b || is_fed w way (at w.source) (at w.target)) e ∙ ap (λ b. not (b && is_behind p live)) (sym e)
+      by false e = ap (λ b. not b || is_fed w way (at w.source) (at w.target ∷ [])) e ∙ ap (λ b. not (b && is_behind p live)) (sym e)
 
-  pub caught_same : (changes_primary way ≡ true → HandsOver live way) → catch_up ≡ next_step way → is_fed w way (at w.source) (at w.target) ≡ not (is_behind p live)
+  pub caught_same : (changes_primary way ≡ true → HandsOver live way) → catch_up ≡ next_step way → is_fed w way (at w.source) (at w.target ∷ []) ≡ not (is_behind p live)
   caught_same hands is = fed_same (hands (changes_where_tested live way course is)).before (no_journal way catch_up (omega arith) is)

@@ -17,6 +17,7 @@ pub mod HeadlineLemmas
 pub mod KeepLemmas
 pub mod LevelLemmas
 pub mod ListLemmas
+mod ListedLemmas
 pub mod NumberLemmas
 pub mod OutcomeLemmas
 pub mod PrimaryLemmas

@@ -12,20 +12,19 @@ use Rattle.mt_model.specs.declared.entries.Scope.{Scope}
 use Rattle.mt_model.specs.Topology.{is_present}
 use Rattle.mt_plain.specs.Events.{Way}
 use Rattle.mt_plain.specs.Next.{with_live, with_way_to}
-use Rattle.mt_plain.specs.Plain.{Live, Plain, has_part, live_at, part_owner, refresh_source, refresh_target, stands_done_at}
-use Rattle.mt_plain.specs.Refuse.{new_owner}
+use Rattle.mt_plain.specs.Plain.{Lane, Live, Plain, has_part, live_at, part_owner, refresh_source, refresh_target, stands_done_at}
 use Rattle.mt_plain.specs.Serve.{has_table, is_listed_at, owned_before, refuses_by, step_of_list}
 use Rattle.mt_plain.specs.Slots.{is_entry_at, log_length, log_of}
 use Rattle.mt_primary.specs.Primary.{end_of}
 use Rattle.mt_laws.specs.Changes.{HasSides}
 use Rattle.mt_laws.specs.Reached.{IsInPlace}
-use Rattle.mt_steps.specs.Streams.{log_end}
 use Rattle.mt_workflow.specs.Workflows.{WorkflowState}
 use Rattle.mt_site_rows.specs.Rows.{RowsStand}
 use Rattle.mt_site_rows.proofs.LogLemmas.{log-length}
 use Rattle.mt_site_rows.proofs.KeepLemmas.{any_changed}
 use Rattle.mt_site_state.specs.Core.{CoreState, Primaries, primaries_of, primary_of, workflow_at}
 use Rattle.mt_site_state.specs.Stands.{ArePrimaries, StandsFor, StandsForAny, StandsWith}
+use Rattle.mt_site_ways.specs.Ends.{log_end_for}
 use Rattle.mt_site_ways.proofs.ChangeLemmas.{IsAt}
 
 -- ---- the workflow of a name
@@ -65,7 +64,7 @@ begun_list w back change rests keyspace =
     (none_refreshed (record { back = back; shards = shard_count w.cuts; before = w.switched; after = change w.switched; done = 0; undoing = false }) (owned_before (with_way_to back change w) keyspace) refl)
     ∙ sym (ap (λ (o : Option Way). option_map_or (λ way. cond (stands_done_at way (step_of_list w keyspace) 0) way.after way.before) o w.switched) rests))
 
--- ---- the end of a log
+-- ---- the ends of logs
 
 module _ (p : Plain) (primaries : Primaries) (rows : RowsStand p (primaries_of primaries)) where
   log_same : (keyspace : List ℕ) → end_of (primary_of primaries keyspace) ≡ log_length p keyspace 0
@@ -74,11 +73,16 @@ module _ (p : Plain) (primaries : Primaries) (rows : RowsStand p (primaries_of p
       ∙ length-filter (is_entry_at keyspace 0) p.log
 
   pub end_same : (live : Live) (way : Way) → live.way ≡ Some way → (source target : List ℕ) → live.source ≡ source → live.target ≡ target
-      → log_end way (primary_of primaries source) (primary_of primaries target) ≡ log_length p (new_owner live) 0
-  end_same live way opens source target is_source is_target =
+      → (lane : Lane) → lane.shard ≡ 0 → end_of (cond way.before.primary (primary_of primaries source) (primary_of primaries target)) ≡ log_end_for p live lane
+  end_same live way opens source target is_source is_target lane first =
       by way.before.primary
-      ∙ sym (ap (λ (o : Option Way). log_length p (cond (option_map_or (λ x. x.before) o live.switched).primary live.source live.target) 0) opens)
+      ∙ ap (log_length p (cond way.before.primary live.source live.target)) (sym (ap (cond way.before.primary 0) first ∙ either way.before.primary))
+      ∙ sym (ap (λ (o : Option Way). let b = (option_map_or (λ x. x.before) o live.switched).primary in log_length p (cond b live.source live.target) (cond b 0 lane.shard)) opens)
     where
+      either : (b : Bool) → cond {A = ℕ} b 0 0 ≡ 0
+      either true = refl
+      either false = refl
+
       by : (b : Bool) → end_of (cond b (primary_of primaries source) (primary_of primaries target)) ≡ log_length p (cond b live.source live.target) 0
       by true = log_same source ∙ ap (λ k. log_length p k 0) (sym is_source)
       by false = log_same target ∙ ap (λ k. log_length p k 0) (sym is_target)

@@ -1,6 +1,6 @@
 -- The list that a refresh records, and the undo that gives it back.
-use Rattle.std.proofs.Common.{◌≡◌, ℕ, zero, suc, Bool, true, false, not, cond, eqb, ◌||◌, List, [], ◌∷◌, map, Option, None, Some, refl, sym, ap, ◌∙◌, subst, arith, eqb-true}
-use Rattle.mt_site_ways.proofs.EntryLemmas.{none_last}
+use Rattle.std.proofs.Common.{◌≡◌, ℕ, zero, suc, Bool, true, false, not, cond, eqb, ◌-◌, ◌||◌, List, [], ◌∷◌, map, Option, None, Some, refl, sym, ap, ◌∙◌, subst, arith, eqb-true}
+use Rattle.mt_site_ways.proofs.EntryLemmas.{first_shard, none_last}
 use Rattle.std.proofs.lemmas.Bool.{true≢false, or_right}
 use Rattle.std.specs.Option.{option_map_or}
 use Rattle.std.specs.Prelude.{Ok}
@@ -11,12 +11,13 @@ use Rattle.mt_watch.specs.Asking.{Answering}
 use Rattle.mt_primary.specs.Denials.{AreDenialsSet, marks_of, told_by_marks}
 use Rattle.mt_primary.specs.Primary.{PrimaryState, has_table, is_denied_at}
 use Rattle.mt_plain.specs.Events.{Way, past_journal, stale, undo}
-use Rattle.mt_plain.specs.Plain.{Live, Plain, among, last_step, live_at, mover, moves, next_step, refresh_source, refresh_target, stands_done, write_journal}
+use Rattle.mt_plain.specs.Plain.{Live, Plain, among, last_step, live_at, mover, moves, next_place, next_step, refresh_source, refresh_target, stands_done, write_journal}
 use Rattle.mt_plain.specs.Refuse.{in_workflow, on_way, or_else, refuse_if, refusal_of, undo_refusal}
 use Rattle.mt_plain.specs.Serve.{is_listed_at, owned_before, refuses_by, step_of_list}
 use Rattle.mt_laws.proofs.WayStepLemmas.{done_by, last-le}
 use Rattle.mt_steps.specs.Plans.{step_at}
 use Rattle.mt_steps.specs.Refreshes.{RefreshesSide, Sites}
+use Rattle.mt_steps.specs.Shards.{last_shard, next_shard, target_at}
 use Rattle.mt_steps.specs.Steps.{Attempts, IsGivenBack, given_listed}
 use Rattle.mt_workflow.specs.Workflows.{WorkflowState}
 use Rattle.mt_site_topology.proofs.BeginLemmas.{or_else-none, refuse_if-none}
@@ -67,17 +68,17 @@ module _ (p : Plain) (old : Primaries) (live : Live) (w : WorkflowState) (way : 
         ∙ allowed_at_target live way at.opens w.source w.target at.sides.source at.sides.target (sides_apart p old live w way at) is
 
     pub recorded : (scopes : List Scope) (may_answer : Answering) (id : ℕ) (t : TopologyState) (before after : Sites)
-        → before.source ≡ primary_of old w.source → before.target ≡ primary_of old w.target
+        → before.source ≡ primary_of old w.source → before.targets ≡ primary_of old w.target ∷ []
         → Attempts scopes may_answer id t w way (step_at (next_step way)) before (Ok tt) after → after.listed ≡ Some (no_tables w)
     recorded scopes may_answer id t before after from_source from_target is =
         by way.before.primary refl (subst (λ n. Attempts scopes may_answer id t w way (step_at n) before (Ok tt) after) next is)
       where
         by : (b : Bool) → way.before.primary ≡ b → Attempts scopes may_answer id t w way (step_at refresh_source) before (Ok tt) after → after.listed ≡ Some (no_tables w)
         by true e r =
-            let told = subst (λ b. RefreshesSide scopes may_answer t w b before (Ok tt) after) e r in
-            told.0.2 ∙ ap (λ s. Some (marks_of s w.tables)) from_target ∙ ap Some (free_list w.target (target_free e))
+            let told = subst (λ b. RefreshesSide scopes may_answer t w b (next_shard way) before (Ok tt) after) e r in
+            told.0.2 ∙ ap (λ n. Some (marks_of (target_at before.targets n) w.tables)) (first_shard way (next_place way) at.one) ∙ ap (λ ts. Some (marks_of (target_at ts 0) w.tables)) from_target ∙ ap Some (free_list w.target (target_free e))
         by false e r =
-            let told = subst (λ b. RefreshesSide scopes may_answer t w b before (Ok tt) after) e r in
+            let told = subst (λ b. RefreshesSide scopes may_answer t w b (next_shard way) before (Ok tt) after) e r in
             told.0.2 ∙ ap (λ s. Some (marks_of s w.tables)) from_source ∙ ap Some (free_list w.source (source_free e))
 
 -- ---- the undo of a step
@@ -136,15 +137,21 @@ module _ (known : Known) (p q : Plain) (primaries : Primaries) (live : Live) (w 
       other true = ap (λ m. eqb m refresh_source) zero_last
       other false = ap (λ m. eqb m refresh_target) zero_last
 
-  module _ (early : stands_done way write_journal ≡ false) (listed : Option Marks) (source target : PrimaryState) where
+  module _ (early : stands_done way write_journal ≡ false) (listed : Option Marks) (source : PrimaryState) (targets : List PrimaryState) where
+    abbrev target : PrimaryState
+    target = target_at targets 0
+
     abbrev Left : Type 0
     Left = Stand p q primaries live w way at n way.before next rows source target
 
     abbrev has_list : List ℕ → PrimaryState → Type 0
     has_list = Listed p q primaries live w way at n way.before next rows source target
 
+    abbrev GivenAt : (shard : ℕ) → (at_target : Bool) → Option Marks → Type 0
+    GivenAt shard at_target marks = IsGivenBack at_target shard marks (primary_of primaries w.source) (primary_of primaries w.target ∷ []) source targets
+
     abbrev Given : (at_target : Bool) → Option Marks → Type 0
-    Given at_target marks = IsGivenBack at_target marks (primary_of primaries w.source) (primary_of primaries w.target) source target
+    Given = GivenAt 0
 
     as_before : (side : List ℕ) (state : PrimaryState) → state ≡ primary_of primaries side → eqb n (step_of_list live side) ≡ false → has_list side state
     as_before = stays p q primaries live w way at n way.before next rows source target
@@ -159,21 +166,25 @@ module _ (known : Known) (p q : Plain) (primaries : Primaries) (live : Live) (w 
 
     by_refresh : n ≡ refresh_source → (b : Bool) → way.before.primary ≡ b → Given b (Some (no_tables w)) → Left
     by_refresh here true e is =
-        both (as_before w.source source is.1 (at_first n here (owned_before live w.source) ∙ of_source p primaries live w way at ∙ ap not e))
+        both (as_before w.source source is.2 (at_first n here (owned_before live w.source) ∙ of_source p primaries live w way at ∙ ap not e))
         (given w.target target (target_tables p primaries live w way at) (at_first n here (owned_before live w.target) ∙ of_target p primaries live w way at ∙ e)
         (allowed_at_target live way at.opens w.source w.target at.sides.source at.sides.target (sides_apart p primaries live w way at) e) is.0)
     by_refresh here false e is =
         both
         (given w.source source (source_tables p primaries live w way at) (at_first n here (owned_before live w.source) ∙ of_source p primaries live w way at ∙ ap not e)
         (allowed_at_source live way at.opens w.source w.target at.sides.source at.sides.target (sides_apart p primaries live w way at) e) is.0)
-        (as_before w.target target is.1 (at_first n here (owned_before live w.target) ∙ of_target p primaries live w way at ∙ e))
+        (as_before w.target target (ap (λ ts. target_at ts 0) is.1) (at_first n here (owned_before live w.target) ∙ of_target p primaries live w way at ∙ e))
 
-    pub undo_stands : (last_step way ≡ refresh_source → listed ≡ Some (no_tables w)) → Given way.before.primary (given_listed (step_at (last_step way)) listed) → Left
-    undo_stands is_listed is = by (eqb n refresh_source) refl
+    pub undo_stands : (last_step way ≡ refresh_source → listed ≡ Some (no_tables w)) → GivenAt (last_shard way) way.before.primary (given_listed (step_at (last_step way)) listed) → Left
+    undo_stands is_listed last = by (eqb n refresh_source) refl
       where
+        -- the place is for the first shard
+        is : Given way.before.primary (given_listed (step_at (last_step way)) listed)
+        is = subst (λ x. GivenAt x way.before.primary (given_listed (step_at (last_step way)) listed)) (first_shard way (next_place way - 1) at.one) last
+
         stay : (b : Bool) → Given b None → (source ≡ primary_of primaries w.source) × (target ≡ primary_of primaries w.target)
-        stay true same = same
-        stay false same = same
+        stay true same = (same.0, ap (λ ts. target_at ts 0) same.1)
+        stay false same = (same.0, ap (λ ts. target_at ts 0) same.1)
 
         by : (b : Bool) → eqb n refresh_source ≡ b → Left
         by true e =

@@ -39,12 +39,12 @@ module _ (p q : Plain) (scopes : List Scope) (s : SiteState) (stands : SiteStand
 
   here : (live : Live) → IsOpenOn now.ways.journal live v fresh u
   here live = record {
-    kept = new_log_of w;
+    kept = record { entries = (new_log_of w).entries; listed = (new_log_of w).listed; slots = (new_log_of w).slots };
     unused = λ f. unused_yet p q s.core now.core s.ways now.ways stands.ways name w v fresh u found rests refl refl workflows_now open_now refl refl;
     undo = λ f. record {
       entries = λ n t. absurd (true≢false (sym t ∙ nothing_done fresh n refl));
       listed = λ t. absurd (true≢false (sym t ∙ nothing_done fresh refresh_source refl));
-      slot = λ lane alone t. absurd (true≢false (sym t ∙ nothing_done fresh create_back refl));
+      slots = λ t. absurd (true≢false (sym t ∙ nothing_done fresh create_back refl));
     };
   }
 

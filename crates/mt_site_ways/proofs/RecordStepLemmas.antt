@@ -1,11 +1,12 @@
 -- What is kept of a way behind a step of it.
-use Rattle.std.proofs.Common.{◌≡◌, ◌≢◌, ℕ, suc, Bool, true, false, cond, eqb, length, List, [], ◌∷◌, ◌++◌, map, None, Some, option_map, refl, sym, ap, ◌∙◌, subst, arith, eqb-true}
+use Rattle.std.proofs.Common.{◌≡◌, ◌≢◌, ◌≤◌, ℕ, suc, Bool, true, false, cond, eqb, length, List, [], ◌∷◌, ◌++◌, map, None, Some, option_map, refl, sym, ap, ◌∙◌, subst, arith, eqb-true}
 use Rattle.mt_laws.proofs.WayLemmas.{journal_once}
 use Rattle.std.proofs.lemmas.Bool.{eq-eqb, false_from_ne_true, true≢false}
 use Rattle.std.proofs.lemmas.List.{length_push}
 use Rattle.std.specs.List.{AllByRecursion}
 use Rattle.std.specs.Map.{set_value}
 use Rattle.std.specs.Option.{option_map_or}
+use Rattle.std.specs.Prelude.{slice_set}
 use Rattle.mt_names.specs.declared.types.TypeSet.{TypeSet}
 use Rattle.mt_names.specs.Names.{same_text}
 use Rattle.mt_names.proofs.SameLemmas.{same_text_decides}
@@ -15,17 +16,18 @@ use Rattle.mt_journal.specs.declared.entry.JournalEntry.{JournalEntry}
 use Rattle.mt_journal.specs.Journal.{entry_of}
 use Rattle.mt_laws.proofs.ChangeLemmas.{live_after, lives_after}
 use Rattle.mt_laws.proofs.ListLemmas.{cond-ap}
+use Rattle.mt_laws.proofs.LiveLemmas.{IsIn}
 use Rattle.mt_laws.proofs.WayStepLemmas.{before_then, done_by, more, not_before, now_done, undone_by, next-le}
 use Rattle.mt_plain.specs.Events.{done, step, Way}
 use Rattle.mt_plain.specs.Next.{closes, journal_after, lane_stepped, live_stepped, next, on_way_of, types_stepped}
-use Rattle.mt_plain.specs.Plain.{Lane, Live, Plain, before_way, behind_last, create_back, has_part, live_at, mover, moves, next_step, owner_by, part_owner, refresh_source, refresh_target, stands_done, stands_done_at, write_journal}
+use Rattle.mt_plain.specs.Plain.{Lane, Live, Plain, before_way, behind_last, create_back, has_part, live_at, mover, moves, next_place, next_step, owner_by, part_owner, refresh_source, refresh_target, stands_done, stands_done_at, write_journal}
 use Rattle.mt_plain.specs.Serve.{is_listed_at, refuses, refuses_by, step_of_list}
-use Rattle.mt_plain.specs.Slots.{slot_before_way}
 use Rattle.mt_primary.specs.Denials.{marks_of}
 use Rattle.mt_primary.specs.Primary.{is_denied_at}
 use Rattle.mt_site_rows.specs.Rows.{stream_of}
 use Rattle.mt_site_state.specs.Core.{primary_of, workflow_at}
-use Rattle.mt_site_state.specs.Stands.{StandsFor}
+use Rattle.mt_site_state.specs.Stands.{StandsFor, lane_state}
+use Rattle.mt_site_state.proofs.ShardLemmas.{no_cuts}
 use Rattle.mt_site_state.specs.Switching.{open_after, sides_of, with_sides}
 use Rattle.mt_site_state.specs.Ways.{GivesBack, IsGiven, IsOpenOn, SiteStands, SiteState, WaysStand, open_at}
 use Rattle.mt_steps.proofs.StepLemmas.{stepped_log}
@@ -33,18 +35,21 @@ use Rattle.mt_steps.specs.declared.log.OpenWay.{OpenWay}
 use Rattle.mt_steps.specs.declared.step.Step.{Step}
 use Rattle.mt_steps.specs.Entries.{recorded, recorded_of, step_entries}
 use Rattle.mt_steps.specs.Plans.{number}
-use Rattle.mt_steps.specs.Steps.{IsStepped, SidesState, journal_entry, sites}
-use Rattle.mt_steps.specs.Streams.{log_end, other_name}
+use Rattle.mt_steps.specs.Shards.{next_shard, target_at}
+use Rattle.mt_steps.specs.Steps.{IsStepped, SidesState, journal_entry, listed_at, sites}
+use Rattle.mt_steps.specs.Streams.{log_ends, other_name}
 use Rattle.mt_steps.specs.Undo.{UndoState}
 use Rattle.mt_watch.specs.Asking.{Answering}
-use Rattle.mt_workflow.specs.Workflows.{WorkflowState, live_of, slot_of}
+use Rattle.mt_workflow.specs.Workflows.{WorkflowState, lane_slot, live_of}
 use Rattle.mt_site_ways.proofs.AttemptLemmas.{all_among, attempt_journal, attempt_listed, none_marked, open_stepped, owner_allowed, put_away_is, saved_stays, slot_stood, stepped_rest}
-use Rattle.mt_site_ways.proofs.ChangedLemmas.{stream-slots}
-use Rattle.mt_site_ways.proofs.EntryLemmas.{one_shard, recorded_before, recorded_elsewhere}
+use Rattle.mt_site_ways.proofs.EntryLemmas.{first_shard, one_shard, recorded_before, recorded_elsewhere}
 use Rattle.mt_site_ways.proofs.KeepLemmas.{Keeps, entries_keep, recorded_keeps, step_keeps}
+use Rattle.mt_site_ways.proofs.ListedLemmas.{listed_log}
 use Rattle.mt_site_ways.proofs.NumberLemmas.{not_refreshed as not_refreshed_yet}
 use Rattle.mt_site_ways.proofs.RecordOpenLemmas.{goes_on, none_pushed, written-push}
+use Rattle.mt_site_ways.proofs.SlotLemmas.{map-in, map-map, slot-state}
 use Rattle.mt_site_ways.proofs.TopologyLemmas.{one_some}
+use Rattle.mt_site_ways.proofs.WholeOpenLemmas.{saved}
 
 -- ---- own lists
 
@@ -118,16 +123,27 @@ module _ (p : Plain) (scopes asked : List Scope) (may_answer : Answering) (s : S
   kept_before : IsOpenOn s.ways.journal v w way o
   kept_before = stands.ways.each name v w way o is_live found opens is_open
 
+  one : way.shards ≤ 1
+  one = one_shard p stands.core.reached name v is_live (no_cuts p v w for) way v_opens
+
+  -- the place is for the first shard
+  at_first : next_shard way ≡ 0
+  at_first = first_shard way (next_place way) one
+
+  -- what was kept, with the list that the step has taken
+  abbrev taken : UndoState
+  taken = record o.log { listed = slice_set o.log.listed (next_shard way) (listed_at log (next_shard way)) }
+
   keeps : Keeps w now
-  keeps = subst (Keeps w) (sym is.workflow) (step_keeps w way this (log_end way (sides_of s w).source (sides_of s w).target))
+  keeps = subst (Keeps w) (sym is.workflow) (step_keeps w way this (log_ends way (sides_of s w).source (sides_of s w).targets))
 
   way_now : now.way ≡ cond (closes way) None (Some (more way))
   way_now = ap (λ (x : WorkflowState). x.way) is.workflow ∙ ap (λ n. cond (eqb (suc n) (behind_last way)) None (Some (more way))) is_next
 
-  journal_now : sides.journal ≡ cond (eqb (next_step way) write_journal) (s.ways.journal ++ journal_entry o.number w way (sides_of s w).source (sides_of s w).target ∷ []) s.ways.journal
+  journal_now : sides.journal ≡ cond (eqb (next_step way) write_journal) (s.ways.journal ++ journal_entry o.number w way (sides_of s w).source (sides_of s w).targets ∷ []) s.ways.journal
   journal_now =
-      attempt_journal asked may_answer o.number s.core.topology w way (sites (sides_of s w) o.log) (sites sides log) this is.attempt
-      ∙ ap (λ n. cond (eqb n write_journal) (s.ways.journal ++ journal_entry o.number w way (sides_of s w).source (sides_of s w).target ∷ []) s.ways.journal) is_next
+      attempt_journal asked may_answer o.number s.core.topology w way (sites way (sides_of s w) o.log) (sites way sides log) this is.attempt
+      ∙ ap (λ n. cond (eqb n write_journal) (s.ways.journal ++ journal_entry o.number w way (sides_of s w).source (sides_of s w).targets ∷ []) s.ways.journal) is_next
 
   -- ---- where the way goes on
 
@@ -155,7 +171,7 @@ module _ (p : Plain) (scopes asked : List Scope) (may_answer : Answering) (s : S
           by true b =
               let at : next_step way ≡ n = eqb-true (next_step way) n b in
               ap (λ m. recorded_of w n (recorded w m s.core.topology o.log.entries)) at
-              ∙ recorded_before p w v for s.core.topology stands.core.topology owned way opens n (undone_by way n n at (omega arith)) o.log.entries kept_before.kept
+              ∙ recorded_before p w v for s.core.topology stands.core.topology owned way opens n (undone_by way n n at (omega arith)) o.log.entries kept_before.kept.entries
           by false b =
               recorded_elsewhere w (next_step way) s.core.topology n (λ e. true≢false (sym (eq-eqb (next_step way) n (sym e)) ∙ b)) o.log.entries
               ∙ gives.entries n (before_then way n b done_now)
@@ -166,61 +182,62 @@ module _ (p : Plain) (scopes asked : List Scope) (may_answer : Answering) (s : S
           let le = next-le way in
           true≢false (sym (done_by (more way) write_journal (next_step (more way)) refl (omega arith) (omega (arith, at, le))) ∙ not_written))
 
-      listed_give : stands_done (more way) refresh_source ≡ true → log.listed ≡ Some (map (λ table. (table, false)) now.tables)
+      listed_give : stands_done (more way) refresh_source ≡ true → listed_at log 0 ≡ Some (map (λ table. (table, false)) now.tables)
       listed_give done_now =
-          attempt_listed asked may_answer o.number s.core.topology w way (sites (sides_of s w) o.log) (sites sides log) this not_refreshed is.attempt
-          ∙ ap (λ n. cond (eqb n refresh_source) (Some (marks_of (cond way.before.primary (sides_of s w).target (sides_of s w).source) w.tables)) o.log.listed) is_next
+          sym (ap (listed_at log) at_first)
+          ∙ attempt_listed asked may_answer o.number s.core.topology w way (sites way (sides_of s w) o.log) (sites way sides log) this not_refreshed is.attempt
+          ∙ ap (λ m. cond (eqb (number this) refresh_source) (Some (marks_of (cond way.before.primary (target_at (sides_of s w).targets m) (sides_of s w).source) w.tables)) (listed_at o.log m)) at_first
+          ∙ ap (λ n. cond (eqb n refresh_source) (Some (marks_of (cond way.before.primary (target_at (sides_of s w).targets 0) (sides_of s w).source) w.tables)) (listed_at o.log 0)) is_next
           ∙ by (eqb (next_step way) refresh_source) refl
           ∙ ap (λ ts. Some (map (λ table. (table, false)) ts)) (sym keeps.tables)
         where
           by : (b : Bool) → eqb (next_step way) refresh_source ≡ b
-              → cond b (Some (marks_of (cond way.before.primary (sides_of s w).target (sides_of s w).source) w.tables)) o.log.listed ≡ Some (map (λ table. (table, false)) w.tables)
+              → cond b (Some (marks_of (cond way.before.primary (target_at (sides_of s w).targets 0) (sides_of s w).source) w.tables)) (listed_at o.log 0) ≡ Some (map (λ table. (table, false)) w.tables)
           by true b =
               ap Some (empty_listed p s stands.core.primaries.denials w v for mover_is apart way v_opens
-              (not_refreshed_yet way refresh_source (one_shard p stands.core.reached name v is_live for.sides.cuts way v_opens) (eqb-true (next_step way) refresh_source b)))
+              (not_refreshed_yet way refresh_source one (eqb-true (next_step way) refresh_source b)))
           by false b = gives.listed (before_then way refresh_source b done_now)
 
-      slot_give : (live : Live) → live ≡ live_stepped p v way → (lane : Lane) → live.lanes ≡ lane ∷ [] → stands_done (more way) create_back ≡ true
-          → log.slot ≡ option_map (stream_of live lane) (slot_before_way live lane (other_name way))
-      slot_give live is_stepped lane alone done_now =
-          is.slot ∙ put_away_is w way this o.log.slot ∙ ap (λ n. cond (eqb n create_back) (slot_of w (other_name way)) o.log.slot) is_next
+      slots_give : (live : Live) → live ≡ live_stepped p v way → stands_done (more way) create_back ≡ true → log.slots ≡ map (saved live way) live.lanes
+      slots_give live is_stepped done_now =
+          is.slots ∙ put_away_is w way this o.log.slots ∙ ap (λ n. cond (eqb n create_back) (map (lane_slot (other_name way)) w.lanes) o.log.slots) is_next
           ∙ by (eqb (next_step way) create_back) refl
-          ∙ sym stood
+          ∙ sym (ap (λ (x : Live). map (saved x way) x.lanes) is_stepped ∙ stood)
         where
-          by : (b : Bool) → eqb (next_step way) create_back ≡ b
-              → cond b (slot_of w (other_name way)) o.log.slot ≡ option_map (stream_of v for.lane) (slot_before_way v for.lane (other_name way))
+          by : (b : Bool) → eqb (next_step way) create_back ≡ b → cond b (map (lane_slot (other_name way)) w.lanes) o.log.slots ≡ map (saved v way) v.lanes
           by true b =
-              stream-slots p v w for (other_name way)
-              ∙ ap (option_map (stream_of v for.lane)) (slot_stood v for.lane way v_opens (undone_by way create_back create_back (eqb-true (next_step way) create_back b) (omega arith)))
-          by false b = gives.slot for.lane for.alone (before_then way create_back b done_now)
+              ap (map (lane_slot (other_name way))) for.lanes ∙ map-map (lane_slot (other_name way)) (lane_state v) v.lanes
+              ∙ map-in (λ lane. lane_slot (other_name way) (lane_state v lane)) (saved v way) v.lanes (λ lane is_in.
+              slot-state v lane (other_name way)
+              ∙ ap (option_map (stream_of v lane)) (slot_stood v lane way v_opens (undone_by way create_back create_back (eqb-true (next_step way) create_back b) (omega arith))))
+          by false b = gives.slots (before_then way create_back b done_now)
 
-          on : Lane
-          on = lane_stepped p v way for.lane
+          each : (lane : Lane) → IsIn lane v.lanes → saved (live_stepped p v way) way (lane_stepped p v way lane) ≡ saved v way lane
+          each lane is_in =
+              ap (λ (x : Live). saved x way (lane_stepped p v way lane)) (open_stepped p v way goes)
+              ∙ saved_stays v way (more way) (types_stepped v way) (map (lane_stepped p v way) v.lanes) lane (lane_stepped p v way lane) (stepped_rest p v way lane goes) (other_name way) v_opens refl
 
-          is_on : lane ≡ on
-          is_on = let e : lane ∷ [] ≡ on ∷ [] = sym alone ∙ ap (λ (x : Live). x.lanes) is_stepped ∙ ap (map (lane_stepped p v way)) for.alone in cc
-
-          stood : option_map (stream_of live lane) (slot_before_way live lane (other_name way)) ≡ option_map (stream_of v for.lane) (slot_before_way v for.lane (other_name way))
+          stood : map (saved (live_stepped p v way) way) (map (lane_stepped p v way) v.lanes) ≡ map (saved v way) v.lanes
           stood =
-              ap (λ (l : Lane). option_map (stream_of live l) (slot_before_way live l (other_name way))) is_on
-              ∙ ap (λ (x : Live). option_map (stream_of x on) (slot_before_way x on (other_name way))) (is_stepped ∙ open_stepped p v way goes)
-              ∙ saved_stays v way (more way) (types_stepped v way) (map (lane_stepped p v way) v.lanes) for.lane on (stepped_rest p v way for.lane goes) (other_name way) v_opens refl
+              map-map (saved (live_stepped p v way) way) (lane_stepped p v way) v.lanes
+              ∙ map-in (λ lane. saved (live_stepped p v way) way (lane_stepped p v way lane)) (saved v way) v.lanes each
 
       gives_now : (live : Live) → live ≡ live_stepped p v way → GivesBack live now (more way) log
-      gives_now live is_stepped = record { entries = entries_give; listed = listed_give; slot = slot_give live is_stepped }
+      gives_now live is_stepped = record { entries = entries_give; listed = listed_give; slots = slots_give live is_stepped }
 
     unused_now : stands_done (more way) write_journal ≡ false → entry_of sides.journal o.number ≡ None
     unused_now not_written = ap (λ es. entry_of es o.number) journal_now ∙ by (eqb (next_step way) write_journal) refl
       where
         by : (b : Bool) → eqb (next_step way) write_journal ≡ b
-            → entry_of (cond b (s.ways.journal ++ journal_entry o.number w way (sides_of s w).source (sides_of s w).target ∷ []) s.ways.journal) o.number ≡ None
+            → entry_of (cond b (s.ways.journal ++ journal_entry o.number w way (sides_of s w).source (sides_of s w).targets ∷ []) s.ways.journal) o.number ≡ None
         by true b = absurd (true≢false (sym (now_done way write_journal (omega arith) (journal_once way) b) ∙ not_written))
         by false b = kept_before.unused (not_before way write_journal not_written)
 
     open_now : (live : Live) → live ≡ live_stepped p v way → IsOpenOn sides.journal live now (more way) u
     open_now live is_stepped = record {
-      kept = stepped_log way this s.core.topology sides.topology w now o.log log (log_end way (sides_of s w).source (sides_of s w).target)
-          (step_entries w way.after (number this)) is.topology is.workflow is.entries kept_before.kept;
+      kept = stepped_log way this s.core.topology sides.topology w now taken log (log_ends way (sides_of s w).source (sides_of s w).targets)
+          (step_entries w way.after (number this)) is.topology is.workflow (λ i. record { entries = is.entries i; listed = is.listed i; slots = is.slots i })
+          (listed_log w o.log (next_shard way) (listed_at log (next_shard way)) kept_before.kept);
       unused = unused_now;
       undo = λ not_written. gives_now not_written live is_stepped;
     }
@@ -239,16 +256,16 @@ module _ (p : Plain) (scopes asked : List Scope) (may_answer : Answering) (s : S
   unused_else : (x : ℕ) → x ≢ o.number → entry_of s.ways.journal x ≡ None → entry_of sides.journal x ≡ None
   unused_else x other none = ap (λ es. entry_of es x) journal_now ∙ by (eqb (next_step way) write_journal)
     where
-      by : (b : Bool) → entry_of (cond b (s.ways.journal ++ journal_entry o.number w way (sides_of s w).source (sides_of s w).target ∷ []) s.ways.journal) x ≡ None
-      by true = none_pushed s.ways.journal (journal_entry o.number w way (sides_of s w).source (sides_of s w).target) x other none
+      by : (b : Bool) → entry_of (cond b (s.ways.journal ++ journal_entry o.number w way (sides_of s w).source (sides_of s w).targets ∷ []) s.ways.journal) x ≡ None
+      by true = none_pushed s.ways.journal (journal_entry o.number w way (sides_of s w).source (sides_of s w).targets) x other none
       by false = none
 
   written_now : AllByRecursion (λ (e : JournalEntry). IsGiven s.ways.begun e.id) sides.journal
   written_now = subst (λ es. AllByRecursion (λ (e : JournalEntry). IsGiven s.ways.begun e.id) es) (sym journal_now) (by (eqb (next_step way) write_journal))
     where
       by : (b : Bool) → AllByRecursion (λ (e : JournalEntry). IsGiven s.ways.begun e.id)
-          (cond b (s.ways.journal ++ journal_entry o.number w way (sides_of s w).source (sides_of s w).target ∷ []) s.ways.journal)
-      by true = written-push s.ways.begun s.ways.journal (journal_entry o.number w way (sides_of s w).source (sides_of s w).target) stands.ways.written (stands.ways.numbers name o is_open)
+          (cond b (s.ways.journal ++ journal_entry o.number w way (sides_of s w).source (sides_of s w).targets ∷ []) s.ways.journal)
+      by true = written-push s.ways.begun s.ways.journal (journal_entry o.number w way (sides_of s w).source (sides_of s w).targets) stands.ways.written (stands.ways.numbers name o is_open)
       by false = stands.ways.written
 
   as_long : (at : ℕ) → length sides.journal ≡ (next p (step name at) done).journal
@@ -256,9 +273,9 @@ module _ (p : Plain) (scopes asked : List Scope) (may_answer : Answering) (s : S
       ap length journal_now ∙ by (eqb (next_step way) write_journal)
       ∙ sym (ap (journal_after p) is_live ∙ ap (λ x. option_map_or (λ (y : Way). cond (eqb (next_step y) write_journal) (suc p.journal) p.journal) x p.journal) v_opens)
     where
-      by : (b : Bool) → length (cond b (s.ways.journal ++ journal_entry o.number w way (sides_of s w).source (sides_of s w).target ∷ []) s.ways.journal) ≡ cond b (suc p.journal) p.journal
+      by : (b : Bool) → length (cond b (s.ways.journal ++ journal_entry o.number w way (sides_of s w).source (sides_of s w).targets ∷ []) s.ways.journal) ≡ cond b (suc p.journal) p.journal
       by true =
-          let more_by_one = length_push s.ways.journal (journal_entry o.number w way (sides_of s w).source (sides_of s w).target) in
+          let more_by_one = length_push s.ways.journal (journal_entry o.number w way (sides_of s w).source (sides_of s w).targets) in
           let same = stands.ways.journal in
           omega (arith, more_by_one, same)
       by false = stands.ways.journal

@@ -1,16 +1,18 @@
 -- What is kept of a way behind an undo of a step of it, and behind its close where no step stands done.
-use Rattle.std.proofs.Common.{[], ◌∷◌, ◌≡◌, ◌≢◌, ℕ, ◌-◌, Bool, true, false, cond, eqb, length, List, map, None, Some, option_map, refl, sym, ap, ◌∙◌, subst, arith, eqb-true, ◌+◌}
+use Rattle.std.proofs.Common.{[], ◌≡◌, ◌≢◌, ℕ, ◌-◌, Bool, true, false, cond, eqb, length, List, map, Option, None, Some, refl, sym, ap, ◌∙◌, subst, arith, eqb-true, ◌+◌}
 use Rattle.std.proofs.lemmas.Bool.{eqb-false, false_from_ne_true, true≢false}
 use Rattle.std.specs.List.{AllByRecursion}
 use Rattle.std.specs.Map.{set_value}
 use Rattle.std.specs.Option.{option_map_or}
+use Rattle.std.specs.Prelude.{slice_index_or}
 use Rattle.mt_names.specs.Names.{same_text}
 use Rattle.mt_names.proofs.SameLemmas.{same_text_decides}
 use Rattle.mt_model.specs.declared.entries.Scope.{Scope}
-use Rattle.mt_model.specs.Topology.{key_of}
+use Rattle.mt_model.specs.Topology.{Marks}
 use Rattle.mt_journal.specs.declared.entry.JournalEntry.{JournalEntry}
 use Rattle.mt_journal.specs.Journal.{entry_of}
 use Rattle.mt_laws.proofs.ChangeLemmas.{live_after, lives_after}
+use Rattle.mt_laws.proofs.LiveLemmas.{IsIn}
 use Rattle.mt_laws.proofs.WayLemmas.{undo_before_journal}
 use Rattle.mt_laws.proofs.WayStepLemmas.{fewer, undone_by, was_done}
 use Rattle.mt_plain.specs.Answers.{Answers}
@@ -18,8 +20,6 @@ use Rattle.mt_plain.specs.Events.{done, undo, Way}
 use Rattle.mt_plain.specs.Next.{live_undone, next, on_way_of}
 use Rattle.mt_plain.specs.Plain.{Lane, Live, Plain, before_way, create_back, last_step, live_at, next_step, refresh_source, stands_done, write_journal, first_step, next_place, step_at_place}
 use Rattle.mt_plain.specs.Refuse.{in_workflow, undo_refusal}
-use Rattle.mt_plain.specs.Slots.{slot_before_way}
-use Rattle.mt_site_rows.specs.Rows.{stream_of}
 use Rattle.mt_site_state.specs.Core.{workflow_at}
 use Rattle.mt_site_state.specs.Stands.{StandsFor}
 use Rattle.mt_site_state.specs.Switching.{open_after, sides_of, with_sides}
@@ -28,14 +28,19 @@ use Rattle.mt_steps.specs.declared.log.OpenWay.{OpenWay}
 use Rattle.mt_steps.specs.declared.step.Step.{Step}
 use Rattle.mt_steps.specs.Entries.{recorded_of, step_entries}
 use Rattle.mt_steps.specs.Plans.{number}
-use Rattle.mt_steps.specs.Steps.{IsUndone, SidesState}
+use Rattle.mt_steps.proofs.StepLemmas.{undone_log}
+use Rattle.mt_steps.specs.Shards.{last_shard}
+use Rattle.mt_steps.specs.Steps.{IsUndone, SidesState, left_listed, listed_at}
 use Rattle.mt_steps.specs.Streams.{other_name}
 use Rattle.mt_steps.specs.Undo.{UndoState}
 use Rattle.mt_workflow.specs.Workflows.{WorkflowState, live_of}
-use Rattle.mt_site_ways.proofs.AttemptLemmas.{listed_left, saved_stays, slot_left}
-use Rattle.mt_site_ways.proofs.KeepLemmas.{Keeps, entries_keep, part_keeps, recorded_keeps, undo_keeps}
+use Rattle.mt_site_ways.proofs.AttemptLemmas.{listed_left, saved_stays, slots_left}
+use Rattle.mt_site_ways.proofs.KeepLemmas.{Keeps, entries_keep, recorded_keeps, undo_keeps}
+use Rattle.mt_site_ways.proofs.ListedLemmas.{taken_log}
 use Rattle.mt_site_ways.proofs.RecordOpenLemmas.{goes_on}
+use Rattle.mt_site_ways.proofs.SlotLemmas.{map-in}
 use Rattle.mt_site_ways.proofs.TopologyLemmas.{one_some}
+use Rattle.mt_site_ways.proofs.WholeOpenLemmas.{saved}
 
 -- ---- the live workflow behind an undo
 
@@ -77,8 +82,12 @@ module _ (p : Plain) (scopes : List Scope) (s : SiteState) (stands : SiteStands 
     abbrev u : OpenWay
     u = record { number = o.number; log = log }
 
+    -- what was kept, without the list that the undo has taken
+    abbrev taken : UndoState
+    taken = record o.log { listed = left_listed this (last_shard way) o.log.listed }
+
     keeps : Keeps w now
-    keeps = subst (Keeps w) (sym is.workflow) (undo_keeps w way this o.log.slot)
+    keeps = subst (Keeps w) (sym is.workflow) (undo_keeps w way this o.log.slots)
 
     way_now : now.way ≡ cond (eqb (way.done - 1) 0) None (Some (fewer way))
     way_now = ap (λ (x : WorkflowState). x.way) is.workflow
@@ -111,32 +120,33 @@ module _ (p : Plain) (scopes : List Scope) (s : SiteState) (stands : SiteStands 
           ∙ gives.entries n (was_done way n done_now)
           ∙ sym (entries_keep w now keeps before_now way.before n)
 
-      listed_give : stands_done (fewer way) refresh_source ≡ true → log.listed ≡ Some (map (λ table. (table, false)) now.tables)
+      listed_give : stands_done (fewer way) refresh_source ≡ true → listed_at log 0 ≡ Some (map (λ table. (table, false)) now.tables)
       listed_give done_now =
-          ap (λ (x : UndoState). x.listed) is.log ∙ listed_left this o.log.listed (not_this refresh_source done_now)
+          ap (λ (x : UndoState). listed_at x 0) is.log
+          ∙ ap (λ (l : List (Option Marks)). slice_index_or l 0 None) (listed_left this (last_shard way) o.log.listed (not_this refresh_source done_now))
           ∙ gives.listed (was_done way refresh_source done_now) ∙ ap (λ ts. Some (map (λ table. (table, false)) ts)) (sym keeps.tables)
 
-      slot_give : (live : Live) → live ≡ live_undone v way → (lane : Lane) → live.lanes ≡ lane ∷ [] → stands_done (fewer way) create_back ≡ true
-          → log.slot ≡ option_map (stream_of live lane) (slot_before_way live lane (other_name way))
-      slot_give live is_undone lane alone done_now =
-          ap (λ (x : UndoState). x.slot) is.log ∙ slot_left this o.log.slot (not_this create_back done_now)
-          ∙ gives.slot for.lane for.alone (was_done way create_back done_now) ∙ sym stood
+      slots_give : (live : Live) → live ≡ live_undone v way → stands_done (fewer way) create_back ≡ true → log.slots ≡ map (saved live way) live.lanes
+      slots_give live is_undone done_now =
+          ap (λ (x : UndoState). x.slots) is.log ∙ slots_left this o.log.slots (not_this create_back done_now)
+          ∙ gives.slots (was_done way create_back done_now) ∙ sym (ap (λ (x : Live). map (saved x way) x.lanes) left_is ∙ map-in (saved left way) (saved v way) v.lanes each)
         where
-          is_lane : lane ≡ for.lane
-          is_lane = let e : lane ∷ [] ≡ for.lane ∷ [] = sym alone ∙ ap (λ (x : Live). x.lanes) is_undone ∙ for.alone in cc
+          left : Live
+          left = record v { way = Some (fewer way) }
 
-          stood : option_map (stream_of live lane) (slot_before_way live lane (other_name way)) ≡ option_map (stream_of v for.lane) (slot_before_way v for.lane (other_name way))
-          stood =
-              ap (λ (l : Lane). option_map (stream_of live l) (slot_before_way live l (other_name way))) is_lane
-              ∙ ap (λ (x : Live). option_map (stream_of x for.lane) (slot_before_way x for.lane (other_name way)))
-              (is_undone ∙ ap (λ b. record v { way = cond b None (Some (fewer way)) }) goes)
-              ∙ saved_stays v way (fewer way) v.switched v.lanes for.lane for.lane (record { shard = refl; copied = refl; forward_at = refl; back_at = refl }) (other_name way) v_opens refl
+          left_is : live ≡ left
+          left_is = is_undone ∙ ap (λ b. record v { way = cond b None (Some (fewer way)) }) goes
+
+          each : (lane : Lane) → IsIn lane v.lanes → saved left way lane ≡ saved v way lane
+          each lane is_in =
+              saved_stays v way (fewer way) v.switched v.lanes lane lane (record { shard = refl; copied = refl; forward_at = refl; back_at = refl }) (other_name way) v_opens refl
 
       open_now : (live : Live) → live ≡ live_undone v way → IsOpenOn sides.journal live now (fewer way) u
       open_now live is_undone = record {
-        kept = ap (λ (x : UndoState). map key_of x.entries) is.log ∙ kept_before.kept ∙ sym (part_keeps w now keeps);
+        kept = undone_log way this s.core.topology sides.topology w now taken log [] (recorded_of w (number this) o.log.entries) is.topology is.workflow is.log
+            (taken_log w this (last_shard way) o.log taken refl kept_before.kept);
         unused = λ f. ap (λ es. entry_of es o.number) is.journal ∙ kept_before.unused not_written;
-        undo = λ f. record { entries = entries_give; listed = listed_give; slot = slot_give live is_undone };
+        undo = λ f. record { entries = entries_give; listed = listed_give; slots = slots_give live is_undone };
       }
 
     here : (live : Live) (x : Way) → live_at (next p (undo name at) done) name ≡ Some live → now.way ≡ Some x → IsOpenOn sides.journal live now x u

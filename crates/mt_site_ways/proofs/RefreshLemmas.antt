@@ -51,18 +51,18 @@ WhyRefused scopes keyspace other = ⊥
 
 module _ (scopes : List Scope) (may_answer : Answering) (t : TopologyState) (w : WorkflowState) (old new : Sites) where
   -- one that is done has told a watcher
-  pub refreshed : (at_target : Bool) → RefreshesSide scopes may_answer t w at_target old (Ok tt) new → has_scope scopes (scope.Primary (cond at_target w.target w.source)) ≡ true
-  refreshed true is = is.0.0.has
-  refreshed false is = is.0.0.has
+  pub refreshed : (at_target : Bool) (shard : ℕ) → RefreshesSide scopes may_answer t w at_target shard old (Ok tt) new → has_scope scopes (scope.Primary (cond at_target w.target w.source)) ≡ true
+  refreshed true shard is = is.0.0.has
+  refreshed false shard is = is.0.0.has
 
-  pub not_refreshed : (at_target : Bool) (f : StepFault) → RefreshesSide scopes may_answer t w at_target old (Err f) new → WhyRefused scopes (cond at_target w.target w.source) f
-  not_refreshed true fault.NoWatcher is = is.0.0
-  not_refreshed true fault.Memory is = is.0.0
-  not_refreshed true (fault.WatcherRefused i) is = is.0.0.here
-  not_refreshed true fault.NotLevel is = is.0
-  not_refreshed true fault.Full is = is.0
-  not_refreshed false fault.NoWatcher is = is.0.0
-  not_refreshed false fault.Memory is = is.0.0
-  not_refreshed false (fault.WatcherRefused i) is = is.0.0.here
-  not_refreshed false fault.NotLevel is = is.0
-  not_refreshed false fault.Full is = is.0
+  pub not_refreshed : (at_target : Bool) (shard : ℕ) (f : StepFault) → RefreshesSide scopes may_answer t w at_target shard old (Err f) new → WhyRefused scopes (cond at_target w.target w.source) f
+  not_refreshed true shard fault.NoWatcher is = is.0.0
+  not_refreshed true shard fault.Memory is = is.0.0
+  not_refreshed true shard (fault.WatcherRefused i) is = is.0.0.here
+  not_refreshed true shard fault.NotLevel is = is.0
+  not_refreshed true shard fault.Full is = is.0
+  not_refreshed false shard fault.NoWatcher is = is.0.0
+  not_refreshed false shard fault.Memory is = is.0.0
+  not_refreshed false shard (fault.WatcherRefused i) is = is.0.0.here
+  not_refreshed false shard fault.NotLevel is = is.0
+  not_refreshed false shard fault.Full is = is.0

@@ -26,10 +26,12 @@ use Rattle.mt_steps.specs.declared.step.Step.TheVariants.{SwitchReads, RefreshSo
 use Rattle.mt_steps.specs.Faults as steps
 use Rattle.mt_steps.specs.Plans.{number}
 use Rattle.mt_steps.specs.Refreshes.{Sites}
+use Rattle.mt_steps.specs.Shards.{next_shard}
 use Rattle.mt_steps.specs.Steps.{Attempts, Journals, answer_if_level, journal_entry}
 use Rattle.mt_laws.specs.Reached.{HandsOver, IsOnCourse}
 use Rattle.mt_site_rows.specs.Rows.{stream_of}
 use Rattle.mt_site_state.specs.Stands.{StandsFor}
+use Rattle.mt_site_state.proofs.ShardLemmas.{no_cuts}
 use Rattle.mt_site_ways.proofs.LevelLemmas.{caught_same, reads_same}
 use Rattle.mt_site_ways.proofs.RefreshLemmas.{WhyRefused, not_refreshed, refreshed, same_watchers, watched_by, watcher_of}
 
@@ -67,7 +69,7 @@ module _ (p : Plain) (live : Live) (w : WorkflowState) (for : StandsFor p live w
     → is_level (stream_of live for.lane slot) (at (read_side live stream)) ≡ not (is_behind p live))
     (journal : List JournalEntry) (entries : length journal ≡ p.journal) (mine : List Scope) (may_answer : Answering) (id : ℕ) (t : TopologyState) (listed : Option Marks) where
   abbrev pub sites_now : Sites
-  sites_now = record { source = at w.source; target = at w.target; journal = journal; listed = listed }
+  sites_now = record { source = at w.source; targets = at w.target ∷ []; journal = journal; listed = listed }
 
   room : length journal < most_journal_entries → own_refusal p live way write_journal ≡ None
   room less = ap (λ b. refuse_if b full) (lt-leb most_journal_entries p.journal (omega (arith, less, entries)))
@@ -83,10 +85,10 @@ module _ (p : Plain) (live : Live) (w : WorkflowState) (for : StandsFor p live w
 
     pub taken : (s : Step) → number s ≡ next_step way → (new : Sites) → Attempts mine may_answer id t w way s sites_now (Ok tt) new → own_refusal p live way (number s) ≡ None
     taken SwitchReads n new is = passes_level (will_read_other_side live way && is_behind p live) _ (reads_same p live w for way opens course at level n) (sym is.0)
-    taken RefreshSource n new is = asked_there (old_owner live) _ (old_is p live w for way opens) (refreshed mine may_answer t w sites_now new way.before.primary is)
+    taken RefreshSource n new is = asked_there (old_owner live) _ (old_is p live w for way opens) (refreshed mine may_answer t w sites_now new way.before.primary (next_shard way) is)
     taken CatchUp n new is = passes_level (is_behind p live) _ (caught_same p live w for way opens course at level hands n) (sym is.0)
     taken Journal n new is = room is.0.0
-    taken RefreshTarget n new is = asked_there (new_owner live) _ (new_is p live w for way opens) (refreshed mine may_answer t w sites_now new (not way.before.primary) is)
+    taken RefreshTarget n new is = asked_there (new_owner live) _ (new_is p live w for way opens) (refreshed mine may_answer t w sites_now new (not way.before.primary) (next_shard way) is)
     taken other n new is = refl
 
   -- and one that is refused, by the test that refuses it, or it is free
@@ -98,7 +100,7 @@ module _ (p : Plain) (live : Live) (w : WorkflowState) (for : StandsFor p live w
     grows : (n : ℕ) → n ≡ next_step way → may_grow p (step workflow count) ≡ (eqb n refresh_source || (eqb n write_journal || (eqb n refresh_target || false)))
     grows n is =
         ap (λ l. option_map_or (λ v. list_any (is_next_step v) (steps_that_grow v)) l false) is_live
-        ∙ ap (λ cuts. list_any (is_next_step live) (refresh_source ∷ write_journal ∷ refresh_target ∷ (if nat_lt 1 (shard_count cuts) then create_back ∷ [] else []))) for.sides.cuts
+        ∙ ap (λ cuts. list_any (is_next_step live) (refresh_source ∷ write_journal ∷ refresh_target ∷ (if nat_lt 1 (shard_count cuts) then create_back ∷ [] else []))) (no_cuts p live w for)
         ∙ ap (λ o. list_any (λ m. option_map_or (λ (v : Way). next_step v == m) o false) (refresh_source ∷ write_journal ∷ refresh_target ∷ [])) opens
         ∙ ap (λ m. eqb m refresh_source || (eqb m write_journal || (eqb m refresh_target || false))) (sym is)
 
@@ -140,10 +142,10 @@ module _ (p : Plain) (live : Live) (w : WorkflowState) (for : StandsFor p live w
         level_refused (will_read_other_side live way && is_behind p live) _ (reads_same p live w for way opens course at level n) (own_by switch_reads n) f (sym is.0)
     not_taken RefreshSource n f new is =
         refresh_refused (old_owner live) (own_by refresh_source n) (grows refresh_source n) (asked refresh_source n) f
-        (subst (λ k. WhyRefused mine k f) (sym (old_is p live w for way opens)) (not_refreshed mine may_answer t w sites_now new way.before.primary f is))
+        (subst (λ k. WhyRefused mine k f) (sym (old_is p live w for way opens)) (not_refreshed mine may_answer t w sites_now new way.before.primary (next_shard way) f is))
     not_taken CatchUp n f new is = level_refused (is_behind p live) _ (caught_same p live w for way opens course at level hands n) (own_by catch_up n) f (sym is.0)
-    not_taken Journal n f new is = journal_refused n f (journal_entry id w way (at w.source) (at w.target)) new.journal is.0
+    not_taken Journal n f new is = journal_refused n f (journal_entry id w way (at w.source) (at w.target ∷ [])) new.journal is.0
     not_taken RefreshTarget n f new is =
         refresh_refused (new_owner live) (own_by refresh_target n) (grows refresh_target n) (asked refresh_target n) f
-        (subst (λ k. WhyRefused mine k f) (sym (new_is p live w for way opens)) (not_refreshed mine may_answer t w sites_now new (not way.before.primary) f is))
+        (subst (λ k. WhyRefused mine k f) (sym (new_is p live w for way opens)) (not_refreshed mine may_answer t w sites_now new (not way.before.primary) (next_shard way) f is))
     not_taken other n f new is = absurd (let h : Ok tt ≡ Err f = sym is.0 in cc)

@@ -1,80 +1,41 @@
 -- What begins, steps and undos leave of the workflows.
-use Rattle.std.proofs.Common.{◌≡◌, ◌≢◌, ℕ, suc, ◌-◌, ◌<◌, ◌≤◌, Bool, true, false, cond, eqb, List, [], map, Option, None, Some, option_map, refl, sym, ap, ◌∙◌, subst, arith}
+use Rattle.std.proofs.Common.{◌≡◌, ◌≢◌, ℕ, suc, ◌-◌, ◌<◌, ◌≤◌, Bool, true, false, cond, eqb, length, List, map, Option, None, Some, option_map, refl, sym, ap, ◌∙◌, subst, arith}
+use Rattle.mt_site_ways.specs.Ends.{ends_of, log_end_for}
 use Rattle.mt_site_ways.proofs.EntryLemmas.{none_last}
 use Rattle.mt_plain.proofs.PlaceLemmas.{one-last, one-next}
 use Rattle.std.specs.Map.{set_value}
 use Rattle.std.specs.Option.{option_map_or}
-use Rattle.std.specs.Prelude.{◌||◌, if◌then◌else◌}
+use Rattle.std.specs.Prelude.{◌||◌}
 use Rattle.mt_names.specs.declared.types.TypeSet.{TypeSet}
 use Rattle.mt_names.specs.Names.{same_text}
-use Rattle.mt_names.specs.Shards.{shard_count, whole}
+use Rattle.mt_names.specs.Shards.{shard_count}
 use Rattle.mt_plain.specs.Answers.{range_at}
-use Rattle.mt_plain.specs.Events.{StreamName, forward, back, running, Way}
+use Rattle.mt_plain.specs.Events.{StreamName, forward, back, running, Slot, Way}
 use Rattle.mt_plain.specs.Next.{closes, lane_stepped, live_stepped, live_undone, on_way_of, way_undone, with_step, with_undo, with_way, with_way_to}
-use Rattle.mt_plain.specs.Plain.{Lane, Live, Plain, before_way, behind_last, changes_primary, create_back, last_step, live_at, next_step, stands_done, stop_feeding, write_journal}
-use Rattle.mt_plain.specs.Refuse.{new_owner}
-use Rattle.mt_plain.specs.Slots.{is_feeding, log_length, slot_before_way}
+use Rattle.mt_plain.specs.Plain.{Copied, Lane, Live, Plain, behind_last, changes_primary, create_back, last_step, live_at, next_step, stands_done, stop_feeding, write_journal}
+use Rattle.mt_plain.specs.Slots.{is_feeding, slot_before_way}
 use Rattle.mt_plain.specs.Slots as plain
 use Rattle.mt_laws.specs.Effects.{in_state, slot_stepped, slot_undone}
 use Rattle.mt_laws.specs.WayBack.{IsReached}
 use Rattle.mt_laws.proofs.ChangeLemmas.{sides-live_stepped, sides-on_way, sides-undone}
 use Rattle.mt_laws.proofs.CopyLemmas.{all_copied, copied-stepped}
 use Rattle.mt_laws.proofs.LaneLemmas.{shard-stepped}
+use Rattle.mt_laws.proofs.LiveLemmas.{IsIn}
 use Rattle.mt_laws.proofs.StepCountLemmas.{few_done}
 use Rattle.mt_laws.proofs.WayStepLemmas.{done_by, fewer, more}
 use Rattle.mt_site_rows.specs.Rows.{stream_of}
 use Rattle.mt_site_state.specs.Core.{Workflows, workflow_at}
-use Rattle.mt_site_state.specs.Stands.{AreWorkflows, StandsFor}
+use Rattle.mt_site_state.specs.Stands.{AreWorkflows, StandsFor, lane_state}
 use Rattle.mt_site_state.specs.Switching.{way_to}
-use Rattle.mt_site_state.proofs.ShardLemmas.{alone_in}
+use Rattle.mt_site_state.proofs.ShardLemmas.{no_cuts, one_lane}
 use Rattle.mt_stream.specs.Streams.{StreamValue}
-use Rattle.mt_workflow.specs.Workflows.{WorkflowState, slot_of, with_slot}
+use Rattle.mt_workflow.specs.Workflows.{LaneState, WorkflowState, lane_slot}
 use Rattle.mt_steps.specs.declared.step.Step.{Step}
-use Rattle.mt_steps.specs.declared.step.Step.TheVariants.{SwitchReads, DenySource, RefreshSource, CatchUp, StopFeeding, CreateBack, Journal, AllowTarget, RefreshTarget, SwitchWriteRules, StartBack, FreezeOld}
 use Rattle.mt_steps.proofs.PlanLemmas.{number-step_at}
 use Rattle.mt_steps.specs.Plans.{number, step_at}
-use Rattle.mt_steps.specs.Streams.{feeding_name, other_name, streams_undone, types_after, way_after, with_streams, workflow_stepped, workflow_undone}
-use Rattle.mt_site_ways.proofs.ChangedLemmas.{changed-workflows, stands_for, stream-slots, with_traffic}
-use Rattle.mt_site_ways.proofs.SlotLemmas.{begun-slot, either-same, stepped-slots, undone-slots}
-
--- ---- a step and an undo change streams, way and types alone
-
-abbrev with_both : WorkflowState → (there other : Option StreamValue) → WorkflowState
-with_both w there other = record w { forward = there; back = other }
-
-slot-both : (w : WorkflowState) (name : StreamName) (s : Option StreamValue) → with_slot w name s ≡ with_both w (slot_of (with_slot w name s) forward) (slot_of (with_slot w name s) back)
-slot-both w forward s = refl
-slot-both w back s = refl
-
-streams-both : (w : WorkflowState) (way : Way) (step : Step) (position : ℕ)
-    → with_streams w way step position ≡ with_both w (slot_of (with_streams w way step position) forward) (slot_of (with_streams w way step position) back)
-streams-both w way SwitchReads position = refl
-streams-both w way DenySource position = refl
-streams-both w way RefreshSource position = refl
-streams-both w way CatchUp position = refl
-streams-both w way StopFeeding position = slot-both w (feeding_name way) _
-streams-both w way CreateBack position = slot-both w (other_name way) _
-streams-both w way Journal position = refl
-streams-both w way AllowTarget position = refl
-streams-both w way RefreshTarget position = refl
-streams-both w way SwitchWriteRules position = refl
-streams-both w way StartBack position = slot-both w (other_name way) _
-streams-both w way FreezeOld position = slot-both w (feeding_name way) _
-
-undone-both : (w : WorkflowState) (way : Way) (step : Step) (kept : Option StreamValue)
-    → streams_undone w way step kept ≡ with_both w (slot_of (streams_undone w way step kept) forward) (slot_of (streams_undone w way step kept) back)
-undone-both w way SwitchReads kept = refl
-undone-both w way DenySource kept = refl
-undone-both w way RefreshSource kept = refl
-undone-both w way CatchUp kept = refl
-undone-both w way StopFeeding kept = slot-both w (feeding_name way) _
-undone-both w way CreateBack kept = slot-both w (other_name way) kept
-undone-both w way Journal kept = refl
-undone-both w way AllowTarget kept = refl
-undone-both w way RefreshTarget kept = refl
-undone-both w way SwitchWriteRules kept = refl
-undone-both w way StartBack kept = refl
-undone-both w way FreezeOld kept = refl
+use Rattle.mt_steps.specs.Streams.{other_name, types_after, way_after, workflow_stepped, workflow_undone}
+use Rattle.mt_site_ways.proofs.ChangedLemmas.{changed-workflows, stands_for, with_traffic}
+use Rattle.mt_site_ways.proofs.SlotLemmas.{begun-slot, either-same, lane-same, lane_undone, lane_with_streams, lanes-stepped, lanes-undone, map-in, map-map, range-stepped, range-undone, stepped-slots, undone-slots}
 
 -- ---- the events
 
@@ -89,33 +50,24 @@ module _ (p : Plain) (workflows : Workflows) (are : AreWorkflows p workflows) (n
     pub begun-workflows : AreWorkflows (with_way p name backward change) (set_value (same_text w.name) workflows (record w { way = Some (way_to w backward (change w.switched)) }))
     begun-workflows =
         changed-workflows p (with_way p name backward change) name (with_way_to backward change) (λ v. record { name = refl; source = refl; target = refl; tables = refl; cuts = refl }) refl refl elsewhere
-        workflows are live w is_live found (with_way_to backward change live) refl for.lane for.alone for.shard refl
-        (Some (way_to w backward (change w.switched))) w.switched w.forward w.back
-        (ap (λ (types : TypeSet). Some (record { back = backward; shards = 1; before = types; after = change types; done = 0; undoing = false })) for.switched
-        ∙ ap (λ cuts. Some (record { back = backward; shards = shard_count cuts; before = live.switched; after = change live.switched; done = 0; undoing = false })) (sym for.sides.cuts))
+        workflows are live w is_live found (with_way_to backward change live) refl for.lane for.alone for.shard
+        (Some (way_to w backward (change w.switched))) w.switched w.lanes
+        (ap (λ n. Some (record { back = backward; shards = n; before = w.switched; after = change w.switched; done = 0; undoing = false }))
+        (ap length (one_lane p live w for) ∙ sym (ap shard_count (no_cuts p live w for)))
+        ∙ ap (λ (types : TypeSet). Some (record { back = backward; shards = shard_count live.cuts; before = types; after = change types; done = 0; undoing = false })) for.switched)
         for.switched
-        (for.forward ∙ ap (option_map (stream_of live for.lane)) (sym (begun-slot live for.lane rests backward (change live.switched) forward)))
-        (for.back ∙ ap (option_map (stream_of live for.lane)) (sym (begun-slot live for.lane rests backward (change live.switched) back)))
+        (for.lanes ∙ map-in (lane_state live) (lane_state (with_way_to backward change live)) live.lanes (λ lane is.
+        lane-same (lane_state live lane) (lane_state (with_way_to backward change live) lane) refl (same lane)))
+      where
+        same : (lane : Lane) (stream : StreamName) → lane_slot stream (lane_state live lane) ≡ lane_slot stream (lane_state (with_way_to backward change live) lane)
+        same lane forward = ap (option_map (stream_of live lane)) (sym (begun-slot live lane rests backward (change live.switched) forward))
+        same lane back = ap (option_map (stream_of live lane)) (sym (begun-slot live lane rests backward (change live.switched) back))
 
   module _ (way : Way) (opens : live.way ≡ Some way) where
     -- a step
     module _ (reached : IsReached p) (left : next_step way < behind_last way) (elsewhere : (n : List ℕ) → name ≢ n → live_at (with_step p name) n ≡ live_at p n)
-        (slots : (stream : StreamName) → plain.slot_of (live_stepped p live way) (lane_stepped p live way for.lane) stream
-        ≡ slot_stepped way stream (log_length p (new_owner live) (if (before_way live).primary then 0 else for.lane.shard)) (plain.slot_of live for.lane stream)) where
-      abbrev position : ℕ
-      position = log_length p (new_owner live) 0
-
-      abbrev on : Lane
-      on = lane_stepped p live way for.lane
-
-      -- the new owner's log is that of the first shard
-      first_log : log_length p (new_owner live) (if (before_way live).primary then 0 else for.lane.shard) ≡ position
-      first_log = ap (log_length p (new_owner live)) (by (before_way live).primary)
-        where
-          by : (b : Bool) → cond b 0 for.lane.shard ≡ 0
-          by true = refl
-          by false = for.shard
-
+        (slots : (lane : Lane) (stream : StreamName) → plain.slot_of (live_stepped p live way) (lane_stepped p live way lane) stream
+        ≡ slot_stepped way stream (log_end_for p live lane) (plain.slot_of live lane stream)) where
       abbrev next_one : Step
       next_one = step_at (next_step way)
 
@@ -129,85 +81,131 @@ module _ (p : Plain) (workflows : Workflows) (are : AreWorkflows p workflows) (n
       numbered : number next_one ≡ next_step way
       numbered = number-step_at (next_step way) below
 
-      range_is : range_at live.cuts for.lane.shard ≡ whole
-      range_is = ap (λ cuts. range_at cuts for.lane.shard) for.sides.cuts ∙ ap (range_at []) for.shard
+      abbrev now : Live
+      now = live_stepped p live way
 
-      stream_is : (stream : StreamName) → slot_of (with_streams w way next_one position) stream ≡ option_map (stream_of live for.lane) (plain.slot_of (live_stepped p live way) on stream)
-      stream_is stream =
-          stepped-slots live for.lane w (plain.slot_of live for.lane) (stream-slots p live w for) way position (sym for.sides.tables) range_is
-          (all_copied p reached name live way is_live opens for.lane (alone_in live.lanes for.lane for.alone)) (next_step way) below stream
-          ∙ ap (λ n. option_map (stream_of live for.lane) (slot_stepped way stream n (plain.slot_of live for.lane stream))) (sym first_log)
-          ∙ ap (option_map (stream_of live for.lane)) (sym (slots stream))
+      -- a lane behind the step
+      module _ (lane : Lane) (is_in : IsIn lane live.lanes) where
+        abbrev on : Lane
+        on = lane_stepped p live way lane
+
+        abbrev made : LaneState
+        made = lane_with_streams live.tables way next_one (log_end_for p live lane) (lane_state live lane)
+
+        same-stream : (o : Option Slot) → option_map (stream_of live lane) o ≡ option_map (stream_of now on) o
+        same-stream None = refl
+        same-stream (Some s) = ap Some (by on.shard (shard-stepped p live way lane) on.copied (copied-stepped p live way lane))
+          where
+            by : (n : ℕ) → n ≡ lane.shard → (c : Copied) → c ≡ lane.copied
+                → stream_of live lane s ≡ record { tables = live.tables; range = range_at live.cuts n; copied = c; position = s.position; state = s.state }
+            by n d c e = rw (d, e) refl
+
+        lane-stepped : made ≡ lane_state now on
+        lane-stepped = lane-same made (lane_state now on) (range-stepped live.tables way next_one (log_end_for p live lane) (lane_state live lane) ∙ ap (range_at live.cuts) (sym (shard-stepped p live way lane))) same
+          where
+            made-slot : (stream : StreamName) → lane_slot stream made ≡ option_map (stream_of now on) (plain.slot_of now on stream)
+            made-slot stream =
+                stepped-slots live lane way (log_end_for p live lane) (all_copied p reached name live way is_live opens lane is_in) (next_step way) below stream
+                ∙ ap (option_map (stream_of live lane)) (sym (slots lane stream))
+                ∙ same-stream (plain.slot_of now on stream)
+
+            same : (stream : StreamName) → lane_slot stream made ≡ lane_slot stream (lane_state now on)
+            same forward = made-slot forward
+            same back = made-slot back
+
+      lanes_are : map (λ lane. lane_with_streams w.tables way next_one (log_end_for p live lane) (lane_state live lane)) live.lanes ≡ map (lane_state now) now.lanes
+      lanes_are =
+          ap (λ ts. map (λ lane. lane_with_streams ts way next_one (log_end_for p live lane) (lane_state live lane)) live.lanes) (sym for.sides.tables)
+          ∙ map-in (λ lane. lane_with_streams live.tables way next_one (log_end_for p live lane) (lane_state live lane)) (λ lane. lane_state now (lane_stepped p live way lane)) live.lanes lane-stepped
+          ∙ sym (map-map (lane_state now) (lane_stepped p live way) live.lanes)
+
+      abbrev made_lanes : List LaneState
+      made_lanes = map (λ lane. lane_with_streams w.tables way next_one (log_end_for p live lane) (lane_state live lane)) live.lanes
 
       stepped : AreWorkflows (with_step p name) (set_value (same_text w.name) workflows
-          (with_traffic w (way_after way next_one) (types_after w.switched way next_one) (slot_of (with_streams w way next_one position) forward) (slot_of (with_streams w way next_one position) back)))
+          (with_traffic w (way_after way next_one) (types_after w.switched way next_one) made_lanes))
       stepped =
           changed-workflows p (with_step p name) name (λ v. on_way_of (live_stepped p v) v) (λ v. sides-on_way v (live_stepped p v) (sides-live_stepped p v) v.way) refl refl elsewhere
-          workflows are live w is_live found (live_stepped p live way) (ap (λ o. option_map_or (live_stepped p live) o live) opens) on
-          (ap (map (lane_stepped p live way)) for.alone) (shard-stepped p live way for.lane ∙ for.shard) (copied-stepped p live way for.lane)
-          (way_after way next_one) (types_after w.switched way next_one) (slot_of (with_streams w way next_one position) forward) (slot_of (with_streams w way next_one position) back)
+          workflows are live w is_live found now (ap (λ o. option_map_or (live_stepped p live) o live) opens) (lane_stepped p live way for.lane)
+          (ap (map (lane_stepped p live way)) for.alone) (shard-stepped p live way for.lane ∙ for.shard)
+          (way_after way next_one) (types_after w.switched way next_one) made_lanes
           (ap (λ n. cond (eqb (suc n) (behind_last way)) None (Some (more way))) numbered)
           (ap (λ n. cond (eqb (suc n) (behind_last way) || eqb n write_journal) way.after w.switched) numbered
           ∙ ap (cond (closes way || eqb (next_step way) write_journal) way.after) for.switched)
-          (stream_is forward) (stream_is back)
+          lanes_are
 
-      pub stepped-workflows : AreWorkflows (with_step p name) (set_value (same_text w.name) workflows (workflow_stepped w way next_one position))
+      pub stepped-workflows : AreWorkflows (with_step p name) (set_value (same_text w.name) workflows (workflow_stepped w way next_one (ends_of p live)))
       stepped-workflows =
           subst (λ v. AreWorkflows (with_step p name) (set_value (same_text w.name) workflows v))
-          (sym (ap (λ (v : WorkflowState). record v { way = way_after way next_one; switched = types_after w.switched way next_one }) (streams-both w way next_one position))) stepped
+          (sym (ap (λ (v : WorkflowState). record v { way = way_after way next_one; switched = types_after w.switched way next_one })
+          (lanes-stepped w way (lane_state live) live.lanes for.lanes (log_end_for p live) (next_step way) below))) stepped
 
     -- an undo, before the journal
     module _ (one : way.shards ≤ 1) (before : stands_done way write_journal ≡ false) (elsewhere : (n : List ℕ) → name ≢ n → live_at (with_undo p name) n ≡ live_at p n)
-        (slots : (stream : StreamName) → plain.slot_of (live_undone live way) for.lane stream
-        ≡ slot_undone way stream (slot_before_way live for.lane stream) (plain.slot_of live for.lane stream)) where
-      -- the workflow with the way that is left, and with streams
-      with_left : (v : Option Way) (there other : Option StreamValue) → v ≡ (live_undone live way).way → there ≡ option_map (stream_of live for.lane) (plain.slot_of (live_undone live way) for.lane forward)
-          → other ≡ option_map (stream_of live for.lane) (plain.slot_of (live_undone live way) for.lane back)
-          → AreWorkflows (with_undo p name) (set_value (same_text w.name) workflows (with_traffic w v w.switched there other))
-      with_left v there other left =
-          changed-workflows p (with_undo p name) name (λ x. on_way_of (live_undone x) x) (λ x. sides-on_way x (live_undone x) (sides-undone x) x.way) refl refl elsewhere
-          workflows are live w is_live found (live_undone live way) (ap (λ o. option_map_or (live_undone live) o live) opens) for.lane for.alone for.shard refl
-          v w.switched there other left for.switched
+        (slots : (lane : Lane) (stream : StreamName) → plain.slot_of (live_undone live way) lane stream
+        ≡ slot_undone way stream (slot_before_way live lane stream) (plain.slot_of live lane stream)) where
+      abbrev left : Live
+      left = live_undone live way
 
-      module _ (kept : Option StreamValue) (gives_back : stands_done way create_back ≡ true → kept ≡ option_map (stream_of live for.lane) (slot_before_way live for.lane (other_name way))) where
+      -- the workflow with the way that is left, and with lanes
+      with_left : (v : Option Way) (lanes : List LaneState) → v ≡ left.way → lanes ≡ map (lane_state left) left.lanes
+          → AreWorkflows (with_undo p name) (set_value (same_text w.name) workflows (with_traffic w v w.switched lanes))
+      with_left v lanes is =
+          changed-workflows p (with_undo p name) name (λ x. on_way_of (live_undone x) x) (λ x. sides-on_way x (live_undone x) (sides-undone x) x.way) refl refl elsewhere
+          workflows are live w is_live found left (ap (λ o. option_map_or (live_undone live) o live) opens) for.lane for.alone for.shard
+          v w.switched lanes is for.switched
+
+      -- the stream that a lane had before the way
+      abbrev saved : Lane → Option StreamValue
+      saved lane = option_map (stream_of live lane) (slot_before_way live lane (other_name way))
+
+      module _ (kept : List (Option StreamValue)) (gives_back : stands_done way create_back ≡ true → kept ≡ map saved live.lanes) where
         abbrev last_one : Step
         last_one = step_at (last_step way)
 
-        few : next_step way ≤ 6
-        few = few_done way before
+        early : last_step way < 6
+        early = let few = few_done way before in let next = one-next way one in let last = one-last way one in omega (arith, few, next, last)
 
-        was_made : last_step way ≡ create_back → kept ≡ option_map (stream_of live for.lane) (slot_before_way live for.lane (other_name way))
+        was_made : last_step way ≡ create_back → kept ≡ map saved live.lanes
         was_made is =
             let next = one-next way one in
             let last = one-last way one in
             gives_back (done_by way create_back 6 (omega (arith, is, next, last)) (omega arith) (omega arith))
 
-        stream_undone : (stream : StreamName) → slot_of (streams_undone w way last_one kept) stream ≡ option_map (stream_of live for.lane) (plain.slot_of (live_undone live way) for.lane stream)
-        stream_undone stream =
-            undone-slots live for.lane w (plain.slot_of live for.lane) (stream-slots p live w for) way kept (slot_before_way live for.lane) (last_step way) (let next = one-next way one in let last = one-last way one in omega (arith, few, next, last)) was_made stream
-            ∙ ap (option_map (stream_of live for.lane)) (sym (slots stream))
+        lane-undone : (lane : Lane) → IsIn lane live.lanes → lane_undone way last_one (saved lane) (lane_state live lane) ≡ lane_state left lane
+        lane-undone lane is_in = lane-same (lane_undone way last_one (saved lane) (lane_state live lane)) (lane_state left lane) (range-undone way last_one (saved lane) (lane_state live lane)) same
+          where
+            undone-slot : (stream : StreamName) → lane_slot stream (lane_undone way last_one (saved lane) (lane_state live lane)) ≡ option_map (stream_of live lane) (plain.slot_of left lane stream)
+            undone-slot stream =
+                undone-slots live lane way (saved lane) (slot_before_way live lane) (last_step way) early (λ is. refl) stream
+                ∙ ap (option_map (stream_of live lane)) (sym (slots lane stream))
+
+            same : (stream : StreamName) → lane_slot stream (lane_undone way last_one (saved lane) (lane_state live lane)) ≡ lane_slot stream (lane_state left lane)
+            same forward = undone-slot forward
+            same back = undone-slot back
 
         pub undone-workflows : AreWorkflows (with_undo p name) (set_value (same_text w.name) workflows (workflow_undone w way last_one kept))
         undone-workflows =
             subst (λ v. AreWorkflows (with_undo p name) (set_value (same_text w.name) workflows v))
-            (sym (ap (λ (v : WorkflowState). record v { way = way_undone way }) (undone-both w way last_one kept)))
-            (with_left (way_undone way) (slot_of (streams_undone w way last_one kept) forward) (slot_of (streams_undone w way last_one kept) back)
-            refl (stream_undone forward) (stream_undone back))
+            (sym (ap (λ (v : WorkflowState). record v { way = way_undone way })
+            (lanes-undone w way (lane_state live) live.lanes for.lanes saved kept (last_step way) early was_made)))
+            (with_left (way_undone way) (map (λ lane. lane_undone way last_one (saved lane) (lane_state live lane)) live.lanes) refl
+            (map-in (λ lane. lane_undone way last_one (saved lane) (lane_state live lane)) (lane_state left) live.lanes lane-undone))
 
       -- where no step stands done
       module _ (none : way.done ≡ 0) where
-        no_step : last_step way ≡ 0
-        no_step = none_last way none
-
-        same_slot : (stream : StreamName) → plain.slot_of (live_undone live way) for.lane stream ≡ plain.slot_of live for.lane stream
-        same_slot stream =
-            slots stream
-            ∙ ap (λ n. cond (is_feeding way stream) (cond (eqb n stop_feeding) (in_state running (plain.slot_of live for.lane stream)) (plain.slot_of live for.lane stream))
-            (cond (eqb n create_back) (slot_before_way live for.lane stream) (plain.slot_of live for.lane stream))) no_step
-            ∙ either-same (is_feeding way stream) (plain.slot_of live for.lane stream)
+        same_slot : (lane : Lane) (stream : StreamName) → plain.slot_of live lane stream ≡ plain.slot_of left lane stream
+        same_slot lane stream =
+            sym (slots lane stream
+            ∙ ap (λ n. cond (is_feeding way stream) (cond (eqb n stop_feeding) (in_state running (plain.slot_of live lane stream)) (plain.slot_of live lane stream))
+            (cond (eqb n create_back) (slot_before_way live lane stream) (plain.slot_of live lane stream))) (none_last way none)
+            ∙ either-same (is_feeding way stream) (plain.slot_of live lane stream))
 
         pub closed-workflows : AreWorkflows (with_undo p name) (set_value (same_text w.name) workflows (record w { way = None }))
         closed-workflows =
-            with_left None w.forward w.back (sym (ap (λ n. cond (eqb (n - 1) 0) None (Some (fewer way))) none))
-            (for.forward ∙ ap (option_map (stream_of live for.lane)) (sym (same_slot forward)))
-            (for.back ∙ ap (option_map (stream_of live for.lane)) (sym (same_slot back)))
+            with_left None w.lanes (sym (ap (λ n. cond (eqb (n - 1) 0) None (Some (fewer way))) none))
+            (for.lanes ∙ map-in (lane_state live) (lane_state left) live.lanes (λ lane is. lane-same (lane_state live lane) (lane_state left lane) refl (same lane)))
+          where
+            same : (lane : Lane) (stream : StreamName) → lane_slot stream (lane_state live lane) ≡ lane_slot stream (lane_state left lane)
+            same lane forward = ap (option_map (stream_of live lane)) (same_slot lane forward)
+            same lane back = ap (option_map (stream_of live lane)) (same_slot lane back)

@@ -1,5 +1,5 @@
 -- What comes of a step, if each part of the controller stands for the next state.
-use Rattle.std.proofs.Common.{◌≡◌, ℕ, true, List, ◌++◌, Some, sym, ap, ◌∙◌, subst}
+use Rattle.std.proofs.Common.{◌≡◌, ℕ, true, List, [], ◌∷◌, ◌++◌, Some, sym, ap, ◌∙◌, subst}
 use Rattle.std.proofs.lemmas.Bool.{or_right}
 use Rattle.std.proofs.lemmas.List.Folds.{list_any-append}
 use Rattle.std.specs.Map.{set_value}
@@ -14,8 +14,9 @@ use Rattle.mt_workflow.specs.Workflows.{WorkflowState}
 use Rattle.mt_steps.specs.declared.log.OpenWay.{OpenWay}
 use Rattle.mt_steps.specs.Entries.{step_entries}
 use Rattle.mt_steps.specs.Plans.{number, step_at}
+use Rattle.mt_steps.specs.Shards.{target_at}
 use Rattle.mt_steps.specs.Steps.{SidesState}
-use Rattle.mt_steps.specs.Streams.{log_end, workflow_stepped}
+use Rattle.mt_steps.specs.Streams.{log_ends, workflow_stepped}
 use Rattle.mt_laws.specs.WayBack.{IsReached}
 use Rattle.mt_site_topology.specs.Stands.{TopologyStands}
 use Rattle.mt_site_rows.specs.Rows.{RowsStand}
@@ -42,7 +43,7 @@ still_watched more scopes keyspace has =
 
 -- the primaries with those of the sides
 abbrev pub primaries_with : SiteState → WorkflowState → SidesState → Primaries
-primaries_with old w sides = set_value (same_text w.target) (set_value (same_text w.source) old.core.primaries sides.source) sides.target
+primaries_with old w sides = set_value (same_text w.target) (set_value (same_text w.source) old.core.primaries sides.source) (target_at sides.targets 0)
 
 -- what stands for a state once all its parts do
 pub sides_stand : (q : Plain) (scopes : List Scope) (old : SiteState) (w : WorkflowState) (sides : SidesState) (o : OpenWay) → IsReached q → q.scopes ≡ scopes
@@ -58,16 +59,16 @@ module _ (q : Plain) (scopes mine : List Scope) (may_answer : Answering) (old ne
   abbrev pub kept : OpenWay
   kept = record { number = m.o.number; log = m.log }
 
-  abbrev pub stepped : (position : ℕ) → WorkflowState
-  stepped position = workflow_stepped m.w m.way (step_at (next_step m.way)) position
+  abbrev pub stepped : (ends : List ℕ) → WorkflowState
+  stepped ends = workflow_stepped m.w m.way (step_at (next_step m.way)) ends
 
   pub step_stands : IsReached q → q.scopes ≡ scopes
       → TopologyStands q (with_entries old.core.topology (step_entries m.w m.way.after (number (step_at (next_step m.way)))))
       → ArePrimaries q (primaries_with old m.w m.sides) × RowsStand q (primaries_of (primaries_with old m.w m.sides))
-      → (position : ℕ) → log_end m.way (primary_of old.core.primaries m.w.source) (primary_of old.core.primaries m.w.target) ≡ position
-      → AreWorkflows q (set_value (same_text m.w.name) old.core.workflows (stepped position))
+      → (ends : List ℕ) → log_ends m.way (primary_of old.core.primaries m.w.source) (primary_of old.core.primaries m.w.target ∷ []) ≡ ends
+      → AreWorkflows q (set_value (same_text m.w.name) old.core.workflows (stepped ends))
       → WaysStand q (with_sides old m.w m.sides kept).core (with_sides old m.w m.sides kept).ways → SiteStands q scopes new
-  step_stands reached are topology primaries position ends workflows ways =
+  step_stands reached are topology primaries ends ends_are workflows ways =
       subst (SiteStands q scopes) (sym m.made)
       (sides_stand q scopes old m.w m.sides kept reached are (subst (TopologyStands q) (sym m.is.topology) topology) primaries
-      (subst (λ v. AreWorkflows q (set_value (same_text m.w.name) old.core.workflows v)) (sym (m.is.workflow ∙ ap stepped ends)) workflows) ways)
+      (subst (λ v. AreWorkflows q (set_value (same_text m.w.name) old.core.workflows v)) (sym (m.is.workflow ∙ ap stepped ends_are)) workflows) ways)

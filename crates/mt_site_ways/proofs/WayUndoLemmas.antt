@@ -47,7 +47,7 @@ module _ (q : Plain) (scopes : List Scope) (old : SiteState) (w : WorkflowState)
   pub undo_stands : (sides : SidesState) (log : UndoState) → IsUndone way (step_at (last_step way)) (sides_of old w) o.log sides log → IsReached q → q.scopes ≡ scopes
       → TopologyStands q (with_entries old.core.topology (recorded_of w (number (step_at (last_step way))) o.log.entries))
       → ArePrimaries q (primaries_with old w sides) × RowsStand q (primaries_of (primaries_with old w sides))
-      → AreWorkflows q (set_value (same_text w.name) old.core.workflows (workflow_undone w way (step_at (last_step way)) o.log.slot))
+      → AreWorkflows q (set_value (same_text w.name) old.core.workflows (workflow_undone w way (step_at (last_step way)) o.log.slots))
       → WaysStand q (with_sides old w sides (record { number = o.number; log = log })).core (with_sides old w sides (record { number = o.number; log = log })).ways
       → SiteStands q scopes (with_sides old w sides (record { number = o.number; log = log }))
   undo_stands sides log is reached are topology primaries workflows ways =

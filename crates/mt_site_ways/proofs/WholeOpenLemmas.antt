@@ -1,14 +1,14 @@
 -- What is kept of an open way is kept for its workflow with other streams too; and no stream runs behind the step that makes a new one,
 -- until the journal has the way's entry.
-use Rattle.std.proofs.Common.{◌≡◌, ℕ, ◌<◌, Bool, true, false, not, cond, List, [], ◌∷◌, Option, Some, refl, sym, ap, ◌∙◌, subst, arith}
+use Rattle.std.proofs.Common.{◌≡◌, ℕ, zero, suc, ◌<◌, Bool, true, false, not, cond, length, List, [], ◌∷◌, map, Option, Some, refl, sym, ap, ◌∙◌, subst, arith}
 use Rattle.std.proofs.lemmas.Bool.{true≢false}
 use Rattle.std.specs.Prelude.{option_map}
 use Rattle.mt_journal.specs.declared.entry.JournalEntry.{JournalEntry}
 use Rattle.mt_steps.specs.declared.log.OpenWay.{OpenWay}
 use Rattle.mt_steps.specs.Streams.{other_name}
 use Rattle.mt_stream.specs.Streams.{StreamValue}
-use Rattle.mt_workflow.specs.Workflows.{WorkflowState, with_slot}
-use Rattle.mt_plain.specs.Events.{StreamName, forward, back, Slot, Way}
+use Rattle.mt_workflow.specs.Workflows.{LaneState, WorkflowState, change_lane, with_lane_slot, with_slot}
+use Rattle.mt_plain.specs.Events.{StreamName, Slot, Way}
 use Rattle.mt_plain.specs.Plain.{Lane, Live, behind_last, changes_primary, create_back, next_step, start_back, stands_done, stop_feeding, write_journal}
 use Rattle.mt_plain.specs.Slots.{feeding_slot, is_feeding, other_slot, running_at, slot_before_way, slot_by_way, slot_of}
 use Rattle.mt_laws.proofs.StreamLemmas.{feeding_runs, other_runs}
@@ -18,34 +18,34 @@ use Rattle.mt_site_state.specs.Ways.{IsOpenOn}
 
 -- ---- another stream
 
-pub way_with_slot : (w : WorkflowState) (n : StreamName) (s : Option StreamValue) → (with_slot w n s).way ≡ w.way
-way_with_slot w forward s = refl
-way_with_slot w back s = refl
+-- as many lanes as before
+length-change : (shard : ℕ) (change : LaneState → LaneState) (lanes : List LaneState) → length (change_lane shard change lanes) ≡ length lanes
+length-change shard change [] = refl
+length-change zero change (lane ∷ lanes) = refl
+length-change (suc shard) change (lane ∷ lanes) = ap suc (length-change shard change lanes)
 
--- the stream in the slot before the way, of the one lane of a live workflow and of another, as long as that is to be given back
-abbrev pub SameSlot : (before live : Live) → Way → Type 0
-SameSlot before live way = stands_done way write_journal ≡ false → stands_done way create_back ≡ true → (lane : Lane) → live.lanes ≡ lane ∷ []
-    → (was : Lane) × (before.lanes ≡ was ∷ [])
-    × (option_map (stream_of live lane) (slot_before_way live lane (other_name way)) ≡ option_map (stream_of before was) (slot_before_way before was (other_name way)))
+-- the stream that stood in a lane's slot before the way
+abbrev pub saved : Live → Way → Lane → Option StreamValue
+saved live way lane = option_map (stream_of live lane) (slot_before_way live lane (other_name way))
 
-pub open_with_slot : (journal : List JournalEntry) (before live : Live) (w : WorkflowState) (way : Way) (o : OpenWay) → SameSlot before live way
-    → (n : StreamName) (s : Option StreamValue) → IsOpenOn journal before w way o → IsOpenOn journal live (with_slot w n s) way o
-open_with_slot journal before live w way o same forward s is = record {
-  kept = is.kept;
-  unused = is.unused;
-  undo = λ unwritten. record {
-    entries = (is.undo unwritten).entries;
-    listed = (is.undo unwritten).listed;
-    slot = λ lane alone made. let (was, one, e) = same unwritten made lane alone in (is.undo unwritten).slot was one made ∙ sym e;
+-- the streams in the slots before the way, of a live workflow and of another, as long as these are to be given back
+abbrev pub SameSlots : (before live : Live) → Way → Type 0
+SameSlots before live way =
+    stands_done way write_journal ≡ false → stands_done way create_back ≡ true → map (saved live way) live.lanes ≡ map (saved before way) before.lanes
+
+pub open_with_slot : (journal : List JournalEntry) (before live : Live) (w : WorkflowState) (way : Way) (o : OpenWay) → SameSlots before live way
+    → (shard : ℕ) (n : StreamName) (s : Option StreamValue) → IsOpenOn journal before w way o → IsOpenOn journal live (with_slot w shard n s) way o
+open_with_slot journal before live w way o same shard n s is = record {
+  kept = record {
+    entries = is.kept.entries;
+    listed = is.kept.listed ∙ sym (length-change shard (with_lane_slot n s) w.lanes);
+    slots = is.kept.slots ∙ sym (length-change shard (with_lane_slot n s) w.lanes);
   };
-}
-open_with_slot journal before live w way o same back s is = record {
-  kept = is.kept;
   unused = is.unused;
   undo = λ unwritten. record {
     entries = (is.undo unwritten).entries;
     listed = (is.undo unwritten).listed;
-    slot = λ lane alone made. let (was, one, e) = same unwritten made lane alone in (is.undo unwritten).slot was one made ∙ sym e;
+    slots = λ made. (is.undo unwritten).slots made ∙ sym (same unwritten made);
   };
 }
 

@@ -1,5 +1,5 @@
 //! Laws on what the events of a way do to the primaries of a core: a step, an undo, and a begin.
-ghost use Rattle.std.specs.Prelude.{◌≡◌, ℕ, ◌==◌, true, false, map, List, Option, Some, Ok};
+ghost use Rattle.std.specs.Prelude.{◌≡◌, ℕ, ◌==◌, true, false, map, List, [], ◌∷◌, Option, Some, Ok};
 ghost use Rattle.std.specs.Map.{set_value};
 ghost use Rattle.mt_model.specs.declared.entries.Scope.{Scope};
 ghost use Rattle.mt_model.specs.Topology.{Marks};
@@ -9,8 +9,6 @@ ghost use Rattle.mt_plain.specs.Answers.{Answers};
 ghost use Rattle.mt_plain.specs.Events.{Way, begin_reverse, begin_switch, done, step, undo};
 ghost use Rattle.mt_plain.specs.Next.{next};
 ghost use Rattle.mt_plain.specs.Plain.{Live, Plain, last_step, live_at, next_step, refresh_source};
-ghost use Rattle.mt_plain.specs.Refuse.{new_owner};
-ghost use Rattle.mt_plain.specs.Slots.{log_length};
 ghost use Rattle.mt_primary.specs.Primary.{PrimaryState};
 ghost use Rattle.mt_site_rows.specs.Rows.{RowsStand};
 ghost use Rattle.mt_site_state.specs.Core.{CoreState, primaries_of, primary_of, workflow_at};
@@ -18,8 +16,10 @@ ghost use Rattle.mt_site_state.specs.Stands.{ArePrimaries, StandsWith};
 ghost use Rattle.mt_steps.specs.Plans.{step_at};
 ghost use Rattle.mt_steps.specs.Refreshes.{Sites};
 ghost use Rattle.mt_steps.specs.Steps.{Attempts, IsGivenBack, given_listed};
-ghost use Rattle.mt_steps.specs.Streams.{log_end};
+ghost use Rattle.mt_steps.specs.Shards.{last_shard, target_at};
+ghost use Rattle.mt_steps.specs.Streams.{log_ends};
 ghost use Rattle.mt_workflow.specs.Workflows.{WorkflowState};
+ghost use Rattle.mt_site_ways.specs.Ends.{ends_of};
 
 use mt_laws::{
     a_live_workflow_is_found_by_its_part, a_workflow_that_changes_changes_its_own_part,
@@ -38,10 +38,10 @@ pub fn a_step_leaves_the_primaries<W: Asks>(watchers: &W)
     ensures { (p : Plain) (scopes : List Scope) (core : CoreState) → StandsWith p scopes core
         → (name : List ℕ) (live : Live) (w : WorkflowState) (way : Way) (at id : ℕ) (old new : Sites) → live_at p name ≡ Some live
         → workflow_at core.workflows name ≡ Some w → w.way ≡ Some way → Answers p (step name at) done
-        → old.source ≡ primary_of core.primaries w.source → old.target ≡ primary_of core.primaries w.target
+        → old.source ≡ primary_of core.primaries w.source → old.targets ≡ primary_of core.primaries w.target ∷ []
         → Attempts (W.scopes watchers.now) (W.may_answer watchers.now) id core.topology w way (step_at (next_step way)) old (Ok tt) new
-        → ArePrimaries (next p (step name at) done) (set_value (same_text w.target) (set_value (same_text w.source) core.primaries new.source) new.target)
-        × RowsStand (next p (step name at) done) (primaries_of (set_value (same_text w.target) (set_value (same_text w.source) core.primaries new.source) new.target)) }
+        → ArePrimaries (next p (step name at) done) (set_value (same_text w.target) (set_value (same_text w.source) core.primaries new.source) (target_at new.targets 0))
+        × RowsStand (next p (step name at) done) (primaries_of (set_value (same_text w.target) (set_value (same_text w.source) core.primaries new.source) (target_at new.targets 0))) }
 {
     a_live_workflow_is_found_by_its_part();
     live_workflows_stand_in_place();
@@ -58,7 +58,7 @@ pub fn a_refresh_records_an_empty_list<W: Asks>(watchers: &W)
     ensures { (p : Plain) (scopes : List Scope) (core : CoreState) → StandsWith p scopes core
         → (name : List ℕ) (live : Live) (w : WorkflowState) (way : Way) (at id : ℕ) (old new : Sites) → live_at p name ≡ Some live
         → workflow_at core.workflows name ≡ Some w → w.way ≡ Some way → Answers p (step name at) done
-        → old.source ≡ primary_of core.primaries w.source → old.target ≡ primary_of core.primaries w.target
+        → old.source ≡ primary_of core.primaries w.source → old.targets ≡ primary_of core.primaries w.target ∷ []
         → next_step way ≡ refresh_source
         → Attempts (W.scopes watchers.now) (W.may_answer watchers.now) id core.topology w way (step_at (next_step way)) old (Ok tt) new
         → new.listed ≡ Some (map (λ table. (table, false)) w.tables) }
@@ -71,13 +71,13 @@ pub fn a_refresh_records_an_empty_list<W: Asks>(watchers: &W)
 /// whose own lists refuse what is refused there, if an undone refresh gives back a list without the tables.
 pub fn an_undo_leaves_the_primaries()
     ensures last { (p : Plain) (scopes : List Scope) (core : CoreState) → StandsWith p scopes core
-        → (name : List ℕ) (live : Live) (w : WorkflowState) (way : Way) (at : ℕ) (listed : Option Marks) (source target : PrimaryState)
+        → (name : List ℕ) (live : Live) (w : WorkflowState) (way : Way) (at : ℕ) (listed : Option Marks) (source : PrimaryState) (targets : List PrimaryState)
         → live_at p name ≡ Some live → workflow_at core.workflows name ≡ Some w → w.way ≡ Some way → Answers p (undo name at) done
         → (way.done == 0) ≡ false
         → (last_step way ≡ refresh_source → listed ≡ Some (map (λ table. (table, false)) w.tables))
-        → IsGivenBack way.before.primary (given_listed (step_at (last_step way)) listed) (primary_of core.primaries w.source) (primary_of core.primaries w.target) source target
-        → ArePrimaries (next p (undo name at) done) (set_value (same_text w.target) (set_value (same_text w.source) core.primaries source) target)
-        × RowsStand (next p (undo name at) done) (primaries_of (set_value (same_text w.target) (set_value (same_text w.source) core.primaries source) target)) }
+        → IsGivenBack way.before.primary (last_shard way) (given_listed (step_at (last_step way)) listed) (primary_of core.primaries w.source) (primary_of core.primaries w.target ∷ []) source targets
+        → ArePrimaries (next p (undo name at) done) (set_value (same_text w.target) (set_value (same_text w.source) core.primaries source) (target_at targets 0))
+        × RowsStand (next p (undo name at) done) (primaries_of (set_value (same_text w.target) (set_value (same_text w.source) core.primaries source) (target_at targets 0))) }
     ensures none { (p : Plain) (scopes : List Scope) (core : CoreState) → StandsWith p scopes core
         → (name : List ℕ) (live : Live) (w : WorkflowState) (way : Way) (at : ℕ) → live_at p name ≡ Some live
         → workflow_at core.workflows name ≡ Some w → w.way ≡ Some way → Answers p (undo name at) done → (way.done == 0) ≡ true
@@ -110,10 +110,10 @@ pub fn a_begin_leaves_the_primaries()
     events_that_change_no_row_keep_rows_and_logs();
 }
 
-/// The log of the new owner's primary is as long as the definitions say.
+/// The logs that the streams of a way's making will read are as long as the definitions say.
 pub fn a_log_ends_where_the_definitions_say()
     ensures { (p : Plain) (scopes : List Scope) (core : CoreState) → StandsWith p scopes core
         → (name : List ℕ) (live : Live) (w : WorkflowState) (way : Way) → live_at p name ≡ Some live
         → workflow_at core.workflows name ≡ Some w → w.way ≡ Some way
-        → log_end way (primary_of core.primaries w.source) (primary_of core.primaries w.target) ≡ log_length p (new_owner live) 0 }
+        → log_ends way (primary_of core.primaries w.source) (primary_of core.primaries w.target ∷ []) ≡ ends_of p live }
 {}

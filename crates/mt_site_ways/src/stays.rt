@@ -1,5 +1,5 @@
 //! Laws on what keeps a state of the controller one.
-ghost use Rattle.std.specs.Prelude.{◌≡◌, ◌++◌, ℕ, ◌<◌, true, false, List, None, Some, is_some};
+ghost use Rattle.std.specs.Prelude.{◌≡◌, ◌++◌, ℕ, ◌<◌, true, false, List, [], ◌∷◌, None, Some, is_some, length};
 ghost use Rattle.mt_journal.specs.Journal.{entry_of};
 ghost use Rattle.mt_laws.specs.Texts.{BringsNames};
 ghost use Rattle.mt_model.specs.declared.entries.Scope.{Scope};
@@ -63,6 +63,8 @@ pub fn each_open_way_has_a_record()
         → w.way ≡ Some way → open_at s.ways.opened name ≡ Some o → IsLogOf w o.log }
     ensures within { (s : SiteState) → IsSite s → (name : List ℕ) (w : WorkflowState) (way : Way) → workflow_at s.core.workflows name ≡ Some w
         → w.way ≡ Some way → next_step way < behind_last way }
+    ensures shards { (s : SiteState) → IsSite s → (name : List ℕ) (w : WorkflowState) (way : Way) → workflow_at s.core.workflows name ≡ Some w
+        → w.way ≡ Some way → way.shards ≡ length w.lanes }
     ensures unused { (s : SiteState) → IsSite s → (name : List ℕ) (w : WorkflowState) (way : Way) (o : OpenWay) → workflow_at s.core.workflows name ≡ Some w
         → w.way ≡ Some way → open_at s.ways.opened name ≡ Some o → stands_done way write_journal ≡ false → entry_of s.ways.journal o.number ≡ None }
 {
@@ -72,7 +74,7 @@ pub fn each_open_way_has_a_record()
 /// If the next step of an open way looks whether the feeding stream is level, the primary that this stream reads keeps what it has still to read.
 pub fn what_a_step_looks_at_is_kept()
     ensures { (s : SiteState) → IsSite s → (name : List ℕ) (w : WorkflowState) (way : Way) → workflow_at s.core.workflows name ≡ Some w
-        → w.way ≡ Some way → KeepsToTest w way (next_step way) (primary_of s.core.primaries w.source) (primary_of s.core.primaries w.target) }
+        → w.way ≡ Some way → KeepsToTest w way (next_step way) (primary_of s.core.primaries w.source) (primary_of s.core.primaries w.target ∷ []) }
 {
     ways_keep_their_course();
     a_stream_that_reads_the_owner_is_in_use();

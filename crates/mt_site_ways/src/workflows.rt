@@ -1,5 +1,5 @@
 //! Laws on what begins, steps and undos do to the workflows of a core.
-ghost use Rattle.std.specs.Prelude.{◌≡◌, ◌==◌, ℕ, true, false, List, [], ◌∷◌, Option, None, Some, option_map};
+ghost use Rattle.std.specs.Prelude.{◌≡◌, ◌==◌, ℕ, true, false, List, Option, None, Some, map, option_map};
 ghost use Rattle.std.specs.Map.{set_value};
 ghost use Rattle.mt_laws.specs.WayBack.{IsReached};
 ghost use Rattle.mt_names.specs.Names.{same_text};
@@ -7,9 +7,8 @@ ghost use Rattle.mt_names.specs.declared.types.TypeSet.{TypeSet};
 ghost use Rattle.mt_plain.specs.Answers.{Answers};
 ghost use Rattle.mt_plain.specs.Events.{Way, begin_reverse, begin_switch, done, step, undo};
 ghost use Rattle.mt_plain.specs.Next.{next, types_and, types_without};
-ghost use Rattle.mt_plain.specs.Plain.{Lane, Live, Plain, create_back, last_step, live_at, next_step, stands_done};
-ghost use Rattle.mt_plain.specs.Refuse.{new_owner};
-ghost use Rattle.mt_plain.specs.Slots.{log_length, slot_before_way};
+ghost use Rattle.mt_plain.specs.Plain.{Live, Plain, create_back, last_step, live_at, next_step, stands_done};
+ghost use Rattle.mt_plain.specs.Slots.{slot_before_way};
 ghost use Rattle.mt_site_rows.specs.Rows.{stream_of};
 ghost use Rattle.mt_site_state.specs.Core.{Workflows, workflow_at};
 ghost use Rattle.mt_site_state.specs.Stands.{AreWorkflows};
@@ -18,6 +17,7 @@ ghost use Rattle.mt_steps.specs.Plans.{step_at};
 ghost use Rattle.mt_steps.specs.Streams.{other_name, workflow_stepped, workflow_undone};
 ghost use Rattle.mt_stream.specs.Streams.{StreamValue};
 ghost use Rattle.mt_workflow.specs.Workflows.{WorkflowState};
+ghost use Rattle.mt_site_ways.specs.Ends.{ends_of};
 
 use mt_laws::{
     a_step_changes_what_changes_with_its_number, an_undo_changes_what_changed_with_the_last_step,
@@ -40,28 +40,28 @@ pub fn a_begin_leaves_the_workflows()
     only_named_events_change_a_workflow();
 }
 
-/// A step of a workflow's way, whatever its number, leaves workflows that are those of the next state, if the stream the other
-/// way is made at the end of the new owner's log.
+/// A step of a workflow's way, whatever its number, leaves workflows that are those of the next state, if the stream of each
+/// lane the other way is made at the end of the log of the new owner that it will read.
 pub fn a_step_leaves_the_workflows()
     ensures { (p : Plain) → IsReached p → (workflows : Workflows) → AreWorkflows p workflows
         → (name : List ℕ) (live : Live) (w : WorkflowState) (way : Way) (at : ℕ) → live_at p name ≡ Some live
         → workflow_at workflows name ≡ Some w → w.way ≡ Some way → Answers p (step name at) done
         → AreWorkflows (next p (step name at) done)
-        (set_value (same_text w.name) workflows (workflow_stepped w way (step_at (next_step way)) (log_length p (new_owner live) 0))) }
+        (set_value (same_text w.name) workflows (workflow_stepped w way (step_at (next_step way)) (ends_of p live))) }
 {
     a_step_changes_what_changes_with_its_number();
     only_named_events_change_a_workflow();
     ways_keep_their_course();
 }
 
-/// An undo of the last step of a workflow's way leaves workflows that are those of the next state, if the stream that is given
-/// back is the one that stood there before the way; and so does one that closes a way of which no step stands done.
+/// An undo of the last step of a workflow's way leaves workflows that are those of the next state, if the stream that each
+/// lane is given back is the one that stood there before the way; and so does one that closes a way of which no step stands done.
 pub fn an_undo_leaves_the_workflows()
     ensures last { (p : Plain) → IsReached p → (workflows : Workflows) → AreWorkflows p workflows
-        → (name : List ℕ) (live : Live) (w : WorkflowState) (way : Way) (at : ℕ) (kept : Option StreamValue) → live_at p name ≡ Some live
+        → (name : List ℕ) (live : Live) (w : WorkflowState) (way : Way) (at : ℕ) (kept : List (Option StreamValue)) → live_at p name ≡ Some live
         → workflow_at workflows name ≡ Some w → w.way ≡ Some way → Answers p (undo name at) done → (way.done == 0) ≡ false
-        → ((lane : Lane) → live.lanes ≡ lane ∷ [] → stands_done way create_back ≡ true
-        → kept ≡ option_map (stream_of live lane) (slot_before_way live lane (other_name way)))
+        → (stands_done way create_back ≡ true
+        → kept ≡ map (λ lane. option_map (stream_of live lane) (slot_before_way live lane (other_name way))) live.lanes)
         → AreWorkflows (next p (undo name at) done)
         (set_value (same_text w.name) workflows (workflow_undone w way (step_at (last_step way)) kept)) }
     ensures none { (p : Plain) → IsReached p → (workflows : Workflows) → AreWorkflows p workflows

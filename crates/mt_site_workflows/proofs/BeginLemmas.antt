@@ -1,5 +1,5 @@
 -- A way that begins: what is kept of it, and the workflow that takes its place again.
-use Rattle.std.proofs.Common.{◌≡◌, ℕ, suc, Bool, true, false, not, ◌||◌, ◌&&◌, List, [], ◌∷◌, ◌++◌, Option, None, Some, refl, ap, sym, subst, ◌∙◌}
+use Rattle.std.proofs.Common.{◌≡◌, ℕ, suc, Bool, true, false, not, ◌||◌, ◌&&◌, List, [], ◌∷◌, ◌++◌, length, Option, None, Some, refl, ap, sym, subst, ◌∙◌}
 use Rattle.std.proofs.lemmas.Map.Steps.{set_value_same}
 use Rattle.std.specs.Map.{lookup, set_value}
 use Rattle.indexmap.proofs.CallerLemmas.{insert_entry-new}
@@ -58,15 +58,16 @@ opened-way old w after name way refusal (refused memory) later opened begun name
 opened-way old w after name way refusal other later opened begun named found put none opens = absurd opens
 
 -- the same of a way that begins with the types that are switched then
-pub begun-way : (old : SiteState) (w after : WorkflowState) (name : List ℕ) (backward : Bool) (before types wanted : TypeSet) (refusal : Option Refusal) (answer : Answer) (later : Workflows) (opened : OpenWays) (begun : ℕ)
+pub begun-way : (old : SiteState) (w after : WorkflowState) (name : List ℕ) (backward : Bool) (shards : ℕ) (before types wanted : TypeSet) (refusal : Option Refusal) (answer : Answer) (later : Workflows) (opened : OpenWays) (begun : ℕ)
     → w.name ≡ name → workflow_at old.core.workflows name ≡ Some w → later ≡ set_value (same_text name) old.core.workflows after → refusal ≡ None
-    → before ≡ w.switched → types ≡ wanted
-    → OpensWay w (record { back = backward; shards = 1; before = before; after = types; done = 0; undoing = false }) old.ways.opened old.ways.begun answer after opened begun
+    → shards ≡ length w.lanes → before ≡ w.switched → types ≡ wanted
+    → OpensWay w (record { back = backward; shards = shards; before = before; after = types; done = 0; undoing = false }) old.ways.opened old.ways.begun answer after opened begun
     → SiteDoes old refusal true (with_way old w (way_to w backward wanted)) answer (record { core = record old.core { workflows = later }; ways = record old.ways { opened = opened; begun = begun } })
-begun-way old w after name backward before types wanted refusal answer later opened begun named found put none switched same opens =
+begun-way old w after name backward shards before types wanted refusal answer later opened begun named found put none many switched same opens =
     opened-way old w after name (way_to w backward wanted) refusal answer later opened begun named found put none
     (subst (λ ts. OpensWay w (way_to w backward ts) old.ways.opened old.ways.begun answer after opened begun) same
-    (subst (λ b. OpensWay w (record { back = backward; shards = 1; before = b; after = types; done = 0; undoing = false }) old.ways.opened old.ways.begun answer after opened begun) switched opens))
+    (subst (λ b. OpensWay w (record { back = backward; shards = length w.lanes; before = b; after = types; done = 0; undoing = false }) old.ways.opened old.ways.begun answer after opened begun) switched
+    (subst (λ n. OpensWay w (record { back = backward; shards = n; before = before; after = types; done = 0; undoing = false }) old.ways.opened old.ways.begun answer after opened begun) many opens)))
 
 -- what a test refuses leaves it as it was
 pub refused-way : (old made : SiteState) (w : WorkflowState) (name : List ℕ) (refusal : Option Refusal) (r : Refusal) (later : Workflows)

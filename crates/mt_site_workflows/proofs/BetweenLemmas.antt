@@ -1,7 +1,7 @@
 -- A step, and an undo, between two primaries that stay in their places, or are taken out of them meanwhile.
-use Rattle.std.proofs.Common.{◌≡◌, ◌≢◌, ℕ, true, false, List, None, Some, Result, is_some, unwrap_or, subst, refl, sym, ap, ◌∙◌}
+use Rattle.std.proofs.Common.{◌≡◌, ◌≢◌, ℕ, true, false, List, [], ◌∷◌, None, Some, Result, is_some, length, unwrap_or, subst, refl, sym, ap, ◌∙◌, arith}
 use Rattle.std.proofs.lemmas.Map.Steps.{set_value_same}
-use Rattle.std.specs.Prelude.{⊤, ◌==◌}
+use Rattle.std.specs.Prelude.{⊤, ◌==◌, slice_index_or}
 use Rattle.std.specs.Map.{set_value}
 use Rattle.mt_names.proofs.EntryLemmas.{some_from}
 use Rattle.mt_names.specs.Names.{same_text}
@@ -16,6 +16,7 @@ use Rattle.mt_steps.specs.declared.fault.StepFault.{StepFault}
 use Rattle.mt_steps.specs.declared.log.OpenWay.{OpenWay}
 use Rattle.mt_steps.specs.declared.step.Step.{Step}
 use Rattle.mt_steps.specs.Plans.{step_at}
+use Rattle.mt_steps.specs.Shards.{target_at}
 use Rattle.mt_steps.specs.Steps.{IsUndone, SidesState, Steps, open_way}
 use Rattle.mt_steps.specs.Undo.{UndoState}
 use Rattle.mt_watch.specs.Asking.{Answering}
@@ -28,6 +29,11 @@ use Rattle.mt_site_workflows.proofs.PrimaryLemmas.{put-back, second-is}
 -- the way that is open
 pub way-is : (w : WorkflowState) (way : Way) → w.way ≡ Some way → open_way w ≡ way
 way-is w way has_way = ap (λ o. unwrap_or o (record { back = false; shards = 1; before = no_types; after = no_types; done = 0; undoing = false })) has_way
+
+-- the first primary of a list that has one
+pub first-of : (targets : List PrimaryState) (a b : PrimaryState) → length targets ≡ 1 → slice_index_or targets 0 a ≡ slice_index_or targets 0 b
+first-of [] a b one = absurd (omega (arith, one))
+first-of (target ∷ targets) a b one = refl
 
 -- ---- where both primaries stay in their places
 
@@ -48,7 +54,7 @@ pub closed : (t : TopologyState) (primaries : Primaries) (w new_w : WorkflowStat
     → is_some (primary_at primaries w.source) ≡ true → is_some (primary_at primaries w.target) ≡ true → (way.done == 0) ≡ true → new_w ≡ record w { way = None }
     → UndoesBetween t primaries w way journal o t primaries new_w journal o
 closed t primaries w new_w way journal o source target none is =
-    let sides : SidesState = record { topology = t; source = primary_of primaries w.source; target = primary_of primaries w.target; workflow = record w { way = None }; journal = journal } in (
+    let sides : SidesState = record { topology = t; source = primary_of primaries w.source; targets = primary_of primaries w.target ∷ []; workflow = record w { way = None }; journal = journal } in (
       sides,
       o.log,
       subst (λ b. Undoes b way (sides_between t primaries w journal) o.log sides o.log) (sym none) (refl, refl),
@@ -66,30 +72,30 @@ module _ (t : TopologyState) (old without_one without with_one with_both : Prima
     (source_is : source ≡ primary_of old w.source) (one : without_one ≡ set_value (same_text w.source) old a)
     (target_is : target ≡ primary_of without_one w.target) (both : without ≡ set_value (same_text w.target) without_one b) where
   -- what is worked on
-  sides-are : record { topology = t; source = source; target = target; workflow = w; journal = journal } ≡ sides_between t old w journal
+  sides-are : record { topology = t; source = source; targets = target ∷ []; workflow = w; journal = journal } ≡ sides_between t old w journal
   sides-are =
-      ap (λ p. record { topology = t; source = p; target = target; workflow = w; journal = journal }) source_is
-      ∙ ap (λ p. record { topology = t; source = primary_of old w.source; target = p; workflow = w; journal = journal })
+      ap (λ p. record { topology = t; source = p; targets = target ∷ []; workflow = w; journal = journal }) source_is
+      ∙ ap (λ p. record { topology = t; source = primary_of old w.source; targets = p ∷ []; workflow = w; journal = journal })
       (target_is ∙ second-is old without_one w.source a one w.target apart)
 
   -- what becomes of the primaries
-  primaries-are : (sides : SidesState) → with_one ≡ set_value (same_text w.source) without sides.source → with_both ≡ set_value (same_text w.target) with_one sides.target
+  primaries-are : (sides : SidesState) → with_one ≡ set_value (same_text w.source) without sides.source → with_both ≡ set_value (same_text w.target) with_one (target_at sides.targets 0)
       → with_both ≡ with_primaries old w sides
-  primaries-are sides one_back both_back = put-back old without_one w.source a one without w.target b both apart with_one sides.source one_back with_both sides.target both_back
+  primaries-are sides one_back both_back = put-back old without_one w.source a one without w.target b both apart with_one sides.source one_back with_both (target_at sides.targets 0) both_back
 
   pub stepped : (scopes : List Scope) (may_answer : Answering) (way : Way) (o : OpenWay) (step : Step) (result : Result ⊤ StepFault) (sides : SidesState) (log : UndoState)
       (new_t : TopologyState) (new_w : WorkflowState) (new_journal : List JournalEntry)
       → w.way ≡ Some way → step ≡ step_at (next_step way)
-      → with_one ≡ set_value (same_text w.source) without sides.source → with_both ≡ set_value (same_text w.target) with_one sides.target
+      → with_one ≡ set_value (same_text w.source) without sides.source → with_both ≡ set_value (same_text w.target) with_one (target_at sides.targets 0)
       → new_t ≡ sides.topology → new_w ≡ sides.workflow → new_journal ≡ sides.journal
-      → Steps scopes may_answer o.number (open_way w) step (record { topology = t; source = source; target = target; workflow = w; journal = journal }) o.log result sides log
+      → Steps scopes may_answer o.number (open_way w) step (record { topology = t; source = source; targets = target ∷ []; workflow = w; journal = journal }) o.log result sides log
       → StepsBetween scopes may_answer t old w way journal o result new_t with_both new_w new_journal (record { number = o.number; log = log })
   stepped scopes may_answer way o step result sides log new_t new_w new_journal has_way next one_back both_back topology workflow entries did = (
     sides,
     log,
     subst (λ from. Steps scopes may_answer o.number way (step_at (next_step way)) from o.log result sides log) sides-are
-        (subst (λ n. Steps scopes may_answer o.number way n (record { topology = t; source = source; target = target; workflow = w; journal = journal }) o.log result sides log) next
-        (subst (λ v. Steps scopes may_answer o.number v step (record { topology = t; source = source; target = target; workflow = w; journal = journal }) o.log result sides log) (way-is w way has_way) did)),
+        (subst (λ n. Steps scopes may_answer o.number way n (record { topology = t; source = source; targets = target ∷ []; workflow = w; journal = journal }) o.log result sides log) next
+        (subst (λ v. Steps scopes may_answer o.number v step (record { topology = t; source = source; targets = target ∷ []; workflow = w; journal = journal }) o.log result sides log) (way-is w way has_way) did)),
     topology,
     primaries-are sides one_back both_back,
     workflow,
@@ -99,16 +105,16 @@ module _ (t : TopologyState) (old without_one without with_one with_both : Prima
 
   pub undone : (way : Way) (o : OpenWay) (sides : SidesState) (log : UndoState) (new_t : TopologyState) (new_w : WorkflowState) (new_journal : List JournalEntry)
       → w.way ≡ Some way → (way.done == 0) ≡ false
-      → with_one ≡ set_value (same_text w.source) without sides.source → with_both ≡ set_value (same_text w.target) with_one sides.target
+      → with_one ≡ set_value (same_text w.source) without sides.source → with_both ≡ set_value (same_text w.target) with_one (target_at sides.targets 0)
       → new_t ≡ sides.topology → new_w ≡ sides.workflow → new_journal ≡ sides.journal
-      → IsUndone (open_way w) (step_at (last_step (open_way w))) (record { topology = t; source = source; target = target; workflow = w; journal = journal }) o.log sides log
+      → IsUndone (open_way w) (step_at (last_step (open_way w))) (record { topology = t; source = source; targets = target ∷ []; workflow = w; journal = journal }) o.log sides log
       → UndoesBetween t old w way journal o new_t with_both new_w new_journal (record { number = o.number; log = log })
   undone way o sides log new_t new_w new_journal has_way some one_back both_back topology workflow entries did = (
     sides,
     log,
     subst (λ none. Undoes none way (sides_between t old w journal) o.log sides log) (sym some)
         (subst (λ from. IsUndone way (step_at (last_step way)) from o.log sides log) sides-are
-        (subst (λ v. IsUndone v (step_at (last_step v)) (record { topology = t; source = source; target = target; workflow = w; journal = journal }) o.log sides log) (way-is w way has_way) did)),
+        (subst (λ v. IsUndone v (step_at (last_step v)) (record { topology = t; source = source; targets = target ∷ []; workflow = w; journal = journal }) o.log sides log) (way-is w way has_way) did)),
     topology,
     primaries-are sides one_back both_back,
     workflow,

@@ -34,8 +34,9 @@ moved-values (e ∷ es) table = ap (λ b. among e.1.tables table || b) (moved-va
 -- ---- one table
 
 -- what refuses a table alone
-pub one-table : (t : TopologyState) (source target table : List ℕ) → source ≢ target → create.create_refusal t source target (table ∷ []) ≡ create.table_refusal t source target table
-one-table t source target table apart = rw (text_differs source target apart) (by (create.table_refusal t source target table))
+pub one-table : (t : TopologyState) (source target table : List ℕ) → source ≢ target → create.is_sharded t.keyspaces source ≡ false
+    → create.create_refusal t source target (table ∷ []) ≡ create.table_refusal t source target table
+one-table t source target table apart unsharded = rw (text_differs source target apart, unsharded) (by (create.table_refusal t source target table))
   where
     by : (r : Option WorkflowFault) → option_or r None ≡ r
     by None = refl
@@ -118,6 +119,7 @@ tests-table true (Some (fault.RuleConflict key)) = refl
 tests-table true (Some (fault.TargetHasTable table)) = refl
 tests-table true (Some (fault.DeniedByHand table)) = refl
 tests-table true (Some (fault.NoTable table)) = refl
+tests-table true (Some fault.ShardedSource) = refl
 tests-table false (Some fault.Memory) = refl
 tests-table false (Some fault.SameKeyspace) = refl
 tests-table false (Some fault.NoTables) = refl
@@ -125,6 +127,7 @@ tests-table false (Some (fault.RuleConflict key)) = refl
 tests-table false (Some (fault.TargetHasTable table)) = refl
 tests-table false (Some (fault.DeniedByHand table)) = refl
 tests-table false (Some (fault.NoTable table)) = refl
+tests-table false (Some fault.ShardedSource) = refl
 
 tests-tables : (core : CoreState) (source target : List ℕ) (tables : List (List ℕ)) → is_of_tests (tables_refusal core source target tables) ≡ true
 tests-tables core source target [] = refl

@@ -6,7 +6,8 @@ pub mod EndLemmas
 pub mod MakeLemmas
 pub mod OnceLemmas
 pub mod PrimaryLemmas
-pub mod StepLemmas
+pub mod ShardLemmas
+mod StepLemmas
 pub mod TargetLemmas
 pub mod WriteLemmas
 mod PurgeLemmas

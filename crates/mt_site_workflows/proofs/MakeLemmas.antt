@@ -8,13 +8,15 @@ use Rattle.indexmap.specs.IndexMap.{IndexMap, insert_entry}
 use Rattle.mt_names.specs.declared.keys.RuleKey.{RuleKey}
 use Rattle.mt_names.specs.declared.keys.RuleTarget.{RuleTarget}
 use Rattle.mt_names.specs.Names.{same_text}
+use Rattle.mt_names.specs.Shards.{Cuts, ranges_of}
 use Rattle.mt_names.proofs.EntryLemmas.{none_from, some_from}
 use Rattle.mt_model.specs.declared.entries.EntryKey.{EntryKey}
 use Rattle.mt_model.specs.declared.entries.EntryKey.TheVariants as about
 use Rattle.mt_model.specs.declared.entries.Scope.{Scope}
 use Rattle.mt_model.specs.declared.entries.Scope.TheVariants as scope
 use Rattle.mt_model.specs.Part.{part_keys, with_place, with_places, without_places}
-use Rattle.mt_model.specs.Topology.{KeyspaceState, Rules, TopologyState, keyspace_at, rule_at}
+use Rattle.mt_model.specs.Topology.{KeyspaceState, Rules, TopologyState, cuts_at, keyspace_at, rule_at}
+use Rattle.mt_model.proofs.PlaceLemmas.{same-with_places}
 use Rattle.mt_model.proofs.TopologyLemmas.{rule_at-with_rule_place}
 use Rattle.mt_event.specs.declared.reason.Reason.{Reason}
 use Rattle.mt_event.specs.declared.reason.Reason.TheVariants as reason
@@ -22,7 +24,7 @@ use Rattle.mt_event.specs.Reasons.{done_by}
 use Rattle.mt_topology.specs.Part.{reserve_refusal}
 use Rattle.mt_watch.specs.Asking.{Answering}
 use Rattle.mt_watch.specs.Scopes.{has_scope}
-use Rattle.mt_workflow.specs.Workflows.{WorkflowState, keys_of_rules, new_workflow}
+use Rattle.mt_workflow.specs.Workflows.{WorkflowState, kept_of, keys_of_rules, new_lane, new_workflow}
 use Rattle.mt_site_state.specs.Core.{CoreState, Primaries, Workflows, primary_at, primary_of, workflow_at}
 use Rattle.mt_site_state.specs.Workflows.{CreatesSet, change_of, create_refusal, new_of}
 use Rattle.mt_site_workflows.specs.Create.{Makes, MakesAtTarget, Prepares}
@@ -55,10 +57,11 @@ kept-same rules other same (key ∷ keys) =
 
 -- a new workflow is the same once its part has its places
 pub new-placed : (t : TopologyState) (keys : List EntryKey) (name source target : List ℕ) (tables : List (List ℕ)) (position : ℕ)
-    → new_workflow (with_places t keys).rules name source target tables position ≡ new_workflow t.rules name source target tables position
+    → new_workflow (with_places t keys) name source target tables position ≡ new_workflow t name source target tables position
 new-placed t keys name source target tables position =
-    let keeping : Rules → WorkflowState = λ kept. record (new_workflow t.rules name source target tables position) { kept = kept } in
-    ap keeping (kept-same (with_places t keys).rules t.rules (placed-rules t keys) (keys_of_rules source target tables))
+    let keeping : Rules → Cuts → WorkflowState = λ kept cuts. record (new_workflow t name source target tables position) { kept = kept; lanes = map (new_lane tables position) (ranges_of cuts) } in
+    ap (λ kept. keeping kept (cuts_at (with_places t keys).keyspaces target)) (kept-same (with_places t keys).rules t.rules (placed-rules t keys) (keys_of_rules source target tables))
+    ∙ ap (keeping (kept_of t.rules source target tables)) ((same-with_places t keys).shards target)
 
 -- ---- both sides are there
 

@@ -14,15 +14,17 @@ use Rattle.mt_primary.specs.Primary.{PrimaryState, has_table}
 use Rattle.mt_watch.specs.Asking.{Answering, AsksEach}
 use Rattle.mt_watch.specs.declared.fault.WatchersFault.TheVariants as watchers
 use Rattle.mt_watch.specs.Scopes.{has_scope}
+use Rattle.mt_workflow.specs.Creates.{is_sharded}
 use Rattle.mt_workflow.specs.Workflows.{WorkflowState, live_of}
 use Rattle.mt_site_topology.specs.Keys.{part_entries}
 use Rattle.mt_site_state.specs.Core.{CoreState, Primaries, primary_at, primary_of, with_primary}
 use Rattle.mt_site_state.specs.Workflows.{change_of, create_refusal, target_made}
 use Rattle.mt_site_workflows.specs.Target.{MakesTarget}
 
--- a set of tables can be created where no test refuses it: the target's primary has none of them, and places made for the part and taken
--- back leave the topology as it was
+-- a set of tables can be created where no test refuses it: the source has one shard, the target's primary has none of them, and places made
+-- for the part and taken back leave the topology as it was
 pub record CanCreate (core : CoreState) (scopes : List Scope) (workflow source target : List ℕ) (tables : List (List ℕ)) : Type 0 where
+  pub unsharded : is_sharded core.topology.keyspaces source ≡ false
   pub absent : create_refusal core scopes workflow source target tables ≡ None → (table : List ℕ) → among tables table ≡ true
       → has_table (primary_of core.primaries target) table ≡ false
   pub back : create_refusal core scopes workflow source target tables ≡ None

@@ -1,5 +1,5 @@
 -- What the calls on a way ask for, and what they do to what they work on (this profile's own).
-use Rattle.std.specs.Prelude.{◌≡◌, ◌≢◌, ⊤, ℕ, ◌<◌, suc, ◌==◌, true, false, All, List, [], ◌∷◌, ◌++◌, Option, None, Some, is_some, Result}
+use Rattle.std.specs.Prelude.{◌≡◌, ◌≢◌, ⊤, ℕ, ◌<◌, suc, ◌==◌, true, false, All, List, [], ◌∷◌, ◌++◌, length, Option, None, Some, is_some, Result}
 use Rattle.std.specs.Map.{remove_entry, set_value}
 use Rattle.mt_names.specs.Names.{same_text}
 use Rattle.mt_model.specs.declared.entries.Scope.{Scope}
@@ -11,6 +11,7 @@ use Rattle.mt_plain.specs.Plain.{next_step, stands_done, write_journal}
 use Rattle.mt_steps.specs.declared.fault.StepFault.{StepFault}
 use Rattle.mt_steps.specs.declared.log.OpenWay.{OpenWay}
 use Rattle.mt_steps.specs.Plans.{step_at}
+use Rattle.mt_steps.specs.Shards.{target_at}
 use Rattle.mt_steps.specs.Steps.{SidesState, Steps}
 use Rattle.mt_steps.specs.Streams.{KeepsToTest}
 use Rattle.mt_steps.specs.Undo.{IsLogOf, UndoState, new_log}
@@ -23,7 +24,8 @@ use Rattle.mt_site_state.specs.Ways.{OpenWays, open_at}
 
 -- a workflow with an open way stands in its place: under its own name, with primaries at both of its sides, which are two, a place in the
 -- topology for each key of its part, a next step, and what is kept of the way kept for it; its number is new to the journal until the
--- way has written its entry, and the primary that the feeding stream reads keeps what it has still to read, if the next step looks at that
+-- way has written its entry, its target has one shard, and the primary that the feeding stream reads keeps what it has still to read, if the
+-- next step looks at that
 pub record IsUnderWay (t : TopologyState) (primaries : Primaries) (journal : List JournalEntry) (name : List ℕ) (w : WorkflowState) (way : Way) (o : OpenWay) : Type 0 where
   pub named : w.name ≡ name
   pub source : is_some (primary_at primaries w.source) ≡ true
@@ -33,7 +35,9 @@ pub record IsUnderWay (t : TopologyState) (primaries : Primaries) (journal : Lis
   pub within : next_step way < 12
   pub kept : IsLogOf w o.log
   pub unused : stands_done way write_journal ≡ false → entry_of journal o.number ≡ None
-  pub unread : KeepsToTest w way (next_step way) (primary_of primaries w.source) (primary_of primaries w.target)
+  pub one : length w.lanes ≡ 1
+  pub shards : way.shards ≡ length w.lanes
+  pub unread : KeepsToTest w way (next_step way) (primary_of primaries w.source) (primary_of primaries w.target ∷ [])
 
 -- so does each, and something is kept of each open way
 pub record CanStep (t : TopologyState) (primaries : Primaries) (workflows : Workflows) (journal : List JournalEntry) (opened : OpenWays) (name : List ℕ) : Type 0 where
@@ -41,13 +45,13 @@ pub record CanStep (t : TopologyState) (primaries : Primaries) (workflows : Work
   pub each : (w : WorkflowState) (way : Way) (o : OpenWay) → workflow_at workflows name ≡ Some w → w.way ≡ Some way → open_at opened name ≡ Some o
       → IsUnderWay t primaries journal name w way o
 
--- what is worked on, with the primaries in their places
+-- what is worked on, with the primaries in their places; the target has one shard yet
 abbrev pub sides_between : TopologyState → Primaries → WorkflowState → List JournalEntry → SidesState
-sides_between t primaries w journal = record { topology = t; source = primary_of primaries w.source; target = primary_of primaries w.target; workflow = w; journal = journal }
+sides_between t primaries w journal = record { topology = t; source = primary_of primaries w.source; targets = primary_of primaries w.target ∷ []; workflow = w; journal = journal }
 
 -- the primaries of a workflow's sides become others
 abbrev pub with_primaries : Primaries → WorkflowState → SidesState → Primaries
-with_primaries primaries w sides = set_value (same_text w.target) (set_value (same_text w.source) primaries sides.source) sides.target
+with_primaries primaries w sides = set_value (same_text w.target) (set_value (same_text w.source) primaries sides.source) (target_at sides.targets 0)
 
 -- a workflow without a way can begin one: nothing is kept for it
 abbrev pub CanBegin : Workflows → OpenWays → (name : List ℕ) → Type 0

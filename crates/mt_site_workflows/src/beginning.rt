@@ -6,7 +6,7 @@ ghost use Rattle.mt_model.specs.Topology.{TopologyState};
 ghost use Rattle.mt_plain.specs.Events as plain;
 ghost use Rattle.mt_plain.specs.Refuse.{at_rest, has_more, most_ways, or_else, refuse_if, share_type};
 ghost use Rattle.mt_site_state.specs.Core.{Primaries};
-ghost use Rattle.mt_site_state.specs.Switching.{BeginsReverse, BeginsSwitch, is_copying};
+ghost use Rattle.mt_site_state.specs.Switching.{BeginsReverse, BeginsSwitch, has_copied_at, is_copying};
 ghost use Rattle.mt_site_state.specs.Ways.{open_at};
 ghost use Rattle.mt_site_workflows.specs.Ways.{CanBegin, OpensWay};
 ghost use Rattle.mt_workflow.specs.Workflows.{live_of, way_from};
@@ -39,14 +39,26 @@ fn share_type(types: TypeSet, others: TypeSet) -> bool
         || types.rdonly && others.rdonly
 }
 
+/// Whether all rows of a shard of a workflow's target are copied.
+fn has_copied_at(workflow: &Workflow, shard: u8) -> bool
+    ensures { result ≡ has_copied_at workflow.now shard }
+{
+    match workflow.slot(shard, Slot::Forward) {
+        None => false,
+        Some(stream) => stream.copied(),
+    }
+}
+
 /// Whether a workflow still has rows to copy.
 fn is_copying(workflow: &Workflow) -> bool
     ensures { result ≡ is_copying workflow.now }
 {
-    match workflow.slot(Slot::Forward) {
-        None => true,
-        Some(stream) => !stream.copied(),
+    for shard in 0..workflow.shards() {
+        if !has_copied_at(workflow, shard) {
+            return true;
+        }
     }
+    false
 }
 
 /// What refuses a way forward: `F13 UnderWay`, `F15 NothingToSwitch`, `F17 Copying`, `F27 Full`.
@@ -137,9 +149,11 @@ pub fn begin_switch(
     if let Some(refusal) = switch_refusal(workflow, types, *begun) {
         return Err(refusal);
     }
+    let shards = workflow.shards();
     let before = workflow.switched();
     let way = Way {
         back: false,
+        shards,
         before,
         after: before.union(types),
         done: 0,
@@ -169,9 +183,11 @@ pub fn begin_reverse(
     if let Some(refusal) = reverse_refusal(workflow, types, *begun) {
         return Err(refusal);
     }
+    let shards = workflow.shards();
     let before = workflow.switched();
     let way = Way {
         back: true,
+        shards,
         before,
         after: before.without(types),
         done: 0,

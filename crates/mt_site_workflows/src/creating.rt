@@ -16,6 +16,7 @@ ghost use Rattle.mt_primary.specs.Primary.{end_of, has_table};
 ghost use Rattle.mt_site_state.specs.Core.{primary_at, primary_of, workflow_at};
 ghost use Rattle.mt_site_state.specs.Core as core;
 ghost use Rattle.mt_site_state.specs.Workflows.{Creates, CreatesSet, create_refusal, is_full, is_moved, refusal_by_table, table_refusal, tables_refusal};
+ghost use Rattle.mt_workflow.specs.Creates.{is_sharded};
 ghost use Rattle.mt_workflow.specs.Workflows.{new_workflow};
 ghost use Rattle.mt_site_workflows.specs.Create.{CanCreate, IsReady, Makes, MakesAtTarget, Prepares};
 
@@ -124,7 +125,8 @@ fn table_refusal(
     target: &KeyspaceName,
     table: &TableName,
 ) -> Option<Refusal>
-    requires { source.now ≢ target.now }
+    requires apart { source.now ≢ target.now }
+    requires unsharded { is_sharded topology.now.keyspaces source.now ≡ false }
     ensures { (primaries : core.Primaries) → option_map refusal_from result
         ≡ table_refusal (record { topology = topology.now; primaries = primaries; workflows = workflows.now.entries }) source.now target.now table.now }
 {
@@ -143,7 +145,8 @@ fn tables_refusal(
     target: &KeyspaceName,
     tables: &[TableName],
 ) -> Option<Refusal>
-    requires { source.now ≢ target.now }
+    requires apart { source.now ≢ target.now }
+    requires unsharded { is_sharded topology.now.keyspaces source.now ≡ false }
     ensures { (primaries : core.Primaries) → option_map refusal_from result
         ≡ tables_refusal (record { topology = topology.now; primaries = primaries; workflows = workflows.now.entries }) source.now target.now tables.now }
 {
@@ -164,6 +167,7 @@ fn refusal_before<W: Asks>(
     watchers: &W,
     asked: Move<'_>,
 ) -> Option<Refusal>
+    requires { is_sharded topology.now.keyspaces asked.source.now ≡ false }
     ensures { create_refusal (record { topology = topology.now; primaries = primaries.now.entries; workflows = workflows.now.entries }) (W.scopes watchers.now) asked.entry.name.now asked.entry.source.now asked.entry.target.now asked.entry.tables.now
         ≡ or_else (option_map refusal_from result)
         (refuse_if (is_full (record { topology = topology.now; primaries = primaries.now.entries; workflows = workflows.now.entries }) asked.entry.source.now asked.entry.target.now asked.entry.tables.now) full) }
@@ -261,7 +265,7 @@ fn make<W: Asks>(
     requires ready { IsReady (W.scopes watchers.now) primaries.old.entries asked.source.now asked.target.now asked.tables.now }
     requires new { is_some (workflow_at workflows.old.entries asked.name.now) ≡ false }
     requires places { All (λ key. has_place topology.old key ≡ true) (part_keys asked.source.now asked.target.now asked.tables.now) }
-    ensures { Makes (W.scopes watchers.now) (W.may_answer watchers.now) (new_workflow topology.old.rules asked.entry.name.now asked.entry.source.now asked.entry.target.now asked.entry.tables.now (end_of (primary_of primaries.old.entries asked.entry.source.now)))
+    ensures { Makes (W.scopes watchers.now) (W.may_answer watchers.now) (new_workflow topology.old asked.entry.name.now asked.entry.source.now asked.entry.target.now asked.entry.tables.now (end_of (primary_of primaries.old.entries asked.entry.source.now)))
         (record { topology = topology.old; primaries = primaries.old.entries; workflows = workflows.old.entries }) result
         (record { topology = topology.new; primaries = primaries.new.entries; workflows = workflows.new.entries }) }
 {

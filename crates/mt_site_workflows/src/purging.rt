@@ -1,6 +1,6 @@
 //! Logs are purged below what the streams that read them have still to read.
 ghost use Rattle.std.specs.Prelude.{◌≡◌, ◌<◌, if◌then◌else◌, length, map, option_copied};
-ghost use Rattle.mt_site_state.specs.Purges.{first_needed, has_whole_segments, least_of, least_with, without_unneeded};
+ghost use Rattle.mt_site_state.specs.Purges.{first_needed, has_whole_segments, least_at, least_of, least_with, without_unneeded};
 ghost use Rattle.mt_site_workflows.specs.Places.{with_purge_at};
 
 use crate::{Primaries, Workflows};
@@ -29,14 +29,25 @@ fn least_with(
     }
 }
 
-/// A position, or that of a stream of a workflow, if it is less, and the stream reads a keyspace's log and is in use.
-fn least_of(keyspace: &KeyspaceName, least: Position, workflow: &Workflow) -> Position
-    ensures { result ≡ least_of keyspace.now least workflow.now }
+/// A position, or that of a stream of a shard of a workflow's target, if it is less, and the stream reads a keyspace's log and is in use.
+fn least_at(keyspace: &KeyspaceName, workflow: &Workflow, least: Position, shard: u8) -> Position
+    ensures { result ≡ least_at keyspace.now workflow.now least shard }
 {
-    let forward = workflow.slot(Slot::Forward);
-    let back = workflow.slot(Slot::Back);
+    let forward = workflow.slot(shard, Slot::Forward);
+    let back = workflow.slot(shard, Slot::Back);
     let least = least_with(keyspace, workflow.source(), forward, least);
     least_with(keyspace, workflow.target(), back, least)
+}
+
+/// A position, or that of a stream of a workflow, if it is less, and the stream reads a keyspace's log and is in use.
+fn least_of(keyspace: &KeyspaceName, start: Position, workflow: &Workflow) -> Position
+    ensures { result ≡ least_of keyspace.now start workflow.now }
+{
+    let mut least = start;
+    for shard in 0..workflow.shards() {
+        least = least_at(keyspace, workflow, least, shard);
+    }
+    least
 }
 
 /// The first entry of a keyspace's log that is needed: the least position of the streams that read it and are in use, and the

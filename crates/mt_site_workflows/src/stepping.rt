@@ -1,11 +1,18 @@
 //! The next step of a way.
-ghost use Rattle.std.specs.Prelude.{◌≡◌, ◌≢◌, ℕ, ◌<◌, true, false, All, [], Some, is_some, option_map};
+ghost use Rattle.std.specs.Prelude.{◌≡◌, ℕ, true, None, Some, is_some, length, option_map};
 ghost use Rattle.mt_event.specs.Reasons.{done_by, reason_from};
 ghost use Rattle.mt_model.specs.Topology.{has_place};
 ghost use Rattle.mt_site_state.specs.Core.{primary_at};
 ghost use Rattle.mt_site_state.specs.Switching.{StepsWorkflow, answer_by_step, step_refusal};
 ghost use Rattle.mt_site_workflows.specs.Ways.{CanStep, IsUnderWay, StepsBetween, left_open};
+ghost use Rattle.mt_journal.specs.Journal.{entry_of};
+ghost use Rattle.mt_plain.specs.Plain.{next_step, write_journal};
+ghost use Rattle.mt_steps.specs.Entries.{HasPlaces};
 ghost use Rattle.mt_steps.specs.Faults.{refusal_of};
+ghost use Rattle.mt_steps.specs.Plans.{number};
+ghost use Rattle.mt_steps.specs.Steps.{Steps, open_way};
+ghost use Rattle.mt_steps.specs.Streams.{KeepsToTest};
+ghost use Rattle.mt_steps.specs.Undo.{IsLogOf};
 ghost use Rattle.mt_workflow.specs.Workflows.{way_from};
 
 use crate::primaries::{exchange_at, place_of};
@@ -14,11 +21,12 @@ use mt_event::Reason;
 use mt_journal::Journal;
 use mt_names::WorkflowName;
 use mt_primary::Primary;
-use mt_steps::{OpenWay, Sides, StepFault, do_step, next_step};
+use mt_steps::{OpenWay, Sides, Step, StepFault, UndoLog, do_step, next_step};
 use mt_topology::Topology;
 use mt_watch::Asks;
 use mt_workflow::{Way, Workflow};
 use std::alloc::Global;
+use std::slice;
 
 /// The refusal of the controller for one of a step.
 fn refusal_by_step(fault: StepFault) -> Reason
@@ -68,6 +76,44 @@ fn step_refusal(way: Way, at: u64) -> Option<Reason>
     None
 }
 
+/// Does a step that is next between the primaries of a workflow's sides, as `do_step` says.
+fn step_on<W: Asks>(
+    alloc: Global,
+    topology: &mut Topology,
+    source: &mut Primary,
+    targets: &mut [Primary],
+    workflow: &mut Workflow,
+    journal: &mut Journal,
+    watchers: &W,
+    id: u64,
+    log: &mut UndoLog,
+    step: Step,
+) -> Result<(), StepFault>
+    requires open { is_some workflow.old.way ≡ true }
+    requires next { number step ≡ next_step (open_way workflow.old) }
+    requires places { HasPlaces topology.old workflow.old }
+    requires log { IsLogOf workflow.old log.old }
+    requires targets { length targets.old ≡ length workflow.old.lanes }
+    requires shards { (open_way workflow.old).shards ≡ length workflow.old.lanes }
+    requires kept { KeepsToTest workflow.old (open_way workflow.old) (number step) source.old targets.old }
+    requires fresh { number step ≡ write_journal → entry_of journal.old id ≡ None }
+    ensures { Steps (W.scopes watchers.now) (W.may_answer watchers.now) id (open_way workflow.old) step
+        (record { topology = topology.old; source = source.old; targets = targets.old; workflow = workflow.old; journal = journal.old }) log.old
+        result
+        (record { topology = topology.new; source = source.new; targets = targets.new; workflow = workflow.new; journal = journal.new }) log.new }
+{
+    let mut sides = Sides {
+        topology,
+        source,
+        targets,
+        workflow,
+        journal,
+        watchers,
+        number: id,
+    };
+    do_step(alloc, &mut sides, log, step)
+}
+
 /// Does the step that is next between the primaries of a workflow's sides, wherever they stand: it takes both out of their places
 /// meanwhile, and leaves empty ones there, which takes no memory.
 #[inline(never)]
@@ -90,16 +136,18 @@ fn step_between<W: Asks>(
     let at_target = place_of(primaries, workflow.target());
     let mut source = exchange_at(primaries, at_source, Primary::new(alloc));
     let mut target = exchange_at(primaries, at_target, Primary::new(alloc));
-    let mut sides = Sides {
+    let result = step_on(
+        alloc,
         topology,
-        source: &mut source,
-        target: &mut target,
+        &mut source,
+        slice::from_mut(&mut target),
         workflow,
         journal,
         watchers,
-        number: kept.number,
-    };
-    let result = do_step(alloc, &mut sides, &mut kept.log, next_step(way));
+        kept.number,
+        &mut kept.log,
+        next_step(way),
+    );
     exchange_at(primaries, at_source, source);
     exchange_at(primaries, at_target, target);
     result

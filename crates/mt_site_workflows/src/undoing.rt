@@ -1,7 +1,11 @@
 //! The undo of the last step of a way.
-ghost use Rattle.std.specs.Prelude.{◌≡◌, ◌==◌, ℕ, false, Some, option_map};
+ghost use Rattle.std.specs.Prelude.{◌≡◌, ◌<◌, ◌==◌, ℕ, false, true, Some, is_some, length, option_map};
 ghost use Rattle.mt_event.specs.Reasons.{done_by, reason_from};
-ghost use Rattle.mt_plain.specs.Plain.{stands_done, write_journal};
+ghost use Rattle.mt_plain.specs.Plain.{last_step, stands_done, write_journal};
+ghost use Rattle.mt_steps.specs.Entries.{HasPlaces};
+ghost use Rattle.mt_steps.specs.Plans.{step_at};
+ghost use Rattle.mt_steps.specs.Steps.{IsUndone, open_way};
+ghost use Rattle.mt_steps.specs.Undo.{IsLogOf};
 ghost use Rattle.mt_site_state.specs.Switching.{UndoesWorkflow, undo_refusal};
 ghost use Rattle.mt_site_workflows.specs.Ways.{CanStep, IsUnderWay, UndoesBetween};
 ghost use Rattle.mt_workflow.specs.Workflows.{way_from};
@@ -13,11 +17,12 @@ use mt_event::Reason;
 use mt_journal::Journal;
 use mt_names::WorkflowName;
 use mt_primary::Primary;
-use mt_steps::{OpenWay, Sides, undo_last};
+use mt_steps::{OpenWay, Sides, UndoLog, undo_last};
 use mt_topology::Topology;
 use mt_watch::Asks;
 use mt_workflow::{Way, Workflow};
 use std::alloc::Global;
+use std::slice;
 
 /// What refuses an undo: `F19 PastJournal`, `F25 Stale`.
 fn undo_refusal(way: Way, at: u64) -> Option<Reason>
@@ -30,6 +35,40 @@ fn undo_refusal(way: Way, at: u64) -> Option<Reason>
         return Some(Reason::Stale(u64::from(way.done)));
     }
     None
+}
+
+/// Takes the step that was done last back between the primaries of a workflow's sides, as `undo_last` says.
+fn undo_on<W: Asks>(
+    topology: &mut Topology,
+    source: &mut Primary,
+    targets: &mut [Primary],
+    workflow: &mut Workflow,
+    journal: &mut Journal,
+    watchers: &W,
+    id: u64,
+    log: &mut UndoLog,
+)
+    requires open { is_some workflow.old.way ≡ true }
+    requires some { 0 < (open_way workflow.old).done }
+    requires before { last_step (open_way workflow.old) < write_journal }
+    requires targets { length targets.old ≡ length workflow.old.lanes }
+    requires shards { (open_way workflow.old).shards ≡ length workflow.old.lanes }
+    requires places { HasPlaces topology.old workflow.old }
+    requires log { IsLogOf workflow.old log.old }
+    ensures { IsUndone (open_way workflow.old) (step_at (last_step (open_way workflow.old)))
+        (record { topology = topology.old; source = source.old; targets = targets.old; workflow = workflow.old; journal = journal.old }) log.old
+        (record { topology = topology.new; source = source.new; targets = targets.new; workflow = workflow.new; journal = journal.new }) log.new }
+{
+    let mut sides = Sides {
+        topology,
+        source,
+        targets,
+        workflow,
+        journal,
+        watchers,
+        number: id,
+    };
+    undo_last(&mut sides, log)
 }
 
 /// Undoes the step that was done last between the primaries of a workflow's sides, wherever they stand: it takes both out of their places
@@ -56,16 +95,16 @@ fn undo_done<W: Asks>(
     let at_target = place_of(primaries, workflow.target());
     let mut source = exchange_at(primaries, at_source, Primary::new(alloc));
     let mut target = exchange_at(primaries, at_target, Primary::new(alloc));
-    let mut sides = Sides {
+    undo_on(
         topology,
-        source: &mut source,
-        target: &mut target,
+        &mut source,
+        slice::from_mut(&mut target),
         workflow,
         journal,
         watchers,
-        number: kept.number,
-    };
-    undo_last(&mut sides, &mut kept.log);
+        kept.number,
+        &mut kept.log,
+    );
     exchange_at(primaries, at_source, source);
     exchange_at(primaries, at_target, target);
 }

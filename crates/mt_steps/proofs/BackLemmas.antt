@@ -1,6 +1,7 @@
 -- What is written back is what stood before the step, whatever else was written in between.
 use Rattle.std.proofs.Common.{◌≡◌, ◌≢◌, ℕ, zero, suc, Bool, true, false, if◌then◌else◌, List, [], ◌∷◌, map, filter, slice_get, Some, ◌⊎◌, inl, inr, refl, sym, ap, subst, ◌∙◌}
 use Rattle.std.proofs.lemmas.Bool.{true≢false}
+use Rattle.std.proofs.lemmas.List.{length-map}
 use Rattle.std.proofs.lemmas.List.Elements.{recursion_from_All}
 use Rattle.std.specs.List.{AllByRecursion}
 use Rattle.mt_names.specs.declared.types.TypeSet.{TypeSet}
@@ -16,6 +17,7 @@ use Rattle.mt_model.proofs.PlaceLemmas.{has_place-written}
 use Rattle.mt_model.proofs.TopologyLemmas.{value_of-written_elsewhere, value_of-written_here}
 use Rattle.mt_workflow.specs.Workflows.{WorkflowState, keys_of_part, wanted}
 use Rattle.mt_steps.specs.Entries.{HasPlaces, is_of_step, recorded, recorded_entry, recorded_of, step_entries, step_keys}
+use Rattle.mt_steps.specs.Undo.{IsLogOf, new_log}
 use Rattle.mt_steps.proofs.EntryLemmas.{key_of-value_of, key_of-wanted}
 
 -- ---- keys
@@ -186,5 +188,5 @@ undone_at_once t w types n entries of places key = by (among (step_keys w n) key
 
 -- ---- the record is the workflow's
 
-pub new_log_of : (w : WorkflowState) → map key_of (map (wanted w w.switched) (keys_of_part w)) ≡ keys_of_part w
-new_log_of w = keys_wanted w w.switched (keys_of_part w)
+pub new_log_of : (w : WorkflowState) → IsLogOf w (new_log w)
+new_log_of w = record { entries = keys_wanted w w.switched (keys_of_part w); listed = length-map w.lanes _; slots = length-map w.lanes _ }

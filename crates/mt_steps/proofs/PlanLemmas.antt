@@ -50,6 +50,21 @@ place-behind way place low = of_parts way place (place - (way.shards - 1)) 0 is 
     apart : eqb (step_at_place way place) (repeated_step way) ≡ false
     apart = false_from_ne_true (eqb (step_at_place way place) (repeated_step way)) (λ t. let same = eqb-true (step_at_place way place) (repeated_step way) t in let e = is in absurd (omega arith))
 
+-- the shard of a place is one of those of the plan
+pub shard-within : (way : Way) (place : ℕ) → 1 ≤ way.shards → shard_at_place way place < way.shards
+shard-within way place some = by (eqb (step_at_place way place) (repeated_step way)) refl
+  where
+    by : (t : Bool) → eqb (step_at_place way place) (repeated_step way) ≡ t → cond t (place - repeated_step way) 0 < way.shards
+    by false t = some
+    by true t = here (leb place (repeated_step way)) refl
+      where
+        here : (u : Bool) → leb place (repeated_step way) ≡ u → place - repeated_step way < way.shards
+        here true u = let low = leb-true place (repeated_step way) u in omega arith
+        here false u =
+            let high = leb-false place (repeated_step way) u in
+            let is = step-behind way place (omega arith) in
+            let same = eqb-true (step_at_place way place) (repeated_step way) t in omega arith
+
 -- ---- a plan is that of its way
 
 pub number-step_at : (n : ℕ) → n < 12 → number (step_at n) ≡ n

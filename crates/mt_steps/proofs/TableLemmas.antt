@@ -83,4 +83,4 @@ four_back w n t a b c u k l m rest first second third last =
 
 -- a workflow, where the step of a key is the same with all
 pub any_workflow : WorkflowState
-any_workflow = record { name = []; source = []; target = []; tables = []; switched = no_types; way = None; kept = []; forward = None; back = None }
+any_workflow = record { name = []; source = []; target = []; tables = []; switched = no_types; way = None; kept = []; lanes = [] }

@@ -3,6 +3,7 @@ pub mod Faults
 pub mod Plans
 pub mod Records
 pub mod Refreshes
+pub mod Shards
 pub mod Steps
 pub mod Streams
 pub mod Undo

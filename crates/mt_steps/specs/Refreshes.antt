@@ -14,6 +14,7 @@ use Rattle.mt_workflow.specs.Workflows.{WorkflowState}
 use Rattle.mt_journal.specs.declared.entry.JournalEntry.{JournalEntry}
 use Rattle.mt_steps.specs.declared.fault.StepFault.{StepFault}
 use Rattle.mt_steps.specs.declared.fault.StepFault.TheVariants as fault
+use Rattle.mt_steps.specs.Shards.{IsChangedAt, target_at}
 
 -- the change that a refresh asks with: the denials of some tables at a side, in the order named (How traffic is switched: RefreshState)
 abbrev pub denials_at : TopologyState → (side : List ℕ) → List (List ℕ) → List Entry
@@ -38,18 +39,20 @@ Refreshes scopes may_answer t side tables old listed (Err (fault.WatcherRefused 
     IsRefusedAt scopes may_answer (scope.Primary side) (denials_at t side tables) i × (new ≡ old) × (new_listed ≡ listed)
 Refreshes scopes may_answer t side tables old listed (Err other) new new_listed = ⊥
 
--- the two primaries, the journal, and what stood on an own list before the last refresh (this profile's own)
+-- the source's primary and those of the target's shards, in their order; the journal; and what stood on an own list before the last refresh
+-- that was for the shard of the next place (this profile's own)
 pub record Sites : Type 0 where
   pub source : PrimaryState
-  pub target : PrimaryState
+  pub targets : List PrimaryState
   pub journal : List JournalEntry
   pub listed : Option Marks
 
--- a refresh at one of the sides of a workflow; the other side's primary and the journal stay (How traffic is switched: RefreshState)
-abbrev pub RefreshesSide : List Scope → Answering → TopologyState → WorkflowState → (at_target : Bool) → Sites → Result ⊤ StepFault → Sites → Type 0
-RefreshesSide scopes may_answer t w true old answer new =
-    Refreshes scopes may_answer t w.target w.tables old.target old.listed answer new.target new.listed
-    × (new.source ≡ old.source) × (new.journal ≡ old.journal)
-RefreshesSide scopes may_answer t w false old answer new =
+-- a refresh at one of the sides of a workflow: at the target that of a shard's primary, while the others stay; the other side's primaries
+-- and the journal stay (How traffic is switched: RefreshState)
+abbrev pub RefreshesSide : List Scope → Answering → TopologyState → WorkflowState → (at_target : Bool) → (shard : ℕ) → Sites → Result ⊤ StepFault → Sites → Type 0
+RefreshesSide scopes may_answer t w true shard old answer new =
+    Refreshes scopes may_answer t w.target w.tables (target_at old.targets shard) old.listed answer (target_at new.targets shard) new.listed
+    × IsChangedAt shard old.targets new.targets × (new.source ≡ old.source) × (new.journal ≡ old.journal)
+RefreshesSide scopes may_answer t w false shard old answer new =
     Refreshes scopes may_answer t w.source w.tables old.source old.listed answer new.source new.listed
-    × (new.target ≡ old.target) × (new.journal ≡ old.journal)
+    × (new.targets ≡ old.targets) × (new.journal ≡ old.journal)

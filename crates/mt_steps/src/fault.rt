@@ -7,7 +7,7 @@ use thiserror::Error;
 pub enum StepFault {
     /// No memory was left.
     Memory,
-    /// The stream that feeds on the way isn't level with the primary that it reads.
+    /// A stream that feeds on the way isn't level with the primary that it reads.
     NotLevel,
     /// The watcher of this number, counted from 0 in the order in which they were added, refused.
     WatcherRefused(usize),

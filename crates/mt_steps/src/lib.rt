@@ -15,7 +15,8 @@ mod streams;
 
 pub use fault::StepFault;
 pub use laws::{
-    a_plan_is_that_of_its_way, a_record_stays_that_of_its_workflow, an_undo_gives_back_what_stood,
+    a_plan_is_that_of_its_way, a_record_stays_that_of_its_workflow,
+    an_undo_gives_back_lists_and_streams, an_undo_gives_back_what_stood,
 };
 pub use log::{OpenWay, UndoLog};
 pub use plan::{MAX_PLACES, Place, Plan};

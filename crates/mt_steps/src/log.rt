@@ -1,8 +1,8 @@
 //! What is kept of a way for its undo.
-ghost use Rattle.std.specs.Prelude.{◌≡◌, IfOk, IfErr};
+ghost use Rattle.std.specs.Prelude.{◌≡◌, ◌<◌, IfOk, IfErr, None, length, replicate};
 ghost use Rattle.mt_model.specs.Part.{with_entries};
 ghost use Rattle.mt_steps.specs.Entries.{HasPlaces, recorded, recorded_of, step_entries};
-ghost use Rattle.mt_steps.specs.Steps.{given_listed, given_slot, left_listed, left_slot};
+ghost use Rattle.mt_steps.specs.Steps.{given_listed, left_listed, listed_at};
 ghost use Rattle.mt_steps.specs.Undo.{IsLogOf, new_log};
 
 use crate::entries::{exchange_step, write_back};
@@ -19,26 +19,33 @@ use std::alloc::Global;
 use std::marker::Model;
 use std::mem;
 
-/// What is kept of a way for its undo: an entry for each key of the workflow's part, as it stood before its step; what stood on a
-/// primary's own list before the last refresh; and the stream that a new one was put in place of. It is made before the first step,
-/// and no step and no undo takes memory for it. The entries are recorded table by table, in the order of the part, without the names of
-/// their keys: the sides stand once, and each table once in its record. (this profile's own)
+/// What is kept of a way for its undo: an entry for each key of the workflow's part, as it stood before its step; and for each shard of the
+/// target what stood on a primary's own list before the last refresh that was for the shard, and the stream that a new one was put in place
+/// of. It is made before the first step, and no step and no undo takes memory for it. The entries are recorded table by table, in the
+/// order of the part, without the names of their keys: the sides stand once, and each table once in its record. (this profile's own)
 #[derive(Drop)]
 pub struct UndoLog {
     pub(crate) records: Vec<TableRecord>,
     pub(crate) late: Box<Late>,
 }
 
-/// The sides, and what a step puts aside, in memory of their own.
+/// The sides, and what steps put aside, in memory of their own.
 #[derive(Drop)]
 pub(crate) struct Late {
-    /// What stood on a primary's own list before the last refresh.
-    pub listed: Option<Before>,
     /// The keyspace that the tables move from.
     source: KeyspaceName,
     /// The keyspace that they move to.
     target: KeyspaceName,
-    /// The stream that a new one was put in place of.
+    /// What is put aside for each shard of the target, in their order.
+    pub lanes: Vec<PutAway>,
+}
+
+/// What steps put aside for a shard of the target.
+#[derive(Drop)]
+pub(crate) struct PutAway {
+    /// What stood on a primary's own list before the last refresh that was for the shard.
+    pub listed: Option<Before>,
+    /// The stream of the shard that a new one was put in place of.
     pub slot: Option<Stream>,
 }
 
@@ -53,12 +60,13 @@ pub struct OpenWay {
 }
 
 impl Model for UndoLog {
+    ghost use Rattle.std.specs.Prelude.{map};
     ghost use Rattle.mt_steps.specs.Records.{entries_of};
     ghost use Rattle.mt_steps.specs.Undo.{UndoState};
 
     ghost Value = { UndoState };
 
-    ghost view = { λ log. record { entries = entries_of log.late.value.source log.late.value.target log.records.items; listed = log.late.value.listed; slot = log.late.value.slot } };
+    ghost view = { λ log. record { entries = entries_of log.late.value.source log.late.value.target log.records.items; listed = map (λ k. k.listed) log.late.value.lanes.items; slots = map (λ k. k.slot) log.late.value.lanes.items } };
 }
 
 impl UndoLog {
@@ -75,10 +83,9 @@ impl UndoLog {
             push_at_rest(&mut records, workflow, table);
         }
         let late = Late {
-            listed: None,
             source: workflow.source().copied(),
             target: workflow.target().copied(),
-            slot: None,
+            lanes: room_for(alloc, workflow.shards())?,
         };
         match Box::new(alloc, late) {
             Ok(late) => Ok(UndoLog { records, late }),
@@ -121,25 +128,34 @@ impl UndoLog {
         );
     }
 
-    /// Takes what the undo of a step gives back to a primary's own list.
-    pub(crate) fn take_listed(&mut self, step: Step) -> Option<Before>
-        ensures taken { result ≡ given_listed step self.old.listed }
-        ensures left { self.new ≡ record self.old { listed = left_listed step self.old.listed } }
+    /// Takes what the undo of a step for a shard gives back to a primary's own list.
+    pub(crate) fn take_listed(&mut self, step: Step, shard: u8) -> Option<Before>
+        requires { shard < length self.old.listed }
+        ensures taken { result ≡ given_listed step (listed_at self.old shard) }
+        ensures left { self.new ≡ record self.old { listed = left_listed step shard self.old.listed } }
     {
-        if step != Step::RefreshSource {
-            return None;
+        match step {
+            Step::RefreshSource => {
+                mem::replace(&mut self.late.lanes[usize::from(shard)].listed, None)
+            }
+            _ => None,
         }
-        mem::replace(&mut self.late.listed, None)
     }
+}
 
-    /// Takes the stream that the undo of a step puts back.
-    pub(crate) fn take_slot(&mut self, step: Step) -> Option<Stream>
-        ensures taken { result ≡ given_slot step self.old.slot }
-        ensures left { self.new ≡ record self.old { slot = left_slot step self.old.slot } }
-    {
-        if step != Step::CreateBack {
-            return None;
-        }
-        mem::replace(&mut self.late.slot, None)
+/// Room for what is put aside for so many shards. `F0 Memory`.
+fn room_for(alloc: Global, shards: u8) -> Result<Vec<PutAway>, StepFault>
+    ensures value { IfOk result (λ lanes. lanes.items ≡ replicate shards (record { listed = None; slot = None })) }
+    ensures memory { IfErr result (λ fault. fault ≡ StepFault.Memory) }
+{
+    let Ok(mut lanes) = Vec::with_capacity(alloc, usize::from(shards)) else {
+        return Err(StepFault::Memory);
+    };
+    for _shard in 0..shards {
+        lanes.push_reserved(PutAway {
+            listed: None,
+            slot: None,
+        });
     }
+    Ok(lanes)
 }

@@ -1,5 +1,5 @@
 //! A refresh of a primary's own list.
-ghost use Rattle.std.specs.Prelude.{◌≡◌, ◌≤◌, List, IfOk, IfErr, length};
+ghost use Rattle.std.specs.Prelude.{◌≡◌, ◌<◌, ◌≤◌, List, IfOk, IfErr, length};
 ghost use Rattle.mt_names.specs.Tables.{most_tables};
 ghost use Rattle.mt_journal.specs.declared.entry.JournalEntry.{JournalEntry};
 ghost use Rattle.mt_steps.specs.Refreshes.{Refreshes, RefreshesSide, denials_at};
@@ -67,20 +67,22 @@ fn refresh<W: Asks>(
     }
 }
 
-/// Refreshes the list of the primary at one of the sides of a workflow, as `refresh` does.
+/// Refreshes the list of the primary at one of the sides of a workflow, at the target that of a shard alone, as `refresh` does.
 pub(crate) fn refresh_side<W: Asks>(
     alloc: Global,
     topology: &Topology,
     workflow: &Workflow,
     at_target: bool,
+    shard: u8,
     source: &mut Primary,
-    target: &mut Primary,
+    targets: &mut [Primary],
     watchers: &W,
     listed: &mut Option<Before>,
 ) -> Result<(), StepFault>
-    ensures { (journal : List JournalEntry) → RefreshesSide (W.scopes watchers.now) (W.may_answer watchers.now) topology.now workflow.now at_target
-        (record { source = source.old; target = target.old; journal = journal; listed = listed.old }) result
-        (record { source = source.new; target = target.new; journal = journal; listed = listed.new }) }
+    requires { shard < length targets.old }
+    ensures { (journal : List JournalEntry) → RefreshesSide (W.scopes watchers.now) (W.may_answer watchers.now) topology.now workflow.now at_target shard
+        (record { source = source.old; targets = targets.old; journal = journal; listed = listed.old }) result
+        (record { source = source.new; targets = targets.new; journal = journal; listed = listed.new }) }
 {
     workflow.facts();
     let tables = workflow.tables();
@@ -90,7 +92,7 @@ pub(crate) fn refresh_side<W: Asks>(
             topology,
             workflow.target(),
             tables,
-            target,
+            &mut targets[usize::from(shard)],
             watchers,
             listed,
         );

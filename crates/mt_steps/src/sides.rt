@@ -1,5 +1,5 @@
 //! A step, and the undo of the last one.
-ghost use Rattle.std.specs.Prelude.{◌≡◌, ◌<◌, true, All, List, [], None, is_some};
+ghost use Rattle.std.specs.Prelude.{◌≡◌, ◌<◌, true, None, is_some, length};
 ghost use Rattle.mt_model.specs.Part.{with_entries};
 ghost use Rattle.mt_model.specs.Topology.{has_place, key_of};
 ghost use Rattle.mt_plain.specs.Plain.{last_step, next_step, write_journal};
@@ -7,7 +7,7 @@ ghost use Rattle.mt_workflow.specs.Workflows.{way_from};
 ghost use Rattle.mt_journal.specs.Journal.{entry_of};
 ghost use Rattle.mt_steps.specs.Entries.{HasPlaces, recorded, recorded_of, step_entries};
 ghost use Rattle.mt_steps.specs.Plans.{number, step_at};
-ghost use Rattle.mt_steps.specs.Steps.{IsGivenBack, IsUndone, Steps, left_slot, open_way};
+ghost use Rattle.mt_steps.specs.Steps.{IsGivenBack, IsUndone, Steps, left_slots, open_way};
 ghost use Rattle.mt_steps.specs.Streams.{KeepsToTest, put_away, workflow_stepped, workflow_undone};
 ghost use Rattle.mt_steps.specs.Undo.{IsLogOf};
 
@@ -15,7 +15,9 @@ use crate::attempt::attempt;
 use crate::fault::StepFault;
 use crate::log::UndoLog;
 use crate::step::Step;
-use crate::streams::{count_step, count_undo, last_step, log_end, step_streams, undo_streams};
+use crate::streams::{
+    count_step, count_undo, last_shard, last_step, log_ends, step_streams, undo_streams,
+};
 use mt_journal::Journal;
 use mt_names::Position;
 use mt_primary::{Before, Primary};
@@ -32,8 +34,8 @@ pub struct Sides<'a, W: Asks> {
     pub topology: &'a mut Topology,
     /// The source's primary.
     pub source: &'a mut Primary,
-    /// The target's primary.
-    pub target: &'a mut Primary,
+    /// The target's primaries, one for each of its shards, in their order.
+    pub targets: &'a mut [Primary],
     /// The workflow whose way is open.
     pub workflow: &'a mut Workflow,
     /// The journal.
@@ -44,8 +46,9 @@ pub struct Sides<'a, W: Asks> {
     pub number: u64,
 }
 
-/// Does the step of a way that is next; `log` becomes what its undo needs. See `Step` for what each step does, what refuses it, and
-/// whom it asks. A refused step leaves everything as it was. Of the steps only a refresh and the journal take memory.
+/// Does the step of a way that is next, for the shard that the next place is for; `log` becomes what its undo needs. See `Step` for what
+/// each step does, what refuses it, and whom it asks. A refused step leaves everything as it was. Of the steps only a refresh and the
+/// journal take memory: for the streams that step 5 puts away, `log` has room from the begin on, however many shards there are.
 /// (Vitess: SwitchTraffic, ReverseTraffic)
 pub fn do_step<W: Asks>(
     alloc: Global,
@@ -57,11 +60,13 @@ pub fn do_step<W: Asks>(
     requires next { number step ≡ next_step (open_way sides.old.workflow.now) }
     requires places { HasPlaces sides.old.topology.now sides.old.workflow.now }
     requires log { IsLogOf sides.old.workflow.now log.old }
-    requires kept { KeepsToTest sides.old.workflow.now (open_way sides.old.workflow.now) (number step) sides.old.source.now sides.old.target.now }
+    requires targets { length sides.old.targets.now ≡ length sides.old.workflow.now.lanes }
+    requires shards { (open_way sides.old.workflow.now).shards ≡ length sides.old.workflow.now.lanes }
+    requires kept { KeepsToTest sides.old.workflow.now (open_way sides.old.workflow.now) (number step) sides.old.source.now sides.old.targets.now }
     requires fresh { number step ≡ write_journal → entry_of sides.old.journal.now sides.old.number ≡ None }
     ensures topology { sides.new.topology.ghost_name ≡ sides.old.topology.ghost_name }
     ensures source { sides.new.source.ghost_name ≡ sides.old.source.ghost_name }
-    ensures target { sides.new.target.ghost_name ≡ sides.old.target.ghost_name }
+    ensures targets { sides.new.targets.ghost_name ≡ sides.old.targets.ghost_name }
     ensures workflow { sides.new.workflow.ghost_name ≡ sides.old.workflow.ghost_name }
     ensures journal { sides.new.journal.ghost_name ≡ sides.old.journal.ghost_name }
     ensures watchers { sides.new.watchers ≡ sides.old.watchers }
@@ -69,9 +74,9 @@ pub fn do_step<W: Asks>(
     ensures log { IsLogOf sides.new.workflow.now log.new }
     ensures places { HasPlaces sides.new.topology.now sides.new.workflow.now }
     ensures steps { Steps (W.scopes sides.old.watchers.now) (W.may_answer sides.old.watchers.now) sides.old.number (open_way sides.old.workflow.now) step
-        (record { topology = sides.old.topology.now; source = sides.old.source.now; target = sides.old.target.now; workflow = sides.old.workflow.now; journal = sides.old.journal.now }) log.old
+        (record { topology = sides.old.topology.now; source = sides.old.source.now; targets = sides.old.targets.now; workflow = sides.old.workflow.now; journal = sides.old.journal.now }) log.old
         result
-        (record { topology = sides.new.topology.now; source = sides.new.source.now; target = sides.new.target.now; workflow = sides.new.workflow.now; journal = sides.new.journal.now }) log.new }
+        (record { topology = sides.new.topology.now; source = sides.new.source.now; targets = sides.new.targets.now; workflow = sides.new.workflow.now; journal = sides.new.journal.now }) log.new }
 {
     let way = sides.workflow.way().unwrap();
     step_of_way(
@@ -81,7 +86,7 @@ pub fn do_step<W: Asks>(
         sides.number,
         sides.topology,
         sides.source,
-        sides.target,
+        sides.targets,
         sides.workflow,
         sides.journal,
         sides.watchers,
@@ -97,7 +102,7 @@ fn step_of_way<W: Asks>(
     id: u64,
     topology: &mut Topology,
     source: &mut Primary,
-    target: &mut Primary,
+    targets: &mut [Primary],
     workflow: &mut Workflow,
     journal: &mut Journal,
     watchers: &W,
@@ -106,61 +111,69 @@ fn step_of_way<W: Asks>(
     requires next { number step ≡ next_step (way_from way) }
     requires places { HasPlaces topology.old workflow.old }
     requires log { IsLogOf workflow.old log.old }
-    requires kept { KeepsToTest workflow.old (way_from way) (number step) source.old target.old }
+    requires targets { length targets.old ≡ length workflow.old.lanes }
+    requires shards { way.shards ≡ length workflow.old.lanes }
+    requires kept { KeepsToTest workflow.old (way_from way) (number step) source.old targets.old }
     requires fresh { number step ≡ write_journal → entry_of journal.old id ≡ None }
     ensures log { IsLogOf workflow.new log.new }
     ensures places { HasPlaces topology.new workflow.new }
     ensures steps { Steps (W.scopes watchers.now) (W.may_answer watchers.now) id (way_from way) step
-        (record { topology = topology.old; source = source.old; target = target.old; workflow = workflow.old; journal = journal.old }) log.old
+        (record { topology = topology.old; source = source.old; targets = targets.old; workflow = workflow.old; journal = journal.old }) log.old
         result
-        (record { topology = topology.new; source = source.new; target = target.new; workflow = workflow.new; journal = journal.new }) log.new }
+        (record { topology = topology.new; source = source.new; targets = targets.new; workflow = workflow.new; journal = journal.new }) log.new }
 {
-    let end = log_end(way, source, target);
-    let listed = &mut log.late.listed;
+    workflow.facts();
+    let ends = log_ends(way, source, targets);
+    let listed = &mut log.late.lanes[usize::from(way.next_shard())].listed;
     attempt(
-        alloc, way, step, id, topology, workflow, source, target, journal, watchers, listed,
+        alloc, way, step, id, topology, workflow, source, targets, journal, watchers, listed,
     )?;
-    finish_step(way, step, end, topology, workflow, log);
+    finish_step(way, step, ends.as_slice(), topology, workflow, log);
     Ok(())
 }
 
 /// Does the part of a step that is never refused: it writes the entries that change with the step, and records what stood there; it
-/// changes the streams, and counts the step. `end` is how long the log of the new owner's primary is.
+/// changes the streams, and counts the step. `ends` are the ends of the logs that new streams will read.
 #[inline(always)]
 fn finish_step(
     way: Way,
     step: Step,
-    end: Position,
+    ends: &[Position],
     topology: &mut Topology,
     workflow: &mut Workflow,
     log: &mut UndoLog,
 )
     requires next { number step ≡ next_step (way_from way) }
+    requires shards { way.shards ≡ length workflow.old.lanes }
+    requires ends { length ends.now ≡ length workflow.old.lanes }
     requires places { HasPlaces topology.old workflow.old }
     requires log { IsLogOf workflow.old log.old }
     ensures log { IsLogOf workflow.new log.new }
     ensures places { HasPlaces topology.new workflow.new }
     ensures topology { topology.new ≡ with_entries topology.old (step_entries workflow.old (way_from way).after (number step)) }
-    ensures workflow { workflow.new ≡ workflow_stepped workflow.old (way_from way) step end }
-    ensures recorded { log.new ≡ record { entries = recorded workflow.old (number step) topology.old log.old.entries; listed = log.old.listed; slot = put_away workflow.old (way_from way) step log.old.slot } }
+    ensures workflow { workflow.new ≡ workflow_stepped workflow.old (way_from way) step ends.now }
+    ensures recorded { log.new ≡ record { entries = recorded workflow.old (number step) topology.old log.old.entries; listed = log.old.listed; slots = put_away workflow.old (way_from way) step log.old.slots } }
 {
     log.exchange(topology, workflow, way.after, step.number());
-    step_streams(workflow, way, step, end, &mut log.late.slot);
+    workflow.facts();
+    step_streams(workflow, way, step, ends, &mut log.late.lanes);
     count_step(workflow, way, step);
 }
 
-/// Takes back the step that was done last, which is before the journal: its entries, the own list and the slot get what stood there
-/// before it, and all else stays as it is now. It takes no memory, asks nobody, and is never refused. (Vitess: Cancel of a switch of
+/// Takes back the step that was done last, for the shard that its place is for; it is before the journal. Its entries, the own list and
+/// the slots get what stood there before it, and all else stays as it is now. It takes no memory, asks nobody, and is never refused. (Vitess: Cancel of a switch of
 /// traffic before its journal)
 pub fn undo_last<W: Asks>(sides: &mut Sides<'_, W>, log: &mut UndoLog)
     requires open { is_some sides.old.workflow.now.way ≡ true }
     requires some { 0 < (open_way sides.old.workflow.now).done }
     requires before { last_step (open_way sides.old.workflow.now) < write_journal }
+    requires targets { length sides.old.targets.now ≡ length sides.old.workflow.now.lanes }
+    requires shards { (open_way sides.old.workflow.now).shards ≡ length sides.old.workflow.now.lanes }
     requires places { HasPlaces sides.old.topology.now sides.old.workflow.now }
     requires log { IsLogOf sides.old.workflow.now log.old }
     ensures topology { sides.new.topology.ghost_name ≡ sides.old.topology.ghost_name }
     ensures source { sides.new.source.ghost_name ≡ sides.old.source.ghost_name }
-    ensures target { sides.new.target.ghost_name ≡ sides.old.target.ghost_name }
+    ensures targets { sides.new.targets.ghost_name ≡ sides.old.targets.ghost_name }
     ensures workflow { sides.new.workflow.ghost_name ≡ sides.old.workflow.ghost_name }
     ensures journal { sides.new.journal.ghost_name ≡ sides.old.journal.ghost_name }
     ensures watchers { sides.new.watchers ≡ sides.old.watchers }
@@ -168,8 +181,8 @@ pub fn undo_last<W: Asks>(sides: &mut Sides<'_, W>, log: &mut UndoLog)
     ensures log { IsLogOf sides.new.workflow.now log.new }
     ensures places { HasPlaces sides.new.topology.now sides.new.workflow.now }
     ensures undone { IsUndone (open_way sides.old.workflow.now) (step_at (last_step (open_way sides.old.workflow.now)))
-        (record { topology = sides.old.topology.now; source = sides.old.source.now; target = sides.old.target.now; workflow = sides.old.workflow.now; journal = sides.old.journal.now }) log.old
-        (record { topology = sides.new.topology.now; source = sides.new.source.now; target = sides.new.target.now; workflow = sides.new.workflow.now; journal = sides.new.journal.now }) log.new }
+        (record { topology = sides.old.topology.now; source = sides.old.source.now; targets = sides.old.targets.now; workflow = sides.old.workflow.now; journal = sides.old.journal.now }) log.old
+        (record { topology = sides.new.topology.now; source = sides.new.source.now; targets = sides.new.targets.now; workflow = sides.new.workflow.now; journal = sides.new.journal.now }) log.new }
 {
     let way = sides.workflow.way().unwrap();
     let step = last_step(way);
@@ -178,7 +191,7 @@ pub fn undo_last<W: Asks>(sides: &mut Sides<'_, W>, log: &mut UndoLog)
         step,
         sides.topology,
         sides.source,
-        sides.target,
+        sides.targets,
         sides.workflow,
         sides.journal,
         log,
@@ -191,25 +204,29 @@ fn undo_of_way(
     step: Step,
     topology: &mut Topology,
     source: &mut Primary,
-    target: &mut Primary,
+    targets: &mut [Primary],
     workflow: &mut Workflow,
     journal: &Journal,
     log: &mut UndoLog,
 )
+    requires targets { length targets.old ≡ length workflow.old.lanes }
+    requires shards { way.shards ≡ length workflow.old.lanes }
     requires places { HasPlaces topology.old workflow.old }
     requires log { IsLogOf workflow.old log.old }
     ensures log { IsLogOf workflow.new log.new }
     ensures places { HasPlaces topology.new workflow.new }
     ensures undone { IsUndone (way_from way) step
-        (record { topology = topology.old; source = source.old; target = target.old; workflow = workflow.old; journal = journal.now }) log.old
-        (record { topology = topology.new; source = source.new; target = target.new; workflow = workflow.new; journal = journal.now }) log.new }
+        (record { topology = topology.old; source = source.old; targets = targets.old; workflow = workflow.old; journal = journal.now }) log.old
+        (record { topology = topology.new; source = source.new; targets = targets.new; workflow = workflow.new; journal = journal.now }) log.new }
 {
-    give_back(way, source, target, log.take_listed(step));
+    workflow.facts();
+    let shard = last_shard(way);
+    give_back(way, shard, source, targets, log.take_listed(step, shard));
     finish_undo(way, step, topology, workflow, log);
 }
 
-/// Does the part of an undo that concerns no primary: it writes back what is recorded of the step's entries, gives back the stream that
-/// the step put away, and counts the undo.
+/// Does the part of an undo that concerns no primary: it writes back what is recorded of the step's entries, gives back the streams
+/// that the step put away, and counts the undo.
 #[inline(always)]
 fn finish_undo(
     way: Way,
@@ -223,23 +240,30 @@ fn finish_undo(
     ensures log { IsLogOf workflow.new log.new }
     ensures places { HasPlaces topology.new workflow.new }
     ensures topology { topology.new ≡ with_entries topology.old (recorded_of workflow.old (number step) log.old.entries) }
-    ensures workflow { workflow.new ≡ workflow_undone workflow.old (way_from way) step log.old.slot }
-    ensures left { log.new ≡ record log.old { slot = left_slot step log.old.slot } }
+    ensures workflow { workflow.new ≡ workflow_undone workflow.old (way_from way) step log.old.slots }
+    ensures left { log.new ≡ record log.old { slots = left_slots step log.old.slots } }
 {
     log.write_back(topology, workflow, step.number());
-    undo_streams(workflow, way, step, log.take_slot(step));
+    undo_streams(workflow, way, step, &mut log.late.lanes);
     count_undo(workflow, way);
 }
 
-/// Gives back to the old owner's primary what stood on its own list.
-fn give_back(way: Way, source: &mut Primary, target: &mut Primary, listed: Option<Before>)
-    ensures { IsGivenBack (way_from way).before.primary listed source.old target.old source.new target.new }
+/// Gives back to the old owner's primary what stood on its own list; at the target it is that of a shard.
+fn give_back(
+    way: Way,
+    shard: u8,
+    source: &mut Primary,
+    targets: &mut [Primary],
+    listed: Option<Before>,
+)
+    requires { shard < length targets.old }
+    ensures { IsGivenBack (way_from way).before.primary shard listed source.old targets.old source.new targets.new }
 {
     let Some(before) = listed else {
         return;
     };
     if way.before.primary {
-        target.put_denied(before);
+        targets[usize::from(shard)].put_denied(before);
         return;
     }
     source.put_denied(before);

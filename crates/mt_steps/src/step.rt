@@ -19,22 +19,24 @@ pub(crate) static ALL: [Step; 12] = [
 ];
 
 /// A step of a way, which is a switch of traffic, or its reversal. Of the two sides the old owner has the tables before the way, and
-/// the new owner after it. (Vitess: what SwitchTraffic and ReverseTraffic do, in this order)
+/// the new owner after it. A workflow has a stream in each direction for each shard of its target. The refresh of the target has a place of
+/// its own in the plan for each shard, and is that of this shard's primary alone; every other step is done once, for all shards.
+/// (Vitess: what SwitchTraffic and ReverseTraffic do, in this order)
 ///
 /// | number | step | what it does | whom it asks | what refuses it | its undo |
 /// |---|---|---|---|---|---|
-/// | 0 | `SwitchReads` | the rules of the types replica and rdonly lead to the side that will serve them | | `F18 NotLevel`, if that side isn't the owner and isn't level | the rules before |
+/// | 0 | `SwitchReads` | the rules of the types replica and rdonly lead to the side that will serve them | | `F18 NotLevel`, if that side isn't the owner and a feeding stream isn't level | the rules before |
 /// | 1 | `DenySource` | the topology denies the tables at the old owner | | | the denials before |
 /// | 2 | `RefreshSource` | the old owner's primary takes over these denials | the watchers of that primary | `F24 NoWatcher`, `F0 Memory`, `F23 WatcherRefused` | what stood on its own list for these tables |
 /// | 3 | `CatchUp` | a test that nothing is left to be fed | | `F18 NotLevel` | |
-/// | 4 | `StopFeeding` | the feeding stream stops | | | it runs again |
-/// | 5 | `CreateBack` | a stream the other way is made, stopped, at the end of the new owner's log | | | the stream that was there, or none |
+/// | 4 | `StopFeeding` | the feeding streams stop | | | they run again |
+/// | 5 | `CreateBack` | streams the other way are made, stopped, each at the end of the log of the new owner that it reads | | | the streams that were there, or none |
 /// | 6 | `Journal` | the journal gets an entry; from here the types are switched | | `F27 Full`, `F0 Memory` | none from here on |
 /// | 7 | `AllowTarget` | the topology allows the tables at the new owner | | | |
 /// | 8 | `RefreshTarget` | the new owner's primary takes over these denials | the watchers of that primary | `F24 NoWatcher`, `F0 Memory`, `F23 WatcherRefused` | |
 /// | 9 | `SwitchWriteRules` | the rules for all types, and those of primary, lead to the new owner | | | |
-/// | 10 | `StartBack` | the stream of step 5 starts | | | |
-/// | 11 | `FreezeOld` | the feeding stream is frozen; on a reversal it is taken away | | | |
+/// | 10 | `StartBack` | the streams of step 5 start | | | |
+/// | 11 | `FreezeOld` | the feeding streams are frozen; on a reversal they are taken away | | | |
 #[derive(Clone, Copy, Debug, Eq, PartialEq)]
 pub enum Step {
     /// The reads are switched.
@@ -45,9 +47,9 @@ pub enum Step {
     RefreshSource,
     /// The new owner is level.
     CatchUp,
-    /// The feeding stream stops.
+    /// The feeding streams stop.
     StopFeeding,
-    /// The stream the other way is made.
+    /// The streams the other way are made.
     CreateBack,
     /// The journal gets its entry.
     Journal,
@@ -57,9 +59,9 @@ pub enum Step {
     RefreshTarget,
     /// The writes are switched.
     SwitchWriteRules,
-    /// The stream the other way starts.
+    /// The streams the other way start.
     StartBack,
-    /// The feeding stream is frozen, or taken away.
+    /// The feeding streams are frozen, or taken away.
     FreezeOld,
 }
 

@@ -1,4 +1,5 @@
 //! The journal by direct call.
+use arrayvec::ArrayVec;
 use mt_journal::{Journal, JournalEntry, JournalFault};
 use mt_names::WorkflowName;
 use std::test::Fail;
@@ -10,7 +11,7 @@ fn entry(id: u64, name: &WorkflowName) -> JournalEntry {
         workflow: name.copied(),
         back: false,
         source_position: id,
-        target_position: 0,
+        target_positions: ArrayVec::new_in(()),
     }
 }
 

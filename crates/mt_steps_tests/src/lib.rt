@@ -4,6 +4,8 @@
 #[cfg(test)]
 mod acts;
 #[cfg(test)]
+mod effects;
+#[cfg(test)]
 mod journal;
 #[cfg(test)]
 mod plans;
@@ -11,5 +13,7 @@ mod plans;
 mod play;
 #[cfg(test)]
 mod scene;
+#[cfg(test)]
+mod steps;
 #[cfg(test)]
 mod ways;

@@ -1,4 +1,4 @@
-//! Lists of acts with two workflows between the same primaries.
+//! Lists of acts with two workflows from the same source: one to a target of some shards, one to a target of one.
 
 use crate::acts::{Act, is_done};
 use crate::scene::{Moved, Scene};
@@ -31,17 +31,23 @@ struct Both {
     u: Moved,
 }
 
-/// A workflow of some tables, created in a scene.
-fn created(alloc: Global, scene: &mut Scene, name: &str, listed: &str) -> Option<Moved> {
-    let moved = Moved::new(alloc, scene, name, listed)?;
+/// A workflow of some tables to a target, created in a scene.
+fn created(
+    alloc: Global,
+    scene: &mut Scene,
+    name: &str,
+    target: &str,
+    listed: &str,
+) -> Option<Moved> {
+    let moved = Moved::new(alloc, scene, name, target, listed)?;
     scene.create(&moved);
     Some(moved)
 }
 
 /// Both workflows, created in a scene.
-fn both_of(alloc: Global, scene: &mut Scene) -> Option<Both> {
-    let t = created(alloc, scene, "m", "t")?;
-    let Some(u) = created(alloc, scene, "n", "u") else {
+fn both_of(alloc: Global, scene: &mut Scene, target: &str) -> Option<Both> {
+    let t = created(alloc, scene, "m", target, "t")?;
+    let Some(u) = created(alloc, scene, "n", "one", "u") else {
         drop(t);
         return None;
     };
@@ -79,8 +85,14 @@ fn play_all<W: Asks>(
 }
 
 /// How acts go in a scene in which both workflows are created before.
-fn play_in(alloc: Global, scene: &mut Scene, watchers: &Watchers, acts: &[(Of, Act)]) -> Played {
-    let Some(mut both) = both_of(alloc, scene) else {
+fn play_in(
+    alloc: Global,
+    scene: &mut Scene,
+    watchers: &Watchers,
+    target: &str,
+    acts: &[(Of, Act)],
+) -> Played {
+    let Some(mut both) = both_of(alloc, scene, target) else {
         return Played::NotMade;
     };
     let played = play_all(alloc, scene, &mut both, watchers, acts);
@@ -89,17 +101,17 @@ fn play_in(alloc: Global, scene: &mut Scene, watchers: &Watchers, acts: &[(Of, A
 }
 
 /// How acts go in a scene of their own, in which both workflows are created before.
-fn play(alloc: Global, watchers: &Watchers, acts: &[(Of, Act)]) -> Played {
-    let Some(mut scene) = Scene::new(alloc) else {
+fn play(alloc: Global, watchers: &Watchers, target: &str, acts: &[(Of, Act)]) -> Played {
+    let Some(mut scene) = Scene::new(alloc, [target, "one"]) else {
         return Played::NotMade;
     };
-    let played = play_in(alloc, &mut scene, watchers, acts);
+    let played = play_in(alloc, &mut scene, watchers, target, acts);
     drop(scene);
     played
 }
 
-/// How acts go in such a scene with a watcher for the primary of each keyspace that is named.
-fn play_watched(alloc: Global, keyspaces: &[&str], acts: &[(Of, Act)]) -> Played {
+/// How acts go in such a scene with a watcher for the primaries of each keyspace that is named.
+fn play_watched(alloc: Global, keyspaces: &[&str], target: &str, acts: &[(Of, Act)]) -> Played {
     let mut watchers = Watchers::new(alloc);
     for keyspace in keyspaces {
         let Ok(name) = KeyspaceName::parse(keyspace) else {
@@ -112,13 +124,16 @@ fn play_watched(alloc: Global, keyspaces: &[&str], acts: &[(Of, Act)]) -> Played
             return Played::NotMade;
         }
     }
-    play(alloc, &watchers, acts)
+    play(alloc, &watchers, target, acts)
 }
 
-/// How acts go with these watchers, at once or at a second try if there was no memory for the watchers or the sides.
-pub fn play_at(alloc: Global, keyspaces: &[&str], acts: &[(Of, Act)]) -> Played {
-    match play_watched(alloc, keyspaces, acts) {
-        Played::NotMade => play_watched(alloc, keyspaces, acts),
+/// How acts go with watchers for the targets' primaries, and with one for the source's if there is to be one; at once, or at a second try if
+/// there was no memory for the watchers or the sides.
+pub fn play_to(alloc: Global, is_watched: bool, target: &str, acts: &[(Of, Act)]) -> Played {
+    let all = ["a", target, "one"];
+    let keyspaces = if is_watched { &all[..] } else { &all[1..] };
+    match play_watched(alloc, keyspaces, target, acts) {
+        Played::NotMade => play_watched(alloc, keyspaces, target, acts),
         answer => answer,
     }
 }

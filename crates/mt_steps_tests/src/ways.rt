@@ -1,10 +1,12 @@
-//! Ways between two primaries: done, given up, reversed, and side by side.
+//! Ways to targets of one, two, three and eight shards: done, given up, reversed, and side by side.
 
 use crate::acts::Act;
-use crate::play::{Of, Played, play_at};
+use crate::play::{Of, Played, play_to};
 use mt_names::{TabletType, TypeSet};
 use mt_steps::{Step, StepFault};
 use mt_stream::StreamState;
+use mt_workflow::Slot;
+use std::alloc::Global;
 use std::test::Fail;
 
 /// The primary alone.
@@ -61,15 +63,15 @@ static THERE_AND_BACK: [(Of, Act); 40] = [
     (Of::T, Act::Does(Step::CreateBack)),
     (Of::T, Act::Does(Step::Journal)),
     (Of::T, Act::Does(Step::AllowTarget)),
-    (Of::T, Act::Does(Step::RefreshTarget)),
+    (Of::T, Act::DoesEach(Step::RefreshTarget, false)),
     (Of::T, Act::Does(Step::SwitchWriteRules)),
     (Of::T, Act::Does(Step::StartBack)),
     (Of::T, Act::Does(Step::FreezeOld)),
     (Of::T, Act::Stands(None)),
     (Of::T, Act::Denied(true, false)),
     (Of::T, Act::Refuses(true, false)),
-    (Of::T, Act::Leads(TabletType::Primary, "b")),
-    (Of::T, Act::Leads(TabletType::Rdonly, "b")),
+    (Of::T, Act::Leads(TabletType::Primary, true)),
+    (Of::T, Act::Leads(TabletType::Rdonly, true)),
     (
         Of::T,
         Act::Streams(Some(StreamState::Frozen), Some(StreamState::Running)),
@@ -78,7 +80,7 @@ static THERE_AND_BACK: [(Of, Act); 40] = [
     (Of::T, Act::Begins(2, true, TypeSet::ALL, TypeSet::NONE)),
     (Of::T, Act::Does(Step::SwitchReads)),
     (Of::T, Act::Does(Step::DenySource)),
-    (Of::T, Act::Does(Step::RefreshSource)),
+    (Of::T, Act::DoesEach(Step::RefreshSource, true)),
     (Of::T, Act::Does(Step::CatchUp)),
     (Of::T, Act::Does(Step::StopFeeding)),
     (Of::T, Act::Does(Step::CreateBack)),
@@ -91,8 +93,8 @@ static THERE_AND_BACK: [(Of, Act); 40] = [
     (Of::T, Act::Stands(None)),
     (Of::T, Act::Denied(false, true)),
     (Of::T, Act::Refuses(false, true)),
-    (Of::T, Act::Leads(TabletType::Primary, "a")),
-    (Of::T, Act::Leads(TabletType::Replica, "a")),
+    (Of::T, Act::Leads(TabletType::Primary, false)),
+    (Of::T, Act::Leads(TabletType::Replica, false)),
     (Of::T, Act::Streams(Some(StreamState::Running), None)),
     (Of::T, Act::Journal(2, true)),
 ];
@@ -101,7 +103,7 @@ static THERE_AND_BACK: [(Of, Act); 40] = [
 static GIVEN_UP: [(Of, Act); 21] = [
     (Of::T, Act::Begins(1, false, TypeSet::NONE, TypeSet::ALL)),
     (Of::T, Act::Does(Step::SwitchReads)),
-    (Of::T, Act::Leads(TabletType::Replica, "b")),
+    (Of::T, Act::Leads(TabletType::Replica, true)),
     (Of::T, Act::Does(Step::DenySource)),
     (Of::T, Act::Does(Step::RefreshSource)),
     (Of::T, Act::Does(Step::CatchUp)),
@@ -116,8 +118,8 @@ static GIVEN_UP: [(Of, Act); 21] = [
     (Of::T, Act::Stands(None)),
     (Of::T, Act::Denied(false, true)),
     (Of::T, Act::Refuses(false, true)),
-    (Of::T, Act::Leads(TabletType::Primary, "a")),
-    (Of::T, Act::Leads(TabletType::Replica, "a")),
+    (Of::T, Act::Leads(TabletType::Primary, false)),
+    (Of::T, Act::Leads(TabletType::Replica, false)),
     (Of::T, Act::Streams(Some(StreamState::Running), None)),
     (Of::T, Act::Journal(0, false)),
 ];
@@ -132,13 +134,13 @@ static BACK_GIVEN_UP: [(Of, Act); 28] = [
     (Of::T, Act::Does(Step::CreateBack)),
     (Of::T, Act::Does(Step::Journal)),
     (Of::T, Act::Does(Step::AllowTarget)),
-    (Of::T, Act::Does(Step::RefreshTarget)),
+    (Of::T, Act::DoesEach(Step::RefreshTarget, false)),
     (Of::T, Act::Does(Step::SwitchWriteRules)),
     (Of::T, Act::Does(Step::StartBack)),
     (Of::T, Act::Does(Step::FreezeOld)),
     (Of::T, Act::Begins(2, true, PRIMARY, TypeSet::NONE)),
     (Of::T, Act::Does(Step::DenySource)),
-    (Of::T, Act::Does(Step::RefreshSource)),
+    (Of::T, Act::DoesEach(Step::RefreshSource, true)),
     (Of::T, Act::Does(Step::CatchUp)),
     (Of::T, Act::Does(Step::StopFeeding)),
     (Of::T, Act::Does(Step::CreateBack)),
@@ -149,7 +151,7 @@ static BACK_GIVEN_UP: [(Of, Act); 28] = [
     (Of::T, Act::Undoes),
     (Of::T, Act::Undoes),
     (Of::T, Act::Undoes),
-    (Of::T, Act::Undoes),
+    (Of::T, Act::UndoesEach(false)),
     (Of::T, Act::Undoes),
     (Of::T, Act::Stands(None)),
     (
@@ -160,10 +162,10 @@ static BACK_GIVEN_UP: [(Of, Act); 28] = [
     (Of::T, Act::Refuses(true, false)),
 ];
 
-/// A row that was written isn't fed yet: the switch can be given up.
+/// A row of the last shard that was written isn't fed yet: the switch can be given up.
 static NOT_LEVEL: [(Of, Act); 14] = [
     (Of::T, Act::Begins(1, false, TypeSet::NONE, PRIMARY)),
-    (Of::T, Act::Writes(7)),
+    (Of::T, Act::Writes(u64::MAX)),
     (Of::T, Act::Does(Step::DenySource)),
     (Of::T, Act::Does(Step::RefreshSource)),
     (Of::T, Act::Refused(Step::CatchUp, StepFault::NotLevel)),
@@ -173,12 +175,45 @@ static NOT_LEVEL: [(Of, Act); 14] = [
     (Of::T, Act::Stands(None)),
     (Of::T, Act::Denied(false, true)),
     (Of::T, Act::Refuses(false, true)),
-    (Of::T, Act::Leads(TabletType::Primary, "a")),
-    (Of::T, Act::Leads(TabletType::Replica, "a")),
+    (Of::T, Act::Leads(TabletType::Primary, false)),
+    (Of::T, Act::Leads(TabletType::Replica, false)),
     (Of::T, Act::Streams(Some(StreamState::Running), None)),
 ];
 
-/// Two workflows between the same primaries: one is given up while the other is switched.
+/// A row that the last shard's client wrote holds a reversal until it is fed; then the forward streams begin where the source's log ends.
+static BACK_NOT_LEVEL: [(Of, Act); 29] = [
+    (Of::T, Act::Writes(5)),
+    (Of::T, Act::Levels(Slot::Forward)),
+    (Of::T, Act::Begins(1, false, TypeSet::NONE, PRIMARY)),
+    (Of::T, Act::Does(Step::DenySource)),
+    (Of::T, Act::Does(Step::RefreshSource)),
+    (Of::T, Act::Does(Step::CatchUp)),
+    (Of::T, Act::Does(Step::StopFeeding)),
+    (Of::T, Act::Does(Step::CreateBack)),
+    (Of::T, Act::AreAtEnds(Slot::Back)),
+    (Of::T, Act::Does(Step::Journal)),
+    (Of::T, Act::Does(Step::AllowTarget)),
+    (Of::T, Act::DoesEach(Step::RefreshTarget, false)),
+    (Of::T, Act::Does(Step::SwitchWriteRules)),
+    (Of::T, Act::Does(Step::StartBack)),
+    (Of::T, Act::Does(Step::FreezeOld)),
+    (Of::T, Act::Begins(2, true, PRIMARY, TypeSet::NONE)),
+    (Of::T, Act::WritesLast(u64::MAX)),
+    (Of::T, Act::Does(Step::DenySource)),
+    (Of::T, Act::DoesEach(Step::RefreshSource, true)),
+    (Of::T, Act::Refused(Step::CatchUp, StepFault::NotLevel)),
+    (Of::T, Act::Levels(Slot::Back)),
+    (Of::T, Act::Does(Step::CatchUp)),
+    (Of::T, Act::Stands(Some(3))),
+    (Of::T, Act::Does(Step::StopFeeding)),
+    (Of::T, Act::Does(Step::CreateBack)),
+    (Of::T, Act::AreAtEnds(Slot::Forward)),
+    (Of::T, Act::AreAtEnds(Slot::Back)),
+    (Of::T, Act::Does(Step::Journal)),
+    (Of::T, Act::Journal(2, true)),
+];
+
+/// Two workflows from the same source, the first to a target of some shards: it is given up while the other is switched.
 static SIDE_BY_SIDE: [(Of, Act); 29] = [
     (Of::T, Act::Begins(1, false, TypeSet::NONE, PRIMARY)),
     (Of::U, Act::Begins(2, false, TypeSet::NONE, PRIMARY)),
@@ -201,13 +236,50 @@ static SIDE_BY_SIDE: [(Of, Act); 29] = [
     (Of::U, Act::Does(Step::FreezeOld)),
     (Of::U, Act::Denied(true, false)),
     (Of::U, Act::Refuses(true, false)),
-    (Of::U, Act::Leads(TabletType::Primary, "b")),
+    (Of::U, Act::Leads(TabletType::Primary, true)),
     (Of::T, Act::Stands(None)),
     (Of::T, Act::Denied(false, true)),
     (Of::T, Act::Refuses(false, true)),
-    (Of::T, Act::Leads(TabletType::Primary, "a")),
-    (Of::T, Act::Leads(TabletType::Replica, "a")),
+    (Of::T, Act::Leads(TabletType::Primary, false)),
+    (Of::T, Act::Leads(TabletType::Replica, false)),
     (Of::T, Act::Streams(Some(StreamState::Running), None)),
+    (Of::U, Act::Journal(1, false)),
+];
+
+/// The same the other way round: that to a target of some shards is switched while the other is given up.
+static GIVEN_UP_BESIDE: [(Of, Act); 30] = [
+    (Of::T, Act::Begins(1, false, TypeSet::NONE, PRIMARY)),
+    (Of::U, Act::Begins(2, false, TypeSet::NONE, PRIMARY)),
+    (Of::U, Act::Does(Step::DenySource)),
+    (Of::U, Act::Does(Step::RefreshSource)),
+    (Of::T, Act::Does(Step::DenySource)),
+    (Of::T, Act::Does(Step::RefreshSource)),
+    (Of::T, Act::Does(Step::CatchUp)),
+    (Of::T, Act::Does(Step::StopFeeding)),
+    (Of::T, Act::Does(Step::CreateBack)),
+    (Of::U, Act::Streams(Some(StreamState::Running), None)),
+    (Of::T, Act::Does(Step::Journal)),
+    (Of::U, Act::Undoes),
+    (Of::T, Act::Refuses(true, true)),
+    (Of::U, Act::Refuses(false, true)),
+    (Of::T, Act::Does(Step::AllowTarget)),
+    (Of::T, Act::DoesEach(Step::RefreshTarget, false)),
+    (Of::U, Act::Undoes),
+    (Of::T, Act::Does(Step::SwitchWriteRules)),
+    (Of::T, Act::Does(Step::StartBack)),
+    (Of::T, Act::Does(Step::FreezeOld)),
+    (Of::T, Act::Denied(true, false)),
+    (Of::T, Act::Refuses(true, false)),
+    (Of::T, Act::Leads(TabletType::Primary, true)),
+    (Of::U, Act::Stands(None)),
+    (Of::U, Act::Denied(false, true)),
+    (Of::U, Act::Refuses(false, true)),
+    (Of::U, Act::Leads(TabletType::Primary, false)),
+    (Of::U, Act::Streams(Some(StreamState::Running), None)),
+    (
+        Of::T,
+        Act::Streams(Some(StreamState::Frozen), Some(StreamState::Running)),
+    ),
     (Of::T, Act::Journal(1, false)),
 ];
 
@@ -223,65 +295,80 @@ static NO_WATCHER: [(Of, Act); 5] = [
     (Of::T, Act::Refuses(false, true)),
 ];
 
+/// The targets, by how many shards they have.
+static TARGETS: [&str; 4] = ["one", "two", "three", "eight"];
+
+/// How acts go at the first target at which they don't go so.
+pub fn first_wrong(
+    alloc: Global,
+    is_watched: bool,
+    acts: &[(Of, Act)],
+) -> Option<(&'static str, Played)> {
+    for target in TARGETS {
+        let played = play_to(alloc, is_watched, target, acts);
+        if played != Played::AllSo {
+            return Some((target, played));
+        }
+    }
+    None
+}
+
 #[test]
 fn a_refresh_is_taken_back(rt: HostRuntime) -> Result<(), Fail> {
-    assert_eq!(rt;
-        play_at(rt.alloc(), &["a", "b"], &REFRESH_BACK),
-        Played::AllSo
-    );
+    assert_eq!(rt; first_wrong(rt.alloc(), true, &REFRESH_BACK), None);
     Ok(())
 }
 
 #[test]
 fn the_journal_has_one_entry(rt: HostRuntime) -> Result<(), Fail> {
-    assert_eq!(rt;
-        play_at(rt.alloc(), &["a", "b"], &TO_THE_JOURNAL),
-        Played::AllSo
-    );
+    assert_eq!(rt; first_wrong(rt.alloc(), true, &TO_THE_JOURNAL), None);
     Ok(())
 }
 
 #[test]
 fn all_types_go_there_and_back(rt: HostRuntime) -> Result<(), Fail> {
-    assert_eq!(rt;
-        play_at(rt.alloc(), &["a", "b"], &THERE_AND_BACK),
-        Played::AllSo
-    );
+    assert_eq!(rt; first_wrong(rt.alloc(), true, &THERE_AND_BACK), None);
     Ok(())
 }
 
 #[test]
 fn a_switch_is_given_up(rt: HostRuntime) -> Result<(), Fail> {
-    assert_eq!(rt; play_at(rt.alloc(), &["a", "b"], &GIVEN_UP), Played::AllSo);
+    assert_eq!(rt; first_wrong(rt.alloc(), true, &GIVEN_UP), None);
     Ok(())
 }
 
 #[test]
 fn a_reversal_is_given_up(rt: HostRuntime) -> Result<(), Fail> {
-    assert_eq!(rt;
-        play_at(rt.alloc(), &["a", "b"], &BACK_GIVEN_UP),
-        Played::AllSo
-    );
+    assert_eq!(rt; first_wrong(rt.alloc(), true, &BACK_GIVEN_UP), None);
     Ok(())
 }
 
 #[test]
 fn a_row_that_is_not_fed_holds_the_switch(rt: HostRuntime) -> Result<(), Fail> {
-    assert_eq!(rt; play_at(rt.alloc(), &["a", "b"], &NOT_LEVEL), Played::AllSo);
+    assert_eq!(rt; first_wrong(rt.alloc(), true, &NOT_LEVEL), None);
+    Ok(())
+}
+
+#[test]
+fn a_row_that_is_not_fed_holds_the_reversal(rt: HostRuntime) -> Result<(), Fail> {
+    assert_eq!(rt; first_wrong(rt.alloc(), true, &BACK_NOT_LEVEL), None);
     Ok(())
 }
 
 #[test]
 fn one_is_given_up_while_the_other_is_switched(rt: HostRuntime) -> Result<(), Fail> {
-    assert_eq!(rt;
-        play_at(rt.alloc(), &["a", "b"], &SIDE_BY_SIDE),
-        Played::AllSo
-    );
+    assert_eq!(rt; first_wrong(rt.alloc(), true, &SIDE_BY_SIDE), None);
+    Ok(())
+}
+
+#[test]
+fn one_is_switched_while_the_other_is_given_up(rt: HostRuntime) -> Result<(), Fail> {
+    assert_eq!(rt; first_wrong(rt.alloc(), true, &GIVEN_UP_BESIDE), None);
     Ok(())
 }
 
 #[test]
 fn a_refresh_needs_a_watcher(rt: HostRuntime) -> Result<(), Fail> {
-    assert_eq!(rt; play_at(rt.alloc(), &["b"], &NO_WATCHER), Played::AllSo);
+    assert_eq!(rt; first_wrong(rt.alloc(), false, &NO_WATCHER), None);
     Ok(())
 }

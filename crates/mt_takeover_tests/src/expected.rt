@@ -228,6 +228,7 @@ impl Expected {
         };
         Way {
             back: self.back,
+            shards: 1,
             before,
             after,
             done: progress.done,

@@ -1,6 +1,7 @@
 pub mod AgreeLemmas
 pub mod CreateLemmas
 pub mod KeptLemmas
+pub mod LaneLemmas
 pub mod MemberLemmas
 pub mod NoRuleLemmas
 pub mod OnceLemmas

@@ -13,8 +13,8 @@ use Rattle.mt_model.specs.Part.{part_keys}
 use Rattle.mt_model.specs.Topology.{Rules, TopologyState, is_denied, is_present, rule_at}
 use Rattle.mt_plain.specs.Plain.{among, has_part, is_side, moves}
 use Rattle.mt_workflow.specs.declared.fault.WorkflowFault.{WorkflowFault}
-use Rattle.mt_workflow.specs.declared.fault.WorkflowFault.TheVariants.{SameKeyspace, NoTables, TargetHasTable, DeniedByHand, NoTable}
-use Rattle.mt_workflow.specs.Creates.{conflict_of, create_refusal, is_denied_by_hand, refuse_if, table_refusal, tables_refusal}
+use Rattle.mt_workflow.specs.declared.fault.WorkflowFault.TheVariants.{SameKeyspace, ShardedSource, NoTables, TargetHasTable, DeniedByHand, NoTable}
+use Rattle.mt_workflow.specs.Creates.{conflict_of, create_refusal, is_denied_by_hand, is_sharded, refuse_if, table_refusal, tables_refusal}
 use Rattle.mt_workflow.specs.Workflows.{IsKept, WorkflowState, keys_of_rules, kept_of, live_of}
 use Rattle.mt_workflow.proofs.KeptLemmas.{is_rule, rules-of_part}
 use Rattle.mt_workflow.proofs.MemberLemmas.{both, all_counted, in_map, rule_in_part}
@@ -81,6 +81,9 @@ none_refused t source target (first ∷ tables) table none named =
 pub all_stood : (w : WorkflowState) (t : TopologyState) → w.kept ≡ kept_of t.rules w.source w.target w.tables → create_refusal t w.source w.target w.tables ≡ None → IsKept t w
 all_stood w t kept none = by
   where
+    sides : Option WorkflowFault
+    sides = option_or (refuse_if (is_sharded t.keyspaces w.source) ShardedSource) (tables_refusal t w.source w.target w.tables)
+
     refused : List ℕ → Option WorkflowFault
     refused table = option_or (conflict_of t.rules w.source w.target table) (refuse_if (is_denied_by_hand t w.source w.target table) (DeniedByHand table))
 
@@ -88,8 +91,8 @@ all_stood w t kept none = by
     behind table moves =
         then_none (refuse_if (not (is_present t.keyspaces w.source table)) (NoTable table)) (option_or (refuse_if (is_present t.keyspaces w.target table) (TargetHasTable table)) (refused table))
         (none_refused t w.source w.target w.tables table
-        (then_none (refuse_if (same_text w.source w.target) SameKeyspace) (tables_refusal t w.source w.target w.tables)
-        (then_none (refuse_if (length w.tables == 0) NoTables) (option_or (refuse_if (same_text w.source w.target) SameKeyspace) (tables_refusal t w.source w.target w.tables)) none)) moves)
+        (then_none (refuse_if (is_sharded t.keyspaces w.source) ShardedSource) (tables_refusal t w.source w.target w.tables)
+        (then_none (refuse_if (same_text w.source w.target) SameKeyspace) sides (then_none (refuse_if (length w.tables == 0) NoTables) (option_or (refuse_if (same_text w.source w.target) SameKeyspace) sides) none))) moves)
 
     not_there : (table : List ℕ) → moves (live_of w) table ≡ true → is_present t.keyspaces w.target table ≡ false
     not_there table moves =

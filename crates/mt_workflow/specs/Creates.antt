@@ -1,14 +1,15 @@
 -- When a workflow isn't created: what its tables meet in the topology.
-use Rattle.std.specs.Prelude.{ℕ, ◌==◌, Bool, false, not, ◌||◌, List, [], ◌∷◌, ⊤, length, find, if◌then◌else◌, Option, None, Some, option_map, Result, Ok, Err}
+use Rattle.std.specs.Prelude.{ℕ, ◌==◌, Bool, false, not, ◌||◌, List, [], ◌∷◌, ⊤, length, find, nat_lt, if◌then◌else◌, Option, None, Some, option_map, Result, Ok, Err}
 use Rattle.std.specs.Option.{option_map_or, option_or}
 use Rattle.mt_names.specs.declared.keys.RuleKey.{RuleKey}
 use Rattle.mt_names.specs.Names.{same_text}
 use Rattle.mt_names.specs.Same.{same_target}
+use Rattle.mt_names.specs.Shards.{shard_count}
 use Rattle.mt_model.specs.Part.{table_rule_keys}
-use Rattle.mt_model.specs.Topology.{Rules, TopologyState, is_denied, is_present, rule_at}
+use Rattle.mt_model.specs.Topology.{Keyspaces, Rules, TopologyState, cuts_at, is_denied, is_present, rule_at}
 use Rattle.mt_plain.specs.Plain.{in_keyspace}
 use Rattle.mt_workflow.specs.declared.fault.WorkflowFault.{WorkflowFault}
-use Rattle.mt_workflow.specs.declared.fault.WorkflowFault.TheVariants.{SameKeyspace, NoTables, RuleConflict, TargetHasTable, DeniedByHand, NoTable}
+use Rattle.mt_workflow.specs.declared.fault.WorkflowFault.TheVariants.{SameKeyspace, ShardedSource, NoTables, RuleConflict, TargetHasTable, DeniedByHand, NoTable}
 
 -- a refusal where a test holds (this profile's own)
 abbrev pub refuse_if : Bool → WorkflowFault → Option WorkflowFault
@@ -38,11 +39,16 @@ abbrev pub tables_refusal : TopologyState → (source target : List ℕ) → Lis
 tables_refusal t source target [] = None
 tables_refusal t source target (table ∷ tables) = option_or (table_refusal t source target table) (tables_refusal t source target tables)
 
--- why a workflow isn't created: it has no table, its sides are one, a table can't move (MoveTables: Create)
+-- whether a keyspace has several shards (Sharding)
+abbrev pub is_sharded : Keyspaces → List ℕ → Bool
+is_sharded keyspaces keyspace = nat_lt 1 (shard_count (cuts_at keyspaces keyspace))
+
+-- why a workflow isn't created: it has no table, its sides are one, its source has several shards, a table can't move (MoveTables: Create)
 abbrev pub create_refusal : TopologyState → (source target : List ℕ) → List (List ℕ) → Option WorkflowFault
 create_refusal t source target tables =
     option_or (refuse_if (length tables == 0) NoTables)
-    (option_or (refuse_if (same_text source target) SameKeyspace) (tables_refusal t source target tables))
+    (option_or (refuse_if (same_text source target) SameKeyspace)
+    (option_or (refuse_if (is_sharded t.keyspaces source) ShardedSource) (tables_refusal t source target tables)))
 
 -- the answer with a refusal, or without one (this profile's own)
 abbrev pub answer_of : Option WorkflowFault → Result ⊤ WorkflowFault

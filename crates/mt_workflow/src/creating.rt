@@ -1,7 +1,7 @@
 //! When a workflow isn't created.
 ghost use Rattle.std.specs.Prelude.{◌≡◌, ◌||◌, ℕ, List, find, option_copied};
 ghost use Rattle.mt_model.specs.Part.{table_rule_keys};
-ghost use Rattle.mt_workflow.specs.Creates.{answer_of, conflict_of, create_refusal, is_denied_by_hand, leads_elsewhere, table_refusal, tables_refusal};
+ghost use Rattle.mt_workflow.specs.Creates.{answer_of, conflict_of, create_refusal, is_denied_by_hand, is_sharded, leads_elsewhere, table_refusal, tables_refusal};
 
 use crate::fault::WorkflowFault;
 use mt_model::table_rule_keys;
@@ -10,8 +10,8 @@ use mt_rules::RoutingRules;
 use mt_topology::Topology;
 
 /// Whether a workflow of some tables may be created, as far as the topology and its arguments tell. The first of these that
-/// holds is answered: `W2 NoTables`, `W1 SameKeyspace`; then of each table, in the order named, `W6 NoTable` if the source
-/// lacks it, `W4 TargetHasTable`, `W3 RuleConflict` with the first of its twelve rule keys whose rule leads elsewhere than to
+/// holds is answered: `W2 NoTables`, `W1 SameKeyspace`, `W7 ShardedSource`; then of each table, in the order named, `W6 NoTable` if the
+/// source lacks it, `W4 TargetHasTable`, `W3 RuleConflict` with the first of its twelve rule keys whose rule leads elsewhere than to
 /// the table at the source, and `W5 DeniedByHand` if the topology denies it at the source or at the target. It takes no
 /// memory, and changes nothing. (Vitess: Create of MoveTables)
 pub fn may_create(
@@ -43,7 +43,20 @@ fn refusal(
     if source == target {
         return Some(WorkflowFault::SameKeyspace);
     }
+    if is_sharded(topology, source) {
+        return Some(WorkflowFault::ShardedSource);
+    }
     tables_refusal(topology, source, target, tables)
+}
+
+/// Whether a keyspace has several shards.
+fn is_sharded(topology: &Topology, keyspace: &KeyspaceName) -> bool
+    ensures { result ≡ is_sharded topology.now.keyspaces keyspace.now }
+{
+    match topology.shards(keyspace) {
+        Some(shards) => shards.as_slice().len() > 1,
+        None => false,
+    }
 }
 
 /// What refuses some tables, if anything does.

@@ -20,6 +20,8 @@ pub enum WorkflowFault {
     DeniedByHand(TableName),
     /// The source lacks this table.
     NoTable(TableName),
+    /// The source has several shards.
+    ShardedSource,
 }
 
 impl WorkflowFault {
@@ -38,6 +40,7 @@ impl WorkflowFault {
             WorkflowFault::TargetHasTable(_) => "W4 TargetHasTable",
             WorkflowFault::DeniedByHand(_) => "W5 DeniedByHand",
             WorkflowFault::NoTable(_) => "W6 NoTable",
+            WorkflowFault::ShardedSource => "W7 ShardedSource",
         }
     }
 }

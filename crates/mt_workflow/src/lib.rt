@@ -4,6 +4,7 @@
 mod building;
 mod creating;
 mod fault;
+mod lane;
 mod laws;
 mod part;
 mod way;

@@ -1,6 +1,6 @@
 //! The way that is open on a workflow, with its arithmetic, and which of its streams is meant.
 ghost use Rattle.std.specs.Prelude.{◌≡◌, ◌≤◌};
-ghost use Rattle.mt_plain.specs.Plain.{behind_last, changed_types, first_step, next_step, stands_done, write_journal};
+ghost use Rattle.mt_plain.specs.Plain.{behind_last, changed_types, first_step, next_place, next_step, repeated_step, shard_at_place, stands_done, step_at_place, write_journal};
 ghost use Rattle.mt_workflow.specs.Workflows.{way_from};
 
 use mt_names::TypeSet;
@@ -19,11 +19,13 @@ pub enum Slot {
 pub struct Way {
     /// Whether it is a reversal.
     pub back: bool,
+    /// How many shards the target has, each of which is refreshed at a place of its own.
+    pub shards: u8,
     /// The switched types before it.
     pub before: TypeSet,
     /// The switched types after it.
     pub after: TypeSet,
-    /// How many of its steps stand done.
+    /// How many places of its plan stand done.
     pub done: u8,
     /// Whether an undo of it was taken, from which on no step is.
     pub undoing: bool,
@@ -61,11 +63,56 @@ impl Way {
         if self.changed_types().primary { 12 } else { 1 }
     }
 
-    /// The number of the step that is next: that of its first, and as many more as stand done. Past its last step it names none.
+    /// The step that has a place for each shard: the refresh of the target's primaries. (this profile's own)
+    pub fn repeated_step(self) -> u8
+        ensures { result ≡ repeated_step (way_from self) }
+    {
+        if self.back { 2 } else { 8 }
+    }
+
+    /// The place of its plan that is next: that of its first step, and as many more as stand done. Past its last step it is none.
+    pub fn next_place(self) -> u16
+        ensures { result ≡ next_place (way_from self) }
+    {
+        u16::from(self.first_step()) + u16::from(self.done)
+    }
+
+    /// The number of the step at a place. (this profile's own)
+    pub fn step_at_place(self, place: u16) -> u16
+        ensures { result ≡ step_at_place (way_from self) place }
+    {
+        let repeated = u16::from(self.repeated_step());
+        if place <= repeated {
+            return place;
+        }
+        let later = u16::from(self.shards.saturating_sub(1));
+        repeated.max(place.saturating_sub(later))
+    }
+
+    /// The shard of the target that a place is for: the first one, but for the later places of the refresh of the target's primaries.
+    /// (this profile's own)
+    pub fn shard_at_place(self, place: u16) -> u8
+        ensures { result ≡ shard_at_place (way_from self) place }
+    {
+        let repeated = u16::from(self.repeated_step());
+        if self.step_at_place(place) != repeated {
+            return 0;
+        }
+        place.saturating_sub(repeated) as u8
+    }
+
+    /// The number of the step that is next. Past its last step it names none.
     pub fn next_step(self) -> u16
         ensures { result ≡ next_step (way_from self) }
     {
-        u16::from(self.first_step()) + u16::from(self.done)
+        self.step_at_place(self.next_place())
+    }
+
+    /// The shard of the target that the next place is for.
+    pub fn next_shard(self) -> u8
+        ensures { result ≡ shard_at_place (way_from self) (next_place (way_from self)) }
+    {
+        self.shard_at_place(self.next_place())
     }
 
     /// Whether the journal has its entry: that step stands done, so that no undo is taken any more.

@@ -1,7 +1,9 @@
 //! A workflow.
-ghost use Rattle.std.specs.Prelude.{◌≡◌, ◌≢◌, ℕ, ◌<◌, ◌≤◌, true, false, List, if◌then◌else◌, None, Some, AllPairs, IfOk, IfErr, length, option_copied, option_map, slice_get};
+ghost use Rattle.std.specs.Prelude.{◌≡◌, ◌≢◌, ℕ, ◌<◌, ◌≤◌, true, false, List, if◌then◌else◌, None, Some, AllPairs, IfOk, IfErr, length, map, option_copied, option_map, slice_get};
+ghost use Rattle.mt_names.specs.Shards.{AreCuts, ranges_of, shard_count};
 ghost use Rattle.mt_names.specs.Tables.{most_tables};
-ghost use Rattle.mt_model.specs.Topology.{rule_at};
+ghost use Rattle.mt_model.specs.Topology.{cuts_at, rule_at};
+ghost use Rattle.mt_plain.specs.Answers.{range_at};
 ghost use Rattle.mt_plain.specs.Events.{running};
 ghost use Rattle.mt_plain.specs.Plain.{among, before_way, each_once, in_keyspace, is_side};
 ghost use Rattle.mt_plain.specs.Serve.{is_denied_at, owned_before, serve_plain, serve_rule};
@@ -10,10 +12,11 @@ ghost use Rattle.mt_places.specs.Rules.{lent_rule};
 ghost use Rattle.mt_primary.specs.Primary.{end_of, has_table};
 ghost use Rattle.mt_stream.specs.Streams.{StreamValue, state_from};
 ghost use Rattle.mt_workflow.specs.Advance.{AdvancesSlot};
-ghost use Rattle.mt_workflow.specs.Workflows.{IsWorkflow, feeding, in_state, is_as_before, keys_of_part, live_of, new_stream, new_workflow, rules_only, slot_of, stream_name, wanted, way_from, with_slot};
+ghost use Rattle.mt_workflow.specs.Workflows.{IsWorkflow, all_in_state, feeding, is_as_before, keys_of_part, live_of, new_lane, new_workflow, ranges_in, rules_only, slot_of, stream_name, wanted, way_from, with_slot};
 
 use crate::building::{each_once, kept_rules, table_list};
 use crate::fault::WorkflowFault;
+use crate::lane::{Lane, first_lanes};
 use crate::part::table_part_key;
 use crate::way::{Slot, Way};
 use arrayvec::ArrayVec;
@@ -45,36 +48,29 @@ pub struct Workflow {
     switched: TypeSet,
     way: Option<Way>,
     kept: IndexMap<RuleKey, Option<RuleTarget>>,
-    streams: Box<Streams>,
-}
-
-/// The streams of a workflow, in memory of their own, so that a workflow that is moved on is small.
-#[derive(Drop)]
-struct Streams {
-    /// From the source to the target.
-    forward: Option<Stream>,
-    /// From the target to the source.
-    back: Option<Stream>,
+    /// One for each shard of the target, in their order.
+    lanes: Vec<Lane>,
 }
 
 impl Model for Workflow {
     ghost use Rattle.std.specs.Prelude.{option_map};
     ghost use Rattle.mt_workflow.specs.Builds.{Agrees};
-    ghost use Rattle.mt_workflow.specs.Workflows.{IsWorkflow, WorkflowState, kept_of, way_from};
+    ghost use Rattle.mt_workflow.specs.Workflows.{IsWorkflow, WorkflowState, kept_of, ranges_in, way_from};
 
     ghost Value = { WorkflowState };
 
-    ghost view = { λ w. record { name = w.name; source = w.source; target = w.target; tables = w.tables.keys; switched = w.switched; way = option_map way_from w.way; kept = kept_of w.kept.entries w.source w.target w.tables.keys; forward = w.streams.value.forward; back = w.streams.value.back } };
+    ghost view = { λ w. record { name = w.name; source = w.source; target = w.target; tables = w.tables.keys; switched = w.switched; way = option_map way_from w.way; kept = kept_of w.kept.entries w.source w.target w.tables.keys; lanes = w.lanes.items } };
 
-    ghost invariant = { λ w. IsWorkflow w.source w.target w.tables.keys × Agrees w.kept.entries (kept_of w.kept.entries w.source w.target w.tables.keys) };
+    ghost invariant = { λ w. IsWorkflow w.source w.target w.tables.keys (ranges_in w.lanes.items) × Agrees w.kept.entries (kept_of w.kept.entries w.source w.target w.tables.keys) };
 }
 
 impl Workflow {
     /// A new workflow of some tables, each of which counts once, in the order in which they are first named; at most 16 may
     /// be named, and the sides must be two. Nothing is switched and no way is open. It keeps the rule that the topology has
-    /// at each rule key of its part, or that there is none. Its forward stream has copied nothing, runs, and reads the
-    /// source's log from this position on; there is no back stream. `W0 Memory`. It alone takes memory, and it asks
-    /// nothing of the topology: see `may_create`. (Vitess: Create of MoveTables)
+    /// at each rule key of its part, or that there is none. It has a lane for each shard that its target has in the topology, or
+    /// one of all keys if the target isn't there. The forward stream of a lane has the keys of that shard, has copied nothing, runs,
+    /// and reads the source's log from this position on; there is no back stream. `W0 Memory`. It alone takes memory, and it refuses
+    /// nothing for the sake of the topology: see `may_create`. (Vitess: Create of MoveTables)
     pub fn new(
         alloc: Global,
         name: &WorkflowName,
@@ -86,12 +82,12 @@ impl Workflow {
     ) -> Result<Self, WorkflowFault>
         requires apart { source.now ≢ target.now }
         requires few { length tables.now ≤ most_tables }
-        ensures value { IfOk result (λ w. w ≡ new_workflow topology.now.rules name.now source.now target.now (each_once tables.now) position) }
+        ensures value { IfOk result (λ w. w ≡ new_workflow topology.now name.now source.now target.now (each_once tables.now) position) }
         ensures memory { IfErr result (λ fault. fault ≡ WorkflowFault.Memory) }
     {
         let tables = each_once(alloc, tables)?;
         let kept = kept_rules(alloc, source, target, tables.as_slice(), topology.rules())?;
-        let streams = first_streams(alloc, tables.as_slice(), position)?;
+        let lanes = lanes_of(alloc, tables.as_slice(), target, topology, position)?;
         Ok(Workflow {
             name: name.copied(),
             source: source.copied(),
@@ -100,14 +96,14 @@ impl Workflow {
             switched: TypeSet::NONE,
             way: None,
             kept,
-            streams,
+            lanes,
         })
     }
 
-    /// What is true of every workflow, for a caller's proof: no table is named twice, there are at most 16, and the sides
-    /// are two. It does nothing.
+    /// What is true of every workflow, for a caller's proof: no table is named twice, there are at most 16, the sides are two, and its
+    /// lanes have the ranges of the shards of a keyspace, of which there are from one to eight. It does nothing.
     pub fn facts(&self)
-        ensures { IsWorkflow self.now.source self.now.target self.now.tables }
+        ensures { IsWorkflow self.now.source self.now.target self.now.tables (ranges_in self.now.lanes) }
     {
         let _tables = &self.tables;
     }
@@ -347,57 +343,68 @@ impl Workflow {
         }
     }
 
-    /// Its forward stream or its back stream, if it has that.
-    pub fn slot(&self, slot: Slot) -> Option<&Stream>
-        ensures { option_copied result ≡ slot_of self.now (stream_name slot) }
+    /// How many shards its target has, from one to eight. (Vitess: the shards of the target keyspace)
+    pub fn shards(&self) -> u8
+        ensures value { result ≡ length self.now.lanes }
+        ensures cuts { result ≡ shard_count (live_of self.now).cuts }
+        ensures some { 1 ≤ result }
     {
-        match slot {
-            Slot::Forward => self.streams.forward.as_ref(),
-            Slot::Back => self.streams.back.as_ref(),
-        }
+        self.lanes.len() as u8
+    }
+
+    /// The key range of one of them. (Vitess: the key range of a shard)
+    pub fn range(&self, shard: u8) -> &KeyRange
+        requires { shard < length self.now.lanes }
+        ensures value { result.now ≡ range_at (live_of self.now).cuts shard }
+        ensures lane { option_map (λ lane. lane.range) (slice_get self.now.lanes shard) ≡ Some result.now }
+    {
+        self.lanes[usize::from(shard)].range()
+    }
+
+    /// The forward stream or the back stream of a shard of its target, if there is one. It takes no memory.
+    pub fn slot(&self, shard: u8, slot: Slot) -> Option<&Stream>
+        ensures { option_copied result ≡ slot_of self.now shard (stream_name slot) }
+    {
+        self.lanes.get(usize::from(shard))?.slot(slot)
     }
 
     /// Puts a stream there, or none, and answers what stood there. It takes no memory.
-    pub fn put_slot(&mut self, slot: Slot, stream: Option<Stream>) -> Option<Stream>
-        ensures before { result ≡ slot_of self.old (stream_name slot) }
-        ensures after { self.new ≡ with_slot self.old (stream_name slot) stream }
+    pub fn put_slot(&mut self, shard: u8, slot: Slot, stream: Option<Stream>) -> Option<Stream>
+        requires { shard < length self.old.lanes }
+        ensures before { result ≡ slot_of self.old shard (stream_name slot) }
+        ensures after { self.new ≡ with_slot self.old shard (stream_name slot) stream }
     {
-        match slot {
-            Slot::Forward => mem::replace(&mut self.streams.forward, stream),
-            Slot::Back => mem::replace(&mut self.streams.back, stream),
-        }
+        self.lanes[usize::from(shard)].put_slot(slot, stream)
     }
 
-    /// Advances its forward stream or its back stream where it stands, as `Stream::advance` says; none, if it hasn't that. All else
-    /// of the workflow stays. (Vitess: a VReplication stream of the workflow, or of its reverse workflow)
+    /// Advances the forward stream or the back stream of a shard of its target where it stands, as `Stream::advance` says; none, if
+    /// there is none. All else of the workflow stays. (Vitess: a VReplication stream of the workflow, or of its reverse workflow)
     pub fn advance(
         &mut self,
+        shard: u8,
         slot: Slot,
         source: &Primary,
         sink: &mut Primary,
         at: Position,
         max: u16,
     ) -> Option<Result<Advanced, StreamFault>>
-        requires kept { (s : StreamValue) → slot_of self.old (stream_name slot) ≡ Some s → s.state ≡ running → source.now.log.purged ≤ s.position }
-        requires within { (s : StreamValue) → slot_of self.old (stream_name slot) ≡ Some s → s.position ≤ end_of source.now }
-        requires there { (s : StreamValue) → slot_of self.old (stream_name slot) ≡ Some s → (table : List ℕ) → among s.tables table ≡ true → has_table sink.old table ≡ true }
-        ensures advances { AdvancesSlot (slot_of self.old (stream_name slot)) source.now sink.old at max result (slot_of self.new (stream_name slot)) sink.new }
-        ensures rest { self.new ≡ with_slot self.old (stream_name slot) (slot_of self.new (stream_name slot)) }
+        requires kept { (s : StreamValue) → slot_of self.old shard (stream_name slot) ≡ Some s → s.state ≡ running → source.now.log.purged ≤ s.position }
+        requires within { (s : StreamValue) → slot_of self.old shard (stream_name slot) ≡ Some s → s.position ≤ end_of source.now }
+        requires there { (s : StreamValue) → slot_of self.old shard (stream_name slot) ≡ Some s → (table : List ℕ) → among s.tables table ≡ true → has_table sink.old table ≡ true }
+        ensures advances { AdvancesSlot (slot_of self.old shard (stream_name slot)) source.now sink.old at max result (slot_of self.new shard (stream_name slot)) sink.new }
+        ensures rest { self.new ≡ with_slot self.old shard (stream_name slot) (slot_of self.new shard (stream_name slot)) }
     {
-        match slot {
-            Slot::Forward => advance_in(&mut self.streams.forward, source, sink, at, max),
-            Slot::Back => advance_in(&mut self.streams.back, source, sink, at, max),
-        }
+        let lane = self.lanes.get_mut(usize::from(shard))?;
+        lane.advance(slot, source, sink, at, max)
     }
 
-    /// Lets its forward stream or its back stream run, stop or freeze where it stands, if it has that. All else of the workflow stays.
-    /// It takes no memory. (Vitess: the state of a VReplication stream)
+    /// Lets the forward stream or the back stream of each shard of its target run, stop or freeze where it stands, if there is one. All
+    /// else of the workflow stays. It takes no memory. (Vitess: the state of a VReplication stream)
     pub fn set_state(&mut self, slot: Slot, state: StreamState)
-        ensures { self.new ≡ with_slot self.old (stream_name slot) (option_map (in_state (state_from state)) (slot_of self.old (stream_name slot))) }
+        ensures { self.new ≡ all_in_state self.old (stream_name slot) (state_from state) }
     {
-        match slot {
-            Slot::Forward => set_state_in(&mut self.streams.forward, state),
-            Slot::Back => set_state_in(&mut self.streams.back, state),
+        for lane in self.lanes.iter_mut() {
+            lane.set_state(slot, state);
         }
     }
 
@@ -418,60 +425,23 @@ impl Workflow {
     }
 }
 
-/// The streams of a new workflow of some tables: the forward one alone, which reads the source's log from a position on.
-/// `W0 Memory`.
-fn first_streams(
+/// The lanes of a new workflow of some tables: one for each shard that its target has in the topology, or one of all keys if the target
+/// isn't there. `W0 Memory`.
+fn lanes_of(
     alloc: Global,
     tables: &[TableName],
+    target: &KeyspaceName,
+    topology: &Topology,
     position: Position,
-) -> Result<Box<Streams>, WorkflowFault>
+) -> Result<Vec<Lane>, WorkflowFault>
     requires few { length tables.now ≤ most_tables }
     requires distinct { AllPairs ◌≢◌ tables.now }
-    ensures value { IfOk result (λ streams. streams.value ≡ record { forward = Some (new_stream tables.now position); back = None }) }
+    ensures value { IfOk result (λ lanes. lanes.items ≡ map (new_lane tables.now position) (ranges_of (cuts_at topology.now.keyspaces target.now))) }
+    ensures cuts { IfOk result (λ _. AreCuts (cuts_at topology.now.keyspaces target.now)) }
     ensures memory { IfErr result (λ fault. fault ≡ WorkflowFault.Memory) }
 {
-    let forward = Some(Stream::new_copy(table_list(tables), KeyRange::whole(), position));
-    match Box::new(
-        alloc,
-        Streams {
-            forward,
-            back: None,
-        },
-    ) {
-        Ok(streams) => Ok(streams),
-        Err(_) => Err(WorkflowFault::Memory),
-    }
-}
-
-/// Advances the stream that stands there, if one does.
-fn advance_in(
-    stream: &mut Option<Stream>,
-    source: &Primary,
-    sink: &mut Primary,
-    at: Position,
-    max: u16,
-) -> Option<Result<Advanced, StreamFault>>
-    requires kept { (s : StreamValue) → stream.old ≡ Some s → s.state ≡ running → source.now.log.purged ≤ s.position }
-    requires within { (s : StreamValue) → stream.old ≡ Some s → s.position ≤ end_of source.now }
-    requires there { (s : StreamValue) → stream.old ≡ Some s → (table : List ℕ) → among s.tables table ≡ true → has_table sink.old table ≡ true }
-    ensures { AdvancesSlot stream.old source.now sink.old at max result stream.new sink.new }
-{
-    match stream {
-        None => None,
-        Some(stream) => Some(stream.advance(source, sink, at, max)),
-    }
-}
-
-/// Lets the stream that stands there run, stop or freeze, if one does.
-fn set_state_in(stream: &mut Option<Stream>, state: StreamState)
-    ensures { stream.new ≡ option_map (in_state (state_from state)) stream.old }
-{
-    let Some(stream) = stream else {
-        return;
-    };
-    match state {
-        StreamState::Running => stream.start(),
-        StreamState::Stopped => stream.stop(),
-        StreamState::Frozen => stream.freeze(),
+    match topology.shards(target) {
+        Some(shards) => first_lanes(alloc, tables, shards.as_slice(), position),
+        None => first_lanes(alloc, tables, &[KeyRange::whole()], position),
     }
 }

@@ -1,6 +1,6 @@
 //! When a workflow isn't created.
 
-use crate::made::{DUMP, workflow_of};
+use crate::made::{DUMP, SHARDED, workflow_of};
 use mt_names::{KeyspaceName, NameFault, table_list};
 use mt_topology::Topology;
 use mt_workflow::{WorkflowFault, may_create};
@@ -35,6 +35,19 @@ static CASES: [Case; 16] = [
     ("a", "k", "y", "ok", ""),
 ];
 
+/// The same over keyspaces of several shards.
+static SHARDED_CASES: [Case; 9] = [
+    ("two", "two", "-", "W2 NoTables", ""),
+    ("two", "two", "t", "W1 SameKeyspace", ""),
+    ("two", "a", "t", "W7 ShardedSource", ""),
+    ("eight", "a", "n", "W7 ShardedSource", ""),
+    ("three", "k", "n", "W7 ShardedSource", ""),
+    ("one", "two", "t", "W6 NoTable", "t"),
+    ("a", "two", "t", "W4 TargetHasTable", "t"),
+    ("a", "two", "u", "ok", ""),
+    ("a", "eight", "t,u", "ok", ""),
+];
+
 /// Whether a refusal names this key or this table.
 fn is_about(fault: &WorkflowFault, about: &str) -> bool {
     match fault {
@@ -42,9 +55,10 @@ fn is_about(fault: &WorkflowFault, about: &str) -> bool {
         WorkflowFault::TargetHasTable(table) => table.as_str() == about,
         WorkflowFault::DeniedByHand(table) => table.as_str() == about,
         WorkflowFault::NoTable(table) => table.as_str() == about,
-        WorkflowFault::Memory | WorkflowFault::SameKeyspace | WorkflowFault::NoTables => {
-            about.is_empty()
-        }
+        WorkflowFault::Memory
+        | WorkflowFault::SameKeyspace
+        | WorkflowFault::NoTables
+        | WorkflowFault::ShardedSource => about.is_empty(),
     }
 }
 
@@ -61,8 +75,8 @@ fn is_answered(topology: &Topology, case: Case) -> Result<bool, NameFault> {
 }
 
 /// The first case that is answered otherwise.
-fn first_other(topology: &Topology) -> Result<Option<usize>, NameFault> {
-    for (at, case) in CASES.iter().enumerate() {
+fn first_other(topology: &Topology, cases: &[Case]) -> Result<Option<usize>, NameFault> {
+    for (at, case) in cases.iter().enumerate() {
         if !is_answered(topology, *case)? {
             return Ok(Some(at));
         }
@@ -73,7 +87,16 @@ fn first_other(topology: &Topology) -> Result<Option<usize>, NameFault> {
 #[test]
 fn the_first_refusal_is_answered(rt: HostRuntime) -> Result<(), Fail> {
     let topology = Topology::load(rt.alloc(), DUMP.as_bytes())?;
-    let answer = first_other(&topology);
+    let answer = first_other(&topology, &CASES);
+    drop(topology);
+    assert_eq!(rt; answer, Ok(None));
+    Ok(())
+}
+
+#[test]
+fn a_source_of_several_shards_is_refused(rt: HostRuntime) -> Result<(), Fail> {
+    let topology = Topology::load(rt.alloc(), SHARDED.as_bytes())?;
+    let answer = first_other(&topology, &SHARDED_CASES);
     drop(topology);
     assert_eq!(rt; answer, Ok(None));
     Ok(())

@@ -29,6 +29,7 @@ fn a_refusal_is_printed_by_number_and_name(rt: HostRuntime) -> Result<(), Fail> 
             "W5 DeniedByHand",
         ),
         (WorkflowFault::NoTable(TableName::parse("t")?), "W6 NoTable"),
+        (WorkflowFault::ShardedSource, "W7 ShardedSource"),
     ];
     for (at, (fault, want)) in faults.iter().enumerate() {
         assert!(rt; is_printed(rt.alloc(), fault, want)?, "at {at}");

@@ -1,6 +1,7 @@
 //! Where an allocation fails, `new` answers `Memory`, and the next try makes the same workflow.
 
-use crate::made::{DUMP, new_of};
+use crate::lanes::{CASES, Case, has_lanes};
+use crate::made::{DUMP, SHARDED, new_of, new_to};
 use mt_names::{NameFault, TableName, table_list};
 use mt_topology::{Topology, TopologyFault};
 use mt_workflow::WorkflowFault;
@@ -10,10 +11,10 @@ use std::test::Fail;
 /// Sixteen tables, of which `y` has rules.
 const LISTED: &str = "y,a,b,c,d,e,f,g,h,i,j,k,l,m,n,o";
 
-/// The topology of the dump, at once or at a second try.
-fn topology_of(alloc: Global) -> Result<Topology, TopologyFault> {
-    match Topology::load(alloc, DUMP.as_bytes()) {
-        Err(TopologyFault::Memory) => Topology::load(alloc, DUMP.as_bytes()),
+/// The topology of a dump, at once or at a second try.
+fn topology_of(alloc: Global, dump: &str) -> Result<Topology, TopologyFault> {
+    match Topology::load(alloc, dump.as_bytes()) {
+        Err(TopologyFault::Memory) => Topology::load(alloc, dump.as_bytes()),
         answer => answer,
     }
 }
@@ -46,9 +47,53 @@ fn made(alloc: Global, topology: &Topology) -> Result<Result<(bool, usize), bool
 
 #[test]
 fn want_of_memory_is_no_other_answer(rt: HostRuntime) -> Result<(), Fail> {
-    let topology = topology_of(rt.alloc())?;
+    let topology = topology_of(rt.alloc(), DUMP)?;
     let answer = made(rt.alloc(), &topology);
     drop(topology);
     assert!(rt; matches!(answer, Ok(Ok((true, 240)))));
+    Ok(())
+}
+
+/// Whether a workflow that moves a table to the keyspace of a case has its lanes, made in one try; or whether it is refused for want of memory.
+fn laned_once(
+    alloc: Global,
+    topology: &Topology,
+    (target, ranges): Case,
+) -> Result<Result<bool, bool>, NameFault> {
+    let tables = table_list("t")?;
+    let answer = new_to(alloc, topology, target, &tables)?;
+    let made = match &answer {
+        Some(Ok(workflow)) => Ok(has_lanes(workflow, ranges)),
+        Some(Err(fault)) => Err(*fault == WorkflowFault::Memory),
+        None => Err(false),
+    };
+    drop(answer);
+    Ok(made)
+}
+
+/// The same at once or at a second try.
+fn laned(alloc: Global, topology: &Topology, case: Case) -> Result<Result<bool, bool>, NameFault> {
+    match laned_once(alloc, topology, case) {
+        Ok(Err(true)) => laned_once(alloc, topology, case),
+        answer => answer,
+    }
+}
+
+/// The first keyspace to which a workflow isn't made with its lanes.
+fn first_other(alloc: Global, topology: &Topology) -> Option<&'static str> {
+    for case in CASES {
+        if !matches!(laned(alloc, topology, case), Ok(Ok(true))) {
+            return Some(case.0);
+        }
+    }
+    None
+}
+
+#[test]
+fn want_of_memory_is_no_other_answer_of_shards(rt: HostRuntime) -> Result<(), Fail> {
+    let topology = topology_of(rt.alloc(), SHARDED)?;
+    let other = first_other(rt.alloc(), &topology);
+    drop(topology);
+    assert_eq!(rt; other, None);
     Ok(())
 }

@@ -9,6 +9,7 @@ use std::test::Fail;
 /// The way on which all traffic is switched.
 const WAY: Way = Way {
     back: false,
+    shards: 1,
     before: TypeSet::NONE,
     after: TypeSet::ALL,
     done: 3,
@@ -17,7 +18,7 @@ const WAY: Way = Way {
 
 /// Where the stream of a slot stands, if there is one.
 fn position(workflow: &Workflow, slot: Slot) -> Option<u64> {
-    Some(workflow.slot(slot)?.position())
+    Some(workflow.slot(0, slot)?.position())
 }
 
 /// Whether a workflow has this name, and moves from this keyspace to that one.
@@ -41,7 +42,7 @@ fn is_unswitched(workflow: &Workflow) -> bool {
 
 /// Whether a forward stream runs from this position, and copies yet.
 fn is_fed_from(workflow: &Workflow, position: u64) -> bool {
-    workflow.slot(Slot::Forward).is_some_and(|stream| {
+    workflow.slot(0, Slot::Forward).is_some_and(|stream| {
         stream.position() == position && !stream.copied() && stream.state() == StreamState::Running
     })
 }
@@ -76,17 +77,20 @@ fn stands_at(stream: Option<Stream>, position: u64) -> bool {
 /// Whether a back stream is put where none stood, beside the forward one.
 fn puts_back(workflow: &mut Workflow) -> bool {
     let stream = Stream::new_running(workflow.table_list(), KeyRange::whole(), 3);
-    workflow.put_slot(Slot::Back, Some(stream)).is_none()
+    workflow.shards() > 0
+        && workflow.put_slot(0, Slot::Back, Some(stream)).is_none()
         && position(workflow, Slot::Back) == Some(3)
         && position(workflow, Slot::Forward) == Some(7)
 }
 
 /// Whether the forward stream is taken, and then the back one.
 fn takes_both(workflow: &mut Workflow) -> bool {
-    stands_at(workflow.put_slot(Slot::Forward, None), 7)
+    workflow.shards() > 0
+        && stands_at(workflow.put_slot(0, Slot::Forward, None), 7)
         && position(workflow, Slot::Forward).is_none()
         && position(workflow, Slot::Back) == Some(3)
-        && stands_at(workflow.put_slot(Slot::Back, None), 3)
+        && workflow.shards() > 0
+        && stands_at(workflow.put_slot(0, Slot::Back, None), 3)
 }
 
 /// Whether the streams are put, and taken.
@@ -106,7 +110,7 @@ fn a_slot_answers_what_stood_there(rt: HostRuntime) -> Result<(), Fail> {
 
 /// What the stream of a slot does, if there is one.
 fn state(workflow: &Workflow, slot: Slot) -> Option<StreamState> {
-    Some(workflow.slot(slot)?.state())
+    Some(workflow.slot(0, slot)?.state())
 }
 
 /// Whether the forward stream stops, runs and freezes where it stands; a slot without a stream stays without one.

@@ -23,8 +23,8 @@ use mt_laws::every_run_keeps_the_headline;
 use mt_names::{KeyspaceName, RuleKey, RuleTarget, TableName, TypeSet, WorkflowName};
 use mt_site_events::{
     a_purged_core_stands, each_keyspace_of_a_core_has_a_primary,
-    primaries_of_a_core_have_the_tables_of_its_topology, what_is_purged_stays_purged,
-    workflows_of_a_core_stand_in_place,
+    keyspaces_of_a_core_have_one_shard, primaries_of_a_core_have_the_tables_of_its_topology,
+    what_is_purged_stays_purged, workflows_of_a_core_stand_in_place,
 };
 use mt_site_ways::{
     a_begin_steps, a_complete_steps, a_purged_site_stands, a_site_stays_one, a_step_steps,
@@ -245,6 +245,7 @@ impl Core {
         workflows_of_a_core_stand_in_place();
         each_open_way_has_a_record();
         what_a_step_looks_at_is_kept();
+        keyspaces_of_a_core_have_one_shard();
         a_step_steps(watchers);
         step(
             self.alloc,
@@ -269,6 +270,7 @@ impl Core {
         workflows_of_a_core_stand_in_place();
         each_open_way_has_a_record();
         what_a_step_looks_at_is_kept();
+        keyspaces_of_a_core_have_one_shard();
         an_undo_steps(watchers);
         undo(
             self.alloc,

@@ -21,8 +21,9 @@ use mt_event::{Reason, Refusal, ShownOf};
 use mt_laws::every_run_keeps_the_headline;
 use mt_names::{KeyspaceName, MAX_TABLES, Position, TableName, WorkflowName};
 use mt_site_events::{
-    a_create_can_be_taken_back, a_purged_core_stands, streams_of_a_core_lie_in_their_logs,
-    what_is_purged_stays_purged, workflows_of_a_core_stand_in_place,
+    a_create_can_be_taken_back, a_purged_core_stands, keyspaces_of_a_core_have_one_shard,
+    streams_of_a_core_lie_in_their_logs, what_is_purged_stays_purged,
+    workflows_of_a_core_stand_in_place,
 };
 use mt_site_ways::{
     a_create_leaves_a_site, a_create_steps_and_leaves_the_ways, a_purged_site_stands,
@@ -81,6 +82,7 @@ impl Core {
         let tables = tables.as_slice();
         names_are_names(source, target, tables);
         a_site_stays_one();
+        keyspaces_of_a_core_have_one_shard();
         a_create_can_be_taken_back(watchers);
         a_create_leaves_a_site(watchers);
         a_create_steps_and_leaves_the_ways(watchers);
@@ -167,6 +169,7 @@ impl Core {
         ensures headline { (scopes : List Scope) → KeepsTheHeadline scopes self.now (plain.show name.now ∷ []) (shown_answer result ∷ []) self.now }
     {
         a_site_stays_one();
+        keyspaces_of_a_core_have_one_shard();
         streams_of_a_core_lie_in_their_logs();
         events_on_workflows_step_and_leave_the_ways();
         every_run_keeps_the_headline();

@@ -16,4 +16,4 @@ returns-in-Some c = λ (topology : TopologyState).
     subst (λ found. AdvancesAt found (record { topology = topology; primaries = c.args.primaries.now.entries; workflows = workflows }) (stream_name c.args.slot) c.args.at c.args.max (advanced_from c.advance_stream.result)
     (record { topology = topology; primaries = c.advance_stream.new.primaries.entries; workflows = later })) c.in-Some.ensures.value
     (advanced topology c.args.primaries.now.entries c.advance_stream.new.primaries.entries workflows later name w c.advance_stream.new.workflow (stream_name c.args.slot) c.args.at c.args.max (advanced_from c.advance_stream.result)
-    (slot_of w (stream_name c.args.slot)) (c.requires.named w (sym c.in-Some.ensures.value)) (sym c.in-Some.ensures.value) (c.get_mut.follows.holds c.advance_stream.new.workflow).0 c.advance_stream.ensures)
+    (slot_of w 0 (stream_name c.args.slot)) (c.requires.named w (sym c.in-Some.ensures.value)) (sym c.in-Some.ensures.value) (c.get_mut.follows.holds c.advance_stream.new.workflow).0 c.advance_stream.ensures)

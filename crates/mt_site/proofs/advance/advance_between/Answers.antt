@@ -14,12 +14,12 @@ use Rattle.mt_site.proofs.advance.advance_between.Goals as goal
 
 pub place_of-read-requires : goal.place_of-read-requires
 place_of-read-requires c =
-    let (s, found) = some_from (slot_of c.args.workflow.now (stream_name c.args.slot)) c.requires.there in
+    let (s, found) = some_from (slot_of c.args.workflow.now 0 (stream_name c.args.slot)) c.requires.there in
     ap (λ k. is_some (primary_at c.args.primaries.now.entries k)) c.read_side.ensures ∙ (c.requires.between s found).read
 
 pub place_of-written-requires : goal.place_of-written-requires
 place_of-written-requires c =
-    let (s, found) = some_from (slot_of c.args.workflow.now (stream_name c.args.slot)) c.requires.there in
+    let (s, found) = some_from (slot_of c.args.workflow.now 0 (stream_name c.args.slot)) c.requires.there in
     ap (λ k. is_some (primary_at c.args.primaries.now.entries k)) c.written_side.ensures ∙ (c.requires.between s found).written
 
 pub exchange_at-sink-requires : goal.exchange_at-sink-requires
@@ -70,13 +70,13 @@ returns c =
     let meanwhile = c.exchange_at-sink.new.primaries.entries in
     let read = read_side (live_of w) name in
     let written = written_side (live_of w) name in
-    let (s, found) = some_from (slot_of w name) c.requires.there in
+    let (s, found) = some_from (slot_of w 0 name) c.requires.there in
     let at_read : IsAt old read c.place_of-read.result = search rules in
     let at_written : IsAt old written c.place_of-written.result = search rules in
     let is = c.exchange_at-sink.ensures.after written at_written in
     let stood : slice_get (values_of meanwhile) c.place_of-read.result ≡ Some c.index.result.now = search rules in
     let source = other-at old meanwhile read written c.new.result is (c.requires.between s found).apart c.place_of-read.result c.index.result.now c.exchange_at-sink.ensures.places c.place_of-read.ensures.distinct at_read stood in
-    let to : PrimaryState → PrimaryState → Type 0 = λ from sink. AdvancesSlot (slot_of w name) from sink c.args.at c.args.max c.advance-result.result (slot_of c.advance-result.new.self name) c.advance-result.new.sink in (
+    let to : PrimaryState → PrimaryState → Type 0 = λ from sink. AdvancesSlot (slot_of w 0 name) from sink c.args.at c.args.max c.advance-result.result (slot_of c.advance-result.new.self 0 name) c.advance-result.new.sink in (
       c.advance-result.new.sink,
       subst (λ from. to from (primary_of old written)) (sym source) (subst (to c.index.result.now) (c.exchange_at-sink.ensures.before written at_written) c.advance-result.ensures.advances),
       c.advance-result.ensures.rest,

@@ -18,11 +18,11 @@ returns c =
     record {
       forward = λ core is name w at. ∥∥₁_elim is (search props)
           (λ h. let (live, there, stands) = stood core h name w at in has_forward h.state live w stands);
-      tables = λ core is name w stream s at in_slot. ∥∥₁_elim is (search props)
-          (λ h. let (live, there, stands) = stood core h name w at in stream_tables h.state live w stands stream s in_slot);
-      position = λ core is name w stream s at in_slot. ∥∥₁_elim is (search props)
+      tables = λ core is name w shard stream s at in_slot. ∥∥₁_elim is (search props)
+          (λ h. let (live, there, stands) = stood core h name w at in stream_tables h.state live w stands shard stream s in_slot);
+      position = λ core is name w shard stream s at in_slot. ∥∥₁_elim is (search props)
           (λ h. let (live, there, stands) = stood core h name w at in
-          stream_within core h live w stands stream s in_slot (c.positions_never_fall.ensures.within h.state h.reached name live there 0 stands.lane (lane_found h.state live w stands) stream));
-      kept = λ core is name w stream s at in_slot moves. ∥∥₁_elim is (search props)
-          (λ h. let (live, there, stands) = stood core h name w at in stream_kept core h live w stands name there stream s in_slot moves);
+          stream_within core h live w stands shard stream s in_slot (c.positions_never_fall.ensures.within h.state h.reached name live there 0 stands.lane (lane_found h.state live w stands) stream));
+      kept = λ core is name w shard stream s at in_slot moves. ∥∥₁_elim is (search props)
+          (λ h. let (live, there, stands) = stood core h name w at in stream_kept core h live w stands name there shard stream s in_slot moves);
     }

@@ -2,6 +2,7 @@
 use Rattle.std.proofs.Common.{refl, sym, ap, ◌∙◌, cond}
 use Rattle.mt_plain.specs.Serve.{refuses}
 use Rattle.mt_plain.specs.Plain.{next_step, moves}
+use Rattle.mt_site_state.proofs.ShardLemmas.{no_cuts}
 use Rattle.mt_site_ways.proofs.EntryLemmas.{one_shard}
 use Rattle.mt_plain.specs.Events.{step, done}
 use Rattle.mt_plain.specs.Next.{live_stepped, next, on_way_of}
@@ -28,7 +29,7 @@ returns g c = λ p scopes core stands name live w way at id old new is_live foun
     } in
     let for = stood p scopes core stands name live w is_live found in
     let is_at : IsAt p core.primaries live w way =
-    on_way p core.primaries stands.primaries live w for way opens (one_shard p stands.reached name live is_live for.sides.cuts way (sym for.way ∙ opens)) (c.live_workflows_stand_in_place.ensures.placed p stands.reached name live is_live)
+    on_way p core.primaries stands.primaries live w for way opens (one_shard p stands.reached name live is_live (no_cuts p live w for) way (sym for.way ∙ opens)) (c.live_workflows_stand_in_place.ensures.placed p stands.reached name live is_live)
     (c.a_live_workflow_is_found_by_its_part.ensures.owner p stands.reached name live is_live) in
     let q = next p (step name at) done in
     let is_next : IsNext p q live (list_changed live (next_step way) way.after) = record {

@@ -1,6 +1,7 @@
 -- An undone refresh gives a list without the tables back, and no other undo changes a primary.
 use Rattle.std.proofs.Common.{◌≡◌, ℕ, ◌≤◌, List, Some, refl, sym, ap, ◌∙◌, cond}
 use Rattle.mt_plain.specs.Serve.{refuses}
+use Rattle.mt_site_state.proofs.ShardLemmas.{no_cuts}
 use Rattle.mt_site_ways.proofs.EntryLemmas.{one_shard}
 use Rattle.mt_model.specs.declared.entries.Scope.{Scope}
 use Rattle.mt_plain.specs.Answers.{Answers}
@@ -35,7 +36,7 @@ returns c =
     → workflow_at core.workflows name ≡ Some w → w.way ≡ Some way → IsAt p core.primaries live w way
     = λ p scopes core stands name live w way is_live found opens.
     let for = stood p scopes core stands name live w is_live found in
-    on_way p core.primaries stands.primaries live w for way opens (one_shard p stands.reached name live is_live for.sides.cuts way (sym for.way ∙ opens))
+    on_way p core.primaries stands.primaries live w for way opens (one_shard p stands.reached name live is_live (no_cuts p live w for) way (sym for.way ∙ opens))
     (c.live_workflows_stand_in_place.ensures.placed p stands.reached name live is_live)
     (c.a_live_workflow_is_found_by_its_part.ensures.owner p stands.reached name live is_live) in
     let is_next : (p : Plain) (scopes : List Scope) (core : CoreState) → StandsWith p scopes core → (name : List ℕ) (live : Live) (way : Way) (at : ℕ) → live_at p name ≡ Some live → live.way ≡ Some way → way.shards ≤ 1

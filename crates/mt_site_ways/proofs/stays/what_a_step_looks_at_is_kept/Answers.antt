@@ -10,10 +10,10 @@ use Rattle.mt_site_ways.proofs.TestLemmas.{kept_to_test}
 use Rattle.mt_site_ways.proofs.stays.what_a_step_looks_at_is_kept.Goals as goal
 
 pub returns : goal.returns
-returns c = λ s is name w way found on tests stream at. ∥∥₁_elim is (hlevel props)
+returns c = λ s is name w way found on tests shard stream at. ∥∥₁_elim is (hlevel props)
     (λ h.
     let (live, is_live, for) = live_of_state h.state (live_at h.state name) (workflow_at s.core.workflows name) w (h.stands.core.workflows.each name) found in
     let opens = sym for.way ∙ on in
     kept_to_test h.state h.state.scopes s.core h.stands.core name live is_live w for way
     (c.ways_keep_their_course.ensures.course h.state h.reached name live is_live way opens) (c.ways_keep_their_course.ensures.writes h.state h.reached name live is_live way opens)
-    (c.a_stream_that_reads_the_owner_is_in_use.ensures h.state h.reached name live is_live 0 for.lane (lane_found h.state live w for)) tests stream at)
+    (c.a_stream_that_reads_the_owner_is_in_use.ensures h.state h.reached name live is_live 0 for.lane (lane_found h.state live w for)) tests shard stream at)

@@ -6,9 +6,8 @@ use Rattle.mt_plain.specs.Answers.{Answers}
 use Rattle.mt_plain.specs.Events.{Refusal, done, refused, step}
 use Rattle.mt_plain.specs.Next.{next}
 use Rattle.mt_plain.specs.Plain.{Plain}
-use Rattle.mt_plain.specs.Refuse.{new_owner}
-use Rattle.mt_plain.specs.Slots.{log_length}
 use Rattle.mt_steps.specs.Steps.{sites}
+use Rattle.mt_site_ways.specs.Ends.{ends_of}
 use Rattle.mt_site_ways.proofs.TopologyLemmas.{live_for}
 use Rattle.mt_site_state.specs.Switching.{StepsWorkflow, sides_of}
 use Rattle.mt_site_state.specs.Ways.{HasSiteState, SiteState, SiteStands}
@@ -28,8 +27,8 @@ returns g c =
     step_stands (next p (step workflow at) done) scopes mine may_answer old new workflow m
     (c.each_next_state_is_reached.ensures.next p reached (step workflow at) done given) stands.core.scopes_are
     (c.steps_and_undos_leave_the_topology.ensures.step p scopes old stands.core workflow m.w m.way at m.found m.opens given)
-    (c.a_step_leaves_the_primaries.ensures p scopes old.core stands.core workflow live m.w m.way at m.o.number (sites (sides_of old m.w) m.o.log) (sites m.sides m.log) is_live m.found m.opens given refl refl m.is.attempt)
-    (log_length p (new_owner live) 0) (c.a_log_ends_where_the_definitions_say.ensures p scopes old.core stands.core workflow live m.w m.way is_live m.found m.opens)
+    (c.a_step_leaves_the_primaries.ensures p scopes old.core stands.core workflow live m.w m.way at m.o.number (sites m.way (sides_of old m.w) m.o.log) (sites m.way m.sides m.log) is_live m.found m.opens given refl refl m.is.attempt)
+    (ends_of p live) (c.a_log_ends_where_the_definitions_say.ensures p scopes old.core stands.core workflow live m.w m.way is_live m.found m.opens)
     (c.a_step_leaves_the_workflows.ensures p reached old.core.workflows stands.core.workflows workflow live m.w m.way at is_live m.found m.opens given)
     (c.what_is_kept_of_the_ways_stays.ensures.step p scopes old stands workflow m.w m.way m.o at m.sides m.log m.found m.opens
     (kept_at p old workflow live m.w m.o for (c.a_live_workflow_is_found_by_its_part.ensures.named p workflow live is_live) m.kept) given m.is) in

@@ -12,6 +12,6 @@ returns c = λ p reached workflows are name live w way at is_live found is_open 
     let left : next_step way < behind_last way = (c.ways_keep_their_course.ensures.course p reached name live is_live way opens).within in
     stepped-workflows p workflows are name live w is_live found way opens reached left
     (λ n other. c.only_named_events_change_a_workflow.ensures.elsewhere p (step name at) done n other)
-    (λ stream. c.a_step_changes_what_changes_with_its_number.ensures.streams p live way stream opens
+    (λ lane stream. c.a_step_changes_what_changes_with_its_number.ensures.streams p live way stream opens
     (λ changes. (c.ways_keep_their_course.ensures.writes p reached name live is_live way opens changes).before) left
-    (stands_for p workflows are name live w is_live found).lane)
+    lane)

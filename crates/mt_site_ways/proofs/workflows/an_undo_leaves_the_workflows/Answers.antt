@@ -12,6 +12,7 @@ use Rattle.mt_laws.specs.WayBack.{IsReached}
 use Rattle.mt_laws.proofs.WayLemmas.{undo_before_journal}
 use Rattle.mt_site_events.proofs.MoveCoreLemmas.{live_found}
 use Rattle.mt_site_state.specs.Core.{workflow_at}
+use Rattle.mt_site_state.proofs.ShardLemmas.{no_cuts}
 use Rattle.mt_site_ways.proofs.ChangedLemmas.{stands_for}
 use Rattle.mt_site_ways.proofs.WayLemmas.{closed-workflows, undone-workflows}
 use Rattle.mt_site_ways.proofs.workflows.an_undo_leaves_the_workflows.Goals as goal
@@ -34,14 +35,14 @@ returns c =
           let for = stands_for p workflows are name live w is_live found in
           let opens : live.way ≡ Some way = sym for.way ∙ is_open in
           let before = not_journaled p name live way at is_live opens given in
-          undone-workflows p workflows are name live w is_live found way opens (one_shard p reached name live is_live for.sides.cuts way opens) before
+          undone-workflows p workflows are name live w is_live found way opens (one_shard p reached name live is_live (no_cuts p live w for) way opens) before
           (λ n other. c.only_named_events_change_a_workflow.ensures.elsewhere p (undo name at) done n other)
-          (slots p reached name live way is_live opens before for.lane) kept (gives_back for.lane for.alone);
+          (slots p reached name live way is_live opens before) kept gives_back;
       none = λ p reached workflows are name w way at found is_open given none.
           let (live, is_live, for) = live_found p (live_at p name) (workflow_at workflows name) w found (are.each name) in
           let opens : live.way ≡ Some way = sym for.way ∙ is_open in
           let before = not_journaled p name live way at is_live opens given in
-          closed-workflows p workflows are name live w is_live found way opens (one_shard p reached name live is_live for.sides.cuts way opens) before
+          closed-workflows p workflows are name live w is_live found way opens (one_shard p reached name live is_live (no_cuts p live w for) way opens) before
           (λ n other. c.only_named_events_change_a_workflow.ensures.elsewhere p (undo name at) done n other)
-          (slots p reached name live way is_live opens before (stands_for p workflows are name live w is_live found).lane) (eqb-true way.done 0 none);
+          (slots p reached name live way is_live opens before) (eqb-true way.done 0 none);
     }

@@ -35,8 +35,8 @@ returns c = λ (topology : TopologyState). λ (primaries : Primaries). λ (journ
     let later = (c.get_mut.follows.lender after).entries in
     let new : SiteState = record { core = record { topology = topology; primaries = primaries; workflows = later }; ways = record { opened = c.open_way.new.opened.entries; journal = journal; begun = c.open_way.new.begun } } in
     subst (λ found. BeginsReverseAt found old types (done_by c.open_way.result) new) c.in-Some.ensures.value
-    (begun-way old w after c.args.name.now true c.switched-before.result c.without.result (types_without w.switched types)
+    (begun-way old w after c.args.name.now true c.shards-shards.result c.switched-before.result c.without.result (types_without w.switched types)
     (at_rest (live_of w) (or_else (refuse_if (not (share_type types w.switched)) plain.nothing_to_reverse) (refuse_if (nat_le most_ways c.args.begun.now) plain.full)))
     (done_by c.open_way.result) later c.open_way.new.opened.entries c.open_way.new.begun
     (c.requires w (sym c.in-Some.ensures.value)).0 (sym c.in-Some.ensures.value) (c.get_mut.follows.holds after).0 (sym c.in_default-reverse_refusal.ensures)
-    c.switched-before.ensures (without-is c.without.result c.switched-before.result types c.without.ensures ∙ ap (λ b. types_without b types) c.switched-before.ensures) c.open_way.ensures)
+    c.shards-shards.ensures.value c.switched-before.ensures (without-is c.without.result c.switched-before.result types c.without.ensures ∙ ap (λ b. types_without b types) c.switched-before.ensures) c.open_way.ensures)

@@ -40,8 +40,8 @@ returns-in-Ok g c =
     c.refusal_before.ensures ∙ ap (λ o. or_else (option_map refusal_from o) (refuse_if (is_full core c.args.asked.source.now c.args.asked.target.now c.args.asked.tables.now) full)) c.in_default.is
     ∙ ap (λ b. refuse_if b full) fits in
     let position = end_of (primary_of c.args.primaries.now.entries c.args.asked.source.now) in
-    let is : new_workflow c.reserve_part.new.self.rules c.args.asked.name.now c.args.asked.source.now c.args.asked.target.now c.args.asked.tables.now position ≡ new_of core c.args.asked.name.now c.args.asked.source.now c.args.asked.target.now c.args.asked.tables.now =
-    ap (λ (t : TopologyState). new_workflow t.rules c.args.asked.name.now c.args.asked.source.now c.args.asked.target.now c.args.asked.tables.now position) c.in-Ok.ensures.1
+    let is : new_workflow c.reserve_part.new.self c.args.asked.name.now c.args.asked.source.now c.args.asked.target.now c.args.asked.tables.now position ≡ new_of core c.args.asked.name.now c.args.asked.source.now c.args.asked.target.now c.args.asked.tables.now =
+    ap (λ (t : TopologyState). new_workflow t c.args.asked.name.now c.args.asked.source.now c.args.asked.target.now c.args.asked.tables.now position) c.in-Ok.ensures.1
     ∙ new-placed c.args.topology.now (part_keys c.args.asked.source.now c.args.asked.target.now c.args.asked.tables.now) c.args.asked.name.now c.args.asked.source.now c.args.asked.target.now c.args.asked.tables.now position in
     rw c.answer_by_reason.ensures (
     made-set core (g.W.Asks.scopes c.args.watchers.now) (g.W.Asks.may_answer c.args.watchers.now) c.args.asked.name.now c.args.asked.source.now c.args.asked.target.now c.args.asked.tables.now c.reserve_part.new.self c.make.result

@@ -14,11 +14,11 @@ use Rattle.mt_site_workflows.proofs.creating.make.Goals as goal
 
 pub returns-in-Ok-insert : goal.returns-in-Ok-insert
 returns-in-Ok-insert g c =
-    let made : WorkflowState = new_workflow c.args.topology.now.rules c.args.asked.name.now c.args.asked.source.now c.args.asked.target.now c.args.asked.tables.now (end_of (primary_of c.args.primaries.now.entries c.args.asked.source.now)) in
+    let made : WorkflowState = new_workflow c.args.topology.now c.args.asked.name.now c.args.asked.source.now c.args.asked.target.now c.args.asked.tables.now (end_of (primary_of c.args.primaries.now.entries c.args.asked.source.now)) in
     let is : c.in-Ok.workflow ≡ made =
     c.in-Ok.ensures.value
-    ∙ ap (λ ts. new_workflow c.args.topology.now.rules c.args.asked.name.now c.args.asked.source.now c.args.asked.target.now ts c.position_of-position.result) c.requires.ready.once
-    ∙ ap (new_workflow c.args.topology.now.rules c.args.asked.name.now c.args.asked.source.now c.args.asked.target.now c.args.asked.tables.now) c.position_of-position.ensures in
+    ∙ ap (λ ts. new_workflow c.args.topology.now c.args.asked.name.now c.args.asked.source.now c.args.asked.target.now ts c.position_of-position.result) c.requires.ready.once
+    ∙ ap (new_workflow c.args.topology.now c.args.asked.name.now c.args.asked.source.now c.args.asked.target.now c.args.asked.tables.now) c.position_of-position.ensures in
     let after =
     subst (λ w. Prepares (g.W.Asks.scopes c.args.watchers.now) (g.W.Asks.may_answer c.args.watchers.now) w c.args.primaries.now.entries (Ok tt) c.prepare.new.primaries.entries) is c.in-Ok-prepare.ensures.made in
     let written : c.write_part.new.topology ≡ with_entries c.args.topology.now (part_entries made.kept (live_of made) no_types) =

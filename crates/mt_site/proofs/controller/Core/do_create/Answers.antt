@@ -1,5 +1,6 @@
 -- A Create leads from each state that the controller stands for to the next one.
-use Rattle.std.proofs.Common.{◌≡◌, rules, subst}
+use Rattle.std.proofs.Common.{◌≡◌, ap, nat_lt, rules, subst}
+use Rattle.mt_names.specs.Shards.{shard_count}
 use Rattle.mt_event.specs.Events.{done_from}
 use Rattle.mt_plain.specs.Events.{create}
 use Rattle.mt_site_state.specs.Core.{CoreState}
@@ -12,7 +13,11 @@ create-requires-clause-can g c =
     let old : SiteState = site c.self.inside.topology c.self.inside.primaries.entries c.self.inside.workflows.entries c.self.inside.opened.entries c.self.inside.journal c.self.inside.begun in
     let core = c.a_site_stays_one.ensures.core old c.self.invariant in
     let back = c.a_create_can_be_taken_back.ensures old.core c.args.workflow.now c.args.source.now c.args.target.now c.as_slice-tables.result.now core in
-    record { absent = λ none. (back none).1; back = λ none. (back none).0 }
+    record {
+      unsharded = ap (λ cuts. nat_lt 1 (shard_count cuts)) (c.keyspaces_of_a_core_have_one_shard.ensures.cuts old.core core c.args.source.now);
+      absent = λ none. (back none).1;
+      back = λ none. (back none).0;
+    }
 
 pub invariant_of-self : goal.invariant_of-self
 invariant_of-self g c =

@@ -17,7 +17,8 @@ undo-requires g c =
     let name = c.args.name.now in
     can_step old name (place.named old.core core name) (place.source old.core core name) (place.target old.core core name) (place.apart old.core core name) (place.places old.core core name)
     (record_of.there old c.self.invariant name) (record_of.kept old c.self.invariant name) (record_of.within old c.self.invariant name) (record_of.unused old c.self.invariant name)
-    (c.what_a_step_looks_at_is_kept.ensures old c.self.invariant name)
+    (c.what_a_step_looks_at_is_kept.ensures old c.self.invariant name) (c.keyspaces_of_a_core_have_one_shard.ensures.lanes old.core core name)
+    (record_of.shards old c.self.invariant name)
 
 pub invariant_of-self : goal.invariant_of-self
 invariant_of-self g c =

@@ -3,6 +3,7 @@ use Rattle.std.proofs.Common.{◌≡◌, ◌≢◌, AllPairs, fold, map, rules, 
 use Rattle.std.proofs.lemmas.List.{with_items_is}
 use Rattle.mt_model.specs.Topology.{key_of}
 use Rattle.mt_workflow.specs.Workflows.{keys_of_part}
+use Rattle.mt_steps.specs.declared.log.PutAway.{PutAway}
 use Rattle.mt_steps.specs.Entries.{HavePlaces, recorded, swept, with_wanted}
 use Rattle.mt_steps.specs.Records.{entries_of}
 use Rattle.mt_steps.specs.Undo.{UndoState}
@@ -17,7 +18,7 @@ exchange_step-requires c =
     let log = c.self.inside in
     let kept = log.late.value in
     let items : c.deref_mut.result.now ≡ log.records.items = search rules in
-    let is = ap (λ (l : UndoState). map key_of l.entries) c.self.view_is ∙ c.requires.log in
+    let is = ap (λ (l : UndoState). map key_of l.entries) c.self.view_is ∙ c.requires.log.entries in
     let same = same_entries kept.source kept.target w.source w.target w.tables log.records.items is in
     record {
       apart = c.facts.ensures.apart;
@@ -35,12 +36,12 @@ returns-clause-recorded c =
     let log = c.self.inside in
     let kept = log.late.value in
     let items : c.deref_mut.result.now ≡ log.records.items = search rules in
-    let is = ap (λ (l : UndoState). map key_of l.entries) c.self.view_is ∙ c.requires.log in
+    let is = ap (λ (l : UndoState). map key_of l.entries) c.self.view_is ∙ c.requires.log.entries in
     let same = same_entries kept.source kept.target w.source w.target w.tables log.records.items is in
     let is_swept = c.exchange_step.ensures.recorded ∙ ap (λ rs. swept w types n t (entries_of w.source w.target rs)) items in
     let distinct : AllPairs (λ a b. a ≢ b) (keys_of_part w) = c.part_keys_are_distinct.ensures w.source w.target w.tables c.facts.ensures.apart c.facts.ensures.distinct in
-    ap (λ rs. record { entries = entries_of kept.source kept.target rs; listed = kept.listed; slot = kept.slot }) (with_items_is log.records c.exchange_step.new.records (search rules))
-    ∙ ap (λ es. record { entries = es; listed = kept.listed; slot = kept.slot })
+    ap (λ rs. record { entries = entries_of kept.source kept.target rs; listed = map (λ (k : PutAway). k.listed) kept.lanes.items; slots = map (λ (k : PutAway). k.slot) kept.lanes.items }) (with_items_is log.records c.exchange_step.new.records (search rules))
+    ∙ ap (λ es. record { entries = es; listed = map (λ (k : PutAway). k.listed) kept.lanes.items; slots = map (λ (k : PutAway). k.slot) kept.lanes.items })
     (same_entries_swept kept.source kept.target w.source w.target w types n t w.tables log.records.items c.exchange_step.new.records is is_swept ∙ is_swept ∙ ap (swept w types n t) (sym same)
     ∙ swept_is_recorded w types n t (entries_of kept.source kept.target log.records.items) (subst (AllPairs (λ a b. a ≢ b)) (sym is) distinct))
     ∙ ap (λ (l : UndoState). record l { entries = recorded w n t l.entries }) c.self.view_is
@@ -53,7 +54,7 @@ returns-clause-written c =
     let log = c.self.inside in
     let kept = log.late.value in
     let items : c.deref_mut.result.now ≡ log.records.items = search rules in
-    let is = ap (λ (l : UndoState). map key_of l.entries) c.self.view_is ∙ c.requires.log in
+    let is = ap (λ (l : UndoState). map key_of l.entries) c.self.view_is ∙ c.requires.log.entries in
     let same = same_entries kept.source kept.target w.source w.target w.tables log.records.items is in
     c.exchange_step.ensures.written ∙ ap (fold (with_wanted w c.args.types n) t) (ap (λ rs. map key_of (entries_of w.source w.target rs)) items ∙ ap (map key_of) (sym same) ∙ is)
     ∙ writes_are_entries w c.args.types n t (keys_of_part w)

@@ -20,7 +20,7 @@ write_back-requires c =
     let entries : entries_of c.deref.result.now.source c.deref-2.result.now.target c.deref-3.result.now ≡ entries_of kept.source kept.target log.records.items =
     ap (λ (k : Late). entries_of k.source c.deref-2.result.now.target c.deref-3.result.now) first ∙ ap (λ (k : Late). entries_of kept.source k.target c.deref-3.result.now) second
     ∙ ap (entries_of kept.source kept.target) items in
-    let is = ap (λ (l : UndoState). map key_of l.entries) c.self.view_is ∙ c.requires.log in
+    let is = ap (λ (l : UndoState). map key_of l.entries) c.self.view_is ∙ c.requires.log.entries in
     record {
       places = subst (HavePlaces c.args.topology.now) (sym (ap (map key_of) entries ∙ is)) (have_places c.args.topology.now (keys_of_part c.args.workflow.now) c.requires.places);
     }

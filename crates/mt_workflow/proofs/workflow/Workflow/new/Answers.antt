@@ -2,10 +2,12 @@
 use Rattle.std.proofs.Common.{rules, ◌≡◌, ◌≢◌, AllPairs, length, ap, sym, subst, arith, ◌∙◌}
 use Rattle.std.proofs.lemmas.Map.Made.{AllPairs-from_IsDistinct}
 use Rattle.mt_names.proofs.SameLemmas.{same_text_decides}
+use Rattle.mt_model.specs.Topology.{cuts_at}
 use Rattle.mt_plain.specs.Plain.{each_once}
 use Rattle.mt_workflow.specs.Builds.{Agrees}
-use Rattle.mt_workflow.specs.Workflows.{IsWorkflow, kept_of}
+use Rattle.mt_workflow.specs.Workflows.{IsWorkflow, kept_of, ranges_in}
 use Rattle.mt_workflow.proofs.AgreeLemmas.{agrees_itself, kept_same}
+use Rattle.mt_workflow.proofs.LaneLemmas.{new-covers, new-cuts}
 use Rattle.mt_workflow.proofs.OnceLemmas.{length-once}
 use Rattle.mt_workflow.proofs.workflow.Workflow.new.Goals as goal
 
@@ -13,22 +15,26 @@ pub kept_rules-requires-clause-distinct : goal.kept_rules-requires-clause-distin
 kept_rules-requires-clause-distinct c =
     subst (AllPairs ◌≢◌) (sym c.as_slice.ensures.keys) (AllPairs-from_IsDistinct same_text_decides c.in_ok-tables.tables.keys c.as_slice.ensures.unique)
 
-pub first_streams-requires-clause-few : goal.first_streams-requires-clause-few
-first_streams-requires-clause-few c =
+pub lanes_of-requires-clause-few : goal.lanes_of-requires-clause-few
+lanes_of-requires-clause-few c =
     omega (arith, ap length c.as_slice-2.ensures.keys, ap length c.in_ok-tables.ensures.value, length-once c.args.tables.now, c.requires.few)
 
-pub first_streams-requires-clause-distinct : goal.first_streams-requires-clause-distinct
-first_streams-requires-clause-distinct c =
+pub lanes_of-requires-clause-distinct : goal.lanes_of-requires-clause-distinct
+lanes_of-requires-clause-distinct c =
     subst (AllPairs ◌≢◌) (sym c.as_slice-2.ensures.keys) (AllPairs-from_IsDistinct same_text_decides c.in_ok-tables.tables.keys c.as_slice-2.ensures.unique)
 
 pub invariant_of-result : goal.invariant_of-result
 invariant_of-result c =
     let es = c.in_ok-kept.kept.entries in
+    let lanes = c.in_ok-lanes.lanes.items in
+    let cuts = cuts_at c.args.topology.now.keyspaces c.args.target.now in
     let named = c.as_slice.result.now in
-    let is : IsWorkflow c.copied-2.result c.copied-3.result c.in_ok-tables.tables.keys = record {
+    let is : IsWorkflow c.copied-2.result c.copied-3.result c.in_ok-tables.tables.keys (ranges_in lanes) = record {
       distinct = AllPairs-from_IsDistinct same_text_decides c.in_ok-tables.tables.keys c.as_slice-2.ensures.unique;
       few = omega (arith, ap length c.in_ok-tables.ensures.value, length-once c.args.tables.now, c.requires.few);
       apart = λ same. c.requires.apart (sym c.copied-2.ensures ∙ same ∙ c.copied-3.ensures);
+      covers = new-covers c.as_slice-2.result.now c.args.position cuts lanes c.in_ok-lanes.ensures.value;
+      cuts = new-cuts c.as_slice-2.result.now c.args.position cuts lanes c.in_ok-lanes.ensures.value c.in_ok-lanes.ensures.cuts;
     } in (
       is,
       subst (λ tables. Agrees es (kept_of es c.copied-2.result c.copied-3.result tables)) c.as_slice.ensures.keys
