@@ -1,9 +1,10 @@
 //! What is asked of a site, and how it stands then.
 
 use crate::answers::{Answer, is_answer};
-use crate::events::{Ask, Place, event_of};
+use crate::drives::{Drove, is_driven};
+use crate::events::{Ask, Place, event_at};
 use mt_event::{Refusal, Reply};
-use mt_names::{KeyspaceName, Position, RuleKey, RuleTarget, TabletType};
+use mt_names::{KeyspaceName, Position, RuleKey, RuleTarget, TabletType, TypeSet};
 use mt_site::Site;
 use mt_watch::Watchers;
 
@@ -22,14 +23,24 @@ pub enum Act {
     Owes(usize),
     /// The row 1 of a table is updated to `w` so many times, and each time that is done.
     Writes(u16, Place),
-    /// The log of a keyspace keeps its entries from the first of these positions on, and ends at the second.
+    /// So is the row of this key.
+    WritesTo(u16, Place, u64),
+    /// A tablet of this type has these rows of a table, those of these keys, or with `-` none.
+    Reads(Place, TabletType, &'static [u64], &'static [&'static str]),
+    /// The log of a keyspace, that of its first shard, keeps its entries from the first of these positions on, and ends at the second.
     Keeps(&'static str, Position, Position),
+    /// So does the log of the shard at this place.
+    KeepsAt(&'static str, u8, Position, Position),
+    /// The traffic of these types of a workflow is switched as a whole, or with `true` reversed, and that goes so.
+    Drives(&'static str, TypeSet, bool, Drove),
 }
 
 /// How an event is answered; nothing if one of its names isn't one.
 fn answer(site: &mut Site<Watchers>, ask: Ask) -> Option<Result<Reply, Refusal>> {
-    let event = event_of(ask)?;
-    Some(site.apply(&event))
+    match event_at(site, ask)? {
+        Ok(event) => Some(site.apply(&event)),
+        Err(refusal) => Some(Err(refusal)),
+    }
 }
 
 /// Where a name leads.
@@ -62,22 +73,57 @@ fn is_answered(site: &mut Site<Watchers>, ask: Ask, want: Answer) -> bool {
     }
 }
 
-/// Whether the row 1 of a table is updated so many times, and each time that is done.
-fn writes(site: &mut Site<Watchers>, times: u16, place: Place) -> bool {
+/// Whether a row of a table is updated so many times, and each time that is done.
+fn writes(site: &mut Site<Watchers>, times: u16, place: Place, key: u64) -> bool {
     for _ in 0..times {
-        if !is_answered(site, Ask::Update(place, 1, "w"), Answer::Done) {
+        if !is_answered(site, Ask::Update(place, key, "w"), Answer::Done) {
             return false;
         }
     }
     true
 }
 
-/// Whether the log of a keyspace keeps its entries from a position on, and ends at another.
-fn keeps(site: &Site<Watchers>, keyspace: &str, first: Position, end: Position) -> bool {
+/// Whether a row is read so, or with `-` isn't there.
+fn is_read(
+    site: &mut Site<Watchers>,
+    place: Place,
+    tablet_type: TabletType,
+    key: u64,
+    row: &'static str,
+) -> bool {
+    let want = if row == "-" {
+        Answer::NoRow
+    } else {
+        Answer::Row(row)
+    };
+    is_answered(site, Ask::Read(place, key, tablet_type), want)
+}
+
+/// Whether the rows of these keys are read so.
+fn reads(
+    site: &mut Site<Watchers>,
+    place: Place,
+    tablet_type: TabletType,
+    keys: &[u64],
+    rows: &[&'static str],
+) -> bool {
+    for (at, key) in keys.iter().enumerate() {
+        let Some(row) = rows.get(at) else {
+            return false;
+        };
+        if !is_read(site, place, tablet_type, *key, *row) {
+            return false;
+        }
+    }
+    true
+}
+
+/// Whether the log of a shard keeps its entries from a position on, and ends at another.
+fn keeps(site: &Site<Watchers>, keyspace: &str, shard: u8, first: Position, end: Position) -> bool {
     let Ok(keyspace) = KeyspaceName::parse(keyspace) else {
         return false;
     };
-    match site.primary(&keyspace) {
+    match site.primary(&keyspace, shard) {
         Some(primary) => primary.first_kept() == first && primary.position() == end,
         None => false,
     }
@@ -91,7 +137,11 @@ pub fn is_so(site: &mut Site<Watchers>, act: Act) -> bool {
         Act::Dump(want) => has_dump(site, want),
         Act::Leads(key, tablet_type, want) => leads(site, key, tablet_type, want),
         Act::Owes(want) => site.owed() == want,
-        Act::Writes(times, place) => writes(site, times, place),
-        Act::Keeps(keyspace, first, end) => keeps(site, keyspace, first, end),
+        Act::Writes(times, place) => writes(site, times, place, 1),
+        Act::WritesTo(times, place, key) => writes(site, times, place, key),
+        Act::Reads(place, tablet_type, keys, rows) => reads(site, place, tablet_type, keys, rows),
+        Act::Keeps(keyspace, first, end) => keeps(site, keyspace, 0, first, end),
+        Act::KeepsAt(keyspace, shard, first, end) => keeps(site, keyspace, shard, first, end),
+        Act::Drives(name, types, back, want) => is_driven(site, name, types, back, want),
     }
 }

@@ -1,13 +1,27 @@
 //! Answers as tests write them down.
 
 use crate::events::{tables_of, value_of};
-use mt_event::{Reason, Refusal, Reply, Shown, ShownStream};
-use mt_names::{KeyspaceName, Position, RuleKey, TableName, TypeSet, WorkflowName};
+use arrayvec::ArrayVec;
+use mt_event::{Reason, Refusal, Reply, Shown, ShownLane, ShownStream};
+use mt_names::{
+    KeyRange, KeyspaceName, MAX_SHARDS, Position, RuleKey, TableName, TypeSet, WorkflowName,
+};
 use mt_stream::{Advanced, StreamState};
 use mt_workflow::Way;
 
 /// A stream: what it does, and its position.
 pub type StreamAt = (StreamState, Position);
+
+/// What a workflow moves: its name, source, target and tables.
+pub type Moves = (
+    &'static str,
+    &'static str,
+    &'static str,
+    &'static [&'static str],
+);
+
+/// The streams for one shard: its range, the forward stream, whether that one's copy has ended, and the back stream, if there is one.
+pub type LaneAt = (&'static str, StreamAt, bool, Option<StreamAt>);
 
 /// An answer, with its names as texts.
 #[derive(Clone, Copy)]
@@ -26,6 +40,8 @@ pub enum Answer {
     /// What is told of the workflow `mv`, which moves `corder` from `commerce` to `customer`, once its copy has ended: the types
     /// that are switched, the way that is open, and its streams, forward and back.
     Stands(TypeSet, Option<Way>, StreamAt, Option<StreamAt>),
+    /// What is told of a workflow: what it moves, the types that are switched, the way that is open, and its lanes.
+    Told(Moves, TypeSet, Option<Way>, &'static [LaneAt]),
     /// Refused, by a text that stands for no value beside.
     Refused(&'static str),
     /// The rule of this key leads elsewhere.
@@ -46,6 +62,22 @@ fn stream_of(stream: StreamAt) -> ShownStream {
     }
 }
 
+/// What is told of the one lane of a workflow whose target isn't sharded.
+fn lanes_of(
+    forward: StreamAt,
+    copied: bool,
+    back: Option<StreamAt>,
+) -> ArrayVec<ShownLane, MAX_SHARDS> {
+    let mut lanes = ArrayVec::new_in(());
+    lanes.push(ShownLane {
+        range: KeyRange::whole(),
+        forward: stream_of(forward),
+        copied,
+        back: back.map(stream_of),
+    });
+    lanes
+}
+
 /// What is told of a workflow with nothing switched and no way open.
 fn shown_of(
     name: &str,
@@ -62,9 +94,7 @@ fn shown_of(
         tables: tables_of(tables)?,
         switched: TypeSet::NONE,
         way: None,
-        forward: stream_of((StreamState::Running, position)),
-        copied,
-        back: None,
+        lanes: lanes_of((StreamState::Running, position), copied, None),
     })
 }
 
@@ -78,8 +108,40 @@ fn stands(
     let mut shown = shown_of("mv", "commerce", "customer", &["corder"], 0, true)?;
     shown.switched = switched;
     shown.way = way;
-    shown.forward = stream_of(forward);
-    shown.back = back.map(stream_of);
+    shown.lanes = lanes_of(forward, true, back);
+    Some(shown)
+}
+
+/// What is told of one lane.
+fn lane_of(lane: &LaneAt) -> Option<ShownLane> {
+    Some(ShownLane {
+        range: KeyRange::parse(lane.0).ok()?,
+        forward: stream_of(lane.1),
+        copied: lane.2,
+        back: lane.3.map(stream_of),
+    })
+}
+
+/// What is told of some lanes, in their order; nothing if one has no range, or if there are too many.
+fn lanes_told(lanes: &[LaneAt]) -> Option<ArrayVec<ShownLane, MAX_SHARDS>> {
+    let mut told = ArrayVec::new_in(());
+    for lane in lanes {
+        let lane = lane_of(lane)?;
+        if told.is_full() {
+            return None;
+        }
+        told.push(lane);
+    }
+    Some(told)
+}
+
+/// What is told of a workflow with these lanes.
+fn told_of(moves: Moves, switched: TypeSet, way: Option<Way>, lanes: &[LaneAt]) -> Option<Shown> {
+    let (name, source, target, tables) = moves;
+    let mut shown = shown_of(name, source, target, tables, 0, false)?;
+    shown.switched = switched;
+    shown.way = way;
+    shown.lanes = lanes_told(lanes)?;
     Some(shown)
 }
 
@@ -95,6 +157,9 @@ pub fn reply_of(answer: Answer) -> Option<Reply> {
         }
         Answer::Stands(switched, way, forward, back) => {
             stands(switched, way, forward, back).map(Reply::Shown)
+        }
+        Answer::Told(moves, switched, way, lanes) => {
+            told_of(moves, switched, way, lanes).map(Reply::Shown)
         }
         _ => None,
     }

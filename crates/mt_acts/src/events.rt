@@ -1,12 +1,14 @@
 //! Events as tests write them down.
 
 use arrayvec::ArrayVec;
-use mt_event::Event;
+use mt_event::{Event, Refusal};
 use mt_model::Op;
 use mt_names::{
-    KeyspaceName, MAX_TABLES, Position, RuleKey, RuleTarget, TableName, TabletType, TypeSet, Value,
-    WorkflowName,
+    KeyRange, KeyspaceName, MAX_TABLES, Position, RuleKey, RuleTarget, ShardList, TableName,
+    TabletType, TypeSet, Value, WorkflowName,
 };
+use mt_site::Site;
+use mt_watch::Watchers;
 use mt_workflow::Slot;
 
 /// A keyspace, and a table of it.
@@ -15,8 +17,10 @@ pub type Place = (&'static str, &'static str);
 /// An event, with its names as texts.
 #[derive(Clone, Copy)]
 pub enum Ask {
-    /// A keyspace is made.
+    /// A keyspace is made that isn't sharded.
     Keyspace(&'static str),
+    /// A keyspace is made with these shards.
+    Sharded(&'static str, &'static str),
     /// A table is made.
     Table(Place),
     /// A rule is set, or with `-` taken away.
@@ -33,8 +37,12 @@ pub enum Ask {
     Read(Place, u64, TabletType),
     /// A workflow is created: its name, its source, its target and its tables.
     Create(&'static str, &'static str, &'static str, &'static [&'static str]),
-    /// A stream is advanced.
+    /// A stream is advanced, that of the first shard.
     Advance(&'static str, Slot, Position, u16),
+    /// The stream of the shard at this place is advanced.
+    AdvanceAt(&'static str, Slot, u8, Position, u16),
+    /// The stream of the shard of this range is advanced, whose place the site is asked for.
+    AdvanceOf(&'static str, Slot, &'static str, Position, u16),
     /// A switch of the traffic of these types begins.
     BeginSwitch(&'static str, TypeSet),
     /// A reversal of the traffic of these types begins.
@@ -102,11 +110,27 @@ fn create_of(name: &str, source: &str, target: &str, tables: &[&str]) -> Option<
     })
 }
 
-/// The event; none if one of its names isn't one.
+/// An advance of the stream of the shard at this place.
+fn advance_of(name: &str, stream: Slot, shard: u8, at: Position, max: u16) -> Option<Event> {
+    Some(Event::Advance {
+        workflow: WorkflowName::parse(name).ok()?,
+        stream,
+        shard,
+        at,
+        max,
+    })
+}
+
+/// The event; none if one of its names isn't one, or if only a site knows its shard.
 pub fn event_of(ask: Ask) -> Option<Event> {
     match ask {
         Ask::Keyspace(keyspace) => Some(Event::AddKeyspace {
             keyspace: KeyspaceName::parse(keyspace).ok()?,
+            shards: ShardList::unsharded(),
+        }),
+        Ask::Sharded(keyspace, shards) => Some(Event::AddKeyspace {
+            keyspace: KeyspaceName::parse(keyspace).ok()?,
+            shards: ShardList::parse(shards).ok()?,
         }),
         Ask::Table(place) => Some(Event::AddTable {
             keyspace: KeyspaceName::parse(place.0).ok()?,
@@ -136,12 +160,8 @@ fn read_of(place: Place, key: u64, type_of: TabletType) -> Option<Event> {
 /// The event, if it is one on a workflow that is there.
 fn event_of_workflow(ask: Ask) -> Option<Event> {
     match ask {
-        Ask::Advance(name, stream, at, max) => Some(Event::Advance {
-            workflow: WorkflowName::parse(name).ok()?,
-            stream,
-            at,
-            max,
-        }),
+        Ask::Advance(name, stream, at, max) => advance_of(name, stream, 0, at, max),
+        Ask::AdvanceAt(name, stream, shard, at, max) => advance_of(name, stream, shard, at, max),
         Ask::Cancel(name) => Some(Event::Cancel {
             workflow: WorkflowName::parse(name).ok()?,
         }),
@@ -175,5 +195,20 @@ fn event_of_way(ask: Ask) -> Option<Event> {
             at,
         }),
         _ => None,
+    }
+}
+
+/// The event with the place of the shard whose range it names, or the refusal of that look-up; none if one of its names isn't one.
+pub fn event_at(site: &Site<Watchers>, ask: Ask) -> Option<Result<Event, Refusal>> {
+    match ask {
+        Ask::AdvanceOf(name, stream, range, at, max) => {
+            let workflow = WorkflowName::parse(name).ok()?;
+            let range = KeyRange::parse(range).ok()?;
+            match site.shard(&workflow, &range) {
+                Ok(shard) => Some(Ok(advance_of(name, stream, shard, at, max)?)),
+                Err(refusal) => Some(Err(refusal)),
+            }
+        }
+        other => Some(Ok(event_of(other)?)),
     }
 }

@@ -65,7 +65,7 @@ fn log_length<V: Venue, R: Wait>(rt: &R, venue: &mut V, create: &str) -> Option<
     let shown = answer_of(rt, venue, "show probe")?;
     let cancelled = answer_of(rt, venue, "cancel probe")?;
     match (shown, cancelled) {
-        (Ok(Reply::Shown(shown)), Ok(_)) => Some(shown.forward.position),
+        (Ok(Reply::Shown(shown)), Ok(_)) => Some(shown.lanes.first()?.forward.position),
         _ => None,
     }
 }
@@ -131,22 +131,15 @@ fn is_done_in_two<V: Venue, R: Wait>(
     rt: &R,
     venue: &mut V,
     turn: Turn,
-    event: Event,
+    mut event: Event,
     answer: &Answer,
 ) -> bool {
-    let (
-        Event::Advance {
-            workflow,
-            stream,
-            at,
-            max,
-        },
-        Ok(Reply::Advanced(first)),
-    ) = (event, answer)
-    else {
+    let (Event::Advance { at, max, .. }, Ok(Reply::Advanced(first))) = (&mut event, answer) else {
         return false;
     };
     let taken = first.events.saturating_add(first.rows);
+    *at = at.saturating_add(u64::from(first.events));
+    *max = max.saturating_sub(taken);
     let lengths = [
         grown(turn.lengths[0], turn.asked.2[0], taken),
         grown(turn.lengths[1], turn.asked.2[1], taken),
@@ -154,13 +147,7 @@ fn is_done_in_two<V: Venue, R: Wait>(
     if !are_so_long(rt, venue, lengths) {
         return false;
     }
-    let rest = Event::Advance {
-        workflow,
-        stream,
-        at: at.saturating_add(u64::from(first.events)),
-        max: max.saturating_sub(taken),
-    };
-    match venue.ask(rt, rest) {
+    match venue.ask(rt, event) {
         Some(Ok(Reply::Advanced(mut both))) => {
             both.events = both.events.saturating_add(first.events);
             both.rows = both.rows.saturating_add(first.rows);

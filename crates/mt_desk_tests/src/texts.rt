@@ -2,7 +2,9 @@
 
 use mt_desk::Answer;
 use mt_event::Event;
-use mt_names::{KeyspaceName, RuleKey, RuleTarget, TableName, TypeSet, WorkflowName, table_list};
+use mt_names::{
+    KeyspaceName, RuleKey, RuleTarget, ShardList, TableName, TypeSet, WorkflowName, table_list,
+};
 use mt_script::{
     CreateWords, Line, LineText, QualifiedName, RowAsked, WorkflowAsked, put_answer, read,
 };
@@ -12,6 +14,7 @@ pub fn event_of(line: &str) -> Option<Event> {
     match read(line.as_bytes()) {
         Line::Keyspace(name) => Some(Event::AddKeyspace {
             keyspace: KeyspaceName::parse(name).ok()?,
+            shards: ShardList::unsharded(),
         }),
         Line::Table(keyspace, name) => Some(Event::AddTable {
             keyspace: KeyspaceName::parse(keyspace).ok()?,
@@ -70,6 +73,7 @@ fn event_asked(name: &str, asked: WorkflowAsked<'_>) -> Option<Event> {
         WorkflowAsked::Advance(stream, at, max) => Some(Event::Advance {
             workflow,
             stream,
+            shard: 0,
             at,
             max,
         }),

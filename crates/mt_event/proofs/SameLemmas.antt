@@ -7,7 +7,8 @@ use Rattle.std.proofs.lemmas.Bool.Decides.{Decides-eqb}
 use Rattle.arrayvec.specs.ArrayVec.{ArrayVec}
 use Rattle.mt_names.specs.Names.{same_text}
 use Rattle.mt_names.specs.Same.{DecidesEquality, same_key, same_target, same_type, same_types}
-use Rattle.mt_names.proofs.SameLemmas.{same_key_decides, same_target_decides, same_text_decides, same_type_decides, same_types_decides}
+use Rattle.mt_names.specs.Shards.{same_range, same_shards}
+use Rattle.mt_names.proofs.SameLemmas.{same_key_decides, same_range_decides, same_shards_decides, same_target_decides, same_text_decides, same_type_decides, same_types_decides}
 use Rattle.mt_model.specs.declared.rows.Op.{Op}
 use Rattle.mt_model.specs.contracts.rows.OpPartialEq.TheImpl as of_op
 use Rattle.mt_stream.specs.declared.stream.Advanced.{Advanced}
@@ -19,7 +20,8 @@ use Rattle.mt_workflow.specs.contracts.way.Way as way
 use Rattle.mt_workflow.specs.contracts.way.WayPartialEq.TheImpl as of_way
 use Rattle.mt_event.specs.Same.{same_event, same_refusal, same_reply}
 use Rattle.mt_event.specs.declared.reply.Shown.{Shown}
-use Rattle.mt_event.specs.declared.reply.ShownStream.{ShownStream}
+use Rattle.mt_event.specs.declared.lanes.ShownLane.{ShownLane}
+use Rattle.mt_event.specs.declared.lanes.ShownStream.{ShownStream}
 use Rattle.mt_event.specs.contracts.event.Event as event
 use Rattle.mt_event.specs.declared.reason.Reason.{Reason}
 use Rattle.mt_event.specs.contracts.reason.Reason as reason
@@ -28,7 +30,9 @@ use Rattle.mt_event.specs.contracts.refusal.Refusal as refusal
 use Rattle.mt_event.specs.contracts.reply.Reply as reply
 use Rattle.mt_event.specs.contracts.reply.Shown as shown
 use Rattle.mt_event.specs.contracts.reply.ShownPartialEq.TheImpl as of_shown
-use Rattle.mt_event.specs.contracts.reply.ShownStreamPartialEq.TheImpl as of_stream
+use Rattle.mt_event.specs.contracts.lanes.ShownLane as lane
+use Rattle.mt_event.specs.contracts.lanes.ShownLanePartialEq.TheImpl as of_lane
+use Rattle.mt_event.specs.contracts.lanes.ShownStreamPartialEq.TheImpl as of_stream
 use Rattle.mt_event.proofs.DecideLemmas.{choice_decides, last_decides, nothing_decides, option_decides, pair_decides, struct_decides}
 use denote.Enum.Declared.{values_one}
 
@@ -87,6 +91,15 @@ same_way_decides =
     (pair_decides same_number _ same_number_decides (pair_decides same_types _ same_types_decides (pair_decides same_types _ same_types_decides
     (pair_decides same_number _ same_number_decides (last_decides same_bool same_bool_decides))))))
 
+abbrev same_lane : ShownLane → ShownLane → Bool
+same_lane = of_lane.ghosts.eq
+
+same_lane_decides : DecidesEquality same_lane
+same_lane_decides =
+    struct_decides lane.struct.as_values (λ x y e. ap (λ v. lane.struct.make v tt) e) _ (pair_decides same_range _ same_range_decides
+    (pair_decides same_stream _ same_stream_decides (pair_decides same_bool _ same_bool_decides
+    (last_decides (option_eq same_stream) (option_decides same_stream same_stream_decides)))))
+
 abbrev same_shown : Shown → Shown → Bool
 same_shown = of_shown.ghosts.eq
 
@@ -95,8 +108,8 @@ same_shown_decides =
     struct_decides shown.struct.as_values (λ x y e. ap (λ v. shown.struct.make v tt) e) _ (pair_decides same_text _ same_text_decides
     (pair_decides same_text _ same_text_decides (pair_decides same_text _ same_text_decides
     (pair_decides (same_items same_text) _ (items_decide same_text same_text_decides) (pair_decides same_types _ same_types_decides
-    (pair_decides (option_eq same_way) _ (option_decides same_way same_way_decides) (pair_decides same_stream _ same_stream_decides
-    (pair_decides same_bool _ same_bool_decides (last_decides (option_eq same_stream) (option_decides same_stream same_stream_decides))))))))))
+    (pair_decides (option_eq same_way) _ (option_decides same_way same_way_decides)
+    (last_decides (same_items same_lane) (items_decide same_lane same_lane_decides))))))))
 
 -- ---- of themselves
 
@@ -107,7 +120,7 @@ same_event_decides =
       (
         pair_decides same_text _ same_text_decides (pair_decides same_text _ same_text_decides (pair_decides same_number _ same_number_decides (last_decides same_type same_type_decides))),
         (
-          last_decides same_text same_text_decides,
+          pair_decides same_text _ same_text_decides (last_decides same_shards same_shards_decides),
           (
             pair_decides same_text _ same_text_decides (last_decides same_text same_text_decides),
             (
@@ -115,7 +128,7 @@ same_event_decides =
               (
                 pair_decides same_text _ same_text_decides (pair_decides same_text _ same_text_decides (pair_decides same_text _ same_text_decides (last_decides (same_items same_text) (items_decide same_text same_text_decides)))),
                 (
-                  pair_decides same_text _ same_text_decides (pair_decides same_slot _ same_slot_decides (pair_decides same_number _ same_number_decides (last_decides same_number same_number_decides))),
+                  pair_decides same_text _ same_text_decides (pair_decides same_slot _ same_slot_decides (pair_decides same_number _ same_number_decides (pair_decides same_number _ same_number_decides (last_decides same_number same_number_decides)))),
                   (
                     pair_decides same_text _ same_text_decides (last_decides same_types same_types_decides),
                     (
@@ -158,7 +171,7 @@ same_reason = of_reason.ghosts.eq
 
 same_reason_decides : DecidesEquality same_reason
 same_reason_decides =
-    struct_decides reason.enum.as_values (values_one reason.enum) _ (choice_decides reason.enum.parts _ (nothing_decides, (nothing_decides, (nothing_decides, (nothing_decides, (nothing_decides, (nothing_decides, (nothing_decides, (nothing_decides, (nothing_decides, (nothing_decides, (nothing_decides, (nothing_decides, (nothing_decides, (nothing_decides, (nothing_decides, (nothing_decides, (nothing_decides, (nothing_decides, (nothing_decides, (nothing_decides, (nothing_decides, (last_decides same_number same_number_decides, (nothing_decides, (last_decides same_number same_number_decides, (nothing_decides, (nothing_decides, (nothing_decides, (nothing_decides, (nothing_decides, tt))))))))))))))))))))))))))))))
+    struct_decides reason.enum.as_values (values_one reason.enum) _ (choice_decides reason.enum.parts _ (nothing_decides, (nothing_decides, (nothing_decides, (nothing_decides, (nothing_decides, (nothing_decides, (nothing_decides, (nothing_decides, (nothing_decides, (nothing_decides, (nothing_decides, (nothing_decides, (nothing_decides, (nothing_decides, (nothing_decides, (nothing_decides, (nothing_decides, (nothing_decides, (nothing_decides, (nothing_decides, (nothing_decides, (last_decides same_number same_number_decides, (nothing_decides, (last_decides same_number same_number_decides, (nothing_decides, (nothing_decides, (nothing_decides, (nothing_decides, (nothing_decides, (nothing_decides, (nothing_decides, tt))))))))))))))))))))))))))))))))
 
 pub same_refusal_decides : DecidesEquality same_refusal
 same_refusal_decides =

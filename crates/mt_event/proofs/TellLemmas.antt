@@ -1,6 +1,5 @@
 -- Events and answers are found again from what the definitions know of them.
-use Rattle.std.proofs.Common.{◌≡◌, false, List, [], ◌∷◌, Option, None, Some, option_map, Result, Ok, Err, refl, sym, ap, ◌∙◌}
-use Rattle.mt_names.specs.Shards.{whole}
+use Rattle.std.proofs.Common.{◌≡◌, List, [], ◌∷◌, map, Option, None, Some, option_map, Result, Ok, Err, refl, sym, ap, ◌∙◌}
 use Rattle.mt_plain.specs.Events as plain
 use Rattle.mt_stream.specs.declared.stream.StreamState.{StreamState}
 use Rattle.mt_stream.specs.declared.stream.StreamState.TheVariants as state
@@ -17,8 +16,9 @@ use Rattle.mt_event.specs.declared.refusal.Refusal.TheVariants as refusal
 use Rattle.mt_event.specs.declared.reply.Reply.{Reply}
 use Rattle.mt_event.specs.declared.reply.Reply.TheVariants as reply
 use Rattle.mt_event.specs.declared.reply.Shown.{Shown}
-use Rattle.mt_event.specs.declared.reply.ShownStream.{ShownStream}
-use Rattle.mt_event.specs.Events.{answer_from, event_of, refusal_from, shown_from, shown_stream_from}
+use Rattle.mt_event.specs.declared.lanes.ShownLane.{ShownLane}
+use Rattle.mt_event.specs.declared.lanes.ShownStream.{ShownStream}
+use Rattle.mt_event.specs.Events.{answer_from, event_of, lane_from, refusal_from, shown_from, shown_stream_from}
 
 -- what is found again is told in full
 one_from_back : {A B : Type 0} (tell : A → B) (back : B → A) → ((a : A) → back (tell a) ≡ a) → (a b : A) → tell a ≡ tell b → a ≡ b
@@ -34,11 +34,11 @@ back_slot plain.back = slot.Back
 abbrev back_event : plain.Event → Event
 back_event (plain.write keyspace table op) = event.Write keyspace table op
 back_event (plain.read keyspace table key type_of) = event.Read keyspace table key type_of
-back_event (plain.add_keyspace keyspace cuts) = event.AddKeyspace keyspace
+back_event (plain.add_keyspace keyspace cuts) = event.AddKeyspace keyspace cuts
 back_event (plain.add_table keyspace table) = event.AddTable keyspace table
 back_event (plain.edit_rule key target) = event.EditRule key target
 back_event (plain.create workflow source target tables) = event.Create workflow source target (record { items = tables })
-back_event (plain.advance workflow stream shard at max) = event.Advance workflow (back_slot stream) at max
+back_event (plain.advance workflow stream shard at max) = event.Advance workflow (back_slot stream) shard at max
 back_event (plain.begin_switch workflow types) = event.BeginSwitch workflow types
 back_event (plain.begin_reverse workflow types) = event.BeginReverse workflow types
 back_event (plain.step workflow at) = event.Step workflow at
@@ -50,12 +50,12 @@ back_event (plain.show workflow) = event.Show workflow
 event-returns : (e : Event) → back_event (event_of e) ≡ e
 event-returns (event.Write keyspace table op) = refl
 event-returns (event.Read keyspace table key type_of) = refl
-event-returns (event.AddKeyspace keyspace) = refl
+event-returns (event.AddKeyspace keyspace shards) = refl
 event-returns (event.AddTable keyspace table) = refl
 event-returns (event.EditRule key target) = refl
 event-returns (event.Create workflow source target tables) = refl
-event-returns (event.Advance workflow slot.Forward at max) = refl
-event-returns (event.Advance workflow slot.Back at max) = refl
+event-returns (event.Advance workflow slot.Forward shard at max) = refl
+event-returns (event.Advance workflow slot.Back shard at max) = refl
 event-returns (event.BeginSwitch workflow types) = refl
 event-returns (event.BeginReverse workflow types) = refl
 event-returns (event.Step workflow at) = refl
@@ -101,8 +101,8 @@ back_refusal plain.full = refusal.Other reason.Full
 back_refusal plain.undoing = refusal.Other reason.Undoing
 back_refusal plain.too_long = refusal.Other reason.TooLong
 back_refusal plain.exists = refusal.Other reason.Exists
--- the two that no code tells yet
-back_refusal other = refusal.Other reason.Memory
+back_refusal plain.no_shard = refusal.Other reason.NoShard
+back_refusal plain.sharded_source = refusal.Other reason.ShardedSource
 
 refusal-returns : (r : Refusal) → back_refusal (refusal_from r) ≡ r
 refusal-returns (refusal.Other reason.Memory) = refl
@@ -136,6 +136,8 @@ refusal-returns (refusal.Other reason.Full) = refl
 refusal-returns (refusal.Other reason.Undoing) = refl
 refusal-returns (refusal.Other reason.TooLong) = refl
 refusal-returns (refusal.Other reason.Exists) = refl
+refusal-returns (refusal.Other reason.NoShard) = refl
+refusal-returns (refusal.Other reason.ShardedSource) = refl
 
 abbrev back_state : plain.StreamState → StreamState
 back_state plain.running = state.Running
@@ -160,10 +162,20 @@ option-returns : {A B : Type 0} (tell : A → B) (back : B → A) → ((a : A) �
 option-returns tell back returns None = refl
 option-returns tell back returns (Some a) = ap Some (returns a)
 
--- the one lane that is told
-abbrev first_lane : List plain.ShownLane → plain.ShownLane
-first_lane (lane ∷ lanes) = lane
-first_lane [] = record { range = whole; forward = record { state = plain.frozen; position = 0 }; copied = false; back = None }
+list-returns : {A B : Type 0} (tell : A → B) (back : B → A) → ((a : A) → back (tell a) ≡ a) → (l : List A) → map back (map tell l) ≡ l
+list-returns tell back returns [] = refl
+list-returns tell back returns (a ∷ l) = λ i. returns a i ∷ list-returns tell back returns l i
+
+abbrev back_lane : plain.ShownLane → ShownLane
+back_lane l = record { range = l.range; forward = back_stream l.forward; copied = l.copied; back = option_map back_stream l.back }
+
+lane-returns : (l : ShownLane) → back_lane (lane_from l) ≡ l
+lane-returns l = λ i. record {
+  range = l.range;
+  forward = stream-returns l.forward i;
+  copied = l.copied;
+  back = option-returns shown_stream_from back_stream stream-returns l.back i;
+}
 
 abbrev back_shown : plain.Shown → Shown
 back_shown s = record {
@@ -173,9 +185,7 @@ back_shown s = record {
   tables = record { items = s.tables };
   switched = s.switched;
   way = option_map back_way s.way;
-  forward = back_stream (first_lane s.lanes).forward;
-  copied = (first_lane s.lanes).copied;
-  back = option_map back_stream (first_lane s.lanes).back;
+  lanes = record { items = map back_lane s.lanes };
 }
 
 shown-returns : (s : Shown) → back_shown (shown_from s) ≡ s
@@ -186,9 +196,7 @@ shown-returns s = λ i. record {
   tables = s.tables;
   switched = s.switched;
   way = option-returns way_from back_way (λ w. refl) s.way i;
-  forward = stream-returns s.forward i;
-  copied = s.copied;
-  back = option-returns shown_stream_from back_stream stream-returns s.back i;
+  lanes = record { items = list-returns lane_from back_lane lane-returns s.lanes.items i };
 }
 
 abbrev back_answer : plain.Answer → Result Reply Refusal

@@ -1,15 +1,15 @@
 -- What is asked of the controller and what it answers, in the words of the definitions.
-use Rattle.std.specs.Prelude.{⊤, Bool, [], ◌∷◌, Option, option_map, Result, Ok, Err}
-use Rattle.mt_names.specs.Shards.{whole}
+use Rattle.std.specs.Prelude.{⊤, List, map, option_map, Result, Ok, Err}
 use Rattle.mt_event.specs.declared.event.Event.{Event}
 use Rattle.mt_event.specs.declared.event.Event.TheVariants as event
+use Rattle.mt_event.specs.declared.lanes.ShownLane.{ShownLane}
+use Rattle.mt_event.specs.declared.lanes.ShownStream.{ShownStream}
 use Rattle.mt_event.specs.declared.refusal.Refusal.{Refusal}
 use Rattle.mt_event.specs.declared.refusal.Refusal.TheVariants as refusal
 use Rattle.mt_event.specs.declared.reply.Reply.{Reply}
 use Rattle.mt_event.specs.declared.reply.Reply.TheVariants as reply
 use Rattle.mt_event.specs.declared.reply.Shown.{Shown}
 use Rattle.mt_event.specs.declared.reply.ShownOf.{ShownOf}
-use Rattle.mt_event.specs.declared.reply.ShownStream.{ShownStream}
 use Rattle.mt_event.specs.Reasons.{reason_from}
 use Rattle.mt_plain.specs.Events as plain
 use Rattle.mt_stream.specs.Streams.{state_from}
@@ -19,11 +19,11 @@ use Rattle.mt_workflow.specs.Workflows.{stream_name, way_from}
 abbrev pub event_of : Event → plain.Event
 event_of (event.Write keyspace table op) = plain.write keyspace table op
 event_of (event.Read keyspace table key type_of) = plain.read keyspace table key type_of
-event_of (event.AddKeyspace keyspace) = plain.add_keyspace keyspace []
+event_of (event.AddKeyspace keyspace shards) = plain.add_keyspace keyspace shards
 event_of (event.AddTable keyspace table) = plain.add_table keyspace table
 event_of (event.EditRule key target) = plain.edit_rule key target
 event_of (event.Create workflow source target tables) = plain.create workflow source target tables.items
-event_of (event.Advance workflow stream at max) = plain.advance workflow (stream_name stream) 0 at max
+event_of (event.Advance workflow stream shard at max) = plain.advance workflow (stream_name stream) shard at max
 event_of (event.BeginSwitch workflow types) = plain.begin_switch workflow types
 event_of (event.BeginReverse workflow types) = plain.begin_reverse workflow types
 event_of (event.Step workflow at) = plain.step workflow at
@@ -42,10 +42,17 @@ refusal_from (refusal.Other reason) = reason_from reason
 abbrev pub shown_stream_from : ShownStream → plain.Slot
 shown_stream_from stream = record { state = state_from stream.state; position = stream.position }
 
--- the one lane of a workflow, whose shard has all keys (MoveTables: Show)
-abbrev pub lane_from : (forward : ShownStream) → (copied : Bool) → (back : Option ShownStream) → plain.ShownLane
-lane_from forward copied back =
-    record { range = whole; forward = shown_stream_from forward; copied = copied; back = option_map shown_stream_from back }
+-- the streams of a shard of the target (MoveTables: Show)
+abbrev pub lane_from : ShownLane → plain.ShownLane
+lane_from lane = record {
+  range = lane.range;
+  forward = shown_stream_from lane.forward;
+  copied = lane.copied;
+  back = option_map shown_stream_from lane.back;
+}
+
+abbrev pub lanes_from : List ShownLane → List plain.ShownLane
+lanes_from lanes = map lane_from lanes
 
 -- what Show tells of a workflow (MoveTables: Show)
 abbrev pub shown_from : Shown → plain.Shown
@@ -56,7 +63,7 @@ shown_from shown = record {
   tables = shown.tables.items;
   switched = shown.switched;
   way = option_map way_from shown.way;
-  lanes = lane_from shown.forward shown.copied shown.back ∷ [];
+  lanes = lanes_from shown.lanes.items;
 }
 
 -- the same, where names and tables are lent
@@ -68,7 +75,7 @@ lent_shown shown = record {
   tables = shown.tables;
   switched = shown.switched;
   way = option_map way_from shown.way;
-  lanes = lane_from shown.forward shown.copied shown.back ∷ [];
+  lanes = lanes_from shown.lanes.items;
 }
 
 -- the answer to an event that is taken (this profile's own)

@@ -35,6 +35,8 @@ reason_from from.Full = plain.full
 reason_from from.Undoing = plain.undoing
 reason_from from.TooLong = plain.too_long
 reason_from from.Exists = plain.exists
+reason_from from.NoShard = plain.no_shard
+reason_from from.ShardedSource = plain.sharded_source
 
 -- the answer to an event of which nothing is told but that it is done, or why it isn't (this profile's own)
 abbrev pub done_by : Result ⊤ Reason → plain.Answer

@@ -3,8 +3,8 @@ use crate::tables::copied_tables;
 use arrayvec::ArrayVec;
 use mt_model::Op;
 use mt_names::{
-    KeyspaceName, MAX_TABLES, Position, RuleKey, RuleTarget, TableName, TabletType, TypeSet,
-    WorkflowName,
+    KeyspaceName, MAX_TABLES, Position, RuleKey, RuleTarget, ShardList, TableName, TabletType,
+    TypeSet, WorkflowName,
 };
 use mt_workflow::Slot;
 
@@ -35,6 +35,8 @@ pub enum Event {
     AddKeyspace {
         /// The keyspace.
         keyspace: KeyspaceName,
+        /// Its shards.
+        shards: ShardList,
     },
     /// Makes a table in a keyspace.
     AddTable {
@@ -67,6 +69,8 @@ pub enum Event {
         workflow: WorkflowName,
         /// Which of its streams.
         stream: Slot,
+        /// The shard of the target that the stream is of, by its place among them.
+        shard: u8,
         /// The position at which the stream is expected.
         at: Position,
         /// How many rows or entries at most.
@@ -148,8 +152,9 @@ impl Event {
                 key: *key,
                 type_of: *type_of,
             },
-            Event::AddKeyspace { keyspace } => Event::AddKeyspace {
+            Event::AddKeyspace { keyspace, shards } => Event::AddKeyspace {
                 keyspace: keyspace.copied(),
+                shards: shards.copied(),
             },
             Event::AddTable { keyspace, table } => Event::AddTable {
                 keyspace: keyspace.copied(),
@@ -218,11 +223,13 @@ impl Event {
             Event::Advance {
                 workflow,
                 stream,
+                shard,
                 at,
                 max,
             } => Event::Advance {
                 workflow: workflow.copied(),
                 stream: *stream,
+                shard: *shard,
                 at: *at,
                 max: *max,
             },

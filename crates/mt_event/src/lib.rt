@@ -3,6 +3,7 @@
 
 mod driven;
 mod event;
+mod lanes;
 mod laws;
 mod reason;
 mod refusal;
@@ -11,8 +12,9 @@ mod tables;
 
 pub use driven::Driven;
 pub use event::Event;
+pub use lanes::{ShownLane, ShownStream};
 pub use laws::{events_and_answers_are_told_apart, events_and_answers_are_told_in_full};
 pub use reason::Reason;
 pub use refusal::Refusal;
-pub use reply::{Reply, Shown, ShownOf, ShownStream};
+pub use reply::{Reply, Shown, ShownOf};
 pub use tables::Tables;

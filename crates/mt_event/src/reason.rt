@@ -64,6 +64,10 @@ pub enum Reason {
     TooLong,
     /// The keyspace or the table is there already.
     Exists,
+    /// The target has no shard of that range.
+    NoShard,
+    /// The source has several shards.
+    ShardedSource,
 }
 
 impl Reason {
@@ -105,6 +109,8 @@ impl Reason {
             Reason::Undoing => "F28 Undoing",
             Reason::TooLong => "F29 TooLong",
             Reason::Exists => "F30 Exists",
+            Reason::NoShard => "F32 NoShard",
+            Reason::ShardedSource => "F33 ShardedSource",
         }
     }
 }

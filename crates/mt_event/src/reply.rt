@@ -1,20 +1,12 @@
 //! What the controller answers to an event that is taken.
+use crate::lanes::{ShownLane, copied_lanes};
 use crate::tables::{Tables, copied_tables};
 use arrayvec::ArrayVec;
 use mt_names::{
-    KeyspaceName, MAX_TABLES, Position, TableName, TypeSet, Value, WorkflowName, copied_value,
+    KeyspaceName, MAX_SHARDS, MAX_TABLES, TableName, TypeSet, Value, WorkflowName, copied_value,
 };
-use mt_stream::{Advanced, StreamState};
+use mt_stream::Advanced;
 use mt_workflow::Way;
-
-/// What is told of a stream. (Vitess: Show of MoveTables)
-#[derive(Clone, Copy, Debug, Eq, PartialEq)]
-pub struct ShownStream {
-    /// What it does.
-    pub state: StreamState,
-    /// The position up to which it has read its source's log.
-    pub position: Position,
-}
 
 /// What is told of a workflow. (Vitess: Show of MoveTables; the layout is this profile's own)
 #[derive(Debug, Drop, Eq, PartialEq)]
@@ -31,12 +23,8 @@ pub struct Shown {
     pub switched: TypeSet,
     /// The way that is open, if one is.
     pub way: Option<Way>,
-    /// Its forward stream.
-    pub forward: ShownStream,
-    /// Whether the copy has ended.
-    pub copied: bool,
-    /// Its back stream, if it has one.
-    pub back: Option<ShownStream>,
+    /// Its lanes, one for each shard of the target, in their order.
+    pub lanes: ArrayVec<ShownLane, MAX_SHARDS>,
 }
 
 /// What is told of a workflow, with its names and its tables lent: see `Shown`. (Vitess: Show of MoveTables)
@@ -54,12 +42,8 @@ pub struct ShownOf<'a> {
     pub switched: TypeSet,
     /// The way that is open, if one is.
     pub way: Option<Way>,
-    /// Its forward stream.
-    pub forward: ShownStream,
-    /// Whether the copy has ended.
-    pub copied: bool,
-    /// Its back stream, if it has one.
-    pub back: Option<ShownStream>,
+    /// Its lanes, one for each shard of the target, in their order.
+    pub lanes: ArrayVec<ShownLane, MAX_SHARDS>,
 }
 
 /// The answer to an event that is taken.
@@ -90,9 +74,7 @@ impl Shown {
             tables: copied_tables(self.tables.as_slice()),
             switched: self.switched,
             way: self.way,
-            forward: self.forward,
-            copied: self.copied,
-            back: self.back,
+            lanes: copied_lanes(self.lanes.as_slice()),
         }
     }
 
@@ -107,9 +89,7 @@ impl Shown {
             tables: Tables::new(self.tables.as_slice()),
             switched: self.switched,
             way: self.way,
-            forward: self.forward,
-            copied: self.copied,
-            back: self.back,
+            lanes: copied_lanes(self.lanes.as_slice()),
         }
     }
 }
@@ -130,9 +110,7 @@ impl ShownOf<'_> {
             tables,
             switched: self.switched,
             way: self.way,
-            forward: self.forward,
-            copied: self.copied,
-            back: self.back,
+            lanes: copied_lanes(self.lanes.as_slice()),
         }
     }
 }

@@ -10,9 +10,9 @@ use std::io::{ErrorKind, Write};
 /// How many bytes of output wait at most.
 pub const ROOM: usize = 8192;
 
-/// The longest line of output, in bytes: what is told of a workflow that moves 16 tables, with each name of 64 bytes and each
-/// number of 20 digits, and the line feed.
-pub const LONGEST_LINE: usize = 1410;
+/// The longest line of output, in bytes: what is told of a workflow that moves 16 tables to 8 shards, with each name of 64 bytes, each
+/// range of 33 and each number of 20 digits, and the line feed.
+pub const LONGEST_LINE: usize = 2416;
 
 /// Output that is still to be written.
 pub type Waiting = ArrayVec<u8, ROOM>;

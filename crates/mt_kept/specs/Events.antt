@@ -9,7 +9,7 @@ use Rattle.mt_kept.specs.declared.events.Asks.TheVariants as asks
 
 -- what is asked of a workflow that is there
 abbrev pub on_workflow : (workflow : List ℕ) → Asks → Event
-on_workflow workflow (asks.Advance stream max at) = event.Advance workflow stream at max
+on_workflow workflow (asks.Advance stream shard max at) = event.Advance workflow stream shard at max
 on_workflow workflow (asks.BeginSwitch types) = event.BeginSwitch workflow types
 on_workflow workflow (asks.BeginReverse types) = event.BeginReverse workflow types
 on_workflow workflow (asks.Step at) = event.Step workflow at
@@ -27,7 +27,7 @@ event_from (asked.Other all) = all.value
 
 -- an event on a workflow that is there, which is kept without memory
 abbrev pub is_in_place : Event → Bool
-is_in_place (event.Advance workflow stream at max) = true
+is_in_place (event.Advance workflow stream shard at max) = true
 is_in_place (event.BeginSwitch workflow types) = true
 is_in_place (event.BeginReverse workflow types) = true
 is_in_place (event.Step workflow at) = true

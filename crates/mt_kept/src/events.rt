@@ -16,6 +16,7 @@ use std::marker::Model;
 enum Asks {
     Advance {
         stream: Slot,
+        shard: u8,
         max: u16,
         at: Position,
     },
@@ -78,12 +79,14 @@ fn in_place(event: &Event) -> Option<Asked>
         Event::Advance {
             workflow,
             stream,
+            shard,
             at,
             max,
         } => on(
             workflow,
             Asks::Advance {
                 stream: *stream,
+                shard: *shard,
                 max: *max,
                 at: *at,
             },
@@ -143,9 +146,15 @@ impl Asks {
     {
         let workflow = workflow.copied();
         match self {
-            Asks::Advance { stream, max, at } => Event::Advance {
+            Asks::Advance {
+                stream,
+                shard,
+                max,
+                at,
+            } => Event::Advance {
                 workflow,
                 stream: *stream,
+                shard: *shard,
                 at: *at,
                 max: *max,
             },

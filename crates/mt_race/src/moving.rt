@@ -6,7 +6,7 @@ ghost use Rattle.mt_race.specs.Agreements.{corder};
 use crate::RaceFault;
 use arrayvec::ArrayVec;
 use mt_event::Event;
-use mt_names::{KeyspaceName, RuleKey, TableName, WorkflowName};
+use mt_names::{KeyspaceName, RuleKey, ShardList, TableName, WorkflowName};
 use mt_site::Site;
 use mt_watch::Asks;
 use mt_workflow::Slot;
@@ -53,8 +53,14 @@ fn events() -> [Event; 5] {
     let mut tables = ArrayVec::new_in(());
     tables.push(table());
     [
-        Event::AddKeyspace { keyspace: source() },
-        Event::AddKeyspace { keyspace: target() },
+        Event::AddKeyspace {
+            keyspace: source(),
+            shards: ShardList::unsharded(),
+        },
+        Event::AddKeyspace {
+            keyspace: target(),
+            shards: ShardList::unsharded(),
+        },
         Event::AddTable {
             keyspace: source(),
             table: table(),
@@ -68,6 +74,7 @@ fn events() -> [Event; 5] {
         Event::Advance {
             workflow: workflow(),
             stream: Slot::Forward,
+            shard: 0,
             at: 0,
             max: 100,
         },

@@ -1,12 +1,12 @@
 -- What is asked for at the place where a name leads is asked for through the name.
-use Rattle.std.proofs.Common.{◌≡◌, ℕ, List, Option, None, Some, Result, Ok, Err, refl, sym, ap, subst, ◌∙◌}
+use Rattle.std.proofs.Common.{◌≡◌, ℕ, nat_lt, Bool, true, false, List, length, Option, None, Some, Result, Ok, Err, refl, sym, ap, subst, ◌∙◌}
 use Rattle.mt_model.specs.declared.faults.TopologyFault.{TopologyFault}
 use Rattle.mt_model.specs.Topology.{TopologyState}
 use Rattle.mt_names.specs.declared.keys.RuleTarget.{RuleTarget}
 use Rattle.mt_plain.specs.Events.{Answer, StreamName}
 use Rattle.mt_workflow.specs.Workflows.{WorkflowState, slot_of}
 use Rattle.mt_stream.specs.Streams.{StreamValue}
-use Rattle.mt_site_state.specs.Workflows.{AdvancesAt, AdvancesStream, AdvancesWorkflow}
+use Rattle.mt_site_state.specs.Workflows.{AdvancesAt, AdvancesStream, AdvancesWorkflow, OrShardRefused}
 use Rattle.mt_site_state.specs.Core.{CoreState, workflow_at}
 use Rattle.mt_site_events.proofs.PurgeLemmas.{all-behind}
 use Rattle.mt_site.specs.Applies.{AdvancesAndPurges}
@@ -22,23 +22,28 @@ module _ {A : Type 0} (Stays : Type 0) (P : RuleTarget → A → Type 0) (led : 
   nowhere fault leads stays = subst (λ r. IsThrough r Stays P (Err fault)) (sym leads) (refl, stays)
 
 -- an advance leaves the topology
-advance_leaves : (old new : CoreState) (workflow : List ℕ) (name : StreamName) (at at_most : ℕ) (answer : Answer) → AdvancesWorkflow old workflow name at at_most answer new
-    → new.topology ≡ old.topology
-advance_leaves old new workflow name at at_most answer = of_workflow (workflow_at old.workflows workflow)
+advance_leaves : (old new : CoreState) (workflow : List ℕ) (name : StreamName) (shard at at_most : ℕ) (answer : Answer)
+    → AdvancesWorkflow old workflow name shard at at_most answer new → new.topology ≡ old.topology
+advance_leaves old new workflow name shard at at_most answer = of_workflow (workflow_at old.workflows workflow)
   where
     topology_of : CoreState → TopologyState
     topology_of core = core.topology
 
-    of_stream : (w : WorkflowState) (stream : Option StreamValue) → AdvancesStream stream old w name at at_most answer new → new.topology ≡ old.topology
+    of_stream : (w : WorkflowState) (stream : Option StreamValue) → AdvancesStream stream old w name shard at at_most answer new → new.topology ≡ old.topology
     of_stream w None is = ap topology_of is.1
     of_stream w (Some stream) (result, after, sink, advances, told, same) = ap topology_of same
 
-    of_workflow : (w : Option WorkflowState) → AdvancesAt w old name at at_most answer new → new.topology ≡ old.topology
+    of_shard : (w : WorkflowState) (has_shard : Bool) → OrShardRefused has_shard old answer new (AdvancesStream (slot_of w shard name) old w name shard at at_most answer new)
+        → new.topology ≡ old.topology
+    of_shard w true is = of_stream w (slot_of w shard name) is
+    of_shard w false is = ap topology_of is.1
+
+    of_workflow : (w : Option WorkflowState) → AdvancesAt w old name shard at at_most answer new → new.topology ≡ old.topology
     of_workflow None is = ap topology_of is.1
-    of_workflow (Some w) is = of_stream w (slot_of w 0 name) is
+    of_workflow (Some w) is = of_shard w (nat_lt shard (length w.lanes)) is
 
 -- and so does the purge behind it
-pub advance_leaves_topology : (old new : CoreState) (workflow : List ℕ) (name : StreamName) (at at_most : ℕ) (answer : Answer) → AdvancesAndPurges old workflow name at at_most answer new
-    → new.topology ≡ old.topology
-advance_leaves_topology old new workflow name at at_most answer (made, advances, purges) =
-    (all-behind made new answer purges).topology ∙ advance_leaves old made workflow name at at_most answer advances
+pub advance_leaves_topology : (old new : CoreState) (workflow : List ℕ) (name : StreamName) (shard at at_most : ℕ) (answer : Answer)
+    → AdvancesAndPurges old workflow name shard at at_most answer new → new.topology ≡ old.topology
+advance_leaves_topology old new workflow name shard at at_most answer (made, advances, purges) =
+    (all-behind made new answer purges).topology ∙ advance_leaves old made workflow name shard at at_most answer advances

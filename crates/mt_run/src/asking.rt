@@ -18,8 +18,8 @@ use crate::cached::CachedSite;
 use mt_event::{Event, Reason, ShownOf};
 use mt_io::{LONGEST_LINE, ROOM, Waiting};
 use mt_names::{
-    KeyspaceName, NameFault, Position, RuleKey, RuleTarget, TableName, TypeSet, WorkflowName,
-    table_list,
+    KeyspaceName, NameFault, Position, RuleKey, RuleTarget, ShardList, TableName, TypeSet,
+    WorkflowName, table_list,
 };
 use mt_script::{
     CreateWords, QualifiedName, RowAsked, WorkflowAsked, put_advanced, put_answer, put_created,
@@ -63,7 +63,8 @@ pub fn add_keyspace<A: Asks>(
     ensures named { IsNamed (A.scopes cached.old.site.watchers) cached.old.site.core (language.keyspace name.now) waiting.old.items waiting.new.items result cached.new.site.core }
 {
     let keyspace = KeyspaceName::parse(name)?;
-    command(cached, Command::AddKeyspace(&keyspace), waiting);
+    let shards = ShardList::unsharded();
+    command(cached, Command::AddKeyspace(&keyspace, &shards), waiting);
     Ok(())
 }
 
@@ -209,7 +210,7 @@ fn advance<A: Asks>(
     ensures watchers { cached.new.site.watchers ≡ cached.old.site.watchers }
     ensures answered { (scopes : List Scope) → IsAnswered scopes cached.old.site.core (event (plain.advance workflow.now (stream_name stream) 0 at max)) waiting.old.items waiting.new.items cached.new.site.core }
 {
-    tell_advanced(&cached.site.advance(workflow, stream, at, max), waiting);
+    tell_advanced(&cached.site.advance(workflow, stream, 0, at, max), waiting);
 }
 
 /// Tells what is told of a workflow, or why it is refused.

@@ -1,6 +1,7 @@
 mod AllLemmas
 mod BlankLemmas
 pub mod CutLemmas
+mod LaneLemmas
 pub mod LineLemmas
 pub mod ManyWordsLemmas
 pub mod NumberLemmas

@@ -38,7 +38,3 @@ pub spaced-behind : (text before start word written more : List ℕ) → text �
 spaced-behind text before start word written more is front same =
     is ∙ ap (λ t. t ++ more) front ∙ append_assoc (start ++ written) (32 ∷ []) more ∙ append_assoc start written (32 ∷ more)
     ∙ ap (λ t. start ++ t) (sym (append_assoc written (32 ∷ []) more)) ∙ ap (λ w. start ++ spaced w more) same
-
--- two texts before a third are one
-pub spaced-one : (first next more : List ℕ) → spaced first (spaced next more) ≡ spaced (spaced first next) more
-spaced-one first next more = sym (append_assoc (first ++ 32 ∷ []) (next ++ 32 ∷ []) more) ∙ ap (λ t. t ++ more) (sym (append_assoc (first ++ 32 ∷ []) next (32 ∷ [])))

@@ -1,20 +1,21 @@
 //! What is told of a workflow.
 ghost use Rattle.std.specs.Prelude.{◌≡◌, ◌+◌, ◌<◌, ◌≤◌, ◌++◌, ◌∷◌, [], length, codes, if◌then◌else◌, Some, option_map};
-ghost use Rattle.std.specs.List.{join_with_byte};
+ghost use Rattle.std.specs.List.{flat_map, join_with_byte};
+ghost use Rattle.mt_names.specs.Shards.{most_shards, range_text};
 ghost use Rattle.mt_names.specs.Tables.{most_tables, table_list_text};
 ghost use Rattle.mt_names.specs.Types.{comma};
 ghost use Rattle.mt_plain.specs.Numbers.{number_text};
-ghost use Rattle.mt_plain.specs.Output.{back_text, line_feed, shown_text, slot_text, spaced, state_text, way_text};
+ghost use Rattle.mt_plain.specs.Output.{back_text, backs_text, copied_text, forward_text, forwards_text, lane_back_texts, line_feed, none_or, shown_text, slot_text, spaced, state_text, way_text};
 ghost use Rattle.mt_stream.specs.Streams.{state_from};
 ghost use Rattle.mt_workflow.specs.Workflows.{way_from};
-ghost use Rattle.mt_event.specs.Events.{lent_shown, shown_stream_from};
-ghost use Rattle.mt_script.specs.Texts.{streams_text, traffic_text};
+ghost use Rattle.mt_event.specs.Events.{lane_from, lanes_from, lent_shown, shown_stream_from};
+ghost use Rattle.mt_script.specs.Texts.{back_behind, forward_behind, streams_text, traffic_text};
 
 use arrayvec::ArrayVec;
 use itoa::Buffer;
-use mt_event::{ShownOf, ShownStream};
+use mt_event::{ShownLane, ShownOf, ShownStream};
 use mt_io::LONGEST_LINE;
-use mt_names::TableName;
+use mt_names::{KeyRange, TableName};
 use mt_stream::StreamState;
 use mt_workflow::Way;
 
@@ -174,30 +175,126 @@ fn put_table(text: &mut LineText, table: &TableName)
 
 /// Whether the copy has ended.
 fn copied_text(is_copied: bool) -> &'static [u8]
-    ensures text { result.now ≡ if is_copied then codes "copied" else codes "copying" }
+    ensures text { result.now ≡ copied_text is_copied }
     ensures short { length result.now ≤ 7 }
 {
     if is_copied { b"copied" } else { b"copying" }
 }
 
+/// Adds the forward stream of a shard, and whether its copy has ended.
+fn put_forward(text: &mut LineText, lane: &ShownLane)
+    requires { length text.old.items + 36 ≤ LONGEST_LINE }
+    ensures text { text.new.items ≡ text.old.items ++ forward_text (lane_from lane.now) }
+    ensures short { length text.new.items ≤ length text.old.items + 36 }
+{
+    put_word(text, &stream_text(lane.forward));
+    put(text, copied_text(lane.copied));
+}
+
+/// Adds a space and the range of a shard, with a space behind it.
+fn put_range(text: &mut LineText, range: &KeyRange)
+    requires { length text.old.items + 35 ≤ LONGEST_LINE }
+    ensures text { text.new.items ≡ text.old.items ++ 32 ∷ range_text range.now ++ 32 ∷ [] }
+    ensures short { length text.new.items ≤ length text.old.items + 35 }
+{
+    let range = range.text();
+    text.push(b' ');
+    put_word(text, range.as_str().as_bytes());
+}
+
+/// Adds the forward streams of shards, each behind its range.
+fn put_each_forward(text: &mut LineText, lanes: &[ShownLane])
+    requires few { length lanes.now ≤ most_shards }
+    requires room { length text.old.items + 568 ≤ LONGEST_LINE }
+    ensures text { text.new.items ≡ text.old.items ++ flat_map forward_behind lanes.now }
+    ensures short { length text.new.items ≤ length text.old.items + 568 }
+{
+    for lane in lanes {
+        put_range(text, &lane.range);
+        put_forward(text, lane);
+    }
+}
+
+/// Adds a space and the forward streams: of one shard as it is, of several each behind its range.
+fn put_forwards(text: &mut LineText, lanes: &[ShownLane])
+    requires few { length lanes.now ≤ most_shards }
+    requires room { length text.old.items + 568 ≤ LONGEST_LINE }
+    ensures text { text.new.items ≡ text.old.items ++ 32 ∷ forwards_text (lanes_from lanes.now) }
+    ensures short { length text.new.items ≤ length text.old.items + 568 }
+{
+    match lanes {
+        [] => text.push(b' '),
+        [lane] => {
+            text.push(b' ');
+            put_forward(text, lane);
+        }
+        lanes => put_each_forward(text, lanes),
+    }
+}
+
+/// Adds the back stream of a shard behind its range, if there is one.
+fn put_back(text: &mut LineText, lane: &ShownLane)
+    requires { length text.old.items + 63 ≤ LONGEST_LINE }
+    ensures text { text.new.items ≡ text.old.items ++ back_behind lane.now }
+    ensures short { length text.new.items ≤ length text.old.items + 63 }
+{
+    if let Some(stream) = lane.back {
+        put_range(text, &lane.range);
+        put(text, &stream_text(stream));
+    }
+}
+
+/// Adds the back streams of shards, each behind its range, or that there is none.
+fn put_each_back(text: &mut LineText, lanes: &[ShownLane])
+    requires few { length lanes.now ≤ most_shards }
+    requires room { length text.old.items + 504 ≤ LONGEST_LINE }
+    ensures text { text.new.items ≡ text.old.items ++ 32 ∷ none_or (flat_map lane_back_texts (lanes_from lanes.now)) }
+    ensures short { length text.new.items ≤ length text.old.items + 504 }
+{
+    let start = text.len();
+    for lane in lanes {
+        put_back(text, lane);
+    }
+    if text.len() == start {
+        put(text, b" none");
+    }
+}
+
+/// Adds a space and the back streams: of one shard as it is, of several each behind its range.
+fn put_backs(text: &mut LineText, lanes: &[ShownLane])
+    requires few { length lanes.now ≤ most_shards }
+    requires room { length text.old.items + 504 ≤ LONGEST_LINE }
+    ensures text { text.new.items ≡ text.old.items ++ 32 ∷ backs_text (lanes_from lanes.now) }
+    ensures short { length text.new.items ≤ length text.old.items + 504 }
+{
+    match lanes {
+        [] => put(text, b" none"),
+        [lane] => {
+            text.push(b' ');
+            put(text, &back_text(lane.back));
+        }
+        lanes => put_each_back(text, lanes),
+    }
+}
+
 /// Adds the streams of a workflow.
 fn put_streams(text: &mut LineText, shown: &ShownOf<'_>)
-    requires { length text.old.items + 78 ≤ LONGEST_LINE }
+    requires { length text.old.items + 1084 ≤ LONGEST_LINE }
     ensures text { text.new.items ≡ text.old.items ++ streams_text (lent_shown shown.now) }
-    ensures short { length text.new.items ≤ length text.old.items + 78 }
+    ensures short { length text.new.items ≤ length text.old.items + 1084 }
 {
-    put_word(text, b"forward");
-    put_word(text, &stream_text(shown.forward));
-    put_word(text, copied_text(shown.copied));
-    put_word(text, b"back");
-    put(text, &back_text(shown.back));
+    let lanes = shown.lanes.as_slice();
+    put(text, b"forward");
+    put_forwards(text, lanes);
+    put(text, b" back");
+    put_backs(text, lanes);
 }
 
 /// Adds the types whose traffic is switched, the open way, and the streams.
 fn put_traffic(text: &mut LineText, shown: &ShownOf<'_>)
-    requires { length text.old.items + 174 ≤ LONGEST_LINE }
+    requires { length text.old.items + 1180 ≤ LONGEST_LINE }
     ensures text { text.new.items ≡ text.old.items ++ traffic_text (lent_shown shown.now) }
-    ensures short { length text.new.items ≤ length text.old.items + 174 }
+    ensures short { length text.new.items ≤ length text.old.items + 1180 }
 {
     let types = shown.switched.text();
     put_word(text, b"switched");

@@ -1,5 +1,5 @@
 -- When a keyspace or a table is refused, and a table that is taken back.
-use Rattle.std.proofs.Common.{◌≡◌, ◌≢◌, ℕ, Bool, true, false, List, [], ◌∷◌, ◌++◌, length, Option, None, Some, is_some, unwrap_or, refl, sym, ap, ◌∙◌}
+use Rattle.std.proofs.Common.{◌≡◌, ◌≢◌, ℕ, Bool, true, false, List, [], ◌∷◌, ◌++◌, length, Option, None, Some, Err, is_some, unwrap_or, refl, sym, ap, ◌∙◌}
 use Rattle.std.proofs.lemmas.Bool.{eqb-true}
 use Rattle.std.proofs.lemmas.Map.Steps.{set_value_same}
 use Rattle.std.specs.Map.{lookup, set_value}
@@ -9,14 +9,19 @@ use Rattle.mt_names.specs.Names.{same_text}
 use Rattle.mt_names.proofs.EntryLemmas.{is_some-set_value, lookup-push_here, none_from, remove_entry-push, set_value-back, set_value-twice}
 use Rattle.mt_names.proofs.SameLemmas.{same_text_decides}
 use Rattle.mt_model.specs.declared.entries.EntryKey.TheVariants as about
+use Rattle.mt_model.specs.declared.faults.TopologyFault.{TopologyFault}
 use Rattle.mt_model.specs.declared.faults.TopologyFault.TheVariants as topology
 use Rattle.mt_model.specs.Limits.{most_keyspaces}
 use Rattle.mt_model.specs.Topology.{KeyspaceState, Keyspaces, Marks, TopologyState, has_place, is_marked, is_present, keyspace_at, with_keyspace_state, with_mark_place, with_new_table, with_table, with_table_mark, without_mark_place, without_table_place}
 use Rattle.mt_model.proofs.TopologyLemmas.{keyspace_at-changed_here, with_keyspace_state-found, with_mark_place-there}
 use Rattle.mt_topology.specs.Edits.{add_keyspace_refusal, add_table_refusal}
-use Rattle.mt_plain.specs.Events.{exists, full}
+use Rattle.mt_event.specs.Reasons.{reason_from}
+use Rattle.mt_keyspace.specs.Edits.{Edits}
+use Rattle.mt_plain.specs.Events.{exists, full, refused}
 use Rattle.mt_site_state.specs.ByHand.{refusal_by_topology}
-use Rattle.mt_site_state.specs.Core.{Primaries, primary_at}
+use Rattle.mt_primaries.specs.Primaries.{Primaries, has_primaries}
+use Rattle.mt_site_state.specs.Core.{CoreState, Does}
+use Rattle.mt_site.specs.ByHand as code
 use Rattle.mt_site.specs.ByHand.{AreTables, without_table}
 
 -- ---- keyspaces
@@ -33,6 +38,21 @@ keyspace-free keyspaces name is few = rw is (by (length keyspaces == most_keyspa
     by : (t : Bool) → (length keyspaces == most_keyspaces) ≡ t → option_map refusal_by_topology (if t then Some topology.Full else None) ≡ None
     by true e = absurd (few (eqb-true (length keyspaces) most_keyspaces e))
     by false e = refl
+
+-- a topology that is refused a keyspace is as it was, and the core tells the refusal
+pub keyspace-refused : (old new : TopologyState) (refusal : Option TopologyFault) (made : TopologyState) (fault : TopologyFault) → Edits old refusal true made (Err fault) new
+    → (core later goal : CoreState) → later ≡ core → Does core (option_map refusal_by_topology refusal) true goal (refused (reason_from (code.refusal_by_topology fault))) later
+keyspace-refused old new refusal made topology.Memory edits core later goal same = (ap (option_map refusal_by_topology) edits.0, refl, same)
+keyspace-refused old new refusal made topology.NoKeyspace edits core later goal same = (ap (option_map refusal_by_topology) edits.0, same)
+keyspace-refused old new refusal made topology.NoTable edits core later goal same = (ap (option_map refusal_by_topology) edits.0, same)
+keyspace-refused old new refusal made topology.Ambiguous edits core later goal same = (ap (option_map refusal_by_topology) edits.0, same)
+keyspace-refused old new refusal made topology.Exists edits core later goal same = (ap (option_map refusal_by_topology) edits.0, same)
+keyspace-refused old new refusal made topology.Full edits core later goal same = (ap (option_map refusal_by_topology) edits.0, same)
+keyspace-refused old new refusal made topology.BadDump edits core later goal same = (ap (option_map refusal_by_topology) edits.0, same)
+
+pub keyspace-left : (old new : TopologyState) (refusal : Option TopologyFault) (made : TopologyState) (fault : TopologyFault) → Edits old refusal true made (Err fault) new → new ≡ old
+keyspace-left old new refusal made topology.Memory edits = edits.2
+keyspace-left old new refusal made other edits = edits.1
 
 -- ---- a table that may be added
 
@@ -124,5 +144,5 @@ module _ (t : TopologyState) (primaries : Primaries) (keyspace table : List ℕ)
       ap (λ (o : Option KeyspaceState). option_map_or (λ state. is_some (lookup (same_text table) state.tables)) o false) (keyspace_at-changed_here (with_new_table table) t.keyspaces keyspace found.0 found.1)
       ∙ is_some-set_value same_text (with_mark_place found.0.tables table) table table true ∙ with_mark_place-there found.0.tables table
 
-  pub has-primary : is_some (primary_at primaries keyspace) ≡ true
+  pub has-primary : has_primaries primaries keyspace ≡ true
   has-primary = are.there keyspace ∙ (table-free t.keyspaces keyspace table free).0

@@ -8,6 +8,7 @@ pub mod OwedLemmas
 pub mod PlacedLemmas
 pub mod PrimaryLemmas
 pub mod RunLemmas
+pub mod ShardLemmas
 pub mod ShowLemmas
 pub mod SiteLemmas
 pub mod StoodLemmas

@@ -1,27 +1,25 @@
--- What is written at the primary that stands at a place is written at that of its keyspace.
-use Rattle.std.proofs.Common.{◌≡◌, ◌<◌, ℕ, zero, suc, List, [], ◌∷◌, get_or, length, slice_get, position, Option, None, Some, is_some, Result, arith, cond, Bool, true, false, refl, sym, ap, subst, ◌∙◌}
-use Rattle.std.proofs.lemmas.List.Quantifiers.{position-Some}
-use Rattle.std.specs.Prelude.{MatchOption}
-use Rattle.std.specs.List.{IsDistinct}
-use Rattle.std.specs.Map.{keys_of, set_value, values_of}
-use Rattle.indexmap.specs.IndexMap.{set_value_at}
+-- What is written at the primary of a key's shard, of the keyspace at a place, is written at that of the keyspace.
+use Rattle.std.proofs.Common.{◌≡◌, ◌<◌, ℕ, List, Option, None, Some, Result, cond, Bool, true, false, refl, sym, ap, subst, ◌∙◌}
 use Rattle.mt_event.specs.Reasons.{reason_from}
 use Rattle.mt_model.specs.declared.faults.PrimaryFault.{PrimaryFault}
 use Rattle.mt_model.specs.declared.faults.PrimaryFault.TheVariants as fault
 use Rattle.mt_model.specs.declared.rows.Op.{Op}
+use Rattle.mt_model.specs.Rows.{Row, op_key}
 use Rattle.mt_model.specs.Topology.{TopologyState}
-use Rattle.mt_names.proofs.EntryLemmas.{none_from, set_value-twice}
-use Rattle.mt_names.proofs.SameLemmas.{same_text_decides}
-use Rattle.mt_names.specs.Names.{same_text}
+use Rattle.mt_names.specs.declared.types.TabletType.{TabletType}
+use Rattle.mt_names.specs.Shards.{shard_of}
 use Rattle.mt_plain.specs.Events.{Answer, done, refused}
-use Rattle.mt_primary.proofs.PlacedLemmas.{lookup-at, set_value-at}
+use Rattle.mt_primaries.proofs.PrimaryLemmas.{cuts-with_primary, found_shards, with_primary-here, with_primary-twice}
+use Rattle.mt_primaries.specs.Places.{IsAt}
+use Rattle.mt_primaries.specs.Primaries.{Primaries, ShardsState, count_of, place_of_key, primary_in, primary_of, shards_at, shards_of, with_primary}
 use Rattle.mt_primary.specs.Primary.{PrimaryState}
+use Rattle.mt_primary.specs.Reads.{read_row}
 use Rattle.mt_primary.specs.Writes.{Writes}
 use Rattle.mt_site_rows.specs.Answers.{answer_by, refusal_by}
-use Rattle.mt_site_state.specs.ByHand.{WritesAt, WritesRow}
-use Rattle.mt_site_state.specs.Core.{CoreState, Primaries, Workflows, primary_at, primary_of}
+use Rattle.mt_site_state.specs.ByHand.{WritesAt, WritesRow, answer_by_read, read_at}
+use Rattle.mt_site_state.specs.Core.{CoreState, Workflows}
 use Rattle.mt_site_state.specs.Purges.{PurgesOne, has_whole_segments, with_purge_of, without_unneeded}
-use Rattle.mt_site_events.proofs.MoveCoreLemmas.{primary-here}
+use Rattle.mt_site_workflows.proofs.PrimaryLemmas.{there-or-not}
 use Rattle.mt_site.specs.ByHand.{refusal_by_primary}
 
 -- a refusal of a primary, as the core tells it
@@ -35,55 +33,47 @@ refused_there fault.TooLong = refl
 refused_there fault.LogFull = refl
 refused_there fault.Purged = refl
 
--- the key at a place, inside of the list
-at_place : (ks : List (List ℕ)) (i : ℕ) (k : List ℕ) → i < length ks → k ≡ get_or ks i k → slice_get ks i ≡ Some k
-at_place [] i k inside is = absurd (omega (arith, inside))
-at_place (x ∷ ks) zero k inside is = ap Some (sym is)
-at_place (x ∷ ks) (suc i) k inside is = at_place ks i k (omega (arith, inside)) is
+-- the keyspace at a place has its shards
+pub shards_there : (ps : Primaries) (k : List ℕ) (place : ℕ) → IsAt ps k place → shards_at ps k ≡ Some (shards_of ps k)
+shards_there ps k place at = found_shards ps k (sym (there-or-not ps k (Some place) at))
 
--- what a look-up by a key's place finds
-pub key_place : (keyspace : List ℕ) (ps : Primaries) (r : Option ℕ) → r ≡ position (same_text keyspace) (keys_of ps) → is_some r ≡ is_some (primary_at ps keyspace)
-    → MatchOption r (primary_at ps keyspace ≡ None) (λ i. slice_get (keys_of ps) i ≡ Some keyspace)
-key_place keyspace ps None is found = none_from (primary_at ps keyspace) (sym found)
-key_place keyspace ps (Some i) is found =
-    let first = position-Some (same_text keyspace) (keys_of ps) i keyspace (sym is) in
-    at_place (keys_of ps) i keyspace first.0 ((same_text_decides keyspace (get_or (keys_of ps) i keyspace)).0 first.1)
+-- a read at the primary of a key's shard, at the place of the keyspace
+pub read_there : (ps : Primaries) (k table : List ℕ) (key : ℕ) (type : TabletType) (place : ℕ) → IsAt ps k place → (r : Result Row PrimaryFault) → r ≡ read_row (primary_of ps k (place_of_key (shards_of ps k) key)) table key type
+    → answer_by_read r ≡ read_at (shards_at ps k) table key type
+read_there ps k table key type place at r is = ap answer_by_read is ∙ sym (ap (λ o. read_at o table key type) (shards_there ps k place at))
 
 -- a core, of its parts
 abbrev pub core_of : TopologyState → Primaries → Workflows → CoreState
 core_of t ps ws = record { topology = t; primaries = ps; workflows = ws }
 
-pub written_at : (t : TopologyState) (ws : Workflows) (ps : Primaries) (i : ℕ) (keyspace table : List ℕ) (op : Op) (before after : PrimaryState) (result : Result ℕ PrimaryFault) (answer : Answer)
-    → IsDistinct same_text (keys_of ps) → slice_get (keys_of ps) i ≡ Some keyspace → slice_get (values_of ps) i ≡ Some before
-    → Writes before table op result after → answer ≡ answer_by result
-    → WritesRow (core_of t ps ws) keyspace table op answer (core_of t (set_value_at ps i after) ws)
-written_at t ws ps i keyspace table op before after result answer distinct at there writes told =
-    let with_primaries : Primaries → CoreState = λ l. core_of t l ws in
-    subst (λ o. WritesAt o (core_of t ps ws) keyspace table op answer (core_of t (set_value_at ps i after) ws)) (sym (lookup-at same_text same_text_decides ps i keyspace before distinct at there))
-    (result, after, writes, told, ap with_primaries (set_value-at same_text same_text_decides ps i keyspace after distinct at))
+module _ (t : TopologyState) (ws : Workflows) (ps : Primaries) (k table : List ℕ) (op : Op) (n : ℕ) (before after : PrimaryState) (key : n ≡ place_of_key (shards_of ps k) (op_key op)) where
+  pub written_there : (place : ℕ) → IsAt ps k place → before ≡ primary_of ps k n → (result : Result ℕ PrimaryFault) (answer : Answer) → Writes before table op result after → answer ≡ answer_by result
+      → WritesRow (core_of t ps ws) k table op answer (core_of t (with_primary ps k n after) ws)
+  written_there place at there result answer writes told =
+      let found : before ≡ primary_in (shards_of ps k) (place_of_key (shards_of ps k) (op_key op)) = there ∙ ap (primary_in (shards_of ps k)) key in
+      subst (λ o. WritesAt o (core_of t ps ws) k table op answer (core_of t (with_primary ps k n after) ws)) (sym (shards_there ps k place at))
+      (result, after, subst (λ p. Writes p table op result after) found writes, told, ap (λ m. core_of t (with_primary ps k m after) ws) key)
 
--- the log that is written is purged as a segment gets whole
-pub purged_at : (t : TopologyState) (ws : Workflows) (ps : Primaries) (i : ℕ) (keyspace : List ℕ) (before after last : PrimaryState)
-    → IsDistinct same_text (keys_of ps) → slice_get (keys_of ps) i ≡ Some keyspace → slice_get (values_of ps) i ≡ Some before
-    → last ≡ cond (has_whole_segments after) (without_unneeded ws keyspace after) after
-    → PurgesOne keyspace done (core_of t (set_value_at ps i after) ws) (core_of t (set_value_at ps i last) ws)
-purged_at t ws ps i keyspace before after last distinct at there is =
-    ap (λ x. core_of t (set_value_at ps i x) ws) is ∙ by (has_whole_segments after) ∙ ap (λ b. cond b (with_purge_of keyspace (core_of t (set_value_at ps i after) ws)) (core_of t (set_value_at ps i after) ws)) (ap has_whole_segments (sym now))
-  where
-    set : (x : PrimaryState) → set_value_at ps i x ≡ set_value (same_text keyspace) ps x
-    set x = set_value-at same_text same_text_decides ps i keyspace x distinct at
+  -- the log that is written is purged as a segment gets whole
+  pub purged_there : n < count_of ps k → (last : PrimaryState) → last ≡ cond (has_whole_segments after) (without_unneeded ws k n after) after
+      → PurgesOne k (place_of_key (shards_of (with_primary ps k n after) k) (op_key op)) done (core_of t (with_primary ps k n after) ws) (core_of t (with_primary ps k n last) ws)
+  purged_there below last is =
+      subst (λ m. PurgesOne k m done made (core_of t (with_primary ps k n last) ws)) (key ∙ ap (λ cuts. shard_of cuts (op_key op)) (sym (cuts-with_primary ps k n after k)))
+      (ap (λ x. core_of t (with_primary ps k n x) ws) is ∙ by (has_whole_segments after) ∙ ap (λ b. cond b (with_purge_of k n made) made) (ap has_whole_segments (sym now)))
+    where
+      made : CoreState
+      made = core_of t (with_primary ps k n after) ws
 
-    now : primary_of (set_value_at ps i after) keyspace ≡ after
-    now = ap (λ l. primary_of l keyspace) (set after) ∙ primary-here ps keyspace before after (lookup-at same_text same_text_decides ps i keyspace before distinct at there)
+      now : primary_of (with_primary ps k n after) k n ≡ after
+      now = with_primary-here ps k n after below
 
-    by : (b : Bool) → core_of t (set_value_at ps i (cond b (without_unneeded ws keyspace after) after)) ws ≡ cond b (with_purge_of keyspace (core_of t (set_value_at ps i after) ws)) (core_of t (set_value_at ps i after) ws)
-    by true =
-        let last = without_unneeded ws keyspace after in
-        ap (λ l. core_of t l ws) (set last ∙ sym (set_value-twice (same_text keyspace) ps after last) ∙ ap (λ l. set_value (same_text keyspace) l last) (sym (set after))
-        ∙ ap (λ p. set_value (same_text keyspace) (set_value_at ps i after) (without_unneeded ws keyspace p)) (sym now))
-    by false = refl
+      by : (b : Bool) → core_of t (with_primary ps k n (cond b (without_unneeded ws k n after) after)) ws ≡ cond b (with_purge_of k n made) made
+      by true =
+          let last = without_unneeded ws k n after in
+          ap (λ l. core_of t l ws) (sym (with_primary-twice ps k n after last) ∙ ap (λ p. with_primary (with_primary ps k n after) k n (without_unneeded ws k n p)) (sym now))
+      by false = refl
 
 -- a write leaves the topology
-pub row_leaves_topology : (old new : CoreState) (keyspace table : List ℕ) (op : Op) (answer : Answer) (o : Option PrimaryState) → WritesAt o old keyspace table op answer new → new.topology ≡ old.topology
+pub row_leaves_topology : (old new : CoreState) (keyspace table : List ℕ) (op : Op) (answer : Answer) (o : Option ShardsState) → WritesAt o old keyspace table op answer new → new.topology ≡ old.topology
 row_leaves_topology old new keyspace table op answer None is = let topology_of : CoreState → TopologyState = λ core. core.topology in ap topology_of is.1
-row_leaves_topology old new keyspace table op answer (Some before) (result, after, writes, told, made) = let topology_of : CoreState → TopologyState = λ core. core.topology in ap topology_of made
+row_leaves_topology old new keyspace table op answer (Some shards) (result, after, writes, told, made) = let topology_of : CoreState → TopologyState = λ core. core.topology in ap topology_of made

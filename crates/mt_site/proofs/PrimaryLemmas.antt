@@ -1,88 +1,79 @@
--- Primaries that take each other's places.
-use Rattle.std.proofs.Common.{◌≡◌, ◌≢◌, ℕ, Bool, true, false, cond, subst, List, [], ◌∷◌, ◌++◌, Option, None, Some, Result, Ok, Err, is_some, slice_get, unwrap_or, refl, sym, ap, ◌∙◌}
-use Rattle.std.proofs.lemmas.Bool.{true≢false}
-use Rattle.std.proofs.lemmas.Map.Steps.{set_value_same}
-use Rattle.std.specs.List.{IsDistinct}
-use Rattle.std.specs.Map.{keys_of, set_value, values_of}
-use Rattle.std.specs.Prelude.{⊤}
-use Rattle.std.specs.Result.{is_err}
-use Rattle.indexmap.proofs.CallerLemmas.{insert_entry-new}
-use Rattle.indexmap.specs.IndexMap.{IndexMap, insert_entry}
+-- All primaries, and those of a keyspace as a table is made.
+use Rattle.std.proofs.Common.{◌≡◌, ◌+◌, ◌-◌, ◌<◌, ⊎_elim, ℕ, suc, Bool, true, false, List, [], ◌∷◌, ◌++◌, length, map, take, Some, Result, Ok, Err, refl, sym, ap, subst, ◌∙◌, arith}
+use Rattle.std.proofs.lemmas.Bool.{cases_lt, true≢false}
+use Rattle.std.proofs.Math.Seq.{take-append_seam}
+use Rattle.std.proofs.lemmas.List.{length_push}
+use Rattle.std.specs.Prelude.{⊤, ◌||◌, MatchResult}
+use Rattle.std.specs.Result.{OnErr, OnOk, is_err}
 use Rattle.mt_names.specs.Names.{same_text}
-use Rattle.mt_names.proofs.EntryLemmas.{lookup-set_value_elsewhere, set_value-twice}
 use Rattle.mt_names.proofs.SameLemmas.{same_text_decides}
 use Rattle.mt_model.specs.declared.faults.PrimaryFault.{PrimaryFault}
-use Rattle.mt_primary.proofs.PlacedLemmas.{lookup-at}
-use Rattle.mt_primary.specs.Primary.{IsPrimary, PrimaryState, empty_primary}
-use Rattle.mt_primary.specs.Writes.{Creates, with_new_table}
-use Rattle.mt_site_state.specs.Core.{Primaries, primary_at, primary_of, with_primary}
-use Rattle.mt_site_workflows.proofs.MakeLemmas.{found-is}
-use Rattle.mt_site_workflows.proofs.PrimaryLemmas.{still-at}
-use Rattle.mt_site_workflows.specs.Places.{IsAt}
+use Rattle.mt_plain.specs.Plain.{among}
+use Rattle.mt_primaries.proofs.PrimaryLemmas.{primary_past, there_from_count, with_shards-same}
+use Rattle.mt_primaries.specs.Places.{IsAt}
+use Rattle.mt_primaries.specs.Primaries.{Primaries, ShardsState, count_of, has_primaries, primary_of, shards_of, with_shards}
+use Rattle.mt_primary.specs.Primary.{IsPrimary, PrimaryState, empty_primary, has_table}
+use Rattle.mt_primary.specs.Writes.{with_new_table, without_table}
+use Rattle.mt_site_rows.proofs.BridgeLemmas.{made_and_dropped_in_order}
 use Rattle.mt_site.specs.ByHand.{CreatesTable}
 
--- a primary that becomes what a change makes of it
-pub changed-is : (old new : Primaries) (keyspace : List ℕ) (change : PrimaryState → PrimaryState) (before after : PrimaryState) → primary_at old keyspace ≡ Some before
-    → new ≡ set_value (same_text keyspace) old after → after ≡ change before → new ≡ with_primary old keyspace change
-changed-is old new keyspace change before after found is made =
-    is ∙ ap (set_value (same_text keyspace) old) (made ∙ ap change (sym (found-is old keyspace before found)))
+-- ---- what is true of every primary
 
-pub table_created : (old new : Primaries) (keyspace table : List ℕ) (before after : PrimaryState) (r : Result ⊤ PrimaryFault) → primary_at old keyspace ≡ Some before
-    → new ≡ set_value (same_text keyspace) old after → Creates before table r after → CreatesTable old keyspace table r new
-table_created old new keyspace table before after (Ok done) found is creates = changed-is old new keyspace (λ primary. with_new_table primary table) before after found is creates
-table_created old new keyspace table before after (Err fault) found is creates =
-    is ∙ ap (set_value (same_text keyspace) old) creates.1 ∙ set_value_same (same_text keyspace) old before found
-
--- the new primary goes last
-pub primary_pushed : {S : Type 0} (m : IndexMap (List ℕ) PrimaryState S) (primaries : Primaries) (name copy : List ℕ) (state : PrimaryState) → m.entries ≡ primaries → copy ≡ name → state ≡ empty_primary → is_some (primary_at primaries name) ≡ false
-    → insert_entry same_text m.entries copy state ≡ primaries ++ (name, empty_primary) ∷ []
-primary_pushed m primaries name copy state kept copied new absent =
-    ap (λ n. insert_entry same_text m.entries n state) copied ∙ ap (insert_entry same_text m.entries name) new
-    ∙ insert_entry-new same_text m name empty_primary (by (primary_at m.entries name) (ap (λ es. is_some (primary_at es name)) kept ∙ absent))
-    ∙ ap (λ es. es ++ (name, empty_primary) ∷ []) kept
+-- a keyspace that is there stands at a place
+stands_somewhere : (ps : Primaries) (k : List ℕ) → has_primaries ps k ≡ true → (place : ℕ) × IsAt ps k place × (place < length ps)
+stands_somewhere [] k there = absurd (true≢false (sym there))
+stands_somewhere (e ∷ es) k there = by (λ rest. stands_somewhere es k rest) (same_text k e.0) refl there
   where
-    by : (r : Option PrimaryState) → is_some r ≡ false → r ≡ None
-    by None e = refl
-    by (Some found) e = absurd (true≢false e)
+    by : (has_primaries es k ≡ true → (place : ℕ) × IsAt es k place × (place < length es)) → (t : Bool) → same_text k e.0 ≡ t → has_primaries (e ∷ es) k ≡ true
+        → (place : ℕ) × IsAt (e ∷ es) k place × (place < length (e ∷ es))
+    by rest true is there = (0, ap Some (sym ((same_text_decides k e.0).0 is)), omega arith)
+    by rest false is there =
+        let found = rest (let h = rw is at there in h) in
+        (suc found.0, found.1, let below = found.2 in omega (arith, below))
+
+-- of those of each place, and so of all
+abbrev pub ArePlaces : Primaries → (end : ℕ) → Type 0
+ArePlaces ps end = (keyspace : List ℕ) (place : ℕ) → place < end → IsAt ps keyspace place → (shard : ℕ) → shard < count_of ps keyspace → IsPrimary (primary_of ps keyspace shard)
+
+pub all-of : (ps : Primaries) → IsPrimary empty_primary → ArePlaces ps (length ps) → (keyspace : List ℕ) (shard : ℕ) → IsPrimary (primary_of ps keyspace shard)
+all-of ps none are k n =
+    ⊎_elim (λ below. let at = stands_somewhere ps k (there_from_count ps k n below) in are k at.0 at.2 at.1 n below)
+    (λ past. subst IsPrimary (sym (primary_past ps k n past)) none) (cases_lt n (count_of ps k))
+
+-- ---- a keyspace that is added in vain
+
+pub popped : (ps : Primaries) (e : List ℕ × ShardsState) → take (length (ps ++ e ∷ []) - 1) (ps ++ e ∷ []) ≡ ps
+popped ps e = ap (λ n. take n (ps ++ e ∷ [])) (let l = length_push ps e in let m : length (ps ++ e ∷ []) - 1 ≡ length ps = omega (arith, l) in m) ∙ take-append_seam ps (e ∷ [])
+
+-- what is added, or not
+pub added : {A E : Type 0} (P Q : Type 0) (r : Result A E) → is_err r ≡ false → MatchResult r (λ _. P) (λ _. Q) → P
+added P Q (Ok done) is holds = holds
+added P Q (Err fault) is holds = absurd (true≢false is)
+
+pub not_added : {A E : Type 0} (P Q : Type 0) (r : Result A E) → is_err r ≡ true → MatchResult r (λ _. P) (λ _. Q) → Q
+not_added P Q (Ok done) is holds = absurd (true≢false (sym is))
+not_added P Q (Err fault) is holds = holds
+
+-- ---- a table
+
+-- one that is made and dropped again leaves the primary as it was
+pub made_and_dropped : (p : PrimaryState) (table : List ℕ) → has_table p table ≡ false → without_table (with_new_table p table) table ≡ p
+made_and_dropped p table absent = made_and_dropped_in_order (table ∷ []) p named_absent
+  where
+    named_absent : (other : List ℕ) → among (table ∷ []) other ≡ true → has_table p other ≡ false
+    named_absent other is = ap (has_table p) (named (same_text table other) refl is) ∙ absent
+      where
+        named : (t : Bool) → same_text table other ≡ t → (t || false) ≡ true → other ≡ table
+        named true e holds = sym ((same_text_decides table other).0 e)
+        named false e holds = absurd (true≢false (sym holds))
+
+-- one that is made at each primary that was lent of its keyspace, or at none
+pub table_created : (old new : Primaries) (keyspace table : List ℕ) (each : List PrimaryState) (r : Result ⊤ PrimaryFault) → new ≡ with_shards old keyspace each
+    → OnOk r (each ≡ map (λ primary. with_new_table primary table) (shards_of old keyspace).each) → OnErr r (each ≡ (shards_of old keyspace).each) → CreatesTable old keyspace table r new
+table_created old new keyspace table each (Ok done) put made left = put ∙ ap (with_shards old keyspace) made
+table_created old new keyspace table each (Err fault) put made left = put ∙ ap (with_shards old keyspace) left ∙ with_shards-same old keyspace
 
 -- what could not be created changed nothing
 pub not_created : (old new : Primaries) (keyspace table : List ℕ) (r : Result ⊤ PrimaryFault) → is_err r ≡ true → CreatesTable old keyspace table r new → new ≡ old
 not_created old new keyspace table (Ok done) e did = absurd (true≢false (sym e))
 not_created old new keyspace table (Err fault) e did = did
-
--- ---- a primary out of its place
-
-module _ (old new : Primaries) (read written : List ℕ) (meanwhile : PrimaryState) (is : new ≡ set_value (same_text written) old meanwhile) where
-  -- the other one is in its place
-  pub other-at : read ≢ written → (place : ℕ) (state : PrimaryState) → keys_of new ≡ keys_of old → IsDistinct same_text (keys_of old) → IsAt old read place
-      → slice_get (values_of new) place ≡ Some state → primary_of old read ≡ state
-  other-at apart place state same distinct at stood =
-      let found = lookup-at same_text same_text_decides new place read state (subst (IsDistinct same_text) (sym same) distinct) (still-at old new read place same at) stood in
-      found-is old read state (sym (sym found ∙ ap (λ ps. primary_at ps read) is ∙ lookup-set_value_elsewhere same_text same_text_decides old written read meanwhile (λ e. apart (sym e))))
-
-  -- the one put back stands where it stood
-  pub put-back : (back : Primaries) (sink : PrimaryState) → back ≡ set_value (same_text written) new sink → back ≡ set_value (same_text written) old sink
-  put-back back sink put = put ∙ ap (λ ps. set_value (same_text written) ps sink) is ∙ set_value-twice (same_text written) old meanwhile sink
-
--- ---- all primaries
-
--- what is true of every primary is true of each that is found
-abbrev pub AreEach : Primaries → Type 0
-AreEach primaries = (keyspace : List ℕ) (state : PrimaryState) → primary_at primaries keyspace ≡ Some state → IsPrimary state
-
-pub each-more : (name : List ℕ) (state : PrimaryState) (rest : Primaries) → IsPrimary state → AreEach rest → AreEach ((name, state) ∷ rest)
-each-more name state rest is are keyspace found there = by (same_text keyspace name) there
-  where
-    by : (t : Bool) → cond t (Some state) (primary_at rest keyspace) ≡ Some found → IsPrimary found
-    by true e = let same : state ≡ found = cc in subst IsPrimary same is
-    by false e = are keyspace found e
-
-pub each-of : (primaries : Primaries) → IsPrimary empty_primary → AreEach primaries → (keyspace : List ℕ) → IsPrimary (primary_of primaries keyspace)
-each-of primaries none are keyspace = by (primary_at primaries keyspace) refl
-  where
-    by : (o : Option PrimaryState) → primary_at primaries keyspace ≡ o → IsPrimary (unwrap_or o empty_primary)
-    by None e = none
-    by (Some state) e = are keyspace state e
-
-pub each-none : AreEach []
-each-none keyspace state found = absurd cc

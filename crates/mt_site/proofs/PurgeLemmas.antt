@@ -15,7 +15,7 @@ use Rattle.mt_site.specs.declared.controller.commands.Command.TheVariants as com
 
 -- behind a command all logs are purged
 pub command_purges : (c : Command) (answer : Answer) (old new : SiteState) → PurgesAll answer old.core new.core → LeavesWays old new → Purges (event_of_command c) answer old new
-command_purges (command.AddKeyspace keyspace) answer old new is ways = (is, ways)
+command_purges (command.AddKeyspace keyspace shards) answer old new is ways = (is, ways)
 command_purges (command.AddTable keyspace table) answer old new is ways = (is, ways)
 command_purges (command.EditRule key target) answer old new is ways = (is, ways)
 command_purges (command.BeginSwitch workflow types) answer old new is ways = (is, ways)
@@ -30,6 +30,6 @@ pub site_of : (made new : SiteState) → new.ways ≡ made.ways → (record made
 site_of made new ways = let with_ways : WaysState → SiteState = λ w. record { core = new.core; ways = w } in ap with_ways (sym ways)
 
 -- a write that is refused purges nothing
-pub write_unchanged : (keyspace : List ℕ) (result : Result ⊤ code.Reason) (old made new : CoreState) → PurgesOne keyspace (done_by result) made new → OnErr result (made ≡ old) → OnErr result (new ≡ old)
-write_unchanged keyspace (Ok is-done) old made new purges left = tt
-write_unchanged keyspace (Err r) old made new purges left = purges ∙ left
+pub write_unchanged : (keyspace : List ℕ) (shard : ℕ) (result : Result ⊤ code.Reason) (old made new : CoreState) → PurgesOne keyspace shard (done_by result) made new → OnErr result (made ≡ old) → OnErr result (new ≡ old)
+write_unchanged keyspace shard (Ok is-done) old made new purges left = tt
+write_unchanged keyspace shard (Err r) old made new purges left = purges ∙ left

@@ -30,7 +30,8 @@ use Rattle.mt_watch.specs.Asking.{Answering}
 use Rattle.mt_workflow.specs.Workflows.{WorkflowState, keys_of_part, live_of}
 use Rattle.mt_site_ways.proofs.SameLemmas.{sides_same}
 use Rattle.mt_site_ways.proofs.AnswerUndoLemmas.{undo_same}
-use Rattle.mt_site_state.specs.Core.{CoreState, Primaries, Workflows, primary_at, primary_of, workflow_at}
+use Rattle.mt_primaries.specs.Primaries.{Primaries, count_of, has_primaries, primary_of, shards_of}
+use Rattle.mt_site_state.specs.Core.{CoreState, Workflows, workflow_at}
 use Rattle.mt_site_state.specs.Stands.{Stands, StandsWith}
 use Rattle.mt_site_state.specs.Switching.{BeginsReverseAt, BeginsSwitchAt, CompletesAt, OrRefused, SiteDoes, StepsAt, StepsKept, StepsWay, StepsWorkflow, UndoesWorkflow, answer_by_step, completed, is_copying, no_number_left, sides_of, step_refusal, way_to, with_sides, with_way}
 use Rattle.mt_site_state.specs.Ways.{OpenWays, SiteStands, SiteState, WaysState, open_at}
@@ -93,8 +94,8 @@ few way less = by (changes_primary way) less
 -- what a step and an undo ask for
 pub can_step : (s : SiteState) (name : List ℕ)
     → ((w : WorkflowState) → workflow_at s.core.workflows name ≡ Some w → w.name ≡ name)
-    → ((w : WorkflowState) → workflow_at s.core.workflows name ≡ Some w → is_some (primary_at s.core.primaries w.source) ≡ true)
-    → ((w : WorkflowState) → workflow_at s.core.workflows name ≡ Some w → is_some (primary_at s.core.primaries w.target) ≡ true)
+    → ((w : WorkflowState) → workflow_at s.core.workflows name ≡ Some w → has_primaries s.core.primaries w.source ≡ true)
+    → ((w : WorkflowState) → workflow_at s.core.workflows name ≡ Some w → has_primaries s.core.primaries w.target ≡ true)
     → ((w : WorkflowState) → workflow_at s.core.workflows name ≡ Some w → w.source ≢ w.target)
     → ((w : WorkflowState) → workflow_at s.core.workflows name ≡ Some w → All (λ key. has_place s.core.topology key ≡ true) (keys_of_part w))
     → ((w : WorkflowState) (way : Way) → workflow_at s.core.workflows name ≡ Some w → w.way ≡ Some way → is_some (open_at s.ways.opened name) ≡ true)
@@ -103,11 +104,12 @@ pub can_step : (s : SiteState) (name : List ℕ)
     → ((w : WorkflowState) (way : Way) (o : OpenWay) → workflow_at s.core.workflows name ≡ Some w → w.way ≡ Some way → open_at s.ways.opened name ≡ Some o
     → stands_done way write_journal ≡ false → entry_of s.ways.journal o.number ≡ None)
     → ((w : WorkflowState) (way : Way) → workflow_at s.core.workflows name ≡ Some w → w.way ≡ Some way
-    → KeepsToTest w way (next_step way) (primary_of s.core.primaries w.source) (primary_of s.core.primaries w.target ∷ []))
-    → ((w : WorkflowState) → workflow_at s.core.workflows name ≡ Some w → length w.lanes ≡ 1)
+    → KeepsToTest w way (next_step way) (primary_of s.core.primaries w.source 0) (shards_of s.core.primaries w.target).each)
+    → ((w : WorkflowState) → workflow_at s.core.workflows name ≡ Some w → count_of s.core.primaries w.source ≡ 1)
+    → ((w : WorkflowState) → workflow_at s.core.workflows name ≡ Some w → length w.lanes ≡ count_of s.core.primaries w.target)
     → ((w : WorkflowState) (way : Way) → workflow_at s.core.workflows name ≡ Some w → w.way ≡ Some way → way.shards ≡ length w.lanes)
     → CanStep s.core.topology s.core.primaries s.core.workflows s.ways.journal s.ways.opened name
-can_step s name named source target apart places there kept within unused unread one shards = record {
+can_step s name named source target apart places there kept within unused unread single targets shards = record {
   there = there;
   each = λ w way o found on opened. record {
     named = named w found;
@@ -118,7 +120,8 @@ can_step s name named source target apart places there kept within unused unread
     within = few way (within w way found on);
     kept = kept w way o found on opened;
     unused = unused w way o found on opened;
-    one = one w found;
+    single = single w found;
+    targets = sym (targets w found);
     shards = shards w way found on;
     unread = unread w way found on;
   };
@@ -127,9 +130,7 @@ can_step s name named source target apart places there kept within unused unread
 -- ---- a step that is refused
 
 module _ (mine : List Scope) (may_answer : Answering) (old new : SiteState) (workflow : List ℕ) (at : ℕ) (r : Refusal)
-    (named : (w : WorkflowState) → workflow_at old.core.workflows workflow ≡ Some w → w.name ≡ workflow)
-    (source : (w : WorkflowState) → workflow_at old.core.workflows workflow ≡ Some w → is_some (primary_at old.core.primaries w.source) ≡ true)
-    (target : (w : WorkflowState) → workflow_at old.core.workflows workflow ≡ Some w → is_some (primary_at old.core.primaries w.target) ≡ true) where
+    (named : (w : WorkflowState) → workflow_at old.core.workflows workflow ≡ Some w → w.name ≡ workflow) where
   module _ (w : WorkflowState) (found : workflow_at old.core.workflows workflow ≡ Some w) (way : Way) (opens : w.way ≡ Some way) where
     failed : (o : OpenWay) → open_at old.ways.opened w.name ≡ Some o → (result : Result ⊤ StepFault) (sides : SidesState) (log : UndoState)
         → Steps mine may_answer o.number way (step_at (next_step way)) (sides_of old w) o.log result sides log → refused r ≡ answer_by_step result
@@ -137,7 +138,7 @@ module _ (mine : List Scope) (may_answer : Answering) (old new : SiteState) (wor
     failed o kept (Ok made) sides log steps is same = absurd (let never : refused r ≡ done = is in cc)
     failed o kept (Err f) sides log steps is same =
         same ∙ ap (λ x. with_sides old w x (record { number = o.number; log = log })) steps.1 ∙ ap (λ x. with_sides old w (sides_of old w) (record { number = o.number; log = x })) steps.2
-        ∙ sides_same old w way o opens (subst (λ n. workflow_at old.core.workflows n ≡ Some w) (sym (named w found)) found) (source w found) (target w found) kept
+        ∙ sides_same old w way o opens (subst (λ n. workflow_at old.core.workflows n ≡ Some w) (sym (named w found)) found) kept
 
     kept_same : (k : Option OpenWay) → open_at old.ways.opened w.name ≡ k → StepsKept k old mine may_answer w way (refused r) new → new ≡ old
     kept_same None kept is = absurd is
@@ -187,11 +188,9 @@ undoes_leave old new workflow at (Err r) is = undo_same old new at (reason_from 
 module _ (scopes : List Scope) (may_answer : Answering) (old new : SiteState) (workflow : List ℕ) (at : ℕ) where
   pub steps_leave : (result : Result ⊤ code.Reason)
       → ((w : WorkflowState) → workflow_at old.core.workflows workflow ≡ Some w → w.name ≡ workflow)
-      → ((w : WorkflowState) → workflow_at old.core.workflows workflow ≡ Some w → is_some (primary_at old.core.primaries w.source) ≡ true)
-      → ((w : WorkflowState) → workflow_at old.core.workflows workflow ≡ Some w → is_some (primary_at old.core.primaries w.target) ≡ true)
       → StepsWorkflow old scopes may_answer workflow at (done_by result) new → OnErr result (new ≡ old)
-  steps_leave (Ok reply) named source target is = tt
-  steps_leave (Err r) named source target is = stepped_leaves scopes may_answer old new workflow at (reason_from r) named source target is
+  steps_leave (Ok reply) named is = tt
+  steps_leave (Err r) named is = stepped_leaves scopes may_answer old new workflow at (reason_from r) named is
 
 -- ---- Complete
 
@@ -204,18 +203,19 @@ tables-placed t keyspace (table ∷ tables) there =
 
 pub can_complete : (core : CoreState) (name : List ℕ)
     → ((w : WorkflowState) → workflow_at core.workflows name ≡ Some w → w.name ≡ name)
-    → ((w : WorkflowState) → workflow_at core.workflows name ≡ Some w → is_some (primary_at core.primaries w.source) ≡ true)
+    → ((w : WorkflowState) → workflow_at core.workflows name ≡ Some w → has_primaries core.primaries w.source ≡ true)
     → ((w : WorkflowState) → workflow_at core.workflows name ≡ Some w → w.source ≢ w.target)
     → ((w : WorkflowState) → workflow_at core.workflows name ≡ Some w → All (λ key. has_place core.topology key ≡ true) (keys_of_part w))
-    → ((w : WorkflowState) → workflow_at core.workflows name ≡ Some w → (table : List ℕ) → among w.tables table ≡ true → has_table (primary_of core.primaries w.source) table ≡ true)
-    → ((keyspace table : List ℕ) → has_table (primary_of core.primaries keyspace) table ≡ is_present core.topology.keyspaces keyspace table)
+    → ((w : WorkflowState) → workflow_at core.workflows name ≡ Some w → (table : List ℕ) → among w.tables table ≡ true → has_table (primary_of core.primaries w.source 0) table ≡ true)
+    → ((w : WorkflowState) → workflow_at core.workflows name ≡ Some w → count_of core.primaries w.source ≡ 1)
+    → ((keyspace : List ℕ) (shard : ℕ) → shard < count_of core.primaries keyspace → (table : List ℕ) → has_table (primary_of core.primaries keyspace shard) table ≡ is_present core.topology.keyspaces keyspace table)
     → ((keyspace table : List ℕ) → has_place core.topology (about.Present keyspace table) ≡ is_present core.topology.keyspaces keyspace table)
     → CanComplete core.topology core.primaries core.workflows name
-can_complete core name named source apart places at_source tables placed = record {
+can_complete core name named source apart places at_source single tables placed = record {
   named = named;
   source = source;
   apart = apart;
   places = λ w found. All-append (λ key. has_place core.topology key ≡ true) (keys_of_part w) (map (about.Present w.source) w.tables) (places w found)
       (All-from_recursion (λ key. has_place core.topology key ≡ true) (map (about.Present w.source) w.tables)
-      (tables-placed core.topology w.source w.tables (λ table among_w. placed w.source table ∙ sym (tables w.source table) ∙ at_source w found table among_w)));
+      (tables-placed core.topology w.source w.tables (λ table among_w. placed w.source table ∙ sym (tables w.source 0 (let one = single w found in omega (arith, one)) table) ∙ at_source w found table among_w)));
 }

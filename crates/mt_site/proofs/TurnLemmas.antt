@@ -1,6 +1,7 @@
 -- A turn that is taken, and a drive that is on its way.
-use Rattle.std.proofs.Common.{◌≡◌, ℕ, suc, Bool, false, nat_lt, List, Option, None, Some, Result, Ok, Err, refl, sym, ap, subst, ◌∙◌}
+use Rattle.std.proofs.Common.{◌≡◌, ℕ, suc, Bool, true, false, List, Option, None, Some, Result, Ok, Err, refl, sym, ap, subst, ◌∙◌}
 use Rattle.std.specs.Option.{option_map_or}
+use Rattle.std.specs.Prelude.{if◌then◌else◌, option_and_then, option_map}
 use Rattle.mt_event.specs.declared.reason.Reason.{Reason}
 use Rattle.mt_event.specs.declared.refusal.Refusal.{Refusal}
 use Rattle.mt_event.specs.Events.{refusal_from}
@@ -11,14 +12,18 @@ use Rattle.mt_names.specs.declared.types.TypeSet.{TypeSet}
 use Rattle.mt_names.specs.Shards.{shard_count}
 use Rattle.mt_plain.specs.Answers.{Answers}
 use Rattle.mt_plain.specs.Drive.{Drives, Driving, GoesOn, Heard, abandoned, begins, ends, event_of, feeding_stream, feeds, gives_up, goes_on, heard, lanes_of, most_at_once, most_turns, position_of, unless_closed, way_of}
-use Rattle.mt_plain.specs.Events.{Answer, Event, StreamName, Way, advance}
+use Rattle.mt_plain.specs.Events.{Answer, Event, Slot, StreamName, Way, advance}
 use Rattle.mt_plain.specs.Next.{next}
-use Rattle.mt_plain.specs.Plain.{Live, Plain, live_at}
+use Rattle.mt_plain.specs.Plain.{Lane, Live, Plain, lane_at, live_at}
+use Rattle.mt_plain.specs.Slots.{slot_of as plain_slot}
 use Rattle.mt_site_state.specs.Core.{workflow_at}
 use Rattle.mt_site_state.specs.Stands.{StandsForAny}
-use Rattle.mt_site_state.proofs.ShardLemmas.{no_cuts}
+use Rattle.mt_site_rows.specs.Rows.{stream_of}
+use Rattle.mt_site_state.proofs.LaneLemmas.{slot_in}
+use Rattle.mt_site_events.proofs.ShardLemmas.{lanes_numbered}
 use Rattle.mt_site_state.specs.Ways.{SiteStands, SiteState, SiteSteps}
-use Rattle.mt_workflow.specs.Workflows.{WorkflowState}
+use Rattle.mt_stream.specs.Streams.{StreamValue}
+use Rattle.mt_workflow.specs.Workflows.{WorkflowState, live_of, slot_of}
 use Rattle.mt_event.specs.declared.driven.Driven.{Driven}
 use Rattle.mt_event.specs.Drives.{driven_from, ended_from}
 use Rattle.mt_site.specs.Drives.{EndsFrom, IsOnItsWay, Turns}
@@ -37,19 +42,58 @@ turn_taken scopes old new driving said event answer does due follows = λ p stan
     (answer, done.0, done.1, follows (next p (event_of p driving) answer) done.1)
 
 -- the advance that is due
-pub advance_due : (p : Plain) (workflow : List ℕ) (tries : ℕ) (name : StreamName) (at : ℕ) → name ≡ feeding_stream p workflow
-    → at ≡ position_of p workflow (feeding_stream p workflow) 0 → advance workflow name 0 at most_at_once ≡ event_of p (feeds workflow 0 tries)
-advance_due p workflow tries name at same there =
-    ap (λ n. advance workflow n 0 at most_at_once) same ∙ ap (λ n. advance workflow (feeding_stream p workflow) 0 n most_at_once) there
+pub advance_due : (p : Plain) (workflow : List ℕ) (shard tries : ℕ) (name : StreamName) (at : ℕ) → name ≡ feeding_stream p workflow
+    → at ≡ position_of p workflow (feeding_stream p workflow) shard → advance workflow name shard at most_at_once ≡ event_of p (feeds workflow shard tries)
+advance_due p workflow shard tries name at same there =
+    ap (λ n. advance workflow n shard at most_at_once) same ∙ ap (λ n. advance workflow (feeding_stream p workflow) shard n most_at_once) there
 
--- a workflow has one lane, and so no other stream is due
-pub no_more_lanes : (q : Plain) (scopes : List Scope) (s : SiteState) (name : List ℕ) → SiteStands q scopes s → nat_lt 1 (lanes_of q name) ≡ false
-no_more_lanes q scopes s name stands = by (live_at q name) (workflow_at s.core.workflows name) (stands.core.workflows.each name)
-  where
-    by : (o : Option Live) (found : Option WorkflowState) → StandsForAny q o found → nat_lt 1 (option_map_or (λ w. shard_count w.cuts) o 0) ≡ false
-    by None found is = refl
-    by (Some live) None is = absurd is
-    by (Some live) (Some w) is = ap (λ cuts. nat_lt 1 (shard_count cuts)) (no_cuts q live w is)
+-- what goes on either way goes on
+pub goes_on_either : (b : Bool) (x y : Driving) → (if b then goes_on x else goes_on y) ≡ goes_on (if b then x else y)
+goes_on_either true x y = refl
+goes_on_either false x y = refl
+
+-- a workflow has as many lanes as the live one, and its streams stand where those of the live one do
+module _ (q : Plain) (scopes : List Scope) (s : SiteState) (name : List ℕ) (stands : SiteStands q scopes s) where
+  pub lanes_told : option_map_or (λ (w : WorkflowState). shard_count (live_of w).cuts) (workflow_at s.core.workflows name) 0 ≡ lanes_of q name
+  lanes_told = by (live_at q name) (workflow_at s.core.workflows name) (stands.core.workflows.each name)
+    where
+      by : (o : Option Live) (found : Option WorkflowState) → StandsForAny q o found → option_map_or (λ (w : WorkflowState). shard_count (live_of w).cuts) found 0 ≡ option_map_or (λ (w : Live). shard_count w.cuts) o 0
+      by None None is = refl
+      by None (Some w) is = absurd is
+      by (Some live) None is = absurd is
+      by (Some live) (Some w) is = ap shard_count (sym is.sides.cuts)
+
+  pub position_told : (shard : ℕ) (stream : StreamName)
+      → option_map_or (λ (v : StreamValue). v.position) (option_and_then (λ w. slot_of w shard stream) (workflow_at s.core.workflows name)) 0 ≡ position_of q name stream shard
+  position_told shard stream = by (live_at q name) refl (workflow_at s.core.workflows name) (stands.core.workflows.each name)
+    where
+      slots : (live : Live) (lane : Lane) (o : Option Slot) → option_map_or (λ (v : StreamValue). v.position) (option_map (stream_of live lane) o) 0 ≡ option_map_or (λ (slot : Slot). slot.position) o 0
+      slots live lane None = refl
+      slots live lane (Some slot) = refl
+
+      each : (live : Live) (o : Option Lane) → option_map_or (λ (v : StreamValue). v.position) (option_and_then (λ lane. option_map (stream_of live lane) (plain_slot live lane stream)) o) 0
+          ≡ option_map_or (λ (slot : Slot). slot.position) (option_and_then (λ lane. plain_slot live lane stream) o) 0
+      each live None = refl
+      each live (Some lane) = slots live lane (plain_slot live lane stream)
+
+      by : (o : Option Live) → live_at q name ≡ o → (found : Option WorkflowState) → StandsForAny q o found
+          → option_map_or (λ (v : StreamValue). v.position) (option_and_then (λ w. slot_of w shard stream) found) 0
+          ≡ option_map_or (λ (slot : Slot). slot.position) (option_and_then (λ w. option_and_then (λ lane. plain_slot w lane stream) (lane_at w shard)) o) 0
+      by None at None is = refl
+      by None at (Some w) is = absurd is
+      by (Some live) at None is = absurd is
+      by (Some live) at (Some w) is =
+          ap (λ o. option_map_or (λ (v : StreamValue). v.position) o 0) (slot_in q live w is (lanes_numbered q stands.core.reached name live at) shard stream)
+          ∙ each live (lane_at live shard)
+
+  pub way_told : option_and_then (λ (w : WorkflowState). w.way) (workflow_at s.core.workflows name) ≡ way_of q name
+  way_told = by (live_at q name) (workflow_at s.core.workflows name) (stands.core.workflows.each name)
+    where
+      by : (o : Option Live) (found : Option WorkflowState) → StandsForAny q o found → option_and_then (λ (w : WorkflowState). w.way) found ≡ option_and_then (λ (w : Live). w.way) o
+      by None None is = refl
+      by None (Some w) is = absurd is
+      by (Some live) None is = absurd is
+      by (Some live) (Some w) is = is.way
 
 -- what follows from any answer to an undo
 pub undone : (q : Plain) (workflow : List ℕ) (why : Reason) (way : Option Way) (answer : Answer) (said : Heard) → way ≡ way_of q workflow

@@ -1,11 +1,9 @@
 -- What becomes of two primaries as a stream is advanced between them (this profile's own).
-use Rattle.std.specs.Prelude.{◌≡◌, ◌≢◌, ◌≤◌, ℕ, true, List, Option, None, Some, is_some, Result, Ok, Err}
-use Rattle.std.specs.Map.{set_value}
-use Rattle.mt_names.specs.Names.{same_text}
+use Rattle.std.specs.Prelude.{◌≡◌, ◌≢◌, ◌≤◌, ℕ, Bool, true, false, List, length, Option, None, Some, Result, Ok, Err}
 use Rattle.mt_event.specs.declared.reason.Reason.{Reason}
 use Rattle.mt_event.specs.declared.reason.Reason.TheVariants as reason
 use Rattle.mt_event.specs.Reasons.{reason_from}
-use Rattle.mt_plain.specs.Events.{StreamName, running, Answer, advanced, refused, stream_stopped}
+use Rattle.mt_plain.specs.Events.{StreamName, forward, back, running, Answer, advanced, refused, no_shard, stream_stopped}
 use Rattle.mt_plain.specs.Plain.{among}
 use Rattle.mt_plain.specs.Slots.{read_side, written_side}
 use Rattle.mt_primary.specs.Primary.{PrimaryState, end_of, has_table}
@@ -17,7 +15,10 @@ use Rattle.mt_stream.specs.Streams.{StreamValue}
 use Rattle.mt_workflow.specs.Advance.{AdvancesSlot}
 use Rattle.mt_workflow.specs.Workflows.{WorkflowState, live_of, slot_of, with_slot}
 use Rattle.mt_site_rows.specs.Answers.{answer_by_stream}
-use Rattle.mt_site_state.specs.Core.{Primaries, Workflows, primary_at, primary_of, workflow_at}
+use Rattle.mt_primaries.specs.Places.{with_one}
+use Rattle.mt_primaries.specs.Primaries.{Primaries, ShardsState, count_of, primary_in, primary_of, with_primary}
+use Rattle.mt_site_state.specs.Core.{Workflows, workflow_at}
+use Rattle.mt_site_state.specs.Workflows.{shard_read, shard_written}
 
 abbrev pub refusal_by_stream : StreamFault → Reason
 refusal_by_stream stream.Memory = reason.Memory
@@ -36,33 +37,76 @@ abbrev pub answer_by_slot : Option (Result Advanced StreamFault) → Answer
 answer_by_slot None = refused stream_stopped
 answer_by_slot (Some result) = answer_by_stream result
 
--- the stream of the first shard advances, if there is one, and the primary that it writes takes the place of the one that stood there
-abbrev pub AdvancesBetween : Primaries → WorkflowState → StreamName → (at at_most : ℕ) → Option (Result Advanced StreamFault) → WorkflowState → Primaries → Type 0
-AdvancesBetween old w name at at_most answer after new =
+-- ---- between the shards of both sides, of which the source has one
+
+-- the primary that a stream of a shard reads, and the one that it writes
+abbrev pub read_beside : StreamName → (source target : ShardsState) → (shard : ℕ) → PrimaryState
+read_beside forward source target shard = primary_in source 0
+read_beside back source target shard = primary_in target shard
+
+abbrev pub written_beside : StreamName → (source target : ShardsState) → (shard : ℕ) → PrimaryState
+written_beside forward source target shard = primary_in target shard
+written_beside back source target shard = primary_in source 0
+
+-- the shards of each side, with another primary where such a stream writes
+abbrev pub source_beside : StreamName → (source : ShardsState) → PrimaryState → ShardsState
+source_beside forward source sink = source
+source_beside back source sink = with_one source 0 sink
+
+abbrev pub target_beside : StreamName → (target : ShardsState) → (shard : ℕ) → PrimaryState → ShardsState
+target_beside forward target shard sink = with_one target shard sink
+target_beside back target shard sink = target
+
+-- a stream stands between two primaries: its position lies in the log that it reads, which keeps the entries from there on if the stream runs,
+-- and its tables are there where it writes
+pub record StandsBetween (stream : StreamValue) (source sink : PrimaryState) : Type 0 where
+  pub within : stream.position ≤ end_of source
+  pub kept : stream.state ≡ running → source.log.purged ≤ stream.position
+  pub there : (table : List ℕ) → among stream.tables table ≡ true → has_table sink table ≡ true
+
+-- the stream of a shard advances, if there is one, and the primary that it writes becomes another
+abbrev pub AdvancesBeside : (source target : ShardsState) → WorkflowState → StreamName → (shard at at_most : ℕ) → Option (Result Advanced StreamFault) → WorkflowState → (from to : ShardsState) → Type 0
+AdvancesBeside source target w name shard at at_most answer after from to =
     (sink : PrimaryState)
-    × AdvancesSlot (slot_of w 0 name) (primary_of old (read_side (live_of w) name)) (primary_of old (written_side (live_of w) name)) at at_most answer (slot_of after 0 name) sink
-    × (after ≡ with_slot w 0 name (slot_of after 0 name)) × (new ≡ set_value (same_text (written_side (live_of w) name)) old sink)
+    × AdvancesSlot (slot_of w shard name) (read_beside name source target shard) (written_beside name source target shard) at at_most answer (slot_of after shard name) sink
+    × (after ≡ with_slot w shard name (slot_of after shard name)) × (from ≡ source_beside name source sink) × (to ≡ target_beside name target shard sink)
 
--- a stream of a workflow stands between two primaries: those of its two sides are there, its position lies in the log that it reads, which
--- keeps the entries from there on if the stream runs, and its tables are there where it writes
-pub record IsBetween (primaries : Primaries) (w : WorkflowState) (name : StreamName) (stream : StreamValue) : Type 0 where
-  pub read : is_some (primary_at primaries (read_side (live_of w) name)) ≡ true
-  pub written : is_some (primary_at primaries (written_side (live_of w) name)) ≡ true
-  pub apart : read_side (live_of w) name ≢ written_side (live_of w) name
-  pub within : stream.position ≤ end_of (primary_of primaries (read_side (live_of w) name))
-  pub kept : stream.state ≡ running → (primary_of primaries (read_side (live_of w) name)).log.purged ≤ stream.position
-  pub there : (table : List ℕ) → among stream.tables table ≡ true → has_table (primary_of primaries (written_side (live_of w) name)) table ≡ true
+-- ---- between the primaries of both sides, among all
 
--- so does that of the first shard of a live workflow's target, if there is one; and the workflow stands under its own name
-pub record CanAdvance (primaries : Primaries) (workflows : Workflows) (workflow : List ℕ) (name : StreamName) : Type 0 where
+-- the stream of a shard advances, if there is one, and the primary that it writes becomes another
+abbrev pub AdvancesBetween : Primaries → WorkflowState → StreamName → (shard at at_most : ℕ) → Option (Result Advanced StreamFault) → WorkflowState → Primaries → Type 0
+AdvancesBetween old w name shard at at_most answer after new =
+    (sink : PrimaryState)
+    × AdvancesSlot (slot_of w shard name) (primary_of old (read_side (live_of w) name) (shard_read name shard))
+    (primary_of old (written_side (live_of w) name) (shard_written name shard)) at at_most answer (slot_of after shard name) sink
+    × (after ≡ with_slot w shard name (slot_of after shard name)) × (new ≡ with_primary old (written_side (live_of w) name) (shard_written name shard) sink)
+
+-- a stream of a workflow stands between two primaries: its two sides have primaries, the source one and the target one for each lane, its
+-- position lies in the log that it reads, which keeps the entries from there on if the stream runs, and its tables are there where it writes
+pub record IsBetween (primaries : Primaries) (w : WorkflowState) (name : StreamName) (shard : ℕ) (stream : StreamValue) : Type 0 where
+  pub source : count_of primaries w.source ≡ 1
+  pub target : count_of primaries w.target ≡ length w.lanes
+  pub apart : w.source ≢ w.target
+  pub within : stream.position ≤ end_of (primary_of primaries (read_side (live_of w) name) (shard_read name shard))
+  pub kept : stream.state ≡ running → (primary_of primaries (read_side (live_of w) name) (shard_read name shard)).log.purged ≤ stream.position
+  pub there : (table : List ℕ) → among stream.tables table ≡ true → has_table (primary_of primaries (written_side (live_of w) name) (shard_written name shard)) table ≡ true
+
+-- so does that of a shard of a live workflow's target, if there is one; and the workflow stands under its own name
+pub record CanAdvance (primaries : Primaries) (workflows : Workflows) (workflow : List ℕ) (name : StreamName) (shard : ℕ) : Type 0 where
   pub named : (w : WorkflowState) → workflow_at workflows workflow ≡ Some w → w.name ≡ workflow
-  pub between : (w : WorkflowState) → workflow_at workflows workflow ≡ Some w → (stream : StreamValue) → slot_of w 0 name ≡ Some stream → IsBetween primaries w name stream
+  pub between : (w : WorkflowState) → workflow_at workflows workflow ≡ Some w → (stream : StreamValue) → slot_of w shard name ≡ Some stream → IsBetween primaries w name shard stream
 
 -- the workflow and the primaries behind an advance of a stream, if there is one
-abbrev pub AdvancesOne : Option StreamValue → Primaries → WorkflowState → StreamName → (at at_most : ℕ) → Answer → WorkflowState → Primaries → Type 0
-AdvancesOne None old w name at at_most answer after new = (answer ≡ refused stream_stopped) × (after ≡ w) × (new ≡ old)
-AdvancesOne (Some stream) old w name at at_most answer after new =
+abbrev pub AdvancesOne : Option StreamValue → Primaries → WorkflowState → StreamName → (shard at at_most : ℕ) → Answer → WorkflowState → Primaries → Type 0
+AdvancesOne None old w name shard at at_most answer after new = (answer ≡ refused stream_stopped) × (after ≡ w) × (new ≡ old)
+AdvancesOne (Some stream) old w name shard at at_most answer after new =
     (result : Result Advanced StreamFault) × (advanced : StreamValue) × (sink : PrimaryState)
-    × Advances stream (primary_of old (read_side (live_of w) name)) (primary_of old (written_side (live_of w) name)) at at_most result advanced sink
-    × (answer ≡ answer_by_stream result) × (after ≡ with_slot w 0 name (Some advanced))
-    × (new ≡ set_value (same_text (written_side (live_of w) name)) old sink)
+    × Advances stream (primary_of old (read_side (live_of w) name) (shard_read name shard))
+    (primary_of old (written_side (live_of w) name) (shard_written name shard)) at at_most result advanced sink
+    × (answer ≡ answer_by_stream result) × (after ≡ with_slot w shard name (Some advanced))
+    × (new ≡ with_primary old (written_side (live_of w) name) (shard_written name shard) sink)
+
+-- the same, if the target has the shard
+abbrev pub AdvancesLane : (has_shard : Bool) → Primaries → WorkflowState → StreamName → (shard at at_most : ℕ) → Answer → WorkflowState → Primaries → Type 0
+AdvancesLane true old w name shard at at_most answer after new = AdvancesOne (slot_of w shard name) old w name shard at at_most answer after new
+AdvancesLane false old w name shard at at_most answer after new = (answer ≡ refused no_shard) × (after ≡ w) × (new ≡ old)

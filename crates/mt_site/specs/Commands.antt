@@ -1,5 +1,5 @@
 -- A command, as the event that it is, and which events are commands (this profile's own).
-use Rattle.std.specs.Prelude.{Bool, [], false, true}
+use Rattle.std.specs.Prelude.{Bool, false, true}
 use Rattle.std.specs.Option.{option_copied}
 use Rattle.mt_event.specs.declared.event.Event as asked
 use Rattle.mt_event.specs.declared.event.Event.TheVariants as asked_for
@@ -8,7 +8,7 @@ use Rattle.mt_site.specs.declared.controller.commands.Command.{Command}
 use Rattle.mt_site.specs.declared.controller.commands.Command.TheVariants as command
 
 abbrev pub event_of_command : Command → Event
-event_of_command (command.AddKeyspace keyspace) = add_keyspace keyspace.now []
+event_of_command (command.AddKeyspace keyspace shards) = add_keyspace keyspace.now shards.now
 event_of_command (command.AddTable keyspace table) = add_table keyspace.now table.now
 event_of_command (command.EditRule key target) = edit_rule key.now (option_copied target)
 event_of_command (command.BeginSwitch workflow types) = begin_switch workflow.now types
@@ -23,6 +23,6 @@ abbrev pub is_command : asked.Event → Bool
 is_command (asked_for.Write keyspace table op) = false
 is_command (asked_for.Read keyspace table key type_of) = false
 is_command (asked_for.Create workflow source target tables) = false
-is_command (asked_for.Advance workflow stream at max) = false
+is_command (asked_for.Advance workflow stream shard at max) = false
 is_command (asked_for.Show workflow) = false
 is_command other = true

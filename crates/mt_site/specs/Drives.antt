@@ -24,10 +24,10 @@ use Rattle.mt_site.specs.declared.turn.Heard.TheVariants as says
 use Rattle.mt_site.specs.declared.turn.Turn as code_turn
 use Rattle.mt_site.specs.declared.turn.Turn.TheVariants as turn
 
--- what a drive of a workflow asks for next, of the stream of its one lane
+-- what a drive of a workflow asks for next
 abbrev pub turn_from : (workflow : List ℕ) → code_turn.Turn → Driving
 turn_from workflow (turn.Steps tries) = plain.steps workflow tries
-turn_from workflow (turn.Feeds tries) = plain.feeds workflow 0 tries
+turn_from workflow (turn.Feeds shard tries) = plain.feeds workflow shard tries
 turn_from workflow (turn.GivesUp reason) = plain.gives_up workflow (reason_from reason)
 
 -- how a drive that is begun ends

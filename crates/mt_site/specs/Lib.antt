@@ -7,5 +7,6 @@ pub mod GivenUp
 pub mod Headline
 pub mod Owed
 pub mod Runs
+pub mod Shards
 pub mod Show
 pub mod Stood

@@ -1,20 +1,35 @@
 //! The streams of a workflow, advanced between the primaries of its sides.
-ghost use Rattle.std.specs.Prelude.{◌≡◌, true, Some, is_some};
+ghost use Rattle.std.specs.Prelude.{◌≡◌, ◌<◌, nat_lt, true, Some, is_some, length};
+ghost use Rattle.std.specs.List.{IsDistinct};
+ghost use Rattle.std.specs.Map.{keys_of};
+ghost use Rattle.mt_names.specs.Names.{same_text};
 ghost use Rattle.mt_model.specs.Topology.{TopologyState};
-ghost use Rattle.mt_plain.specs.Slots.{read_side, written_side};
+ghost use Rattle.mt_primaries.specs.Places.{IsAt};
+ghost use Rattle.mt_primaries.specs.Primaries.{has_primaries};
 ghost use Rattle.mt_site_state.specs.Workflows.{AdvancesWorkflow};
 ghost use Rattle.mt_stream.specs.Streams.{StreamValue};
-ghost use Rattle.mt_workflow.specs.Workflows.{live_of, slot_of, stream_name};
-ghost use Rattle.mt_site.specs.Advance.{AdvancesBetween, AdvancesOne, CanAdvance, IsBetween, advanced_from, answer_by_slot, refusal_by_stream};
+ghost use Rattle.mt_workflow.specs.Workflows.{slot_of, stream_name};
+ghost use Rattle.mt_site.specs.Advance.{AdvancesBeside, AdvancesBetween, AdvancesLane, AdvancesOne, CanAdvance, IsBetween, StandsBetween, advanced_from, answer_by_slot, read_beside, refusal_by_stream, written_beside};
 
 use crate::{Primaries, Workflows};
 use mt_event::Reason;
 use mt_names::{KeyspaceName, Position, WorkflowName};
-use mt_primary::Primary;
-use mt_site_workflows::{exchange_at, place_of};
+use mt_primaries::{Shards, two_of};
 use mt_stream::{Advanced, StreamFault};
 use mt_workflow::{Slot, Workflow};
-use std::alloc::Global;
+
+/// What is asked of a stream.
+#[derive(Clone, Copy)]
+pub(crate) struct Asked {
+    /// The shard of the target that it is for, by its place.
+    pub shard: u8,
+    /// Which of the shard's streams it is.
+    pub slot: Slot,
+    /// The position at which it is expected.
+    pub at: Position,
+    /// How many rows or entries at most.
+    pub max: u16,
+}
 
 /// The refusal of the controller for one of a stream.
 fn refusal_by_stream(fault: StreamFault) -> Reason
@@ -39,82 +54,117 @@ fn told(done: Option<Result<Advanced, StreamFault>>) -> Result<Advanced, Reason>
     }
 }
 
-/// The side that a stream of a workflow reads.
-fn read_side(workflow: &Workflow, slot: Slot) -> &KeyspaceName
-    ensures { result.now ≡ read_side (live_of workflow.now) (stream_name slot) }
+/// Where a keyspace that is there stands among the others.
+fn place_of(primaries: &Primaries, keyspace: &KeyspaceName) -> usize
+    requires { has_primaries primaries.now keyspace.now ≡ true }
+    ensures at { IsAt primaries.now keyspace.now result }
+    ensures within { result < length primaries.now }
+    ensures distinct { IsDistinct same_text (keys_of primaries.now) }
 {
-    match slot {
-        Slot::Forward => workflow.source(),
-        Slot::Back => workflow.target(),
+    match primaries.place(keyspace) {
+        None => unreachable!(),
+        Some(place) => place,
     }
 }
 
-/// The side that it writes.
-fn written_side(workflow: &Workflow, slot: Slot) -> &KeyspaceName
-    ensures { result.now ≡ written_side (live_of workflow.now) (stream_name slot) }
+/// Advances a stream that a workflow has for a shard of its target, where it stands, between the shards of both sides: the source has one.
+fn advance_beside(
+    source: &mut Shards,
+    target: &mut Shards,
+    workflow: &mut Workflow,
+    asked: Asked,
+) -> Option<Result<Advanced, StreamFault>>
+    requires single { 0 < length source.old.each }
+    requires shard { asked.shard < length target.old.each }
+    requires stands { (s : StreamValue) → slot_of workflow.old asked.shard (stream_name asked.slot) ≡ Some s
+        → StandsBetween s (read_beside (stream_name asked.slot) source.old target.old asked.shard) (written_beside (stream_name asked.slot) source.old target.old asked.shard) }
+    ensures { AdvancesBeside source.old target.old workflow.old (stream_name asked.slot) asked.shard asked.at asked.max result workflow.new source.new target.new }
 {
+    let Asked {
+        shard,
+        slot,
+        at,
+        max,
+    } = asked;
     match slot {
-        Slot::Forward => workflow.target(),
-        Slot::Back => workflow.source(),
+        Slot::Forward => {
+            let sink = target.shard_mut(shard);
+            workflow.advance(shard, slot, source.shard(0), sink, at, max)
+        }
+        Slot::Back => {
+            let sink = source.shard_mut(0);
+            workflow.advance(shard, slot, target.shard(shard), sink, at, max)
+        }
     }
 }
 
-/// Advances a stream that a workflow has for its target's first shard, where it stands, between the primaries of the workflow's sides. It takes the one that is
-/// written out of its place meanwhile, and leaves an empty one there, which takes no memory.
+/// Advances a stream that a workflow has for a shard of its target between the primaries of the workflow's sides, wherever they stand.
 fn advance_between(
-    alloc: Global,
     primaries: &mut Primaries,
     workflow: &mut Workflow,
-    slot: Slot,
-    at: Position,
-    max: u16,
+    asked: Asked,
 ) -> Option<Result<Advanced, StreamFault>>
-    requires there { is_some (slot_of workflow.old 0 (stream_name slot)) ≡ true }
-    requires between { (s : StreamValue) → slot_of workflow.old 0 (stream_name slot) ≡ Some s → IsBetween primaries.old.entries workflow.old (stream_name slot) s }
-    ensures { AdvancesBetween primaries.old.entries workflow.old (stream_name slot) at max result workflow.new primaries.new.entries }
+    requires there { is_some (slot_of workflow.old asked.shard (stream_name asked.slot)) ≡ true }
+    requires between { (s : StreamValue) → slot_of workflow.old asked.shard (stream_name asked.slot) ≡ Some s → IsBetween primaries.old workflow.old (stream_name asked.slot) asked.shard s }
+    ensures { AdvancesBetween primaries.old workflow.old (stream_name asked.slot) asked.shard asked.at asked.max result workflow.new primaries.new }
 {
-    let read = place_of(primaries, read_side(workflow, slot));
-    let written = place_of(primaries, written_side(workflow, slot));
-    let mut sink = exchange_at(primaries, written, Primary::new(alloc));
-    let result = workflow.advance(0, slot, &primaries[read], &mut sink, at, max);
-    exchange_at(primaries, written, sink);
-    result
+    let source = place_of(primaries, workflow.source());
+    let target = place_of(primaries, workflow.target());
+    let places = primaries.places_mut();
+    let (from, to) = two_of(places, source, target);
+    advance_beside(from, to, workflow, asked)
 }
 
 /// Advances a stream of a workflow between the primaries of its sides.
 fn advance_stream(
-    alloc: Global,
     primaries: &mut Primaries,
     workflow: &mut Workflow,
-    slot: Slot,
-    at: Position,
-    max: u16,
+    asked: Asked,
 ) -> Result<Advanced, Reason>
-    requires { (s : StreamValue) → slot_of workflow.old 0 (stream_name slot) ≡ Some s → IsBetween primaries.old.entries workflow.old (stream_name slot) s }
-    ensures { AdvancesOne (slot_of workflow.old 0 (stream_name slot)) primaries.old.entries workflow.old (stream_name slot) at max (advanced_from result) workflow.new primaries.new.entries }
+    requires { (s : StreamValue) → slot_of workflow.old asked.shard (stream_name asked.slot) ≡ Some s → IsBetween primaries.old workflow.old (stream_name asked.slot) asked.shard s }
+    ensures { AdvancesOne (slot_of workflow.old asked.shard (stream_name asked.slot)) primaries.old workflow.old (stream_name asked.slot) asked.shard asked.at asked.max (advanced_from result) workflow.new primaries.new }
 {
-    if workflow.slot(0, slot).is_none() {
+    if workflow.slot(asked.shard, asked.slot).is_none() {
         return Err(Reason::StreamStopped);
     }
-    told(advance_between(alloc, primaries, workflow, slot, at, max))
+    told(advance_between(primaries, workflow, asked))
 }
 
-/// Advances a stream of a live workflow: `F7 NoWorkflow`, `F26 Stopped`, `F25 Stale`, `F27 Full`, `F0 Memory`.
+/// Whether a workflow's target has a shard.
+fn has_shard(workflow: &Workflow, shard: u8) -> bool
+    ensures { result ≡ nat_lt shard (length workflow.now.lanes) }
+{
+    shard < workflow.shards()
+}
+
+/// Advances a stream of a workflow, if its target has the shard.
+fn advance_lane(
+    primaries: &mut Primaries,
+    workflow: &mut Workflow,
+    asked: Asked,
+) -> Result<Advanced, Reason>
+    requires { (s : StreamValue) → slot_of workflow.old asked.shard (stream_name asked.slot) ≡ Some s → IsBetween primaries.old workflow.old (stream_name asked.slot) asked.shard s }
+    ensures { AdvancesLane (nat_lt asked.shard (length workflow.old.lanes)) primaries.old workflow.old (stream_name asked.slot) asked.shard asked.at asked.max (advanced_from result) workflow.new primaries.new }
+{
+    if has_shard(workflow, asked.shard) {
+        return advance_stream(primaries, workflow, asked);
+    }
+    Err(Reason::NoShard)
+}
+
+/// Advances a stream of a live workflow: `F7 NoWorkflow`, `F32 NoShard`, `F26 Stopped`, `F25 Stale`, `F27 Full`, `F0 Memory`.
 pub(crate) fn advance(
-    alloc: Global,
     primaries: &mut Primaries,
     workflows: &mut Workflows,
     name: &WorkflowName,
-    slot: Slot,
-    at: Position,
-    max: u16,
+    asked: Asked,
 ) -> Result<Advanced, Reason>
-    requires { CanAdvance primaries.old.entries workflows.old.entries name.now (stream_name slot) }
-    ensures { (topology : TopologyState) → AdvancesWorkflow (record { topology = topology; primaries = primaries.old.entries; workflows = workflows.old.entries }) name.now (stream_name slot) at max (advanced_from result)
-        (record { topology = topology; primaries = primaries.new.entries; workflows = workflows.new.entries }) }
+    requires { CanAdvance primaries.old workflows.old.entries name.now (stream_name asked.slot) asked.shard }
+    ensures { (topology : TopologyState) → AdvancesWorkflow (record { topology = topology; primaries = primaries.old; workflows = workflows.old.entries }) name.now (stream_name asked.slot) asked.shard asked.at asked.max (advanced_from result)
+        (record { topology = topology; primaries = primaries.new; workflows = workflows.new.entries }) }
 {
     match mt_few::get_mut(workflows, name) {
         None => Err(Reason::NoWorkflow),
-        Some(workflow) => advance_stream(alloc, primaries, workflow, slot, at, max),
+        Some(workflow) => advance_lane(primaries, workflow, asked),
     }
 }

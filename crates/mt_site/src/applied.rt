@@ -2,9 +2,9 @@
 ghost use Rattle.std.specs.Prelude.{List, ℕ};
 ghost use Rattle.mt_plain.specs.Events.{Answer, Event};
 ghost use Rattle.mt_primary.specs.Primary.{IsPrimary};
-ghost use Rattle.mt_site_state.specs.Core.{primary_of};
+ghost use Rattle.mt_primaries.specs.Primaries.{primary_of};
 ghost use Rattle.mt_site_state.specs.Ways.{SiteState, SiteSteps};
-ghost use Rattle.mt_site.specs.Applies.{Applies};
+ghost use Rattle.mt_site.specs.Applies.{Applies, BringsBounds};
 
 use mt_site_ways::{
     a_begin_steps, a_complete_steps, a_create_steps_and_leaves_the_ways, a_step_steps,
@@ -13,11 +13,11 @@ use mt_site_ways::{
 };
 use mt_watch::Asks;
 
-/// What an event does leads from each state that the controller stands for to the next one.
+/// What an event does that brings bounds written as they should leads from each state that the controller stands for to the next one.
 pub(crate) fn an_applied_event_steps<W: Asks>(watchers: &W)
     ensures { (old new : SiteState) (event : Event) (answer : Answer)
         → Applies (W.scopes watchers.now) (W.may_answer watchers.now) old event answer new
-        → ((keyspace : List ℕ) → IsPrimary (primary_of old.core.primaries keyspace))
+        → BringsBounds event → ((keyspace : List ℕ) (shard : ℕ) → IsPrimary (primary_of old.core.primaries keyspace shard))
         → SiteSteps (W.scopes watchers.now) old event answer new }
 {
     events_by_hand_step_and_leave_the_ways();

@@ -1,15 +1,19 @@
 //! What is done by hand: keyspaces, tables and rules.
-ghost use Rattle.std.specs.Prelude.{◌≡◌, true, false, is_some};
+ghost use Rattle.std.specs.Prelude.{◌≡◌, ◌≤◌, ◌<◌, ℕ, true, false, OnErr, OnOk, length, map, slice_index_or};
 ghost use Rattle.mt_model.specs.declared.entries.EntryKey.{EntryKey};
 ghost use Rattle.mt_model.specs.Topology.{has_place};
 ghost use Rattle.mt_names.specs.Keys.{IsRuleKey};
 ghost use Rattle.mt_plain.specs.Plain.{has_part};
-ghost use Rattle.mt_primary.specs.Primary.{has_table};
+ghost use Rattle.mt_primary.specs.Primary.{empty_primary, has_table};
+ghost use Rattle.mt_primary.specs.Writes.{with_new_table};
+ghost use Rattle.mt_primary.specs.Writes as writes;
 ghost use Rattle.mt_workflow.specs.Workflows.{live_of};
 ghost use Rattle.mt_event.specs.Reasons.{done_by};
-ghost use Rattle.mt_site_state.specs.Core.{primary_at, primary_of};
+ghost use Rattle.mt_primaries.specs.Primaries.{count_of, has_primaries, primary_of};
+ghost use Rattle.mt_primaries.specs.Primaries as by_shard;
 ghost use Rattle.mt_site_state.specs.ByHand.{AddsKeyspace, AddsTable, EditsRule, is_owned};
 ghost use Rattle.mt_site_state.specs.Core as core;
+ghost use Rattle.mt_site_workflows.specs.Target.{changed_to};
 ghost use Rattle.mt_site.specs.ByHand.{AreTables, CreatesTable, refusal_by_topology, without_table};
 
 use crate::{Primaries, Workflows};
@@ -19,7 +23,6 @@ use mt_names::{KeyspaceName, RuleKey, RuleTarget, ShardList, TableName};
 use mt_primary::Primary;
 use mt_topology::Topology;
 use mt_workflow::Workflow;
-use std::alloc::Global;
 
 /// The refusal of the core for one of the topology.
 pub(crate) fn refusal_by_topology(fault: TopologyFault) -> Reason
@@ -34,48 +37,71 @@ pub(crate) fn refusal_by_topology(fault: TopologyFault) -> Reason
     }
 }
 
-/// Adds a keyspace with an empty primary. All room is made before anything is added.
+/// Adds a keyspace with an empty primary for each of its shards. All memory is taken before anything is added.
 pub(crate) fn add_keyspace(
-    alloc: Global,
     topology: &mut Topology,
     primaries: &mut Primaries,
     name: &KeyspaceName,
+    shards: &ShardList,
 ) -> Result<(), Reason>
-    requires { AreTables topology.old primaries.old.entries }
-    ensures { (workflows : core.Workflows) → AddsKeyspace (record { topology = topology.old; primaries = primaries.old.entries; workflows = workflows }) name.now (done_by result)
-        (record { topology = topology.new; primaries = primaries.new.entries; workflows = workflows }) }
+    requires { AreTables topology.old primaries.old }
+    ensures { (workflows : core.Workflows) → AddsKeyspace (record { topology = topology.old; primaries = primaries.old; workflows = workflows }) name.now shards.now (done_by result)
+        (record { topology = topology.new; primaries = primaries.new; workflows = workflows }) }
 {
-    if primaries.contains_key(name) {
+    if primaries.place(name).is_some() {
         return Err(Reason::Exists);
     }
     if primaries.len() == MAX_KEYSPACES {
         return Err(Reason::Full);
     }
-    if primaries.reserve(1).is_err() {
+    if primaries.add(name.copied(), shards.copied()).is_err() {
         return Err(Reason::Memory);
     }
-    if let Err(fault) = topology.add_keyspace(name, ShardList::unsharded()) {
+    if let Err(fault) = topology.add_keyspace(name, shards.copied()) {
+        primaries.pop();
         return Err(refusal_by_topology(fault));
     }
-    match primaries.insert(name.copied(), Primary::new(alloc)) {
-        Ok(_) => Ok(()),
-        Err(_) => unreachable!(),
+    Ok(())
+}
+
+/// Drops a table at the first ones of some primaries. It takes no memory.
+fn drop_table(primaries: &mut [Primary], count: usize, table: &TableName)
+    requires { count ≤ length primaries.old }
+    ensures { primaries.new ≡ changed_to (λ primary. writes.without_table primary table.now) count primaries.old }
+{
+    for index in 0..count {
+        primaries[index].drop_table(table);
     }
 }
 
-/// Makes a table at the primary of its keyspace.
-fn create_table(
+/// Makes a table at some primaries, none of which has it, or at none of them: `F0 Memory`.
+fn create_table(primaries: &mut [Primary], table: &TableName) -> Result<(), PrimaryFault>
+    requires { (shard : ℕ) → shard < length primaries.old → has_table (slice_index_or primaries.old shard empty_primary) table.now ≡ false }
+    ensures made { OnOk result (primaries.new ≡ map (λ primary. with_new_table primary table.now) primaries.old) }
+    ensures unchanged { OnErr result (primaries.new ≡ primaries.old) }
+{
+    for index in 0..primaries.len() {
+        if let Err(fault) = primaries[index].create_table(table) {
+            drop_table(primaries, index, table);
+            return Err(fault);
+        }
+    }
+    Ok(())
+}
+
+/// Makes a table at each primary of its keyspace, or at none.
+fn create_table_at(
     primaries: &mut Primaries,
     keyspace: &KeyspaceName,
     table: &TableName,
 ) -> Result<(), PrimaryFault>
-    requires there { is_some (primary_at primaries.old.entries keyspace.now) ≡ true }
-    requires absent { has_table (primary_of primaries.old.entries keyspace.now) table.now ≡ false }
-    ensures { CreatesTable primaries.old.entries keyspace.now table.now result primaries.new.entries }
+    requires there { has_primaries primaries.old keyspace.now ≡ true }
+    requires absent { (shard : ℕ) → shard < count_of primaries.old keyspace.now → has_table (primary_of primaries.old keyspace.now shard) table.now ≡ false }
+    ensures { CreatesTable primaries.old keyspace.now table.now result primaries.new }
 {
-    match primaries.get_mut(keyspace) {
+    match primaries.place(keyspace) {
         None => unreachable!(),
-        Some(primary) => primary.create_table(table),
+        Some(place) => create_table(primaries.all_mut(place), table),
     }
 }
 
@@ -89,22 +115,22 @@ fn take_table(topology: &mut Topology, keyspace: &KeyspaceName, table: &TableNam
     topology.release_table(keyspace, table);
 }
 
-/// Adds a table, which has no rows at the primary of its keyspace. Where the primary has no memory for it, the topology
-/// loses it again.
+/// Adds a table, which has no rows at the primaries of its keyspace. Where one of these has no memory for it, the topology and the others
+/// lose it again.
 pub(crate) fn add_table(
     topology: &mut Topology,
     primaries: &mut Primaries,
     keyspace: &KeyspaceName,
     table: &TableName,
 ) -> Result<(), Reason>
-    requires { AreTables topology.old primaries.old.entries }
-    ensures { (workflows : core.Workflows) → AddsTable (record { topology = topology.old; primaries = primaries.old.entries; workflows = workflows }) keyspace.now table.now (done_by result)
-        (record { topology = topology.new; primaries = primaries.new.entries; workflows = workflows }) }
+    requires { AreTables topology.old primaries.old }
+    ensures { (workflows : core.Workflows) → AddsTable (record { topology = topology.old; primaries = primaries.old; workflows = workflows }) keyspace.now table.now (done_by result)
+        (record { topology = topology.new; primaries = primaries.new; workflows = workflows }) }
 {
     if let Err(fault) = topology.add_table(keyspace, table) {
         return Err(refusal_by_topology(fault));
     }
-    if create_table(primaries, keyspace, table).is_err() {
+    if create_table_at(primaries, keyspace, table).is_err() {
         take_table(topology, keyspace, table);
         return Err(Reason::Memory);
     }
@@ -153,7 +179,7 @@ pub(crate) fn edit_rule(
     key: &RuleKey,
     target: Option<RuleTarget>,
 ) -> Result<(), Reason>
-    ensures edits { (primaries : core.Primaries) → EditsRule (record { topology = topology.old; primaries = primaries; workflows = workflows.now.entries }) key.now target (done_by result)
+    ensures edits { (primaries : by_shard.Primaries) → EditsRule (record { topology = topology.old; primaries = primaries; workflows = workflows.now.entries }) key.now target (done_by result)
         (record { topology = topology.new; primaries = primaries; workflows = workflows.now.entries }) }
     ensures named { IsRuleKey key.now }
 {

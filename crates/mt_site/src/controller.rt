@@ -1,5 +1,5 @@
-//! The core of the controller: the topology, a primary for each of its keyspaces, the live workflows, and what is kept of ways.
-ghost use Rattle.std.specs.Prelude.{◌≡◌, false, IfErr, IfOk, List, [], ◌∷◌, OnErr, option_copied, string_bytes};
+//! The core of the controller: the topology, a primary for each shard of its keyspaces, the live workflows, and what is kept of ways.
+ghost use Rattle.std.specs.Prelude.{◌≡◌, false, IfErr, IfOk, List, [], ◌∷◌, OnErr, option_copied, slice_get, string_bytes};
 ghost use Rattle.mt_event.specs.Events.{answer_from, event_of};
 ghost use Rattle.mt_model.specs.declared.entries.Scope.{Scope};
 ghost use Rattle.mt_model.specs.Documents.{dump_text, rules_text};
@@ -8,7 +8,8 @@ ghost use Rattle.mt_plain.specs.Events as plain;
 ghost use Rattle.mt_plain.specs.Plain.{Plain, opening};
 ghost use Rattle.mt_plain.specs.Refuse.{owed};
 ghost use Rattle.mt_plain.specs.Serve.{served};
-ghost use Rattle.mt_site_state.specs.Core.{primary_at, workflow_at};
+ghost use Rattle.mt_primaries.specs.Primaries.{shards_of};
+ghost use Rattle.mt_site_state.specs.Core.{workflow_at};
 ghost use Rattle.mt_site_state.specs.Purges.{IsPurged, with_purges};
 ghost use Rattle.mt_site_state.specs.Ways.{SiteStands, SiteSteps, empty_site};
 ghost use Rattle.mt_site.specs.Applies.{AppliesAndPurges};
@@ -16,6 +17,7 @@ ghost use Rattle.mt_site.specs.Commands.{is_command};
 ghost use Rattle.mt_site.specs.GivenUp.{CanBeGivenUp};
 ghost use Rattle.mt_site.specs.Headline.{KeepsTheHeadline};
 ghost use Rattle.mt_site.specs.Owed.{owed_to};
+ghost use Rattle.mt_site.specs.Shards.{shard_from, shard_in};
 ghost use Rattle.mt_site.specs.Stood.{IsSiteWith};
 
 mod commands;
@@ -24,14 +26,14 @@ mod workflows;
 
 use crate::owed::a_core_owes_what_its_state_owes;
 use crate::replies::{advanced, created, done, row, show};
-use crate::{OpenWays, Primaries, Workflows, owed};
+use crate::{OpenWays, Primaries, Workflows, owed, shards};
 pub use commands::Command;
 use indexmap::IndexMap;
 use mt_event::{Event, Refusal, Reply};
 use mt_journal::Journal;
 use mt_laws::every_run_keeps_the_headline;
 use mt_model::TopologyFault;
-use mt_names::{KeyspaceName, RuleKey, RuleTarget, TabletType, WorkflowName};
+use mt_names::{KeyRange, KeyspaceName, RuleKey, RuleTarget, TabletType, WorkflowName};
 use mt_primary::Primary;
 use mt_rules::RulesFault;
 use mt_site_events::{a_core_tells_what_its_state_serves, a_purged_core_stands};
@@ -44,7 +46,7 @@ pub use placed::Place;
 use std::alloc::Global;
 use std::marker::Model;
 
-/// The state of the controller: the topology, for each keyspace its primary, the live workflows, the ways that are open with what
+/// The state of the controller: the topology, for each shard of a keyspace its primary, the live workflows, the ways that are open with what
 /// their undo needs, the journal, and how many ways were begun. Whoever asks it hands in the watchers. (Vitess: what MoveTables
 /// works on)
 #[derive(Drop)]
@@ -64,12 +66,12 @@ impl Model for Core {
     ghost Value = { SiteState };
 
     ghost view = { λ core. record {
-      core = record { topology = core.topology; primaries = core.primaries.entries; workflows = core.workflows.entries };
+      core = record { topology = core.topology; primaries = core.primaries; workflows = core.workflows.entries };
       ways = record { opened = core.opened.entries; journal = core.journal; begun = core.begun };
     } };
 
     ghost invariant = { λ core. IsSite (record {
-      core = record { topology = core.topology; primaries = core.primaries.entries; workflows = core.workflows.entries };
+      core = record { topology = core.topology; primaries = core.primaries; workflows = core.workflows.entries };
       ways = record { opened = core.opened.entries; journal = core.journal; begun = core.begun };
     }) };
 }
@@ -85,7 +87,7 @@ impl Core {
         Core {
             alloc,
             topology: Topology::new(alloc),
-            primaries: IndexMap::new(alloc),
+            primaries: Primaries::new(alloc),
             workflows: IndexMap::new(alloc),
             opened: IndexMap::new(alloc),
             journal: Journal::new(alloc),
@@ -107,12 +109,22 @@ impl Core {
         mt_few::get(&self.workflows, name)
     }
 
-    /// The primary of a keyspace, or none of that name: its rows, and its log, of which is kept what a stream has still to read. It takes
-    /// no memory.
-    pub fn primary(&self, keyspace: &KeyspaceName) -> Option<&Primary>
-        ensures { option_copied result ≡ primary_at self.now.core.primaries keyspace.now }
+    /// The primary of a shard of a keyspace, or none: its rows, and its log, of which is kept what a stream has still to read. It takes no
+    /// memory.
+    pub fn primary(&self, keyspace: &KeyspaceName, shard: u8) -> Option<&Primary>
+        ensures { option_copied result ≡ slice_get (shards_of self.now.core.primaries keyspace.now).each shard }
     {
-        mt_few::get(&self.primaries, keyspace)
+        match self.primaries.place(keyspace) {
+            None => None,
+            Some(place) => self.primaries.all(place).get(usize::from(shard)),
+        }
+    }
+
+    /// The shard of a live workflow's target whose range is written so, by its place: `F7 NoWorkflow`, `F32 NoShard`. It takes no memory.
+    pub fn shard(&self, workflow: &WorkflowName, range: &KeyRange) -> Result<u8, Refusal>
+        ensures { shard_from result ≡ shard_in (workflow_at self.now.core.workflows workflow.now) range.now }
+    {
+        shards::place_of(&self.workflows, workflow, range)
     }
 
     /// Where a name leads for a type. It takes no memory.
@@ -229,9 +241,10 @@ impl Core {
             Event::Advance {
                 workflow,
                 stream,
+                shard,
                 at,
                 max,
-            } => advanced(self.advance(workflow, *stream, *at, *max)),
+            } => advanced(self.advance(workflow, *stream, *shard, *at, *max)),
             Event::Show { workflow } => show(self.shown(workflow)),
             _ => unreachable!(),
         }

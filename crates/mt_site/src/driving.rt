@@ -28,10 +28,10 @@ fn begin_of(workflow: &WorkflowName, types: TypeSet, back: bool) -> Command<'_>
 }
 
 /// Switches the traffic of some types of a workflow as a whole, or reverses it (`back`): begins the way, and takes each of its steps in
-/// turn. At `F18 NotLevel` the feeding stream reads at most 100 entries, and the step is tried again, at most 64 times in all. Any other
-/// refusal of a step or of the stream ends it, and so does the last `F18 NotLevel`: before the journal all is undone, and the answer
-/// is `Abandoned`; behind it the way stays open, and the answer is `Stopped`. It asks for at most 1,400 events, and takes no memory beside
-/// theirs. A refusal is that of the begin, which leaves all as it was. (Vitess: SwitchTraffic, ReverseTraffic)
+/// turn. At `F18 NotLevel` the feeding stream of each shard reads at most 100 entries, and the step is tried again, at most 64 times in
+/// all. Any other refusal of a step or of a stream ends it, and so does the last `F18 NotLevel`: before the journal all is undone, and
+/// the answer is `Abandoned`; behind it the way stays open, and the answer is `Stopped`. It asks for at most 1,400 events, and takes no
+/// memory beside theirs. A refusal is that of the begin, which leaves all as it was. (Vitess: SwitchTraffic, ReverseTraffic)
 pub fn drive<W: Asks>(
     site: &mut Site<W>,
     workflow: &WorkflowName,

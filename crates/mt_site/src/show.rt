@@ -1,16 +1,16 @@
 //! What is told of a workflow.
-ghost use Rattle.std.specs.Prelude.{◌≡◌, true, is_some, length, option_map};
-ghost use Rattle.mt_event.specs.Events.{lent_shown, shown_stream_from};
-ghost use Rattle.mt_plain.specs.Events.{back, forward};
+ghost use Rattle.std.specs.Prelude.{◌≡◌, ◌<◌, map, true, is_some, length, option_map, Some, ℕ, option_copied, slice_get};
+ghost use Rattle.mt_event.specs.Events.{lane_from, lanes_from, lent_shown, shown_stream_from};
+ghost use Rattle.mt_plain.specs.Events.{forward};
 ghost use Rattle.mt_workflow.specs.Workflows.{WorkflowState, slot_of};
 ghost use Rattle.mt_site_state.specs.Core.{workflow_at};
-ghost use Rattle.mt_site_state.specs.Workflows.{show_at, shown_by, slot_from};
-ghost use Rattle.std.specs.Prelude.{Some};
+ghost use Rattle.mt_site_state.specs.Workflows.{lane_by, show_at, shown_by, slot_from};
 ghost use Rattle.mt_site.specs.Show.{shown_answer};
 
 use crate::Workflows;
-use mt_event::{Reason, ShownOf, ShownStream, Tables};
-use mt_names::WorkflowName;
+use arrayvec::ArrayVec;
+use mt_event::{Reason, ShownLane, ShownOf, ShownStream, Tables};
+use mt_names::{MAX_SHARDS, WorkflowName};
 use mt_stream::Stream;
 use mt_workflow::{Slot, Workflow};
 
@@ -24,14 +24,50 @@ fn shown_stream(stream: &Stream) -> ShownStream
     }
 }
 
-/// What is told of a workflow, which has one lane with a forward stream.
+/// What is told of the back stream of a shard, if it has one.
+fn shown_back(stream: Option<&Stream>) -> Option<ShownStream>
+    ensures { option_map shown_stream_from result ≡ option_map slot_from (option_copied stream.entry) }
+{
+    match stream {
+        None => None,
+        Some(stream) => Some(shown_stream(stream)),
+    }
+}
+
+/// What is told of the lane of a shard, which has a forward stream.
+fn shown_lane(workflow: &Workflow, shard: u8) -> ShownLane
+    requires shard { shard < length workflow.now.lanes }
+    requires there { is_some (slot_of workflow.now shard forward) ≡ true }
+    ensures { Some (lane_from result) ≡ option_map lane_by (slice_get workflow.now.lanes shard) }
+{
+    let forward = workflow.slot(shard, Slot::Forward).unwrap();
+    ShownLane {
+        range: workflow.range(shard).copied(),
+        forward: shown_stream(forward),
+        copied: forward.copied(),
+        back: shown_back(workflow.slot(shard, Slot::Back)),
+    }
+}
+
+/// What is told of all lanes.
+fn shown_lanes(workflow: &Workflow) -> ArrayVec<ShownLane, MAX_SHARDS>
+    requires there { (shard : ℕ) → shard < length workflow.now.lanes → is_some (slot_of workflow.now shard forward) ≡ true }
+    ensures { lanes_from result.items ≡ map lane_by workflow.now.lanes }
+{
+    workflow.facts();
+    let mut lanes = ArrayVec::new_in(());
+    for shard in 0..workflow.shards() {
+        lanes.push(shown_lane(workflow, shard));
+    }
+    lanes
+}
+
+/// What is told of a workflow.
 fn shown(workflow: &Workflow) -> ShownOf<'_>
-    requires one { length workflow.now.lanes ≡ 1 }
-    requires there { is_some (slot_of workflow.now 0 forward) ≡ true }
+    requires { (shard : ℕ) → shard < length workflow.now.lanes → is_some (slot_of workflow.now shard forward) ≡ true }
     ensures { lent_shown result ≡ shown_by workflow.now }
 {
     workflow.facts();
-    let forward = workflow.slot(0, Slot::Forward).unwrap();
     ShownOf {
         workflow: workflow.name(),
         source: workflow.source(),
@@ -39,26 +75,14 @@ fn shown(workflow: &Workflow) -> ShownOf<'_>
         tables: Tables::new(workflow.tables()),
         switched: workflow.switched(),
         way: workflow.way(),
-        forward: shown_stream(forward),
-        copied: forward.copied(),
-        back: shown_back(workflow),
-    }
-}
-
-/// What is told of a workflow's back stream, if it has one.
-fn shown_back(workflow: &Workflow) -> Option<ShownStream>
-    ensures { option_map shown_stream_from result ≡ option_map slot_from (slot_of workflow.now 0 back) }
-{
-    match workflow.slot(0, Slot::Back) {
-        None => None,
-        Some(stream) => Some(shown_stream(stream)),
+        lanes: shown_lanes(workflow),
     }
 }
 
 /// Tells of a live workflow: `F7 NoWorkflow`. It takes no memory.
 pub(crate) fn show<'a>(workflows: &'a Workflows, name: &WorkflowName) -> Result<ShownOf<'a>, Reason>
-    requires one { (w : WorkflowState) → workflow_at workflows.now.entries name.now ≡ Some w → length w.lanes ≡ 1 }
-    requires there { (w : WorkflowState) → workflow_at workflows.now.entries name.now ≡ Some w → is_some (slot_of w 0 forward) ≡ true }
+    requires { (w : WorkflowState) → workflow_at workflows.now.entries name.now ≡ Some w
+        → (shard : ℕ) → shard < length w.lanes → is_some (slot_of w shard forward) ≡ true }
     ensures { shown_answer result ≡ show_at (workflow_at workflows.now.entries name.now) }
 {
     match mt_few::get(workflows, name) {

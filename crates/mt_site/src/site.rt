@@ -1,5 +1,5 @@
 //! The site: the core of the controller beside the watchers that it asks.
-ghost use Rattle.std.specs.Prelude.{◌≡◌, IfErr, IfOk, List, [], ◌∷◌, OnErr, option_copied, string_bytes};
+ghost use Rattle.std.specs.Prelude.{◌≡◌, IfErr, IfOk, List, [], ◌∷◌, OnErr, option_copied, slice_get, string_bytes};
 ghost use Rattle.mt_event.specs.Events.{answer_from, done_from, event_of};
 ghost use Rattle.mt_event.specs.Reasons.{done_by};
 ghost use Rattle.mt_model.specs.Documents.{dump_text, rules_text};
@@ -10,7 +10,8 @@ ghost use Rattle.mt_plain.specs.Refuse.{owed};
 ghost use Rattle.mt_plain.specs.Serve.{served};
 ghost use Rattle.mt_model.specs.declared.entries.Scope.{Scope};
 ghost use Rattle.mt_site_state.specs.Purges.{IsPurged};
-ghost use Rattle.mt_site_state.specs.Core.{primary_at, workflow_at};
+ghost use Rattle.mt_primaries.specs.Primaries.{shards_of};
+ghost use Rattle.mt_site_state.specs.Core.{workflow_at};
 ghost use Rattle.mt_site_state.specs.Ways.{SiteStands, SiteSteps, empty_site};
 ghost use Rattle.mt_workflow.specs.Workflows.{stream_name};
 ghost use Rattle.mt_site.specs.Advance.{advanced_from};
@@ -19,6 +20,7 @@ ghost use Rattle.mt_site.specs.Commands.{event_of_command};
 ghost use Rattle.mt_site.specs.GivenUp.{CanBeGivenUp};
 ghost use Rattle.mt_site.specs.Headline.{KeepsTheHeadline};
 ghost use Rattle.mt_site.specs.Owed.{owed_to};
+ghost use Rattle.mt_site.specs.Shards.{shard_from, shard_in};
 ghost use Rattle.mt_site.specs.Stood.{IsSiteWith};
 
 use crate::{Command, Core, Place};
@@ -26,7 +28,8 @@ use arrayvec::ArrayVec;
 use mt_event::{Event, Reason, Refusal, Reply};
 use mt_model::{Op, TopologyFault};
 use mt_names::{
-    KeyspaceName, MAX_TABLES, Position, RuleKey, RuleTarget, TableName, TabletType, WorkflowName,
+    KeyRange, KeyspaceName, MAX_TABLES, Position, RuleKey, RuleTarget, TableName, TabletType,
+    WorkflowName,
 };
 use mt_primary::Primary;
 use mt_rules::RulesFault;
@@ -112,19 +115,20 @@ impl<W: Asks> Site<W> {
         &mut self,
         workflow: &WorkflowName,
         stream: Slot,
+        shard: u8,
         at: Position,
         max: u16,
     ) -> Result<Advanced, Reason>
         ensures watchers { self.new.watchers ≡ self.old.watchers }
-        ensures does { AdvancesAndPurges self.old.core.core workflow.now (stream_name stream) at max (advanced_from result) self.new.core.core }
+        ensures does { AdvancesAndPurges self.old.core.core workflow.now (stream_name stream) shard at max (advanced_from result) self.new.core.core }
         ensures ways { self.new.core.ways ≡ self.old.core.ways }
-        ensures steps { (scopes : List Scope) → SiteSteps scopes self.old.core (plain.advance workflow.now (stream_name stream) 0 at max) (advanced_from result) self.new.core }
+        ensures steps { (scopes : List Scope) → SiteSteps scopes self.old.core (plain.advance workflow.now (stream_name stream) shard at max) (advanced_from result) self.new.core }
         ensures unchanged { OnErr result (self.new.core ≡ self.old.core) }
-        ensures headline { (scopes : List Scope) → KeepsTheHeadline scopes self.old.core (plain.advance workflow.now (stream_name stream) 0 at max ∷ []) (advanced_from result ∷ []) self.new.core }
+        ensures headline { (scopes : List Scope) → KeepsTheHeadline scopes self.old.core (plain.advance workflow.now (stream_name stream) shard at max ∷ []) (advanced_from result ∷ []) self.new.core }
         ensures stood { (scopes : List Scope) → IsSiteWith scopes self.old.core → IsSiteWith scopes self.new.core }
         ensures purged { IsPurged self.old.core.core → IsPurged self.new.core.core }
     {
-        self.core.advance(workflow, stream, at, max)
+        self.core.advance(workflow, stream, shard, at, max)
     }
 
     /// Writes a row of the table of a place: see `Core::write_row`.
@@ -176,11 +180,18 @@ impl<W: Asks> Site<W> {
         self.core.workflow(name)
     }
 
-    /// The primary of a keyspace: see `Core::primary`. It takes no memory.
-    pub fn primary(&self, keyspace: &KeyspaceName) -> Option<&Primary>
-        ensures { option_copied result ≡ primary_at self.now.core.core.primaries keyspace.now }
+    /// The shard of a live workflow's target whose range is written so, by its place: see `Core::shard`. It takes no memory.
+    pub fn shard(&self, workflow: &WorkflowName, range: &KeyRange) -> Result<u8, Refusal>
+        ensures { shard_from result ≡ shard_in (workflow_at self.now.core.core.workflows workflow.now) range.now }
     {
-        self.core.primary(keyspace)
+        self.core.shard(workflow, range)
+    }
+
+    /// The primary of a shard of a keyspace: see `Core::primary`. It takes no memory.
+    pub fn primary(&self, keyspace: &KeyspaceName, shard: u8) -> Option<&Primary>
+        ensures { option_copied result ≡ slice_get (shards_of self.now.core.core.primaries keyspace.now).each shard }
+    {
+        self.core.primary(keyspace, shard)
     }
 
     /// The watchers. It takes no memory.

@@ -1,19 +1,20 @@
 //! The turns of a drive: what it asks for, and what follows from the answer.
-ghost use Rattle.std.specs.Prelude.{◌≡◌, List, ℕ, option_map};
+ghost use Rattle.std.specs.Option.{option_map_or};
+ghost use Rattle.std.specs.Prelude.{◌≡◌, List, ℕ, if◌then◌else◌, nat_lt, option_map, suc};
 ghost use Rattle.mt_event.specs.Drives.{driven_from};
 ghost use Rattle.mt_event.specs.Reasons.{reason_from};
 ghost use Rattle.mt_model.specs.declared.entries.Scope.{Scope};
 ghost use Rattle.mt_plain.specs.Drive as plain;
 ghost use Rattle.mt_plain.specs.Plain.{Plain};
 ghost use Rattle.mt_site_state.specs.Ways.{SiteStands};
-ghost use Rattle.mt_workflow.specs.Workflows.{stream_name, way_from};
+ghost use Rattle.mt_workflow.specs.Workflows.{slot_of, stream_name, way_from};
 ghost use Rattle.mt_site.specs.Drives.{Turns, end_from, heard_from, turn_from};
 
 use crate::{Command, Core};
 use mt_event::{Driven, Reason, Refusal};
 use mt_names::{Position, WorkflowName};
 use mt_watch::Asks;
-use mt_workflow::{Slot, Way};
+use mt_workflow::{Slot, Way, Workflow};
 
 /// How often a step is tried at most.
 pub(crate) const MOST_TRIES: u8 = 64;
@@ -26,8 +27,8 @@ const MOST_AT_ONCE: u16 = 100;
 pub(crate) enum Turn {
     /// The next step, which may be tried so many times more.
     Steps(u8),
-    /// An advance of the feeding stream, before the step may be tried so many times more.
-    Feeds(u8),
+    /// An advance of the feeding stream of a shard, and then of those behind it, before the step may be tried so many times more.
+    Feeds(u8, u8),
     /// An undo, after this refusal, which it will tell.
     GivesUp(Reason),
 }
@@ -82,22 +83,33 @@ fn steps_done(way: Option<Way>) -> u64
     }
 }
 
-/// The stream that feeds on a way, and its position.
-fn feeding(core: &Core, workflow: &WorkflowName) -> (Slot, Position)
-    ensures stream { (p : Plain) (scopes : List Scope) → SiteStands p scopes core.now → stream_name result.0 ≡ plain.feeding_stream p workflow.now }
-    ensures position { (p : Plain) (scopes : List Scope) → SiteStands p scopes core.now
-        → result.1 ≡ plain.position_of p workflow.now (plain.feeding_stream p workflow.now) 0 }
+/// Which of the streams of each shard feeds on a way.
+fn feeding(way: Option<Way>) -> Slot
+    ensures { (p : Plain) (workflow : List ℕ) → option_map way_from way ≡ plain.way_of p workflow → stream_name result ≡ plain.feeding_stream p workflow }
 {
-    let Some(found) = core.workflow(workflow) else {
-        return (Slot::Forward, 0);
-    };
-    let slot = match found.way() {
+    match way {
         Some(way) if way.back => Slot::Back,
         _ => Slot::Forward,
-    };
-    match found.slot(0, slot) {
-        None => (slot, 0),
-        Some(stream) => (slot, stream.position()),
+    }
+}
+
+/// The position of a stream of a shard of a workflow's target, if there is one.
+fn position_in(workflow: &Workflow, stream: Slot, shard: u8) -> Position
+    ensures { result ≡ option_map_or (λ stream. stream.position) (slot_of workflow.now shard (stream_name stream)) 0 }
+{
+    match workflow.slot(shard, stream) {
+        None => 0,
+        Some(found) => found.position(),
+    }
+}
+
+/// So of a live workflow.
+fn position_of(core: &Core, workflow: &WorkflowName, stream: Slot, shard: u8) -> Position
+    ensures { (p : Plain) (scopes : List Scope) → SiteStands p scopes core.now → result ≡ plain.position_of p workflow.now (stream_name stream) shard }
+{
+    match core.workflow(workflow) {
+        None => 0,
+        Some(found) => position_in(found, stream, shard),
     }
 }
 
@@ -132,7 +144,7 @@ fn refused_step(way: Option<Way>, tries: u8, refusal: Reason) -> Heard
         → heard_from workflow result ≡ plain.refused_step p workflow tries (reason_from refusal) }
 {
     match refusal {
-        Reason::NotLevel if tries > 1 => Heard::GoesOn(Turn::Feeds(tries - 1)),
+        Reason::NotLevel if tries > 1 => Heard::GoesOn(Turn::Feeds(0, tries - 1)),
         refusal => fail(way, refusal),
     }
 }
@@ -150,13 +162,36 @@ fn step<W: Asks>(core: &mut Core, watchers: &W, workflow: &WorkflowName, tries: 
     }
 }
 
-/// Advances the feeding stream, before the step is tried again.
-fn feed(core: &mut Core, workflow: &WorkflowName, tries: u8) -> Heard
-    ensures { (scopes : List Scope) → Turns scopes core.old (plain.feeds workflow.now 0 tries) (heard_from workflow.now result) core.new }
+/// How many shards the target of a workflow has.
+fn shards_of(core: &Core, workflow: &WorkflowName) -> u8
+    ensures { (p : Plain) (scopes : List Scope) → SiteStands p scopes core.now → result ≡ plain.lanes_of p workflow.now }
 {
-    let (stream, at) = feeding(core, workflow);
-    match core.advance(workflow, stream, at, MOST_AT_ONCE) {
-        Ok(_) => Heard::GoesOn(Turn::Steps(tries)),
+    match core.workflow(workflow) {
+        None => 0,
+        Some(found) => found.shards(),
+    }
+}
+
+/// What follows once the feeding stream of a shard was advanced: that of the next one is, and behind the last one the step is tried again.
+fn fed(shards: u8, shard: u8, tries: u8) -> Turn
+    ensures { (workflow : List ℕ) → turn_from workflow result
+        ≡ (if nat_lt (suc shard) shards then plain.feeds workflow (suc shard) tries else plain.steps workflow tries) }
+{
+    if shard < shards && shard + 1 < shards {
+        Turn::Feeds(shard + 1, tries)
+    } else {
+        Turn::Steps(tries)
+    }
+}
+
+/// Advances the feeding stream of a shard, before the step is tried again.
+fn feed(core: &mut Core, workflow: &WorkflowName, shard: u8, tries: u8) -> Heard
+    ensures { (scopes : List Scope) → Turns scopes core.old (plain.feeds workflow.now shard tries) (heard_from workflow.now result) core.new }
+{
+    let stream = feeding(way_of(core, workflow));
+    let at = position_of(core, workflow, stream, shard);
+    match core.advance(workflow, stream, shard, at, MOST_AT_ONCE) {
+        Ok(_) => Heard::GoesOn(fed(shards_of(core, workflow), shard, tries)),
         Err(refusal) => fail(way_of(core, workflow), refusal),
     }
 }
@@ -190,7 +225,7 @@ pub(crate) fn take<W: Asks>(
 {
     match turn {
         Turn::Steps(tries) => step(core, watchers, workflow, tries),
-        Turn::Feeds(tries) => feed(core, workflow, tries),
+        Turn::Feeds(shard, tries) => feed(core, workflow, shard, tries),
         Turn::GivesUp(refusal) => give_up(core, watchers, workflow, refusal),
     }
 }

@@ -1,7 +1,7 @@
 -- Cancel, from core to core.
-use Rattle.std.proofs.Common.{◌≡◌, ◌≢◌, ℕ, Bool, true, false, not, fold, List, map, Option, None, Some, is_some, refl, sym, ap, ◌∙◌, subst, ⊎_elim}
+use Rattle.std.proofs.Common.{◌≡◌, ◌≢◌, ℕ, ◌<◌, Bool, true, false, not, fold, List, map, Option, None, Some, is_some, refl, sym, ap, ◌∙◌, subst, ⊎_elim}
 use Rattle.std.proofs.lemmas.Bool.{true≢false}
-use Rattle.std.specs.Map.{keys_of, remove_entry, set_value}
+use Rattle.std.specs.Map.{keys_of, remove_entry}
 use Rattle.std.specs.List.{IsDistinct}
 use Rattle.std.specs.Option.{option_map_or}
 use Rattle.std.specs.Prelude.{◌&&◌, ◌||◌}
@@ -10,7 +10,7 @@ use Rattle.mt_model.specs.Part.{part_keys, with_entries, without_places}
 use Rattle.mt_model.specs.Topology.{Rules, TopologyState, value_of}
 use Rattle.mt_names.specs.declared.types.TypeSet.{TypeSet}
 use Rattle.mt_names.specs.Names.{same_text}
-use Rattle.mt_names.proofs.EntryLemmas.{lookup-remove_entry_elsewhere, lookup-remove_entry_here, some_from}
+use Rattle.mt_names.proofs.EntryLemmas.{lookup-remove_entry_elsewhere, lookup-remove_entry_here}
 use Rattle.mt_names.proofs.SameLemmas.{same_text_decides}
 use Rattle.mt_laws.specs.Changes.{IsOf}
 use Rattle.mt_laws.specs.Reached.{IsInPlace}
@@ -30,13 +30,14 @@ use Rattle.mt_primary.specs.Writes.{without_table}
 use Rattle.mt_site_rows.specs.Rows.{OtherTablesStay, OtherKeyspacesStay, Primaries, RowsStand}
 use Rattle.mt_site_topology.specs.Keys.{IsKept, kept_entries, keys_of_part, rules_only}
 use Rattle.mt_site_topology.specs.Stands.{TopologyStands}
-use Rattle.mt_site_state.specs.Core.{CoreState, Does, primaries_of, primary_at, primary_of, workflow_at}
+use Rattle.mt_primaries.specs.Primaries.{count_of, primary_of, with_all}
+use Rattle.mt_primaries.proofs.PrimaryLemmas.{with_all-each, with_all-elsewhere, with_all-here}
+use Rattle.mt_site_state.specs.Core.{CoreState, Does, workflow_at}
 use Rattle.mt_site_state.specs.Stands.{AreWorkflows, StandsFor, StandsForAny, StandsWith}
-use Rattle.mt_site_state.proofs.ShardLemmas.{StayBut, keyspaces_stay}
-use Rattle.mt_site_state.proofs.ShardLemmas as shards
 use Rattle.mt_site_state.specs.Workflows.{Cancels, CancelsAt, cancelled}
 use Rattle.mt_workflow.specs.Workflows.{WorkflowState, live_of}
-use Rattle.mt_site_events.proofs.MoveCoreLemmas.{live_found, no_live, primaries-set, primary-elsewhere, primary-here, same_or, stands-elsewhere}
+use Rattle.mt_site_events.proofs.MoveCoreLemmas.{live_found, no_live, same_or, stands-elsewhere}
+use Rattle.mt_site_events.proofs.PrimaryLemmas.{all_changed, primaries_kept}
 use Rattle.mt_site_events.proofs.GoneLemmas.{allowed_before, allowed_gone, distinct_names, live_gone, names_gone, refused_stays, table_gone, table_stays}
 
 -- what refuses a Cancel is the same for a workflow and the live one that it stands for
@@ -49,7 +50,7 @@ refusal_same p live w stands = by w.way stands.way w.switched stands.switched
 
 -- ---- a Cancel that is done
 
-module _ (p : Plain) (scopes : List Scope) (old : CoreState) (stands : StandsWith p scopes old) (are : (keyspace : List ℕ) → IsPrimary (primary_of old.primaries keyspace))
+module _ (p : Plain) (scopes : List Scope) (old : CoreState) (stands : StandsWith p scopes old) (are : (keyspace : List ℕ) (n : ℕ) → IsPrimary (primary_of old.primaries keyspace n))
     (workflow : List ℕ) (w : WorkflowState) (found : workflow_at old.workflows workflow ≡ Some w)
     (live : Live) (is_live : live_at p workflow ≡ Some live) (for : StandsFor p live w) (named : live.name ≡ workflow) (none : cancel_refusal live ≡ None)
     (placed : IsInPlace p.topology live) (mover_is : (table : List ℕ) → moves live table ≡ true → mover p table ≡ Some live)
@@ -64,16 +65,13 @@ module _ (p : Plain) (scopes : List Scope) (old : CoreState) (stands : StandsWit
   apart : Apart p.lives
   apart = (reached_has_parts p stands.reached).apart
 
-  abbrev before : PrimaryState
-  before = primary_of old.primaries live.target
-
-  abbrev after : PrimaryState
-  after = fold without_table before live.tables
+  abbrev drop_tables : PrimaryState → PrimaryState
+  drop_tables primary = fold without_table primary live.tables
 
   abbrev made : CoreState
   made = record {
     topology = without_places (with_entries old.topology (kept_entries w.kept live)) (keys_of_part live);
-    primaries = set_value (same_text live.target) old.primaries after;
+    primaries = with_all old.primaries live.target drop_tables;
     workflows = remove_entry (same_text workflow) old.workflows;
   }
 
@@ -83,68 +81,69 @@ module _ (p : Plain) (scopes : List Scope) (old : CoreState) (stands : StandsWit
       by : (s : List ℕ) → s ≡ live.source → (t : List ℕ) → t ≡ live.target → (ts : List (List ℕ)) → ts ≡ live.tables → (n : List ℕ) → n ≡ workflow
           → record {
             topology = without_places (with_entries old.topology (map (value_of (rules_only w.kept)) (part_keys s t ts))) (part_keys s t ts);
-            primaries = set_value (same_text t) old.primaries (fold without_table (primary_of old.primaries t) ts);
+            primaries = with_all old.primaries t (λ primary. fold without_table primary ts);
             workflows = remove_entry (same_text n) old.workflows;
           } ≡ made
       by s a t b ts c n d = rw (a, b, c, d) refl
 
-  target_there : (state : PrimaryState) × (primary_at old.primaries live.target ≡ Some state)
-  target_there = some_from (primary_at old.primaries live.target) (stands.primaries.there live.target ∙ placed.sides.target)
+  target_now : (n : ℕ) → n < count_of old.primaries live.target → primary_of made.primaries live.target n ≡ drop_tables (primary_of old.primaries live.target n)
+  target_now = with_all-here old.primaries live.target drop_tables
 
-  target_now : primary_of made.primaries live.target ≡ after
-  target_now = primary-here old.primaries live.target target_there.0 after target_there.1
+  others_stay : OtherKeyspacesStay live.target (primary_of old.primaries) (primary_of made.primaries)
+  others_stay other differs n = with_all-elsewhere old.primaries live.target drop_tables other n differs
 
-  others_stay : StayBut live.target old.primaries made.primaries
-  others_stay = primary-elsewhere old.primaries live.target target_there.0 after target_there.1
-
-  tables_stay : OtherTablesStay live.tables before (primary_of made.primaries live.target)
-  tables_stay = subst (OtherTablesStay live.tables before) (sym target_now) (dropped before live.tables)
+  tables_stay : (n : ℕ) → OtherTablesStay live.tables (primary_of old.primaries live.target n) (primary_of made.primaries live.target n)
+  tables_stay n =
+      with_all-each old.primaries live.target drop_tables (λ k m was is. OtherTablesStay live.tables was is) (λ k m s. record { log = refl; rows = λ table other key. refl })
+      (λ m within. dropped (primary_of old.primaries live.target m) live.tables) live.target n
 
   -- ---- tables and own lists
 
-  tables_now : (k t : List ℕ) → has_table (primary_of made.primaries k) t ≡ plain.has_table q k t
-  tables_now k t = ⊎_elim at_target elsewhere (same_or live.target k)
+  tables_now : (k : List ℕ) (n : ℕ) → n < count_of old.primaries k → (t : List ℕ) → has_table (primary_of made.primaries k n) t ≡ plain.has_table q k t
+  tables_now k n in_range t = ⊎_elim at_target elsewhere (same_or live.target k)
     where
-      by : (b : Bool) → moves live t ≡ b → (not b && has_table before t) ≡ plain.has_table q live.target t
-      by true moved = sym (table_gone p apart workflow live (live_in p workflow live is_live) named placed t moved)
-      by false other =
-          stands.primaries.tables live.target t
-          ∙ sym (table_stays p apart workflow live (live_in p workflow live is_live) named live.target t (ap (λ b. b && same_text live.target live.target) other))
+      here : n < count_of old.primaries live.target → has_table (primary_of made.primaries live.target n) t ≡ plain.has_table q live.target t
+      here within = ap (λ s. has_table s t) (target_now n within) ∙ gone (primary_of old.primaries live.target n) live.tables (are live.target n) t ∙ by (moves live t) refl
+        where
+          by : (b : Bool) → moves live t ≡ b → (not b && has_table (primary_of old.primaries live.target n) t) ≡ plain.has_table q live.target t
+          by true moved = sym (table_gone p apart workflow live (live_in p workflow live is_live) named placed t moved)
+          by false other =
+              stands.primaries.tables live.target n within t
+              ∙ sym (table_stays p apart workflow live (live_in p workflow live is_live) named live.target t (ap (λ b. b && same_text live.target live.target) other))
 
-      at_target : live.target ≡ k → has_table (primary_of made.primaries k) t ≡ plain.has_table q k t
-      at_target e =
-          subst (λ x. has_table (primary_of made.primaries x) t ≡ plain.has_table q x t) e
-          (ap (λ s. has_table s t) target_now ∙ gone before live.tables (are live.target) t ∙ by (moves live t) refl)
+      at_target : live.target ≡ k → has_table (primary_of made.primaries k n) t ≡ plain.has_table q k t
+      at_target e = subst (λ x. n < count_of old.primaries x → has_table (primary_of made.primaries x n) t ≡ plain.has_table q x t) e here in_range
 
       fails : (b : Bool) → (b && false) ≡ false
       fails true = refl
       fails false = refl
 
-      elsewhere : live.target ≢ k → has_table (primary_of made.primaries k) t ≡ plain.has_table q k t
+      elsewhere : live.target ≢ k → has_table (primary_of made.primaries k n) t ≡ plain.has_table q k t
       elsewhere other =
-          ap (λ s. has_table s t) (others_stay k other) ∙ stands.primaries.tables k t
+          ap (λ s. has_table s t) (others_stay k other n) ∙ stands.primaries.tables k n in_range t
           ∙ sym (table_stays p apart workflow live (live_in p workflow live is_live) named k t (ap (λ b. moves live t && b) (text_differs live.target k other) ∙ fails (moves live t)))
 
-  denials_now : (k t : List ℕ) → is_denied_at (primary_of made.primaries k) t ≡ plain.refuses q k 0 t
-  denials_now k t = ⊎_elim at_target elsewhere (same_or live.target k)
+  denials_now : (k : List ℕ) (n : ℕ) → n < count_of old.primaries k → (t : List ℕ) → is_denied_at (primary_of made.primaries k n) t ≡ plain.refuses q k n t
+  denials_now k n in_range t = ⊎_elim at_target elsewhere (same_or live.target k)
     where
-      by : (b : Bool) → moves live t ≡ b → (not b && is_denied_at before t) ≡ plain.refuses q live.target 0 t
-      by true moved = sym (allowed_gone p apart workflow live (live_in p workflow live is_live) named live.target t moved)
-      by false other = stands.primaries.denials live.target t ∙ sym (refused_stays p apart workflow live (live_in p workflow live is_live) named live.target t other)
+      here : n < count_of old.primaries live.target → is_denied_at (primary_of made.primaries live.target n) t ≡ plain.refuses q live.target n t
+      here within = ap (λ s. is_denied_at s t) (target_now n within) ∙ gone_denied (primary_of old.primaries live.target n) live.tables (are live.target n) t ∙ by (moves live t) refl
+        where
+          by : (b : Bool) → moves live t ≡ b → (not b && is_denied_at (primary_of old.primaries live.target n) t) ≡ plain.refuses q live.target n t
+          by true moved = sym (allowed_gone p apart workflow live (live_in p workflow live is_live) named live.target n t moved)
+          by false other = stands.primaries.denials live.target n within t ∙ sym (refused_stays p apart workflow live (live_in p workflow live is_live) named live.target n t other)
 
-      at_target : live.target ≡ k → is_denied_at (primary_of made.primaries k) t ≡ plain.refuses q k 0 t
-      at_target e =
-          subst (λ x. is_denied_at (primary_of made.primaries x) t ≡ plain.refuses q x 0 t) e
-          (ap (λ s. is_denied_at s t) target_now ∙ gone_denied before live.tables (are live.target) t ∙ by (moves live t) refl)
+      at_target : live.target ≡ k → is_denied_at (primary_of made.primaries k n) t ≡ plain.refuses q k n t
+      at_target e = subst (λ x. n < count_of old.primaries x → is_denied_at (primary_of made.primaries x n) t ≡ plain.refuses q x n t) e here in_range
 
-      same : live.target ≢ k → (b : Bool) → moves live t ≡ b → plain.refuses p k 0 t ≡ plain.refuses q k 0 t
+      same : live.target ≢ k → (b : Bool) → moves live t ≡ b → plain.refuses p k n t ≡ plain.refuses q k n t
       same other true moved =
-          ap (λ o. option_map_or (λ v. plain.refuses_by v k 0) o false) (mover_is t moved) ∙ allowed_before live none k other
-          ∙ sym (allowed_gone p apart workflow live (live_in p workflow live is_live) named k t moved)
-      same other false not_moved = sym (refused_stays p apart workflow live (live_in p workflow live is_live) named k t not_moved)
+          ap (λ o. option_map_or (λ v. plain.refuses_by v k n) o false) (mover_is t moved) ∙ allowed_before live none k n other
+          ∙ sym (allowed_gone p apart workflow live (live_in p workflow live is_live) named k n t moved)
+      same other false not_moved = sym (refused_stays p apart workflow live (live_in p workflow live is_live) named k n t not_moved)
 
-      elsewhere : live.target ≢ k → is_denied_at (primary_of made.primaries k) t ≡ plain.refuses q k 0 t
-      elsewhere other = ap (λ s. is_denied_at s t) (others_stay k other) ∙ stands.primaries.denials k t ∙ same other (moves live t) refl
+      elsewhere : live.target ≢ k → is_denied_at (primary_of made.primaries k n) t ≡ plain.refuses q k n t
+      elsewhere other = ap (λ s. is_denied_at s t) (others_stay k other n) ∙ stands.primaries.denials k n in_range t ∙ same other (moves live t) refl
 
   -- ---- the workflows
 
@@ -170,15 +169,15 @@ module _ (p : Plain) (scopes : List Scope) (old : CoreState) (stands : StandsWit
     }
 
     pub cancelled_stands : IsReached q → TopologyStands q made.topology
-        → (OtherKeyspacesStay live.target (primaries_of old.primaries) (primaries_of made.primaries)
-        → ((n : ℕ) → OtherTablesStay live.tables (primaries_of old.primaries live.target n) (primaries_of made.primaries live.target n)) → RowsStand q (primaries_of made.primaries))
+        → (OtherKeyspacesStay live.target (primary_of old.primaries) (primary_of made.primaries)
+        → ((n : ℕ) → OtherTablesStay live.tables (primary_of old.primaries live.target n) (primary_of made.primaries live.target n)) → RowsStand q (primary_of made.primaries))
         → StandsWith q scopes made
     cancelled_stands reached_q topology_q rows_q = record {
       reached = reached_q;
       scopes_are = stands.scopes_are;
       topology = topology_q;
-      rows = rows_q (keyspaces_stay live.target old.primaries made.primaries others_stay) (shards.tables_stay live.target old.primaries made.primaries live.tables tables_stay);
-      primaries = primaries-set p q refl old.primaries stands.primaries live.target after tables_now denials_now;
+      rows = rows_q others_stay tables_stay;
+      primaries = primaries_kept p q refl old.primaries made.primaries (all_changed old.primaries live.target drop_tables) stands.primaries tables_now denials_now;
       workflows = workflows_now;
     }
 
@@ -201,7 +200,7 @@ module _ (p : Plain) (reached : IsReached p)
     (topology : (t : TopologyState) (name : List ℕ) (w : Live) (kept : Rules) → live_at p name ≡ Some w
     → IsKept p.topology w kept → Answers p (cancel name) done → TopologyStands p t
     → TopologyStands (next p (cancel name) done) (without_places (with_entries t (kept_entries kept w)) (keys_of_part w))) where
-  module _ (scopes : List Scope) (old new : CoreState) (stands : StandsWith p scopes old) (are : (keyspace : List ℕ) → IsPrimary (primary_of old.primaries keyspace)) (workflow : List ℕ) where
+  module _ (scopes : List Scope) (old new : CoreState) (stands : StandsWith p scopes old) (are : (keyspace : List ℕ) (n : ℕ) → IsPrimary (primary_of old.primaries keyspace n)) (workflow : List ℕ) where
     abbrev Stepped : Answer → Type 0
     Stepped answer = Answers p (cancel workflow) answer × StandsWith (next p (cancel workflow) answer) scopes new
 
@@ -224,7 +223,7 @@ module _ (p : Plain) (reached : IsReached p)
                 (cancelled_stands p scopes old stands are workflow w found live is_live for is_named at_rest in_place (movers workflow live is_live) dropped gone gone_denied
                 (λ n other. elsewhere (cancel workflow) done n other)
                 (reaches (cancel workflow) done given) (topology old.topology workflow live w.kept is_live for.kept given stands.topology)
-                (λ others tables. rows (primaries_of old.primaries) _ stands.rows workflow live is_live given others tables)),
+                (λ others tables. rows (primary_of old.primaries) _ stands.rows workflow live is_live given others tables)),
           )
 
       by_answer : (answer : Answer) → Does old (cancel_refusal (live_of w)) false (cancelled old w) answer new → Stepped answer

@@ -14,14 +14,15 @@ use Rattle.mt_topology.specs.Part.{reserve_refusal}
 use Rattle.mt_watch.specs.Scopes.{has_scope, same_scope}
 use Rattle.mt_workflow.specs.Creates as create
 use Rattle.mt_workflow.specs.declared.fault.WorkflowFault.TheVariants as fault
-use Rattle.mt_plain.specs.Events.{Refusal, full, no_keyspace, no_tables, no_watcher, same_keyspace, workflow_exists, no_table, table_in_workflow, target_has_table, rule_conflict}
+use Rattle.mt_plain.specs.Events.{Refusal, full, no_keyspace, no_tables, no_watcher, same_keyspace, sharded_source, workflow_exists, no_table, table_in_workflow, target_has_table, rule_conflict}
 use Rattle.mt_plain.specs.Plain.{Live, Plain, in_keyspace, mover}
 use Rattle.mt_plain.specs.Refuse.{is_of_primary, most_workflows, moved_table_refusal, moved_tables_refusal, or_else, refuse_if}
 use Rattle.mt_plain.specs.Serve.{has_table}
 use Rattle.mt_site_topology.specs.Stands.{TopologyStands}
 use Rattle.mt_names.specs.Names.{same_text}
-use Rattle.mt_site_state.specs.Core.{CoreState, primary_at, workflow_at}
-use Rattle.mt_site_state.specs.Workflows.{create_refusal, is_moved, refusal_by_table, table_refusal, tables_refusal}
+use Rattle.mt_primaries.specs.Primaries.{has_primaries}
+use Rattle.mt_site_state.specs.Core.{CoreState, workflow_at}
+use Rattle.mt_site_state.specs.Workflows.{create_refusal, is_moved, is_sharded, refusal_by_table, table_refusal, tables_refusal}
 use Rattle.mt_site_events.proofs.FreeLemmas.{free_rule, present_there}
 use Rattle.mt_site_events.proofs.ListLemmas.{each_key, find_same}
 
@@ -142,15 +143,15 @@ no_fault : {A : Type 0} (o : Option A) → is_some o ≡ false → o ≡ None
 no_fault None e = refl
 no_fault (Some x) e = absurd cc
 
-last_of : (a b c d e f g h : Option Refusal) → or_else a (or_else b (or_else c (or_else d (or_else e (or_else f (or_else g h)))))) ≡ None → h ≡ None
-last_of None None None None None None None h none = none
-last_of (Some r) b c d e f g h none = absurd cc
-last_of None (Some r) c d e f g h none = absurd cc
-last_of None None (Some r) d e f g h none = absurd cc
-last_of None None None (Some r) e f g h none = absurd cc
-last_of None None None None (Some r) f g h none = absurd cc
-last_of None None None None None (Some r) g h none = absurd cc
-last_of None None None None None None (Some r) h none = absurd cc
+-- what stands behind three tests that refuse nothing refuses nothing
+behind_three : (a b c d : Option Refusal) → or_else a (or_else b (or_else c d)) ≡ None → d ≡ None
+behind_three None None None d none = none
+behind_three (Some r) b c d none = absurd cc
+behind_three None (Some r) c d none = absurd cc
+behind_three None None (Some r) d none = absurd cc
+
+behind_two : (a b c : Option Refusal) → or_else a (or_else b c) ≡ None → c ≡ None
+behind_two a b c none = (or_else_none b c (or_else_none a (or_else b c) none).1).1
 
 -- what no test refuses has room
 pub room_behind : (core : CoreState) (scopes : List Scope) (workflow source target : List ℕ) (tables : List (List ℕ)) → create_refusal core scopes workflow source target tables ≡ None
@@ -160,6 +161,7 @@ room_behind core scopes workflow source target tables none =
     no_fault (reserve_refusal core.topology source target tables)
     (or_none (nat_le most_workflows (length core.workflows)) room
     (refuse_if_none (nat_le most_workflows (length core.workflows) || room) full
-    (last_of (refuse_if (is_some (workflow_at core.workflows workflow)) workflow_exists) (refuse_if (length tables == 0) no_tables) (refuse_if (same_text source target) same_keyspace)
-    (refuse_if (not (is_some (primary_at core.primaries source))) no_keyspace) (refuse_if (not (is_some (primary_at core.primaries target))) no_keyspace) (tables_refusal core source target tables)
-    (refuse_if (not (has_scope scopes (scope.Primary target))) no_watcher) (refuse_if (nat_le most_workflows (length core.workflows) || room) full) none)))
+    (behind_two (tables_refusal core source target tables) (refuse_if (not (has_scope scopes (scope.Primary target))) no_watcher) _
+    (behind_three (refuse_if (not (has_primaries core.primaries source)) no_keyspace) (refuse_if (not (has_primaries core.primaries target)) no_keyspace)
+    (refuse_if (is_sharded core source) sharded_source) _
+    (behind_three (refuse_if (is_some (workflow_at core.workflows workflow)) workflow_exists) (refuse_if (length tables == 0) no_tables) (refuse_if (same_text source target) same_keyspace) _ none)))))

@@ -10,13 +10,14 @@ use Rattle.mt_model.specs.declared.entries.Scope.TheVariants as scope
 use Rattle.mt_watch.specs.Asking.{Answering, AsksEach}
 use Rattle.mt_watch.specs.Notices.{notice_of}
 use Rattle.mt_watch.specs.Scopes.{has_scope, same_scope}
-use Rattle.mt_plain.specs.Events.{Answer, done, row, advanced, shown, refused, Refusal, memory, watcher_refused, create, full, no_keyspace, no_tables, no_watcher, same_keyspace, workflow_exists}
+use Rattle.mt_plain.specs.Events.{Answer, done, row, advanced, shown, refused, Refusal, memory, watcher_refused, create, full, no_keyspace, no_tables, no_watcher, same_keyspace, sharded_source, workflow_exists}
 use Rattle.mt_plain.specs.Next.{next}
 use Rattle.mt_plain.specs.Plain.{Plain, each_once}
 use Rattle.mt_plain.specs.Refuse.{or_else, refusal_of, refuse_if}
-use Rattle.mt_site_state.specs.Core.{CoreState, primary_at, workflow_at}
+use Rattle.mt_primaries.specs.Primaries.{has_primaries}
+use Rattle.mt_site_state.specs.Core.{CoreState, workflow_at}
 use Rattle.mt_site_state.specs.Stands.{IsCore, StandsWith, Steps}
-use Rattle.mt_site_state.specs.Workflows.{CreatesSet, change_of, create_refusal, is_full, new_of, tables_refusal, with_created}
+use Rattle.mt_site_state.specs.Workflows.{CreatesSet, change_of, create_refusal, is_full, is_sharded, new_of, tables_refusal, with_created}
 use Rattle.mt_site_events.proofs.CreateRefusalLemmas.{or_else_none, refuse_if_none}
 
 -- ---- more watchers
@@ -32,9 +33,10 @@ still_taken core more scopes workflow source target tables =
     else_still (refuse_if (is_some (workflow_at core.workflows workflow)) workflow_exists) _ _
     (else_still (refuse_if (length tables == 0) no_tables) _ _
     (else_still (refuse_if (same_text source target) same_keyspace) _ _
-    (else_still (refuse_if (not (is_some (primary_at core.primaries source))) no_keyspace) _ _
-    (else_still (refuse_if (not (is_some (primary_at core.primaries target))) no_keyspace) _ _
-    (else_still (tables_refusal core source target tables) (watched scopes) (watched (more ++ scopes)) watcher)))))
+    (else_still (refuse_if (not (has_primaries core.primaries source)) no_keyspace) _ _
+    (else_still (refuse_if (not (has_primaries core.primaries target)) no_keyspace) _ _
+    (else_still (refuse_if (is_sharded core source) sharded_source) _ _
+    (else_still (tables_refusal core source target tables) (watched scopes) (watched (more ++ scopes)) watcher))))))
   where
     has : List Scope → Bool
     has these = has_scope these (scope.Primary target)

@@ -1,9 +1,11 @@
 -- Cores with more watchers, and the next core.
-use Rattle.std.proofs.Common.{◌≡◌, List, [], ◌∷◌, ◌++◌, Option, None, Some, refl, sym, ap, subst, ◌∙◌}
+use Rattle.std.proofs.Common.{◌≡◌, ℕ, List, [], ◌∷◌, ◌++◌, Option, None, Some, refl, sym, ap, subst, ◌∙◌, arith}
+use Rattle.std.proofs.lemmas.Bool.{true≢false}
 use Rattle.std.specs.List.{AllByRecursion}
 use Rattle.mt_model.specs.declared.entries.Scope.{Scope}
 use Rattle.mt_model.specs.declared.rows.RowChange.{RowChange}
 use Rattle.mt_model.specs.Topology.{empty_topology}
+use Rattle.mt_primary.specs.Primary.{empty_primary}
 use Rattle.mt_plain.specs.Answers.{Answers, Run, after}
 use Rattle.mt_plain.specs.Events.{Event, Answer}
 use Rattle.mt_plain.specs.Next.{next}
@@ -14,9 +16,9 @@ use Rattle.mt_site_rows.specs.Rows.{IsPending, RowsStand, no_primaries, owner_sh
 use Rattle.mt_site_rows.proofs.KnownLemmas.{same_primaries}
 use Rattle.mt_site_topology.specs.Stands.{TopologyStands}
 use Rattle.mt_workflow.specs.Workflows.{WorkflowState}
-use Rattle.mt_site_state.specs.Core.{CoreState, empty_core, primaries_of, workflow_at}
-use Rattle.mt_site_state.specs.Stands.{HasState, Stands, StandsForAny, StandsWith, Steps}
-use Rattle.mt_site_state.proofs.ShardLemmas.{none_there}
+use Rattle.mt_primaries.specs.Primaries.{primary_of}
+use Rattle.mt_site_state.specs.Core.{CoreState, empty_core, workflow_at}
+use Rattle.mt_site_state.specs.Stands.{ArePrimaries, HasState, Stands, StandsForAny, StandsWith, Steps}
 use Rattle.mt_site_events.proofs.WiderLemmas.{IsWide, row_same, wider, widened}
 
 module _ (more : List Scope) (p : Plain) where
@@ -27,7 +29,7 @@ module _ (more : List Scope) (p : Plain) where
   any_wide None None stands = stands
   any_wide None (Some w) stands = stands
   any_wide (Some live) None stands = stands
-  any_wide (Some live) (Some w) stands = record { sides = stands.sides; switched = stands.switched; way = stands.way; kept = stands.kept; lane = stands.lane; alone = stands.alone; shard = stands.shard; lanes = stands.lanes }
+  any_wide (Some live) (Some w) stands = record { sides = stands.sides; switched = stands.switched; way = stands.way; kept = stands.kept; lanes = stands.lanes }
 
   pub stands_wide : (core : CoreState) → IsReached (wider more p) → Stands p core → Stands (wider more p) core
   stands_wide core reached stands = record {
@@ -41,10 +43,18 @@ module _ (more : List Scope) (p : Plain) where
       log = stands.rows.log;
       rows = λ keyspace table there key. stands.rows.rows keyspace table there key ∙ sym (row_same more p keyspace table key);
       apart = stands.rows.apart;
-      pending = λ name w live shard lane laned. pending_wide w lane (primaries_of core.primaries (owner w) (owner_shard w lane)).log.entries (stands.rows.pending name w live shard lane laned);
+      pending = λ name w live shard lane laned. pending_wide w lane (primary_of core.primaries (owner w) (owner_shard w lane)).log.entries (stands.rows.pending name w live shard lane laned);
       unread = stands.rows.unread;
     };
-    primaries = record { there = stands.primaries.there; count = stands.primaries.count; unsharded = stands.primaries.unsharded; tables = stands.primaries.tables; denials = stands.primaries.denials };
+    primaries = record {
+      there = stands.primaries.there;
+      count = stands.primaries.count;
+      cuts = stands.primaries.cuts;
+      ascend = stands.primaries.ascend;
+      shards = stands.primaries.shards;
+      tables = stands.primaries.tables;
+      denials = stands.primaries.denials;
+    };
     workflows = record { each = λ name. any_wide (live_at p name) (workflow_at core.workflows name) (stands.workflows.each name); names = stands.workflows.names };
   }
 
@@ -119,6 +129,20 @@ next_state scopes old new event answer named steps h =
 
 -- ---- the core without keyspaces and workflows
 
+pub none_there : (keyspace : List ℕ) (n : ℕ) → primary_of [] keyspace n ≡ empty_primary
+none_there keyspace n = refl
+
+pub none_are : (scopes : List Scope) → ArePrimaries (opening scopes) []
+none_are scopes = record {
+  there = λ keyspace. refl;
+  count = refl;
+  cuts = λ keyspace. refl;
+  ascend = λ keyspace. record { ascend = refl; few = omega arith };
+  shards = λ keyspace there. absurd (true≢false (sym there));
+  tables = λ keyspace shard within. absurd (omega (arith, within));
+  denials = λ keyspace shard within. absurd (omega (arith, within));
+}
+
 pub opening_state : TopologyStands (opening []) empty_topology → RowsStand (opening []) no_primaries → HasState empty_core
 opening_state topology rows = record {
   state = opening [];
@@ -128,8 +152,8 @@ opening_state topology rows = record {
     reached = reached;
     scopes_are = refl;
     topology = topology;
-    rows = same_primaries (opening []) no_primaries (primaries_of []) rows none_there;
-    primaries = record { there = λ keyspace. refl; count = refl; unsharded = λ keyspace. refl; tables = λ keyspace table. refl; denials = λ keyspace table. refl };
+    rows = same_primaries (opening []) no_primaries (primary_of []) rows none_there;
+    primaries = none_are [];
     workflows = record { each = λ name. tt; names = refl };
   };
 }

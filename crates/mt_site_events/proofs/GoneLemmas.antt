@@ -133,11 +133,11 @@ module _ (p : Plain) (apart : Apart p.lives) (workflow : List ℕ) (live : Live)
 
   -- ---- own lists
 
-  pub allowed_gone : (keyspace table : List ℕ) → moves live table ≡ true → refuses q keyspace 0 table ≡ false
-  allowed_gone keyspace table moved = ap (λ o. option_map_or (λ w. refuses_by w keyspace 0) o false) (mover_gone table moved)
+  pub allowed_gone : (keyspace : List ℕ) (shard : ℕ) (table : List ℕ) → moves live table ≡ true → refuses q keyspace shard table ≡ false
+  allowed_gone keyspace shard table moved = ap (λ o. option_map_or (λ w. refuses_by w keyspace shard) o false) (mover_gone table moved)
 
-  pub refused_stays : (keyspace table : List ℕ) → moves live table ≡ false → refuses q keyspace 0 table ≡ refuses p keyspace 0 table
-  refused_stays keyspace table other = ap (λ o. option_map_or (λ w. refuses_by w keyspace 0) o false) (mover_stays table other)
+  pub refused_stays : (keyspace : List ℕ) (shard : ℕ) (table : List ℕ) → moves live table ≡ false → refuses q keyspace shard table ≡ refuses p keyspace shard table
+  refused_stays keyspace shard table other = ap (λ o. option_map_or (λ w. refuses_by w keyspace shard) o false) (mover_stays table other)
 
 -- ---- at rest with nothing switched
 
@@ -151,15 +151,15 @@ at_source w none = by w.way refl w.switched.primary refl none
     by None e false f none = (e, f)
 
 -- no keyspace but the target refuses a table of the workflow
-pub allowed_before : (w : Live) → cancel_refusal w ≡ None → (keyspace : List ℕ) → w.target ≢ keyspace → refuses_by w keyspace 0 ≡ false
-allowed_before w none keyspace other =
+pub allowed_before : (w : Live) → cancel_refusal w ≡ None → (keyspace : List ℕ) (shard : ℕ) → w.target ≢ keyspace → refuses_by w keyspace shard ≡ false
+allowed_before w none keyspace shard other =
     ap (λ (t : TypeSet). is_listed_at w t keyspace) (types_at_rest)
     ∙ ap (λ b. (same_text w.source keyspace || b) && cond (same_text w.source keyspace) w.switched.primary (not w.switched.primary)) (text_differs w.target keyspace other)
     ∙ ap (λ b. (same_text w.source keyspace || false) && cond (same_text w.source keyspace) b (not b)) (at_source w none).1
     ∙ by (same_text w.source keyspace)
   where
-    types_at_rest : list_types w keyspace 0 ≡ w.switched
-    types_at_rest = ap (λ o. option_map_or (λ (way : Way). cond (stands_done_at way (step_of_list w keyspace) 0) way.after way.before) o w.switched) (at_source w none).0
+    types_at_rest : list_types w keyspace shard ≡ w.switched
+    types_at_rest = ap (λ o. option_map_or (λ (way : Way). cond (stands_done_at way (step_of_list w keyspace) shard) way.after way.before) o w.switched) (at_source w none).0
 
     by : (s : Bool) → ((s || false) && cond s false true) ≡ false
     by true = refl

@@ -1,20 +1,21 @@
 -- A table by hand as an event.
-use Rattle.std.proofs.Common.{◌≡◌, ◌≢◌, ◌⊎◌, inl, inr, ⊎_elim, ℕ, ◌≤◌, Bool, true, false, not, cond, List, [], ◌∷◌, find, fold, length, Option, None, Some, is_some, refl, sym, ap, ◌∙◌, subst}
-use Rattle.std.proofs.lemmas.Bool.{true≢false}
+use Rattle.std.proofs.Common.{◌≡◌, ◌≢◌, ◌⊎◌, inl, inr, ⊎_elim, ℕ, ◌≤◌, ◌<◌, Bool, true, false, not, cond, List, [], ◌∷◌, find, fold, length, Option, None, Some, is_some, refl, sym, ap, ◌∙◌, subst}
+use Rattle.std.proofs.lemmas.Bool.{cases_lt, true≢false}
 use Rattle.std.proofs.lemmas.Map.{length-set_value}
 use Rattle.std.specs.List.{list_any}
 use Rattle.std.specs.Map.{lookup, set_value}
 use Rattle.std.specs.Option.{option_map_or}
 use Rattle.std.specs.Prelude.{◌&&◌, ◌||◌, nat_le}
 use Rattle.mt_names.specs.Names.{same_text}
-use Rattle.mt_names.proofs.EntryLemmas.{apart as differs, is_some-set_value, same_itself, same_or_other, some_from}
+use Rattle.mt_names.specs.Shards.{AreCuts, shard_count}
+use Rattle.mt_names.proofs.EntryLemmas.{apart as differs, is_some-set_value, same_itself, same_or_other}
 use Rattle.mt_names.proofs.SameLemmas.{same_text_decides}
 use Rattle.mt_model.specs.declared.entries.Entry.TheVariants as entry
 use Rattle.mt_model.specs.declared.entries.EntryKey.TheVariants as about
 use Rattle.mt_model.specs.declared.entries.Scope.{Scope}
 use Rattle.mt_model.specs.declared.faults.TopologyFault.TheVariants as fault
 use Rattle.mt_model.specs.Limits.{most_tables_in_keyspace}
-use Rattle.mt_model.specs.Topology.{KeyspaceState, TopologyState, cuts_at, has_place, is_marked, is_present, keyspace_at, value_of, with_keyspace_state, with_table}
+use Rattle.mt_model.specs.Topology.{KeyspaceState, TopologyState, cuts_at, has_place, is_marked, is_present, keyspace_at, value_of, with_table}
 use Rattle.mt_model.specs.Topology as model
 use Rattle.mt_primary.specs.Primary.{PrimaryState, has_table, is_denied_at, row_at}
 use Rattle.mt_primary.specs.Writes.{with_new_table}
@@ -24,7 +25,7 @@ use Rattle.mt_plain.specs.Events.{Answer, Event, add_table, done, exists, full, 
 use Rattle.mt_plain.specs.Next.{next}
 use Rattle.mt_plain.specs.Plain.{Live, Plain, among, has_keyspace, moves, part_owner}
 use Rattle.mt_plain.specs.Refuse.{or_else, refusal_of, refuse_if, table_count}
-use Rattle.mt_plain.specs.Serve.{mark_in, served_by, served_entry}
+use Rattle.mt_plain.specs.Serve.{mark_in, served_by}
 use Rattle.mt_plain.specs.Serve as plain
 use Rattle.mt_laws.specs.Places.{IsWithinLimits}
 use Rattle.mt_laws.specs.WayBack.{IsReached}
@@ -32,14 +33,12 @@ use Rattle.mt_laws.proofs.CutLemmas.{cuts_changed}
 use Rattle.mt_site_topology.specs.Stands.{TopologyStands}
 use Rattle.mt_site_rows.specs.Rows as rows
 use Rattle.mt_site_state.specs.ByHand.{AddsTable}
-use Rattle.mt_site_state.specs.Core.{CoreState, Primaries, primaries_of, primary_at, primary_of, with_primary}
+use Rattle.mt_primaries.specs.Primaries.{Primaries, count_of, primary_of, with_all}
+use Rattle.mt_primaries.proofs.PrimaryLemmas.{count-with_all, cuts-with_all, has-with_all, length-with_all, with_all-each, with_all-elsewhere, with_all-here, with_all-past}
+use Rattle.mt_site_state.specs.Core.{CoreState}
 use Rattle.mt_site_state.specs.Stands.{ArePrimaries, StandsWith, Steps}
-use Rattle.mt_site_state.proofs.ShardLemmas.{no_row, tables_stay}
-use Rattle.mt_site_state.proofs.ShardLemmas as shards
-use Rattle.mt_site_events.proofs.HandCoreLemmas.{changed_keeps, primary_of-found, primary_of-set_elsewhere, primary_of-set_here}
 use Rattle.mt_site_events.proofs.KeptLemmas.{Laws, core_stands, does_steps}
 use Rattle.mt_site_events.proofs.OwnedLemmas.{any_found}
-use Rattle.mt_site_events.proofs.PrimaryLemmas.{others_stay}
 use Rattle.mt_site_events.proofs.HandRefusalLemmas.{table_told, told}
 
 -- what the laws say of it
@@ -139,11 +138,14 @@ module _ (laws : Laws) (law : TableLaws) (p : Plain) (scopes : List Scope) (old 
   -- ---- what is made
 
   module _ (given : Answers p (add_table keyspace table) done) where
-    abbrev before : PrimaryState
-    before = primary_of old.primaries keyspace
+    abbrev q : Plain
+    q = next p (add_table keyspace table) done
+
+    abbrev change : PrimaryState → PrimaryState
+    change primary = with_new_table primary table
 
     abbrev more : Primaries
-    more = with_primary old.primaries keyspace (λ primary. with_new_table primary table)
+    more = with_all old.primaries keyspace change
 
     is_there : has_keyspace p keyspace ≡ true
     is_there = by (has_keyspace p keyspace) given.0
@@ -160,30 +162,37 @@ module _ (laws : Laws) (law : TableLaws) (p : Plain) (scopes : List Scope) (old 
         by false true e = absurd cc
         by b false e = refl
 
-    found : primary_at old.primaries keyspace ≡ Some before
-    found =
-        let (state, at) = some_from (primary_at old.primaries keyspace) (stands.primaries.there keyspace ∙ is_there) in
-        at ∙ ap Some (sym (primary_of-found old.primaries keyspace state at))
+    -- a shard of the keyspace has the table then, and hadn't before
+    module _ (n : ℕ) (within : n < count_of old.primaries keyspace) where
+      abbrev before : PrimaryState
+      before = primary_of old.primaries keyspace n
 
-    now : primary_of more keyspace ≡ with_new_table before table
-    now = primary_of-set_here old.primaries keyspace before (with_new_table before table) found
+      now : primary_of more keyspace n ≡ change before
+      now = with_all-here old.primaries keyspace change n within
 
-    absent : (other : List ℕ) → among (table ∷ []) other ≡ true → has_table before other ≡ false
-    absent other named = by (same_text table other) refl named
-      where
-        by : (b : Bool) → same_text table other ≡ b → (b || false) ≡ true → has_table before other ≡ false
-        by true same e =
-            let at : table ≡ other = (same_text_decides table other).0 same in
-            subst (λ n. has_table before n ≡ false) at (stands.primaries.tables keyspace table ∙ is_new)
-        by false same e = absurd (true≢false (sym e))
+      absent : (other : List ℕ) → among (table ∷ []) other ≡ true → has_table before other ≡ false
+      absent other named = by (same_text table other) refl named
+        where
+          by : (b : Bool) → same_text table other ≡ b → (b || false) ≡ true → has_table before other ≡ false
+          by true same e =
+              let at : table ≡ other = (same_text_decides table other).0 same in
+              subst (λ name. has_table before name ≡ false) at (stands.primaries.tables keyspace n within table ∙ is_new)
+          by false same e = absurd (true≢false (sym e))
 
-    table_rows : rows.RowsStand (next p (add_table keyspace table) done) (primaries_of more)
+      no_row : (key : ℕ) → row_at (primary_of more keyspace n) table key ≡ None
+      no_row key = ap (λ s. row_at s table key) now ∙ law.empty before (table ∷ []) absent table (ap (λ b. b || false) (same_itself same_text same_text_decides table)) key
+
+    no_rows : (n key : ℕ) → row_at (primary_of more keyspace n) table key ≡ None
+    no_rows n key = ⊎_elim (λ within. no_row n within key) (λ past. ap (λ s. row_at s table key) (with_all-past old.primaries keyspace change n past)) (cases_lt n (count_of old.primaries keyspace))
+
+    others_stay : (n : ℕ) → rows.OtherTablesStay (table ∷ []) (primary_of old.primaries keyspace n) (primary_of more keyspace n)
+    others_stay n =
+        with_all-each old.primaries keyspace change (λ k m was is. rows.OtherTablesStay (table ∷ []) was is) (λ k m q. record { log = refl; rows = λ other apart key. refl })
+        (λ m within. law.stays (primary_of old.primaries keyspace m) (table ∷ [])) keyspace n
+
+    table_rows : rows.RowsStand q (primary_of more)
     table_rows =
-        law.keeps p stands.reached (primaries_of old.primaries) (primaries_of more) stands.rows keyspace table given
-        (shards.keyspaces_stay keyspace old.primaries more (others_stay old.primaries keyspace (with_new_table before table)))
-        (tables_stay keyspace old.primaries more (table ∷ []) (subst (rows.OtherTablesStay (table ∷ []) before) (sym now) (law.stays before (table ∷ []))))
-        (no_row keyspace old.primaries more table (λ key. ap (λ s. row_at s table key) now
-        ∙ law.empty before (table ∷ []) absent table (ap (λ b. b || false) (same_itself same_text same_text_decides table)) key))
+        law.keeps p stands.reached (primary_of old.primaries) (primary_of more) stands.rows keyspace table given (λ other apart n. with_all-elsewhere old.primaries keyspace change other n apart) others_stay no_rows
 
     -- the new state says the same of every other table
     present_next : (k n : List ℕ) → (keyspace ≡ k → table ≢ n) → is_present (with_table p.topology keyspace table).keyspaces k n ≡ is_present p.topology.keyspaces k n
@@ -201,41 +210,55 @@ module _ (laws : Laws) (law : TableLaws) (p : Plain) (scopes : List Scope) (old 
     always true = refl
     always false = refl
 
-    tables_elsewhere : (k n : List ℕ) → keyspace ≢ k → has_table (primary_of more k) n ≡ plain.has_table (next p (add_table keyspace table) done) k n
-    tables_elsewhere k n apart =
-        ap (λ s. has_table s n) (primary_of-set_elsewhere old.primaries keyspace k (with_new_table before table) apart) ∙ stands.primaries.tables k n
-        ∙ ap (table_in k n) (sym (present_next k n (λ e. absurd (apart e))))
+    tables_elsewhere : (k : List ℕ) → keyspace ≢ k → (n : ℕ) → n < count_of old.primaries k → (name : List ℕ) → has_table (primary_of more k n) name ≡ plain.has_table q k name
+    tables_elsewhere k apart n within name =
+        ap (λ s. has_table s name) (with_all-elsewhere old.primaries keyspace change k n apart) ∙ stands.primaries.tables k n within name
+        ∙ ap (table_in k name) (sym (present_next k name (λ e. absurd (apart e))))
 
-    tables_here : (n : List ℕ) → has_table (primary_of more keyspace) n ≡ plain.has_table (next p (add_table keyspace table) done) keyspace n
-    tables_here n = ap (λ s. has_table s n) now ∙ law.there before (table ∷ []) n ∙ by (same_or_other same_text same_text_decides table n)
+    tables_here : (n : ℕ) → n < count_of old.primaries keyspace → (name : List ℕ) → has_table (primary_of more keyspace n) name ≡ plain.has_table q keyspace name
+    tables_here n within name = ap (λ s. has_table s name) (now n within) ∙ law.there (before n within) (table ∷ []) name ∙ by (same_or_other same_text same_text_decides table name)
       where
-        by : (table ≡ n) ⊎ (table ≢ n) → ((same_text table n || false) || has_table before n) ≡ plain.has_table (next p (add_table keyspace table) done) keyspace n
+        by : (table ≡ name) ⊎ (table ≢ name) → ((same_text table name || false) || has_table (before n within) name) ≡ plain.has_table q keyspace name
         by (inl e) =
-            subst (λ x. ((same_text table x || false) || has_table before x) ≡ plain.has_table (next p (add_table keyspace table) done) keyspace x) e
-            (ap (λ b. (b || false) || has_table before table) (same_itself same_text same_text_decides table)
+            subst (λ x. ((same_text table x || false) || has_table (before n within) x) ≡ plain.has_table q keyspace x) e
+            (ap (λ b. (b || false) || has_table (before n within) table) (same_itself same_text same_text_decides table)
             ∙ sym (ap (table_in keyspace table) present_here ∙ always (list_any (test keyspace table) p.lives)))
         by (inr apart) =
-            ap (λ b. (b || false) || has_table before n) (differs same_text same_text_decides table n apart) ∙ stands.primaries.tables keyspace n
-            ∙ ap (table_in keyspace n) (sym (present_next keyspace n (λ e. apart)))
+            ap (λ b. (b || false) || has_table (before n within) name) (differs same_text same_text_decides table name apart) ∙ stands.primaries.tables keyspace n within name
+            ∙ ap (table_in keyspace name) (sym (present_next keyspace name (λ e. apart)))
 
-    table_primaries : ArePrimaries (next p (add_table keyspace table) done) more
+    tables_now : (k : List ℕ) (n : ℕ) → n < count_of old.primaries k → (name : List ℕ) → has_table (primary_of more k n) name ≡ plain.has_table q k name
+    tables_now k =
+        ⊎_elim (λ e. subst (λ x. (n : ℕ) → n < count_of old.primaries x → (name : List ℕ) → has_table (primary_of more x n) name ≡ plain.has_table q x name) e tables_here)
+        (tables_elsewhere k) (same_or_other same_text same_text_decides keyspace k)
+
+    denials_now : (k : List ℕ) (n : ℕ) (name : List ℕ) → is_denied_at (primary_of more k n) name ≡ is_denied_at (primary_of old.primaries k n) name
+    denials_now k n name =
+        with_all-each old.primaries keyspace change (λ j m was is. is_denied_at is name ≡ is_denied_at was name) (λ j m q. refl)
+        (λ m within. law.allowed (primary_of old.primaries keyspace m) (table ∷ []) name) k n
+
+    was_within : (k : List ℕ) (n : ℕ) → n < count_of more k → n < count_of old.primaries k
+    was_within k n within = subst (λ m. n < m) (count-with_all old.primaries keyspace change k) within
+
+    table_primaries : ArePrimaries q more
     table_primaries = record {
-      there = λ k. is_some-set_value same_text old.primaries keyspace k (with_new_table before table) ∙ stands.primaries.there k ∙ sym (keyspaces_stay p.topology keyspace table k);
-      count = length-set_value (same_text keyspace) old.primaries (with_new_table before table) ∙ stands.primaries.count ∙ sym (count_stays p.topology keyspace table);
-      unsharded = λ k. cuts_stay p.topology keyspace table k ∙ stands.primaries.unsharded k;
-      tables = λ k n. ⊎_elim (λ e. subst (λ x. has_table (primary_of more x) n ≡ plain.has_table (next p (add_table keyspace table) done) x n) e (tables_here n)) (tables_elsewhere k n)
-          (same_or_other same_text same_text_decides keyspace k);
-      denials = λ k n. changed_keeps old.primaries more keyspace before (with_new_table before table) found refl (λ s. is_denied_at s n) (law.allowed before (table ∷ []) n) k
-          ∙ stands.primaries.denials k n;
+      there = λ k. has-with_all old.primaries keyspace change k ∙ stands.primaries.there k ∙ sym (keyspaces_stay p.topology keyspace table k);
+      count = length-with_all old.primaries keyspace change ∙ stands.primaries.count ∙ sym (count_stays p.topology keyspace table);
+      cuts = λ k. cuts-with_all old.primaries keyspace change k ∙ stands.primaries.cuts k ∙ sym (cuts_stay p.topology keyspace table k);
+      ascend = λ k. subst AreCuts (sym (cuts_stay p.topology keyspace table k)) (stands.primaries.ascend k);
+      shards = λ k there. count-with_all old.primaries keyspace change k ∙ stands.primaries.shards k (sym (keyspaces_stay p.topology keyspace table k) ∙ there)
+          ∙ ap shard_count (sym (cuts_stay p.topology keyspace table k));
+      tables = λ k n within name. tables_now k n (was_within k n within) name;
+      denials = λ k n within name. denials_now k n name ∙ stands.primaries.denials k n (was_within k n within) name;
     }
 
-    table_making : StandsWith (next p (add_table keyspace table) done) scopes (record old { topology = with_table old.topology keyspace table; primaries = more })
+    table_making : StandsWith q scopes (record old { topology = with_table old.topology keyspace table; primaries = more })
     table_making =
         core_stands laws p (add_table keyspace table) done stands.reached given refl scopes old (record old { topology = with_table old.topology keyspace table; primaries = more }) stands refl
         (law.topology p old.topology keyspace table given stands.topology) table_rows table_primaries
 
 pub table_steps : Laws → TableLaws → (scopes : List Scope) (old new : CoreState) (keyspace table : List ℕ) (answer : Answer) → AddsTable old keyspace table answer new → Steps scopes old (add_table keyspace table) answer new
 table_steps laws law scopes old new keyspace table answer did p stands =
-    does_steps p scopes old (record old { topology = with_table old.topology keyspace table; primaries = with_primary old.primaries keyspace (λ primary. with_new_table primary table) }) (add_table keyspace table)
+    does_steps p scopes old (record old { topology = with_table old.topology keyspace table; primaries = with_all old.primaries keyspace (λ primary. with_new_table primary table) }) (add_table keyspace table)
     (told (add_table_refusal old.topology.keyspaces keyspace table)) true refl (λ e. refl) (table_refusing laws law p scopes old keyspace table stands) stands
     (table_making laws law p scopes old keyspace table stands) (law.answered p (add_table keyspace table)) answer new did

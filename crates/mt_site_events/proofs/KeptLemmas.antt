@@ -13,7 +13,8 @@ use Rattle.mt_workflow.specs.Workflows.{WorkflowState}
 use Rattle.mt_site_topology.specs.Keys.{IsKept}
 use Rattle.mt_site_topology.specs.Stands.{TopologyStands}
 use Rattle.mt_site_rows.specs.Rows.{RowsStand}
-use Rattle.mt_site_state.specs.Core.{CoreState, Does, Workflows, primaries_of, workflow_at}
+use Rattle.mt_primaries.specs.Primaries.{primary_of}
+use Rattle.mt_site_state.specs.Core.{CoreState, Does, Workflows, workflow_at}
 use Rattle.mt_site_state.specs.Stands.{ArePrimaries, AreWorkflows, StandsFor, StandsForAny, StandsWith}
 
 -- what the laws say of each event
@@ -34,9 +35,6 @@ module _ (laws : Laws) (p : Plain) (event : Event) (answer : Answer) (reached : 
     switched = stands.switched;
     way = stands.way;
     kept = laws.kept p event answer name live live w.kept reached given at (same_live name ∙ at) stands.kept;
-    lane = stands.lane;
-    alone = stands.alone;
-    shard = stands.shard;
     lanes = stands.lanes;
   }
 
@@ -56,7 +54,7 @@ module _ (laws : Laws) (p : Plain) (event : Event) (answer : Answer) (reached : 
 
   -- a core with the same workflows
   pub core_stands : (scopes : List Scope) (old new : CoreState) → StandsWith p scopes old → new.workflows ≡ old.workflows → TopologyStands (next p event answer) new.topology
-      → RowsStand (next p event answer) (primaries_of new.primaries) → ArePrimaries (next p event answer) new.primaries → StandsWith (next p event answer) scopes new
+      → RowsStand (next p event answer) (primary_of new.primaries) → ArePrimaries (next p event answer) new.primaries → StandsWith (next p event answer) scopes new
   core_stands scopes old new stands same topology rows primaries = record {
     reached = laws.reached p reached event answer given;
     scopes_are = laws.scopes p event answer ∙ stands.scopes_are;

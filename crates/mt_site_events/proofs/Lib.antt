@@ -26,6 +26,7 @@ pub mod RefusedLemmas
 pub mod RoomLemmas
 pub mod SayLemmas
 pub mod SetLemmas
+pub mod ShardLemmas
 pub mod ShowLemmas
 pub mod StepLemmas
 pub mod WiderLemmas

@@ -1,18 +1,14 @@
--- What is found in a core where a primary or a workflow was set, and what goes on standing for a state.
-use Rattle.std.proofs.Common.{◌≡◌, ◌≢◌, ◌⊎◌, ℕ, Bool, true, false, List, [], ◌∷◌, length, map, Option, None, Some, is_some, unwrap_or, refl, sym, ap, ◌∙◌, subst, ⊎_elim}
-use Rattle.std.proofs.lemmas.Map.{keys-set_value, length-set_value}
+-- What is found in a core where a workflow was set, and what goes on standing for a state.
+use Rattle.std.proofs.Common.{◌≡◌, ◌≢◌, ◌⊎◌, ℕ, Bool, true, false, List, [], ◌∷◌, map, Option, None, Some, refl, sym, ap, ◌∙◌, subst, ⊎_elim}
+use Rattle.std.proofs.lemmas.Map.{keys-set_value}
 use Rattle.std.specs.Map.{lookup, set_value}
 use Rattle.mt_names.specs.Names.{same_text}
-use Rattle.mt_names.proofs.EntryLemmas.{is_some-set_value, lookup-set_value_elsewhere, lookup-set_value_here, same_or_other}
+use Rattle.mt_names.proofs.EntryLemmas.{lookup-set_value_elsewhere, lookup-set_value_here, same_or_other}
 use Rattle.mt_names.proofs.SameLemmas.{same_text_decides}
-use Rattle.mt_model.specs.Topology.{cuts_at}
 use Rattle.mt_plain.specs.Plain.{Live, Plain, live_at}
-use Rattle.mt_plain.specs.Serve.{has_table, refuses}
-use Rattle.mt_primary.specs.Primary.{PrimaryState, empty_primary, is_denied_at}
-use Rattle.mt_primary.specs.Primary as primary
 use Rattle.mt_site_topology.specs.Keys.{IsKept}
-use Rattle.mt_site_state.specs.Core.{Primaries, Workflows, primary_at, primary_of, workflow_at}
-use Rattle.mt_site_state.specs.Stands.{ArePrimaries, AreWorkflows, StandsFor, StandsForAny}
+use Rattle.mt_site_state.specs.Core.{Workflows, workflow_at}
+use Rattle.mt_site_state.specs.Stands.{AreWorkflows, StandsFor, StandsForAny}
 use Rattle.mt_workflow.specs.Workflows.{WorkflowState}
 
 pub same_or : (j k : List ℕ) → (j ≡ k) ⊎ (j ≢ k)
@@ -27,41 +23,6 @@ set_value-same (e ∷ es) k v found = by (set_value-same es k v) (same_text k e.
     by again true t = let is : Some e.1 ≡ Some v = rw t at found in let was : e.1 ≡ v = cc in rw t (ap (λ x. (e.0, x) ∷ es) (sym was))
     by again false t = rw t (ap (λ l. e ∷ l) (again (rw t at found)))
 
--- ---- a primary that is set
-
-module _ (old : Primaries) (side : List ℕ) (before after : PrimaryState) (found : primary_at old side ≡ Some before) where
-  abbrev pub primaries_with : Primaries
-  primaries_with = set_value (same_text side) old after
-
-  pub primary-was : primary_of old side ≡ before
-  primary-was = ap (λ o. unwrap_or o empty_primary) found
-
-  pub primary-here : primary_of primaries_with side ≡ after
-  primary-here = ap (λ o. unwrap_or o empty_primary) (lookup-set_value_here same_text same_text_decides old side after before found)
-
-  pub primary-elsewhere : (k : List ℕ) → side ≢ k → primary_of primaries_with k ≡ primary_of old k
-  primary-elsewhere k other = ap (λ o. unwrap_or o empty_primary) (lookup-set_value_elsewhere same_text same_text_decides old side k after other)
-
-  -- what is the same of it is the same of each
-  pub primary-keeps : {A : Type 0} (read : PrimaryState → A) → read after ≡ read before → (k : List ℕ) → read (primary_of primaries_with k) ≡ read (primary_of old k)
-  primary-keeps read same k = ⊎_elim here (λ other. ap read (primary-elsewhere k other)) (same_or side k)
-    where
-      here : side ≡ k → read (primary_of primaries_with k) ≡ read (primary_of old k)
-      here at = subst (λ x. read (primary_of primaries_with x) ≡ read (primary_of old x)) at (ap read primary-here ∙ same ∙ sym (ap read primary-was))
-
--- the primaries with one set are those of a next state with the same keyspaces, if each has the tables and the own list that it has there
-pub primaries-set : (p q : Plain) → q.topology ≡ p.topology → (old : Primaries) → ArePrimaries p old → (side : List ℕ) (after : PrimaryState)
-    → ((keyspace table : List ℕ) → primary.has_table (primary_of (set_value (same_text side) old after) keyspace) table ≡ has_table q keyspace table)
-    → ((keyspace table : List ℕ) → is_denied_at (primary_of (set_value (same_text side) old after) keyspace) table ≡ refuses q keyspace 0 table)
-    → ArePrimaries q (set_value (same_text side) old after)
-primaries-set p q same old are side after tables denials = record {
-  there = λ k. is_some-set_value same_text old side k after ∙ are.there k ∙ sym (ap (λ u. is_some (lookup (same_text k) u.keyspaces)) same);
-  count = length-set_value (same_text side) old after ∙ are.count ∙ sym (ap (λ u. length u.keyspaces) same);
-  unsharded = λ k. ap (λ u. cuts_at u.keyspaces k) same ∙ are.unsharded k;
-  tables = tables;
-  denials = denials;
-}
-
 -- ---- workflows
 
 -- a workflow that stands for a live one goes on standing for it, where the topology as if none were live is the same
@@ -74,9 +35,6 @@ stands-elsewhere p q same (Some live) (Some w) stands = record {
   switched = stands.switched;
   way = stands.way;
   kept = subst (λ u. IsKept u live w.kept) (sym same) stands.kept;
-  lane = stands.lane;
-  alone = stands.alone;
-  shard = stands.shard;
   lanes = stands.lanes;
 }
 

@@ -17,9 +17,11 @@ use Rattle.mt_plain.specs.Refuse.{conflict_refusal, create_is_full, is_of_primar
 use Rattle.mt_plain.specs.Refuse as plain
 use Rattle.mt_plain.specs.Serve.{has_table}
 use Rattle.mt_laws.specs.Places.{IsWithinLimits}
-use Rattle.mt_site_state.specs.Core.{CoreState, primary_at}
+use Rattle.mt_primaries.specs.Primaries.{has_primaries}
+use Rattle.mt_site_state.specs.Core.{CoreState}
 use Rattle.mt_site_state.specs.Stands.{StandsWith}
 use Rattle.mt_site_state.specs.Workflows.{create_refusal, is_full, is_moved, tables_refusal}
+use Rattle.mt_site_state.specs.Workflows.{is_sharded as has_shards}
 use Rattle.mt_site_events.proofs.ListLemmas.{all_more}
 use Rattle.mt_site_events.proofs.NamedLemmas.{same_count, same_names}
 use Rattle.mt_site_events.proofs.CreateRefusalLemmas.{none_refuses, or_else_none, or_else_same, refuse_if_none, same_tables, same_watchers}
@@ -92,12 +94,16 @@ module _ (p : Plain) (scopes : List Scope) (core : CoreState) (stands : StandsWi
   abbrev plain_sharded : Option Refusal
   plain_sharded = or_else (refuse_if (is_sharded p source) sharded_source) plain_tables
 
-  -- no keyspace has several shards
-  unsharded : is_sharded p source ≡ false
-  unsharded = ap (λ cuts. nat_lt 1 (shard_count cuts)) (stands.primaries.unsharded source)
+  abbrev core_sharded : Option Refusal
+  core_sharded = or_else (refuse_if (has_shards core source) sharded_source) core_tables
+
+  from_sharded : has_keyspace p source ≡ true → has_keyspace p target ≡ true → core_sharded ≡ plain_sharded
+  from_sharded there_s there_t =
+      ap (λ cuts. or_else (refuse_if (nat_lt 1 (shard_count cuts)) sharded_source) core_tables) (stands.primaries.cuts source)
+      ∙ ap (or_else (refuse_if (is_sharded p source) sharded_source)) (from_tables there_s there_t)
 
   abbrev core_target : Option Refusal
-  core_target = or_else (refuse_if (not (is_some (primary_at core.primaries target))) no_keyspace) core_tables
+  core_target = or_else (refuse_if (not (has_primaries core.primaries target)) no_keyspace) core_sharded
 
   abbrev plain_target : Option Refusal
   plain_target = or_else (refuse_if (not (has_keyspace p target)) no_keyspace) plain_sharded
@@ -107,12 +113,11 @@ module _ (p : Plain) (scopes : List Scope) (core : CoreState) (stands : StandsWi
 
   from_target : has_keyspace p source ≡ true → core_target ≡ plain_target
   from_target there_s =
-      ap (λ b. or_else (refuse_if (not b) no_keyspace) core_tables) (stands.primaries.there target)
-      ∙ or_else_same (refuse_if (not (has_keyspace p target)) no_keyspace) core_tables plain_sharded
-      (λ e. from_tables there_s (there target e) ∙ sym (ap (λ b. or_else (refuse_if b sharded_source) plain_tables) unsharded))
+      ap (λ b. or_else (refuse_if (not b) no_keyspace) core_sharded) (stands.primaries.there target)
+      ∙ or_else_same (refuse_if (not (has_keyspace p target)) no_keyspace) core_sharded plain_sharded (λ e. from_sharded there_s (there target e))
 
   abbrev core_source : Option Refusal
-  core_source = or_else (refuse_if (not (is_some (primary_at core.primaries source))) no_keyspace) core_target
+  core_source = or_else (refuse_if (not (has_primaries core.primaries source)) no_keyspace) core_target
 
   abbrev plain_source : Option Refusal
   plain_source = or_else (refuse_if (not (has_keyspace p source)) no_keyspace) plain_target

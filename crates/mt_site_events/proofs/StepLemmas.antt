@@ -1,12 +1,13 @@
 -- What a Create leaves stands for the next state.
-use Rattle.std.proofs.Common.{◌≡◌, ◌≢◌, ⊎_elim, ℕ, true, false, List, [], ◌∷◌, ◌++◌, map, slice_get, Option, None, Some, is_some, refl, sym, ap, subst, ◌∙◌}
+use Rattle.std.proofs.Common.{◌≡◌, ◌≢◌, ⊎_elim, ℕ, ◌<◌, false, List, [], ◌∷◌, ◌++◌, map, slice_get, Option, None, Some, is_some, refl, sym, ap, subst, ◌∙◌}
 use Rattle.std.proofs.lemmas.List.{map-append}
 use Rattle.std.proofs.lemmas.List.Sums.{length-filter}
 use Rattle.std.specs.List.{AllByRecursion, range_with_len}
 use Rattle.std.specs.Option.{option_map_or}
 use Rattle.std.specs.Prelude.{Ok}
 use Rattle.mt_names.specs.Names.{same_text}
-use Rattle.mt_names.specs.Shards.{ranges_of, shard_count, whole}
+use Rattle.mt_names.specs.Shards.{Cuts, KeyRange, cuts_between, ranges_of, shard_count, whole}
+use Rattle.mt_names.proofs.ShardLemmas.{count_ranges, cuts_between-ranges_from}
 use Rattle.mt_names.specs.Types.{no_types}
 use Rattle.mt_names.proofs.EntryLemmas.{lookup-push_elsewhere, lookup-push_here, none_from, same_or_other}
 use Rattle.mt_names.proofs.SameLemmas.{same_text_decides}
@@ -14,32 +15,34 @@ use Rattle.mt_model.specs.declared.entries.Entry.{Entry}
 use Rattle.mt_model.specs.declared.entries.Scope.{Scope}
 use Rattle.mt_model.specs.declared.entries.Scope.TheVariants as scope
 use Rattle.mt_model.specs.Part.{with_entries, with_places}
-use Rattle.mt_model.specs.Topology.{cuts_at}
 use Rattle.mt_watch.specs.Asking.{Answering, AsksEach}
 use Rattle.mt_watch.specs.Notices.{notice_of}
-use Rattle.mt_workflow.specs.Workflows.{WorkflowState, cuts_in, live_of}
+use Rattle.mt_workflow.specs.Workflows.{LaneState, WorkflowState, cuts_in, live_of}
 use Rattle.mt_workflow.specs.Workflows as work
 use Rattle.mt_plain.specs.Answers.{Answers, range_at}
 use Rattle.mt_plain.specs.Events.{Answer, done, row, advanced, shown, refused, memory, watcher_refused, create}
 use Rattle.mt_plain.specs.Next.{lane_fed, new_lane, next}
 use Rattle.mt_plain.specs.Next as plain
-use Rattle.mt_plain.specs.Plain.{Lane, Live, Plain, cuts_of, each_once, live_at}
+use Rattle.mt_plain.specs.Plain.{Live, Plain, cuts_of, each_once, live_at}
 use Rattle.mt_plain.specs.Refuse.{is_of_primary, refusal_of}
 use Rattle.mt_plain.specs.Slots.{is_entry_at, log_length, log_of}
 use Rattle.mt_laws.specs.WayBack.{IsReached}
 use Rattle.mt_site_topology.specs.Keys.{IsKept, created_live, keys_of_part, part_entries}
 use Rattle.mt_site_topology.specs.Stands.{TopologyStands}
 use Rattle.mt_primary.specs.Primary.{end_of}
-use Rattle.mt_site_rows.specs.Rows.{RowsStand}
+use Rattle.mt_site_rows.specs.Rows.{OtherKeyspacesStay, RowsStand}
 use Rattle.mt_site_rows.proofs.LogLemmas.{log-length}
-use Rattle.mt_site_state.specs.Core.{CoreState, primaries_of, primary_at, primary_of, with_primary, workflow_at}
+use Rattle.mt_primaries.specs.Primaries.{Primaries, count_of, primary_of, with_all}
+use Rattle.mt_primaries.proofs.PrimaryLemmas.{with_all-elsewhere, with_all-here}
+use Rattle.mt_site_state.specs.Core.{CoreState, workflow_at}
 use Rattle.mt_site_state.specs.Stands.{AreWorkflows, StandsFor, StandsForAny, StandsWith, lane_state}
-use Rattle.mt_site_state.proofs.ShardLemmas.{StayBut}
 use Rattle.mt_site_state.specs.Workflows.{CreatesSet, change_of, create_refusal, new_of, target_made, with_created}
 use Rattle.mt_site_events.specs.Made.{AreMadeDenied}
-use Rattle.mt_site_events.proofs.MadeLemmas.{changed_count, changed_elsewhere, changed_here, changed_there, primaries_now}
+use Rattle.mt_site_events.proofs.MadeLemmas.{primaries_now}
 use Rattle.mt_site_events.proofs.NamedLemmas.{same_names}
+use Rattle.mt_site_events.proofs.PrimaryLemmas.{all_changed}
 use Rattle.mt_site_events.proofs.RoomLemmas.{CanMove}
+use Rattle.mt_site_events.proofs.ShardLemmas.{each_at}
 
 module _ (p : Plain) (scopes : List Scope) (old : CoreState) (stands : StandsWith p scopes old) (workflow source target : List ℕ) (tables : List (List ℕ)) where
   abbrev w : WorkflowState
@@ -53,22 +56,36 @@ module _ (p : Plain) (scopes : List Scope) (old : CoreState) (stands : StandsWit
 
   -- ---- the workflows
 
-  log_same : end_of (primary_of old.primaries source) ≡ log_length p source 0
+  log_same : end_of (primary_of old.primaries source 0) ≡ log_length p source 0
   log_same =
-      sym (log-length (log_of p source 0) source 0 (primary_of old.primaries source).log (stands.rows.log source 0))
+      sym (log-length (log_of p source 0) source 0 (primary_of old.primaries source 0).log (stands.rows.log source 0))
       ∙ length-filter (is_entry_at source 0) p.log
 
+  abbrev cuts : Cuts
+  cuts = cuts_of p target
+
   abbrev made : Live
-  made = plain.created workflow source target tables (cuts_of p target) (log_length p source 0)
+  made = plain.created workflow source target tables cuts (log_length p source 0)
 
-  abbrev lane : Lane
-  lane = lane_fed p made (new_lane (log_length p source 0) 0)
+  -- a lane for each shard of the target, with the range of that shard
+  are_lanes : w.lanes ≡ map (work.new_lane tables (log_length p source 0)) (ranges_of cuts)
+  are_lanes =
+      ap (λ these. map (work.new_lane tables (end_of (primary_of old.primaries source 0))) (ranges_of these)) (stands.topology.served.shards target)
+      ∙ ap (λ n. map (work.new_lane tables n) (ranges_of cuts)) log_same
 
-  no_cuts : cuts_at old.topology.keyspaces target ≡ []
-  no_cuts = stands.topology.served.shards target ∙ stands.primaries.unsharded target
+  lanes_alike : w.lanes ≡ map (lane_state v) v.lanes
+  lanes_alike =
+      are_lanes ∙ ap (map (work.new_lane tables (log_length p source 0))) (each_at whole (ranges_of cuts) ∙ ap (λ n. map (range_at cuts) (range_with_len 0 n)) (count_ranges cuts (stands.primaries.ascend target)))
+      ∙ by (range_with_len 0 (shard_count cuts))
+    where
+      by : (numbers : List ℕ)
+          → map (work.new_lane tables (log_length p source 0)) (map (range_at cuts) numbers) ≡ map (lane_state v) (map (lane_fed p made) (map (new_lane (log_length p source 0)) numbers))
+      by [] = refl
+      by (n ∷ numbers) = ap (λ lanes. work.new_lane tables (log_length p source 0) (range_at cuts n) ∷ lanes) (by numbers)
 
-  alone : v.lanes ≡ lane ∷ []
-  alone = ap (λ cuts. map (lane_fed p made) (map (new_lane (log_length p source 0)) (range_with_len 0 (shard_count cuts)))) (stands.primaries.unsharded target)
+  ranges_same : (ranges : List KeyRange) → map (λ (lane : LaneState). lane.range) (map (work.new_lane tables (log_length p source 0)) ranges) ≡ ranges
+  ranges_same [] = refl
+  ranges_same (range ∷ ranges) = ap (λ rest. range ∷ rest) (ranges_same ranges)
 
   stands_new : IsKept p.topology v w.kept → StandsFor q v w
   stands_new kept = record {
@@ -77,18 +94,12 @@ module _ (p : Plain) (scopes : List Scope) (old : CoreState) (stands : StandsWit
       source = refl;
       target = refl;
       tables = refl;
-      cuts = stands.primaries.unsharded target ∙ sym (ap (λ cuts. cuts_in (map (work.new_lane tables (end_of (primary_of old.primaries source))) (ranges_of cuts))) no_cuts);
+      cuts = sym (ap cuts_in are_lanes ∙ ap cuts_between (ranges_same (ranges_of cuts)) ∙ cuts_between-ranges_from [] cuts);
     };
     switched = refl;
     way = refl;
     kept = kept;
-    lane = lane;
-    alone = alone;
-    shard = refl;
-    lanes = ap (λ cuts. map (work.new_lane tables (end_of (primary_of old.primaries source))) (ranges_of cuts)) no_cuts
-        ∙ ap (λ n. work.new_lane tables n whole ∷ []) log_same
-        ∙ ap (λ cuts. work.new_lane tables (log_length p source 0) (range_at cuts 0) ∷ []) (sym (stands.primaries.unsharded target))
-        ∙ sym (ap (map (lane_state v)) alone);
+    lanes = lanes_alike;
   }
 
   stands_still : (l : Option Live) (x : Option WorkflowState) → StandsForAny p l x → StandsForAny q l x
@@ -96,7 +107,7 @@ module _ (p : Plain) (scopes : List Scope) (old : CoreState) (stands : StandsWit
   stands_still None (Some x) still = still
   stands_still (Some l) None still = still
   stands_still (Some l) (Some x) still =
-      record { sides = still.sides; switched = still.switched; way = still.way; kept = still.kept; lane = still.lane; alone = still.alone; shard = still.shard; lanes = still.lanes }
+      record { sides = still.sides; switched = still.switched; way = still.way; kept = still.kept; lanes = still.lanes }
 
   module _ (free : live_at p workflow ≡ None) (live : live_at q workflow ≡ Some v) (elsewhere : (name : List ℕ) → workflow ≢ name → live_at q name ≡ live_at p name) (kept : IsKept p.topology v w.kept) where
     workflows_now : AreWorkflows q (old.workflows ++ (workflow, w) ∷ [])
@@ -121,25 +132,29 @@ module _ (p : Plain) (scopes : List Scope) (old : CoreState) (stands : StandsWit
 
     -- ---- all of it
 
-    module _ (notice : List Entry) (made : AreMadeDenied tables (primary_of old.primaries target) (target_made w notice (primary_of old.primaries target)))
-        (there : is_some (primary_at old.primaries target) ≡ true) (sides : source ≢ target) (can : AllByRecursion (CanMove p source target) tables) (reached : IsReached q)
+    module _ (notice : List Entry) (made_each : (n : ℕ) → n < count_of old.primaries target → AreMadeDenied tables (primary_of old.primaries target n) (target_made w notice (primary_of old.primaries target n)))
+        (sides : source ≢ target) (can : AllByRecursion (CanMove p source target) tables) (reached : IsReached q)
         (topology : TopologyStands q (with_entries (with_places old.topology (keys_of_part v)) (part_entries w.kept v no_types)))
         (follows : part_entries w.kept v no_types ≡ part_entries w.kept (live_of w) no_types)
-        (rows : StayBut target old.primaries (with_primary old.primaries target (target_made w notice))
-        → AreMadeDenied tables (primary_of old.primaries target) (primary_of (with_primary old.primaries target (target_made w notice)) target)
-        → RowsStand q (primaries_of (with_primary old.primaries target (target_made w notice)))) where
-      made_there : AreMadeDenied tables (primary_of old.primaries target) (primary_of (with_primary old.primaries target (target_made w notice)) target)
-      made_there = subst (λ s. AreMadeDenied tables (primary_of old.primaries target) s) (sym (changed_here old.primaries target (target_made w notice) there)) made
+        (rows : OtherKeyspacesStay target (primary_of old.primaries) (primary_of (with_all old.primaries target (target_made w notice)))
+        → ((n : ℕ) → n < count_of old.primaries target → AreMadeDenied tables (primary_of old.primaries target n) (primary_of (with_all old.primaries target (target_made w notice)) target n))
+        → RowsStand q (primary_of (with_all old.primaries target (target_made w notice)))) where
+      abbrev new : Primaries
+      new = with_all old.primaries target (target_made w notice)
+
+      made_there : (n : ℕ) → n < count_of old.primaries target → AreMadeDenied tables (primary_of old.primaries target n) (primary_of new target n)
+      made_there n within = subst (λ s. AreMadeDenied tables (primary_of old.primaries target n) s) (sym (with_all-here old.primaries target (target_made w notice) n within)) (made_each n within)
+
+      others : OtherKeyspacesStay target (primary_of old.primaries) (primary_of new)
+      others other differs n = with_all-elsewhere old.primaries target (target_made w notice) other n differs
 
       pub taken : StandsWith q scopes (with_created old w notice)
       taken = record {
         reached = reached;
         scopes_are = stands.scopes_are;
         topology = subst (λ entries. TopologyStands q (with_entries (with_places old.topology (keys_of_part v)) entries)) follows topology;
-        rows = rows (changed_elsewhere old.primaries target (target_made w notice)) made_there;
-        primaries = primaries_now p workflow source target tables sides old.primaries (with_primary old.primaries target (target_made w notice)) stands.primaries can
-            (changed_elsewhere old.primaries target (target_made w notice)) (changed_there old.primaries target (target_made w notice)) (changed_count old.primaries target (target_made w notice))
-            made_there.has made_there.denied made_there.before;
+        rows = rows others made_there;
+        primaries = primaries_now p workflow source target tables sides old.primaries new stands.primaries can (all_changed old.primaries target (target_made w notice)) others made_there;
         workflows = workflows_now;
       }
 

@@ -1,5 +1,5 @@
 -- A workflow of a core, and the live workflow for which it stands.
-use Rattle.std.proofs.Common.{◌≡◌, ◌≢◌, ℕ, true, All, List, Some, is_some, refl, sym, ap, ◌∙◌, subst}
+use Rattle.std.proofs.Common.{◌≡◌, ◌≢◌, ℕ, ◌<◌, true, All, List, Some, is_some, refl, sym, ap, ◌∙◌, subst}
 use Rattle.std.proofs.lemmas.Bool.{and_from, or_left, or_right}
 use Rattle.mt_names.specs.Names.{same_text}
 use Rattle.mt_names.proofs.SameLemmas.{same_text_decides}
@@ -13,7 +13,8 @@ use Rattle.mt_laws.specs.Changes.{HasSides}
 use Rattle.mt_laws.specs.Reached.{IsInPlace}
 use Rattle.mt_site_topology.specs.Keys.{keys_of_part}
 use Rattle.mt_workflow.specs.Workflows.{WorkflowState, live_of}
-use Rattle.mt_site_state.specs.Core.{CoreState, primary_at, primary_of}
+use Rattle.mt_primaries.specs.Primaries.{count_of, has_primaries, primary_of}
+use Rattle.mt_site_state.specs.Core.{CoreState}
 use Rattle.mt_site_state.specs.Stands.{HasState, StandsFor}
 use Rattle.mt_site_events.proofs.FactTableLemmas.{table_is}
 
@@ -21,13 +22,13 @@ pub same_keys : (v w : Live) → HasSides v w → keys_of_part v ≡ keys_of_par
 same_keys v w same = let (s, t, n) : (v.source ≡ w.source) × (v.target ≡ w.target) × (v.tables ≡ w.tables) = (same.source, same.target, same.tables) in rw (s, t, n) refl
 
 module _ (core : CoreState) (h : HasState core) (live : Live) (w : WorkflowState) (stands : StandsFor h.state live w) (in_place : IsInPlace h.state.topology live) where
-  keyspace_there : (a b : List ℕ) → a ≡ b → has_keyspace h.state a ≡ true → is_some (primary_at core.primaries b) ≡ true
+  keyspace_there : (a b : List ℕ) → a ≡ b → has_keyspace h.state a ≡ true → has_primaries core.primaries b ≡ true
   keyspace_there a b same there = h.stands.primaries.there b ∙ ap (has_keyspace h.state) (sym same) ∙ there
 
-  pub source_there : is_some (primary_at core.primaries w.source) ≡ true
+  pub source_there : has_primaries core.primaries w.source ≡ true
   source_there = keyspace_there live.source w.source stands.sides.source in_place.sides.source
 
-  pub target_there : is_some (primary_at core.primaries w.target) ≡ true
+  pub target_there : has_primaries core.primaries w.target ≡ true
   target_there = keyspace_there live.target w.target stands.sides.target in_place.sides.target
 
   pub two_sides : w.source ≢ w.target
@@ -39,14 +40,15 @@ module _ (core : CoreState) (h : HasState core) (live : Live) (w : WorkflowState
   moved : (table : List ℕ) → among w.tables table ≡ true → moves live table ≡ true
   moved table is = ap (λ tables. among tables table) stands.sides.tables ∙ is
 
-  pub source_has : (table : List ℕ) → among w.tables table ≡ true → primary.has_table (primary_of core.primaries w.source) table ≡ true
-  source_has table is =
-      h.stands.primaries.tables w.source table ∙ ap (λ k. has_table h.state k table) (sym stands.sides.source) ∙ table_is h.state live.source table
+  pub source_has : 0 < count_of core.primaries w.source → (table : List ℕ) → among w.tables table ≡ true → primary.has_table (primary_of core.primaries w.source 0) table ≡ true
+  source_has within table is =
+      h.stands.primaries.tables w.source 0 within table ∙ ap (λ k. has_table h.state k table) (sym stands.sides.source) ∙ table_is h.state live.source table
       ∙ or_right (is_some (part_owner h.state (about.Present live.source table))) (is_present h.state.topology.keyspaces live.source table) (in_place.at_source table (moved table is))
 
-  pub target_has : ((key : EntryKey) → has_part live key ≡ true → part_owner h.state key ≡ Some live) → (table : List ℕ) → among w.tables table ≡ true → primary.has_table (primary_of core.primaries w.target) table ≡ true
-  target_has owned table is =
+  pub target_has : ((key : EntryKey) → has_part live key ≡ true → part_owner h.state key ≡ Some live) → (n : ℕ) → n < count_of core.primaries w.target → (table : List ℕ) → among w.tables table ≡ true
+      → primary.has_table (primary_of core.primaries w.target n) table ≡ true
+  target_has owned n within table is =
       let part = and_from (moves live table) (same_text live.target live.target) (moved table is) ((same_text_decides live.target live.target).1 refl) in
-      h.stands.primaries.tables w.target table ∙ ap (λ k. has_table h.state k table) (sym stands.sides.target) ∙ table_is h.state live.target table
+      h.stands.primaries.tables w.target n within table ∙ ap (λ k. has_table h.state k table) (sym stands.sides.target) ∙ table_is h.state live.target table
       ∙ or_left (is_some (part_owner h.state (about.Present live.target table))) (is_present h.state.topology.keyspaces live.target table)
       (ap is_some (owned (about.Present live.target table) part))

@@ -1,11 +1,9 @@
 -- A write and a read as events.
-use Rattle.std.proofs.Common.{◌≡◌, ℕ, zero, suc, Bool, true, false, List, Option, None, Some, Result, Ok, Err, is_some, refl, sym, ap, ◌∙◌, subst}
-use Rattle.std.specs.Map.{set_value}
+use Rattle.std.proofs.Common.{◌≡◌, ℕ, ◌<◌, Bool, true, false, List, Option, None, Some, Result, Ok, Err, is_some, refl, sym, ap, ◌∙◌, subst}
 use Rattle.std.specs.Option.{option_map}
 use Rattle.std.specs.Prelude.{if◌then◌else◌}
 use Rattle.mt_names.specs.declared.types.TabletType.{TabletType}
 use Rattle.mt_names.specs.declared.types.TabletType.TheVariants.{Primary, Replica, Rdonly}
-use Rattle.mt_names.specs.Names.{same_text}
 use Rattle.mt_model.specs.declared.entries.Scope.{Scope}
 use Rattle.mt_model.specs.declared.faults.PrimaryFault.{PrimaryFault}
 use Rattle.mt_model.specs.declared.faults.PrimaryFault.TheVariants as primary
@@ -28,13 +26,13 @@ use Rattle.mt_site_topology.specs.Stands.{TopologyStands}
 use Rattle.mt_site_rows.specs.Answers.{answer_by}
 use Rattle.mt_site_rows.specs.Rows as rows
 use Rattle.mt_site_state.specs.ByHand.{ReadsRow, WritesAt, WritesRow, answer_by_read, read_at}
-use Rattle.mt_site_state.specs.Core.{CoreState, Primaries, primaries_of, primary_at, primary_of}
+use Rattle.mt_primaries.specs.Primaries.{Primaries, ShardsState, count_of, place_of_key, primary_in, primary_of, shards_at, shards_of, with_primary}
+use Rattle.mt_primaries.proofs.PrimaryLemmas.{shards_from_found, with_primary-here, with_primary-other}
+use Rattle.mt_site_state.specs.Core.{CoreState}
 use Rattle.mt_site_state.specs.Stands.{StandsWith, Steps}
-use Rattle.mt_site_state.proofs.ShardLemmas.{in_first}
-use Rattle.mt_site_state.proofs.ShardLemmas as shards
-use Rattle.mt_site_events.proofs.HandCoreLemmas.{primary_of-found, primary_of-set_here}
 use Rattle.mt_site_events.proofs.KeptLemmas.{Laws, core_stands}
-use Rattle.mt_site_events.proofs.PrimaryLemmas.{others_stay, primaries_next, primaries_set}
+use Rattle.mt_site_events.proofs.PrimaryLemmas.{primaries_next, primaries_set}
+use Rattle.mt_site_events.proofs.ShardLemmas.{key_within, place_is}
 
 -- ---- what a write leaves of a primary
 
@@ -78,57 +76,65 @@ module _ (p : Plain) (keyspace table : List ℕ) (op : Op) where
   same_lives (Ok position) = refl
   same_lives (Err fault) = refl
 
+-- the primary that a key stands in is that of the shard that the state says
+module _ (p : Plain) (scopes : List Scope) (old : CoreState) (stands : StandsWith p scopes old) (keyspace : List ℕ) (key : ℕ) (shards : ShardsState) (found : shards_at old.primaries keyspace ≡ Some shards) where
+  is_keyspace : has_keyspace p keyspace ≡ true
+  is_keyspace = sym (stands.primaries.there keyspace) ∙ ap is_some found
+
+  are_shards : shards ≡ shards_of old.primaries keyspace
+  are_shards = sym (shards_from_found old.primaries keyspace shards found)
+
+  at_place : place_of_key shards key ≡ shard_at p keyspace key
+  at_place = ap (λ s. place_of_key s key) are_shards ∙ place_is p old.primaries stands.primaries keyspace key
+
+  at_primary : primary_in shards (place_of_key shards key) ≡ primary_of old.primaries keyspace (shard_at p keyspace key)
+  at_primary = ap (primary_in shards) at_place ∙ ap (λ s. primary_in s (shard_at p keyspace key)) are_shards
+
 module _ (laws : Laws) (law : WriteLaws) (p : Plain) (scopes : List Scope) (old new : CoreState) (keyspace table : List ℕ) (op : Op) (stands : StandsWith p scopes old) where
   abbrev Done : Answer → CoreState → Type 0
   Done answer core = Answers p (write keyspace table op) answer × StandsWith (next p (write keyspace table op) answer) scopes core
 
-  there : (before : PrimaryState) → primary_at old.primaries keyspace ≡ Some before → has_keyspace p keyspace ≡ true
-  there before found = sym (stands.primaries.there keyspace) ∙ ap is_some found
+  abbrev shard : ℕ
+  shard = shard_at p keyspace (op_key op)
 
-  module _ (before after : PrimaryState) (found : primary_at old.primaries keyspace ≡ Some before) where
+  abbrev before : PrimaryState
+  before = primary_of old.primaries keyspace shard
+
+  module _ (after : PrimaryState) (is_there : has_keyspace p keyspace ≡ true) where
     abbrev set : Primaries
-    set = set_value (same_text keyspace) old.primaries after
+    set = with_primary old.primaries keyspace shard after
 
     abbrev made : CoreState
     made = record old { primaries = set }
 
-    at_primaries : (result : Result ℕ PrimaryFault) → Writes before table op result after → Writes (primary_of old.primaries keyspace) table op result (primary_of set keyspace)
-    at_primaries result did =
-        subst (λ s. Writes s table op result (primary_of set keyspace)) (sym (primary_of-found old.primaries keyspace before found))
-        (subst (λ s. Writes before table op result s) (sym (primary_of-set_here old.primaries keyspace before after found)) did)
-
-    -- what the law says of the key's shard it says of the first one
-    at_first : (n : ℕ) → n ≡ 0
-        → (has_table (primaries_of old.primaries keyspace n) table ≡ plain.has_table p keyspace table → is_denied_at (primaries_of old.primaries keyspace n) table ≡ refuses p keyspace n table
-        → rows.OthersStay keyspace n (primaries_of old.primaries) (primaries_of set)
-        → (result : Result ℕ PrimaryFault) → Writes (primaries_of old.primaries keyspace n) table op result (primaries_of set keyspace n)
-        → Answers p (write keyspace table op) (answer_by result) × rows.RowsStand (next p (write keyspace table op) (answer_by result)) (primaries_of set))
-        → (result : Result ℕ PrimaryFault) → Writes (primary_of old.primaries keyspace) table op result (primary_of set keyspace)
-        → Answers p (write keyspace table op) (answer_by result) × rows.RowsStand (next p (write keyspace table op) (answer_by result)) (primaries_of set)
-    at_first zero is says =
-        says (stands.primaries.tables keyspace table) (stands.primaries.denials keyspace table) (shards.others_stay keyspace old.primaries set (others_stay old.primaries keyspace after))
-    at_first (suc n) is says = absurd cc
+    within : shard < count_of old.primaries keyspace
+    within = key_within p old.primaries stands.primaries keyspace is_there (op_key op)
 
     write_stands : (result : Result ℕ PrimaryFault) → Writes before table op result after → Done (answer_by result) made
     write_stands result did =
-        let both = at_first (shard_at p keyspace (op_key op)) (in_first p old.primaries stands.primaries keyspace (op_key op))
-        (law.rows p stands.reached (primaries_of old.primaries) (primaries_of set) stands.rows keyspace table op (there before found)) result (at_primaries result did) in (
+        let both = law.rows p stands.reached (primary_of old.primaries) (primary_of set) stands.rows keyspace table op is_there
+        (stands.primaries.tables keyspace shard within table) (stands.primaries.denials keyspace shard within table) (with_primary-other old.primaries keyspace shard after) result
+        (subst (Writes before table op result) (sym (with_primary-here old.primaries keyspace shard after within)) did) in (
           both.0,
           core_stands laws p (write keyspace table op) (answer_by result) stands.reached both.0 (same_lives p keyspace table op result) scopes old made stands refl
               (law.topology p old.topology (write keyspace table op) (answer_by result) stands.reached tt both.0 stands.topology) both.1
               (primaries_next p (next p (write keyspace table op) (answer_by result)) (same_topology p keyspace table op result) (same_lives p keyspace table op result) set
-              (primaries_set p old.primaries keyspace before after found stands.primaries (tables_stay before after table op result did) (denials_stay before after table op result did))),
+              (primaries_set old.primaries keyspace shard after p stands.primaries (tables_stay before after table op result did) (denials_stay before after table op result did))),
         )
 
-  write_at : (answer : Answer) (o : Option PrimaryState) → primary_at old.primaries keyspace ≡ o → WritesAt o old keyspace table op answer new → Done answer new
+  write_at : (answer : Answer) (o : Option ShardsState) → shards_at old.primaries keyspace ≡ o → WritesAt o old keyspace table op answer new → Done answer new
   write_at answer None found did =
       let absent : has_keyspace p keyspace ≡ false = sym (stands.primaries.there keyspace) ∙ ap is_some found in
       rw did.0 (rw absent refl, subst (StandsWith p scopes) (sym did.1) stands)
-  write_at answer (Some before) found (result, after, did, is_answer, becomes) =
-      subst (λ s. Done answer s) (sym becomes) (subst (λ a. Done a (made before after found)) (sym is_answer) (write_stands before after found result did))
+  write_at answer (Some shards) found (result, after, did, is_answer, becomes) =
+      let there = is_keyspace p scopes old stands keyspace (op_key op) shards found in
+      let place = at_place p scopes old stands keyspace (op_key op) shards found in
+      let wrote : Writes before table op result after = subst (λ s. Writes s table op result after) (at_primary p scopes old stands keyspace (op_key op) shards found) did in
+      let is : new ≡ made after there = becomes ∙ ap (λ n. record old { primaries = with_primary old.primaries keyspace n after }) place in
+      subst (λ s. Done answer s) (sym is) (subst (λ a. Done a (made after there)) (sym is_answer) (write_stands after there result wrote))
 
 pub write_steps : Laws → WriteLaws → (scopes : List Scope) (old new : CoreState) (keyspace table : List ℕ) (op : Op) (answer : Answer) → WritesRow old keyspace table op answer new → Steps scopes old (write keyspace table op) answer new
-write_steps laws law scopes old new keyspace table op answer did p stands = write_at laws law p scopes old new keyspace table op stands answer (primary_at old.primaries keyspace) refl did
+write_steps laws law scopes old new keyspace table op answer did p stands = write_at laws law p scopes old new keyspace table op stands answer (shards_at old.primaries keyspace) refl did
 
 -- ---- a read
 
@@ -136,24 +142,18 @@ module _ (p : Plain) (scopes : List Scope) (old : CoreState) (keyspace table : L
   abbrev Told : TabletType → Answer → Type 0
   Told tablet_type answer = Answers p (read keyspace table key tablet_type) answer × StandsWith (next p (read keyspace table key tablet_type) answer) scopes old
 
-  module _ (state : PrimaryState) (found : primary_at old.primaries keyspace ≡ Some state) where
-    is_state : primary_of old.primaries keyspace ≡ state
-    is_state = primary_of-found old.primaries keyspace state found
-
-    is_there : has_keyspace p keyspace ≡ true
-    is_there = sym (stands.primaries.there keyspace) ∙ ap is_some found
+  module _ (state : PrimaryState) (is_there : has_keyspace p keyspace ≡ true) (is_state : primary_of old.primaries keyspace (shard_at p keyspace key) ≡ state) where
+    in_shard : shard_at p keyspace key < count_of old.primaries keyspace
+    in_shard = key_within p old.primaries stands.primaries keyspace is_there key
 
     has_it : plain.has_table p keyspace table ≡ has_table state table
-    has_it = sym (stands.primaries.tables keyspace table) ∙ ap (λ s. has_table s table) is_state
+    has_it = sym (stands.primaries.tables keyspace (shard_at p keyspace key) in_shard table) ∙ ap (λ s. has_table s table) is_state
 
     denies_it : refuses p keyspace (shard_at p keyspace key) table ≡ is_denied_at state table
-    denies_it =
-        ap (λ n. refuses p keyspace n table) (in_first p old.primaries stands.primaries keyspace key) ∙ sym (stands.primaries.denials keyspace table) ∙ ap (λ s. is_denied_at s table) is_state
+    denies_it = sym (stands.primaries.denials keyspace (shard_at p keyspace key) in_shard table) ∙ ap (λ s. is_denied_at s table) is_state
 
     row_is : plain.has_table p keyspace table ≡ true → row_at state table key ≡ row_of p keyspace table key
-    row_is has =
-        ap (λ s. row_at s table key) (sym is_state) ∙ sym (ap (λ n. row_at (primaries_of old.primaries keyspace n) table key) (in_first p old.primaries stands.primaries keyspace key))
-        ∙ stands.rows.rows keyspace table has key
+    row_is has = ap (λ s. row_at s table key) (sym is_state) ∙ stands.rows.rows keyspace table has key
 
     abbrev answered : Row → Bool → Bool → TabletType → Answer
     answered r has denied tablet_type = answer_by_read (if has then (if refuses_type denied tablet_type then Err primary.Denied else Ok r) else Err primary.NoTable)
@@ -167,14 +167,18 @@ module _ (p : Plain) (scopes : List Scope) (old : CoreState) (keyspace table : L
     told true denied has denies Replica = ((rw (is_there, has) refl, ap row (row_is has)), stands)
     told true denied has denies Rdonly = ((rw (is_there, has) refl, ap row (row_is has)), stands)
 
-  read_told : (tablet_type : TabletType) (o : Option PrimaryState) → primary_at old.primaries keyspace ≡ o → Told tablet_type (read_at o table key tablet_type)
+  read_told : (tablet_type : TabletType) (o : Option ShardsState) → shards_at old.primaries keyspace ≡ o → Told tablet_type (read_at o table key tablet_type)
   read_told tablet_type None found =
       let absent : has_keyspace p keyspace ≡ false = sym (stands.primaries.there keyspace) ∙ ap is_some found in
       (rw absent refl, stands)
-  read_told tablet_type (Some state) found = told state found (has_table state table) (is_denied_at state table) (has_it state found) (denies_it state found) tablet_type
+  read_told tablet_type (Some shards) found =
+      let state = primary_in shards (place_of_key shards key) in
+      let there = is_keyspace p scopes old stands keyspace key shards found in
+      let is = sym (at_primary p scopes old stands keyspace key shards found) in
+      told state there is (has_table state table) (is_denied_at state table) (has_it state there is) (denies_it state there is) tablet_type
 
 pub read_steps : (scopes : List Scope) (old new : CoreState) (keyspace table : List ℕ) (key : ℕ) (tablet_type : TabletType) (answer : Answer) → ReadsRow old keyspace table key tablet_type answer new
     → Steps scopes old (read keyspace table key tablet_type) answer new
 read_steps scopes old new keyspace table key tablet_type answer did p stands =
     subst (λ s. Answers p (read keyspace table key tablet_type) answer × StandsWith (next p (read keyspace table key tablet_type) answer) scopes s) (sym did.1)
-    (subst (Told p scopes old keyspace table key stands tablet_type) (sym did.0) (read_told p scopes old keyspace table key stands tablet_type (primary_at old.primaries keyspace) refl))
+    (subst (Told p scopes old keyspace table key stands tablet_type) (sym did.0) (read_told p scopes old keyspace table key stands tablet_type (shards_at old.primaries keyspace) refl))

@@ -1,4 +1,4 @@
--- What Create makes of the target's primary (this profile's own).
+-- What Create makes of a primary of the target (this profile's own).
 use Rattle.std.specs.Prelude.{◌≡◌, ◌||◌, ℕ, true, false, List, None}
 use Rattle.mt_primary.specs.Primary.{PrimaryState, has_table, is_denied_at, row_at}
 use Rattle.mt_plain.specs.Plain.{among}

@@ -3,7 +3,8 @@ ghost use Rattle.std.specs.Prelude.{ℕ, List};
 ghost use Rattle.mt_model.specs.declared.entries.Scope.{Scope};
 ghost use Rattle.mt_plain.specs.Events.{Answer, StreamName, advance};
 ghost use Rattle.mt_primary.specs.Primary.{IsPrimary};
-ghost use Rattle.mt_site_state.specs.Core.{CoreState, primary_of};
+ghost use Rattle.mt_primaries.specs.Primaries.{primary_of};
+ghost use Rattle.mt_site_state.specs.Core.{CoreState};
 ghost use Rattle.mt_site_state.specs.Stands.{Steps};
 ghost use Rattle.mt_site_state.specs.Workflows.{AdvancesWorkflow};
 
@@ -11,22 +12,26 @@ use mt_laws::{
     a_live_workflow_is_found_by_its_part, an_advance_writes_one_log, each_next_state_is_reached,
     only_named_events_change_a_workflow, only_named_events_change_the_state,
 };
-use mt_site_rows::{an_advance_answers_as_the_definitions_allow, an_advance_keeps_rows_and_logs};
+use mt_site_rows::{
+    a_lane_holds_its_keys, an_advance_answers_as_the_definitions_allow,
+    an_advance_keeps_rows_and_logs,
+};
 use mt_site_topology::{what_changes_no_entry_leaves_the_topology, what_is_kept_stays_what_stood};
 
-/// An advance of a stream between the primaries of its workflow's sides, done or refused, answers as the definitions allow and
+/// An advance of a stream of a shard between the primaries of its workflow's sides, done or refused, answers as the definitions allow and
 /// leaves the workflow with the streams, and the primaries with the rows, logs, tables and own lists, of the next state.
 pub fn an_advance_steps()
-    ensures { (scopes : List Scope) (old new : CoreState) (workflow : List ℕ) (name : StreamName) (at at_most : ℕ) (answer : Answer)
-        → AdvancesWorkflow old workflow name at at_most answer new
-        → ((keyspace : List ℕ) → IsPrimary (primary_of old.primaries keyspace))
-        → Steps scopes old (advance workflow name 0 at at_most) answer new }
+    ensures { (scopes : List Scope) (old new : CoreState) (workflow : List ℕ) (name : StreamName) (shard at at_most : ℕ) (answer : Answer)
+        → AdvancesWorkflow old workflow name shard at at_most answer new
+        → ((keyspace : List ℕ) (n : ℕ) → IsPrimary (primary_of old.primaries keyspace n))
+        → Steps scopes old (advance workflow name shard at at_most) answer new }
 {
     a_live_workflow_is_found_by_its_part();
     an_advance_writes_one_log();
     each_next_state_is_reached();
     only_named_events_change_a_workflow();
     only_named_events_change_the_state();
+    a_lane_holds_its_keys();
     an_advance_answers_as_the_definitions_allow();
     an_advance_keeps_rows_and_logs();
     what_changes_no_entry_leaves_the_topology();

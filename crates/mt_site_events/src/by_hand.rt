@@ -1,8 +1,9 @@
 //! Laws on what is made by hand.
-ghost use Rattle.std.specs.Prelude.{ℕ, List, [], Option};
+ghost use Rattle.std.specs.Prelude.{ℕ, List, Option};
 ghost use Rattle.mt_model.specs.declared.entries.Scope.{Scope};
 ghost use Rattle.mt_names.specs.declared.keys.RuleKey.{RuleKey};
 ghost use Rattle.mt_names.specs.declared.keys.RuleTarget.{RuleTarget};
+ghost use Rattle.mt_names.specs.Shards.{AreCuts, Cuts};
 ghost use Rattle.mt_plain.specs.Events.{Answer, add_keyspace, add_table, edit_rule};
 ghost use Rattle.mt_site_state.specs.ByHand.{AddsKeyspace, AddsTable, EditsRule};
 ghost use Rattle.mt_site_state.specs.Core.{CoreState};
@@ -22,10 +23,11 @@ use mt_site_topology::{
     tables_are_as_many_as_the_definitions_count, what_is_kept_stays_what_stood,
 };
 
-/// A keyspace that is made by hand leads from each state that a core stands for to the next one.
+/// A keyspace that is made by hand, with bounds between its shards that are written as they should, leads from each state that a
+/// core stands for to the next one.
 pub fn a_keyspace_steps()
-    ensures { (scopes : List Scope) (old new : CoreState) (name : List ℕ) (answer : Answer)
-        → AddsKeyspace old name answer new → Steps scopes old (add_keyspace name []) answer new }
+    ensures { (scopes : List Scope) (old new : CoreState) (name : List ℕ) (cuts : Cuts) (answer : Answer) → AreCuts cuts
+        → AddsKeyspace old name cuts answer new → Steps scopes old (add_keyspace name cuts) answer new }
 {
     answers_are_determined();
     each_next_state_is_reached();

@@ -3,7 +3,8 @@ ghost use Rattle.std.specs.Prelude.{ℕ, List};
 ghost use Rattle.mt_model.specs.declared.entries.Scope.{Scope};
 ghost use Rattle.mt_plain.specs.Events.{Answer, cancel};
 ghost use Rattle.mt_primary.specs.Primary.{IsPrimary};
-ghost use Rattle.mt_site_state.specs.Core.{CoreState, primary_of};
+ghost use Rattle.mt_primaries.specs.Primaries.{primary_of};
+ghost use Rattle.mt_site_state.specs.Core.{CoreState};
 ghost use Rattle.mt_site_state.specs.Stands.{Steps};
 ghost use Rattle.mt_site_state.specs.Workflows.{Cancels};
 
@@ -15,10 +16,10 @@ use mt_site_rows::{a_cancel_keeps_rows_and_logs, tables_made_and_dropped_leave_t
 use mt_site_topology::cancel_writes_what_was_kept;
 
 /// Cancel, done or refused, answers as the definitions allow; behind it the workflow is gone, the topology says in its part
-/// what it said before Create, and the target's primary has lost the tables, and no other primary anything.
+/// what it said before Create, and the target's primaries have lost the tables, and no other primary anything.
 pub fn a_cancel_steps()
     ensures { (scopes : List Scope) (old new : CoreState) (workflow : List ℕ) (answer : Answer)
-        → Cancels old workflow answer new → ((keyspace : List ℕ) → IsPrimary (primary_of old.primaries keyspace))
+        → Cancels old workflow answer new → ((keyspace : List ℕ) (n : ℕ) → IsPrimary (primary_of old.primaries keyspace n))
         → Steps scopes old (cancel workflow) answer new }
 {
     a_live_workflow_is_found_by_its_part();

@@ -22,7 +22,7 @@ use mt_site_topology::{
 use mt_watch::scopes_are_told_apart;
 
 /// A core that stands for a state refuses a Create by the very test by which the definitions refuse it, and takes it where they
-/// take it: the name, the tables, the sides, each table, the watcher of the target's primary, the limits.
+/// take it: the name, the tables, the sides, a source with several shards, each table, the watcher of the target's primary, the limits.
 pub fn a_create_is_refused_as_the_definitions_refuse_it()
     ensures { (p : Plain) (scopes : List Scope) (core : CoreState) → StandsWith p scopes core
         → (workflow source target : List ℕ) (tables : List (List ℕ))

@@ -26,7 +26,7 @@ use mt_site_rows::{a_create_keeps_rows_and_logs, tables_made_and_dropped_leave_t
 use mt_site_topology::{create_writes_the_part, entries_follow_from_sides_types_and_way};
 use mt_watch::Asks;
 
-/// What a new workflow makes of its target's primary, if that has none of its tables and takes over the notice of the change
+/// What a new workflow makes of a primary of its target, if that has none of its tables and takes over the notice of the change
 /// that Create makes: it has them then, empty and denied, and all else is as it was.
 pub fn the_target_has_the_tables_denied()
     ensures { (w : WorkflowState) (old : PrimaryState) → w.source ≢ w.target

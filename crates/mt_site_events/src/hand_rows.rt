@@ -12,7 +12,7 @@ use mt_laws::{each_next_state_is_reached, only_named_events_change_the_state};
 use mt_site_rows::a_write_keeps_rows_and_logs;
 use mt_site_topology::{what_changes_no_entry_leaves_the_topology, what_is_kept_stays_what_stood};
 
-/// A write at the primary of its keyspace leads from each state that a core stands for to the next one.
+/// A write at the primary of the shard that its key stands in leads from each state that a core stands for to the next one.
 pub fn a_write_steps()
     ensures { (scopes : List Scope) (old new : CoreState) (keyspace table : List ℕ) (op : Op) (answer : Answer)
         → WritesRow old keyspace table op answer new → Steps scopes old (write keyspace table op) answer new }

@@ -33,12 +33,12 @@ pub use denials::a_core_denies_only_what_a_workflow_moves;
 pub use facts::a_core_stays_one;
 pub use hand_rows::{a_read_steps, a_write_steps};
 pub use purging::{a_purged_core_stands, what_is_purged_stays_purged};
-pub use shards::keyspaces_of_a_core_have_one_shard;
+pub use shards::workflows_of_a_core_know_their_shards;
 pub use showing::a_show_steps;
 pub use staying::{a_create_can_be_taken_back, a_create_leaves_a_core};
 pub use streams::streams_of_a_core_lie_in_their_logs;
 pub use tables::{
-    each_keyspace_of_a_core_has_a_primary, primaries_of_a_core_have_the_tables_of_its_topology,
+    each_shard_of_a_core_has_a_primary, primaries_of_a_core_have_the_tables_of_its_topology,
 };
 pub use telling::{a_core_tells_what_its_state_serves, an_empty_core_stands_for_the_opening};
 pub use workflows::workflows_of_a_core_stand_in_place;

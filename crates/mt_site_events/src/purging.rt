@@ -4,6 +4,8 @@ ghost use Rattle.mt_model.specs.declared.entries.Scope.{Scope};
 ghost use Rattle.mt_model.specs.declared.rows.Op.{Op};
 ghost use Rattle.mt_plain.specs.Events.{Answer};
 ghost use Rattle.mt_plain.specs.Plain.{Plain};
+ghost use Rattle.mt_model.specs.Rows.{op_key};
+ghost use Rattle.mt_primaries.specs.Primaries.{place_of_key, shards_of};
 ghost use Rattle.mt_site_state.specs.ByHand.{WritesRow};
 ghost use Rattle.mt_site_state.specs.Core.{CoreState};
 ghost use Rattle.mt_site_state.specs.Purges.{IsPurged, PurgesAll, PurgesCore, PurgesOne, with_purges};
@@ -16,7 +18,7 @@ use mt_site_rows::a_purge_keeps_rows_and_logs;
 pub fn a_purged_core_stands()
     ensures stands { (p : Plain) (scopes : List Scope) (old new : CoreState) → StandsWith p scopes old → PurgesCore old new → StandsWith p scopes new }
     ensures all { (old new : CoreState) (answer : Answer) → PurgesAll answer old new → PurgesCore old new }
-    ensures one { (old new : CoreState) (keyspace : List ℕ) (answer : Answer) → PurgesOne keyspace answer old new → PurgesCore old new }
+    ensures one { (old new : CoreState) (keyspace : List ℕ) (shard : ℕ) (answer : Answer) → PurgesOne keyspace shard answer old new → PurgesCore old new }
 {
     a_purge_keeps_rows_and_logs();
 }
@@ -26,5 +28,5 @@ pub fn a_purged_core_stands()
 pub fn what_is_purged_stays_purged()
     ensures all { (core : CoreState) → IsPurged (with_purges core) }
     ensures written { (old made new : CoreState) (keyspace table : List ℕ) (op : Op) (answer : Answer) → IsPurged old
-        → WritesRow old keyspace table op answer made → PurgesOne keyspace answer made new → IsPurged new }
+        → WritesRow old keyspace table op answer made → PurgesOne keyspace (place_of_key (shards_of made.primaries keyspace) (op_key op)) answer made new → IsPurged new }
 {}

@@ -5,7 +5,8 @@ ghost use Rattle.mt_model.specs.Part.{part_keys, with_places, without_places};
 ghost use Rattle.mt_plain.specs.Events.{Answer, create};
 ghost use Rattle.mt_plain.specs.Plain.{among, each_once};
 ghost use Rattle.mt_primary.specs.Primary.{has_table};
-ghost use Rattle.mt_site_state.specs.Core.{CoreState, primary_of};
+ghost use Rattle.mt_primaries.specs.Primaries.{primary_of};
+ghost use Rattle.mt_site_state.specs.Core.{CoreState};
 ghost use Rattle.mt_site_state.specs.Stands.{IsCore};
 ghost use Rattle.mt_site_state.specs.Workflows.{Creates, create_refusal};
 
@@ -28,12 +29,12 @@ pub fn a_create_leaves_a_core<W: Asks>(watchers: &W)
 }
 
 /// Where no test refuses a Create, the places that it makes in the topology can be dropped again, and the topology is as it was;
-/// and the target's primary has none of the tables, so that those can be dropped there too.
+/// and the target's primaries have none of the tables, so that those can be dropped there too.
 pub fn a_create_can_be_taken_back<W: Asks>(watchers: &W)
     ensures { (core : CoreState) (workflow source target : List ℕ) (tables : List (List ℕ)) → IsCore core
         → create_refusal core (W.scopes watchers.now) workflow source target (each_once tables) ≡ None
         → (without_places (with_places core.topology (part_keys source target (each_once tables))) (part_keys source target (each_once tables)) ≡ core.topology)
-        × ((table : List ℕ) → among (each_once tables) table ≡ true → has_table (primary_of core.primaries target) table ≡ false) }
+        × ((shard : ℕ) (table : List ℕ) → among (each_once tables) table ≡ true → has_table (primary_of core.primaries target shard) table ≡ false) }
 {
     a_create_is_refused_as_the_definitions_refuse_it();
     a_core_stays_one();

@@ -1,9 +1,10 @@
 //! Laws on the workflows of a core.
-ghost use Rattle.std.specs.Prelude.{◌≡◌, ◌≢◌, ℕ, true, All, List, Some, is_some};
+ghost use Rattle.std.specs.Prelude.{◌≡◌, ◌≢◌, ℕ, ◌<◌, true, All, List, Some, length};
 ghost use Rattle.mt_model.specs.Topology.{has_place};
 ghost use Rattle.mt_plain.specs.Plain.{among};
 ghost use Rattle.mt_primary.specs.Primary.{has_table};
-ghost use Rattle.mt_site_state.specs.Core.{CoreState, primary_at, primary_of, workflow_at};
+ghost use Rattle.mt_primaries.specs.Primaries.{has_primaries, primary_of};
+ghost use Rattle.mt_site_state.specs.Core.{CoreState, workflow_at};
 ghost use Rattle.mt_site_state.specs.Stands.{IsCore};
 ghost use Rattle.mt_site_topology.specs.Keys.{keys_of_part};
 ghost use Rattle.mt_workflow.specs.Workflows.{WorkflowState, live_of};
@@ -12,24 +13,24 @@ use mt_laws::{a_live_workflow_is_found_by_its_part, live_workflows_stand_in_plac
 use mt_site_topology::what_is_written_has_a_place;
 
 /// A workflow of a core is found by its own name; its sides are two, and both have primaries; each key of its part has a place
-/// in the topology; and the primaries of both sides have each of its tables.
+/// in the topology; and the source's primary and each of the target's have all of its tables.
 pub fn workflows_of_a_core_stand_in_place()
     ensures named { (core : CoreState) → IsCore core → (name : List ℕ) (w : WorkflowState) → workflow_at core.workflows name ≡ Some w
         → w.name ≡ name }
     ensures source { (core : CoreState) → IsCore core → (name : List ℕ) (w : WorkflowState) → workflow_at core.workflows name ≡ Some w
-        → is_some (primary_at core.primaries w.source) ≡ true }
+        → has_primaries core.primaries w.source ≡ true }
     ensures target { (core : CoreState) → IsCore core → (name : List ℕ) (w : WorkflowState) → workflow_at core.workflows name ≡ Some w
-        → is_some (primary_at core.primaries w.target) ≡ true }
+        → has_primaries core.primaries w.target ≡ true }
     ensures apart { (core : CoreState) → IsCore core → (name : List ℕ) (w : WorkflowState) → workflow_at core.workflows name ≡ Some w
         → w.source ≢ w.target }
     ensures places { (core : CoreState) → IsCore core → (name : List ℕ) (w : WorkflowState) → workflow_at core.workflows name ≡ Some w
         → All (λ key. has_place core.topology key ≡ true) (keys_of_part (live_of w)) }
     ensures at_source { (core : CoreState) → IsCore core → (name : List ℕ) (w : WorkflowState)
         → workflow_at core.workflows name ≡ Some w → (table : List ℕ) → among w.tables table ≡ true
-        → has_table (primary_of core.primaries w.source) table ≡ true }
+        → has_table (primary_of core.primaries w.source 0) table ≡ true }
     ensures at_target { (core : CoreState) → IsCore core → (name : List ℕ) (w : WorkflowState)
-        → workflow_at core.workflows name ≡ Some w → (table : List ℕ) → among w.tables table ≡ true
-        → has_table (primary_of core.primaries w.target) table ≡ true }
+        → workflow_at core.workflows name ≡ Some w → (shard : ℕ) → shard < length w.lanes → (table : List ℕ) → among w.tables table ≡ true
+        → has_table (primary_of core.primaries w.target shard) table ≡ true }
 {
     a_live_workflow_is_found_by_its_part();
     live_workflows_stand_in_place();

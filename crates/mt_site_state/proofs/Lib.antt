@@ -1,2 +1,2 @@
+pub mod LaneLemmas
 pub mod NeededLemmas
-pub mod ShardLemmas

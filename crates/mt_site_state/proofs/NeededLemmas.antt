@@ -3,7 +3,7 @@ use Rattle.std.proofs.Common.{◌≡◌, ◌⊎◌, inl, inr, ℕ, suc, ◌+◌,
 use Rattle.std.proofs.Math.Nat.{min-le_left, min-le_right}
 use Rattle.std.proofs.lemmas.Bool.Decides.{leb_tells}
 use Rattle.std.proofs.lemmas.List.{length-drop}
-use Rattle.std.specs.Prelude.{min, ◌&&◌}
+use Rattle.std.specs.Prelude.{min, ◌&&◌, ◌==◌}
 use Rattle.mt_names.specs.Names.{same_text}
 use Rattle.mt_log.specs.Log.{LogState, purged_by, without_first}
 use Rattle.mt_primary.specs.Primary.{PrimaryState, end_of}
@@ -11,7 +11,7 @@ use Rattle.mt_primary.specs.Writes.{with_purge}
 use Rattle.mt_stream.specs.Streams.{StreamValue}
 use Rattle.mt_plain.specs.Events.{forward, back}
 use Rattle.mt_workflow.specs.Workflows.{WorkflowState, slot_of}
-use Rattle.mt_steps.specs.Shards.{shards_of}
+use Rattle.mt_steps.specs.Shards as lanes
 use Rattle.mt_site_state.specs.Core.{Workflows, workflow_at}
 use Rattle.mt_site_state.specs.Purges.{first_needed, is_in_use, least_at, least_of, least_with}
 
@@ -20,53 +20,56 @@ use Rattle.mt_site_state.specs.Purges.{first_needed, is_in_use, least_at, least_
 le-refl : (n : ℕ) → n ≤ n
 le-refl n = omega arith
 
-pub with-le : (keyspace side : List ℕ) (o : Option StreamValue) (least : ℕ) → least_with keyspace side o least ≤ least
-with-le keyspace side None least = le-refl least
-with-le keyspace side (Some stream) least = by (same_text keyspace side && is_in_use stream.state)
+pub with-le : (keyspace : List ℕ) (shard : ℕ) (side : List ℕ) (read : ℕ) (o : Option StreamValue) (least : ℕ) → least_with keyspace shard side read o least ≤ least
+with-le keyspace shard side read None least = le-refl least
+with-le keyspace shard side read (Some stream) least = by (same_text keyspace side && (read == shard) && is_in_use stream.state)
   where
     by : (b : Bool) → cond b (min least stream.position) least ≤ least
     by true = min-le_left least stream.position
     by false = le-refl least
 
-pub at-le : (keyspace : List ℕ) (w : WorkflowState) (least shard : ℕ) → least_at keyspace w least shard ≤ least
-at-le keyspace w least shard =
-    let a = with-le keyspace w.source (slot_of w shard forward) least in
-    let b = with-le keyspace w.target (slot_of w shard back) (least_with keyspace w.source (slot_of w shard forward) least) in
+pub at-le : (keyspace : List ℕ) (shard : ℕ) (w : WorkflowState) (least lane : ℕ) → least_at keyspace shard w least lane ≤ least
+at-le keyspace shard w least lane =
+    let a = with-le keyspace shard w.source 0 (slot_of w lane forward) least in
+    let b = with-le keyspace shard w.target lane (slot_of w lane back) (least_with keyspace shard w.source 0 (slot_of w lane forward) least) in
     omega (arith, a, b)
 
-pub of-le : (keyspace : List ℕ) (least : ℕ) (w : WorkflowState) → least_of keyspace least w ≤ least
-of-le keyspace least w = each (shards_of w) least
+pub of-le : (keyspace : List ℕ) (shard least : ℕ) (w : WorkflowState) → least_of keyspace shard least w ≤ least
+of-le keyspace shard least w = each (lanes.shards_of w) least
   where
-    each : (shards : List ℕ) (least : ℕ) → fold (least_at keyspace w) least shards ≤ least
+    each : (numbers : List ℕ) (least : ℕ) → fold (least_at keyspace shard w) least numbers ≤ least
     each [] least = le-refl least
-    each (shard ∷ shards) least =
-        let a = at-le keyspace w least shard in
-        let b = each shards (least_at keyspace w least shard) in
+    each (lane ∷ numbers) least =
+        let a = at-le keyspace shard w least lane in
+        let b = each numbers (least_at keyspace shard w least lane) in
         omega (arith, a, b)
 
-pub needed-le : (workflows : Workflows) (keyspace : List ℕ) (end : ℕ) → first_needed workflows keyspace end ≤ end
-needed-le [] keyspace end = le-refl end
-needed-le (entry ∷ workflows) keyspace end =
-    let a = of-le keyspace end entry.1 in
-    let b = needed-le workflows keyspace (least_of keyspace end entry.1) in
+pub needed-le : (workflows : Workflows) (keyspace : List ℕ) (shard end : ℕ) → first_needed workflows keyspace shard end ≤ end
+needed-le [] keyspace shard end = le-refl end
+needed-le (entry ∷ workflows) keyspace shard end =
+    let a = of-le keyspace shard end entry.1 in
+    let b = needed-le workflows keyspace shard (least_of keyspace shard end entry.1) in
     omega (arith, a, b)
 
--- of a stream that reads the keyspace and is in use
-pub with-stream : (keyspace side : List ℕ) (stream : StreamValue) (least : ℕ) → same_text keyspace side ≡ true → is_in_use stream.state ≡ true → least_with keyspace side (Some stream) least ≤ stream.position
-with-stream keyspace side stream least reads moves = subst (λ b. cond b (min least stream.position) least ≤ stream.position) (sym (ap (λ b. b && is_in_use stream.state) reads ∙ moves)) (min-le_right least stream.position)
+-- of a stream that reads the shard's log and is in use
+pub with-stream : (keyspace : List ℕ) (shard : ℕ) (side : List ℕ) (read : ℕ) (stream : StreamValue) (least : ℕ) → same_text keyspace side ≡ true → (read == shard) ≡ true → is_in_use stream.state ≡ true
+    → least_with keyspace shard side read (Some stream) least ≤ stream.position
+with-stream keyspace shard side read stream least reads there moves =
+    subst (λ b. cond b (min least stream.position) least ≤ stream.position)
+    (sym (ap (λ b. b && (read == shard) && is_in_use stream.state) reads ∙ ap (λ b. b && is_in_use stream.state) there ∙ moves)) (min-le_right least stream.position)
 
 -- what is least with a workflow is at least what is needed with all
-pub needed-one : (workflows : Workflows) (keyspace name : List ℕ) (end position : ℕ) (w : WorkflowState) → workflow_at workflows name ≡ Some w → ((least : ℕ) → least_of keyspace least w ≤ position)
-    → first_needed workflows keyspace end ≤ position
-needed-one [] keyspace name end position w found low = absurd cc
-needed-one (entry ∷ workflows) keyspace name end position w found low = by (λ there. needed-one workflows keyspace name (least_of keyspace end entry.1) position w there low) (same_text name entry.0) refl
+pub needed-one : (workflows : Workflows) (keyspace : List ℕ) (shard : ℕ) (name : List ℕ) (end position : ℕ) (w : WorkflowState) → workflow_at workflows name ≡ Some w → ((least : ℕ) → least_of keyspace shard least w ≤ position)
+    → first_needed workflows keyspace shard end ≤ position
+needed-one [] keyspace shard name end position w found low = absurd cc
+needed-one (entry ∷ workflows) keyspace shard name end position w found low = by (λ there. needed-one workflows keyspace shard name (least_of keyspace shard end entry.1) position w there low) (same_text name entry.0) refl
   where
-    by : (workflow_at workflows name ≡ Some w → first_needed (entry ∷ workflows) keyspace end ≤ position) → (b : Bool) → same_text name entry.0 ≡ b → first_needed (entry ∷ workflows) keyspace end ≤ position
+    by : (workflow_at workflows name ≡ Some w → first_needed (entry ∷ workflows) keyspace shard end ≤ position) → (b : Bool) → same_text name entry.0 ≡ b → first_needed (entry ∷ workflows) keyspace shard end ≤ position
     by rest true is =
         let here : Some entry.1 ≡ Some w = sym (ap (λ b. cond b (Some entry.1) (workflow_at workflows name)) is) ∙ found in
         let one : entry.1 ≡ w = cc in
-        let a : least_of keyspace end entry.1 ≤ position = subst (λ v. least_of keyspace end v ≤ position) (sym one) (low end) in
-        let b = needed-le workflows keyspace (least_of keyspace end entry.1) in
+        let a : least_of keyspace shard end entry.1 ≤ position = subst (λ v. least_of keyspace shard end v ≤ position) (sym one) (low end) in
+        let b = needed-le workflows keyspace shard (least_of keyspace shard end entry.1) in
         omega (arith, a, b)
     by rest false is = rest (sym (ap (λ b. cond b (Some entry.1) (workflow_at workflows name)) is) ∙ found)
 
@@ -76,9 +79,10 @@ needed-one (entry ∷ workflows) keyspace name end position w found low = by (λ
 abbrev pub NextTo : (from low high : ℕ) → Type 0
 NextTo from low high = (high ≡ low) ⊎ ((high ≡ suc low) × (high ≡ from))
 
-with-next : (keyspace side : List ℕ) (o : Option StreamValue) (from low high : ℕ) → NextTo from low high → NextTo from (least_with keyspace side o low) (least_with keyspace side o high)
-with-next keyspace side None from low high near = near
-with-next keyspace side (Some stream) from low high near = by (same_text keyspace side && is_in_use stream.state)
+with-next : (keyspace : List ℕ) (shard : ℕ) (side : List ℕ) (read : ℕ) (o : Option StreamValue) (from low high : ℕ) → NextTo from low high
+    → NextTo from (least_with keyspace shard side read o low) (least_with keyspace shard side read o high)
+with-next keyspace shard side read None from low high near = near
+with-next keyspace shard side read (Some stream) from low high near = by (same_text keyspace side && (read == shard) && is_in_use stream.state)
   where
     both : NextTo from low high → NextTo from (min low stream.position) (min high stream.position)
     both (inl same) = inl (ap (λ n. min n stream.position) same)
@@ -92,24 +96,24 @@ with-next keyspace side (Some stream) from low high near = by (same_text keyspac
     by true = both near
     by false = near
 
-at-next : (keyspace : List ℕ) (w : WorkflowState) (from low high shard : ℕ) → NextTo from low high → NextTo from (least_at keyspace w low shard) (least_at keyspace w high shard)
-at-next keyspace w from low high shard near =
-    with-next keyspace w.target (slot_of w shard back) from (least_with keyspace w.source (slot_of w shard forward) low) (least_with keyspace w.source (slot_of w shard forward) high)
-    (with-next keyspace w.source (slot_of w shard forward) from low high near)
+at-next : (keyspace : List ℕ) (shard : ℕ) (w : WorkflowState) (from low high lane : ℕ) → NextTo from low high → NextTo from (least_at keyspace shard w low lane) (least_at keyspace shard w high lane)
+at-next keyspace shard w from low high lane near =
+    with-next keyspace shard w.target lane (slot_of w lane back) from (least_with keyspace shard w.source 0 (slot_of w lane forward) low) (least_with keyspace shard w.source 0 (slot_of w lane forward) high)
+    (with-next keyspace shard w.source 0 (slot_of w lane forward) from low high near)
 
-of-next : (keyspace : List ℕ) (w : WorkflowState) (from low high : ℕ) → NextTo from low high → NextTo from (least_of keyspace low w) (least_of keyspace high w)
-of-next keyspace w from = each (shards_of w)
+of-next : (keyspace : List ℕ) (shard : ℕ) (w : WorkflowState) (from low high : ℕ) → NextTo from low high → NextTo from (least_of keyspace shard low w) (least_of keyspace shard high w)
+of-next keyspace shard w from = each (lanes.shards_of w)
   where
-    each : (shards : List ℕ) (low high : ℕ) → NextTo from low high → NextTo from (fold (least_at keyspace w) low shards) (fold (least_at keyspace w) high shards)
+    each : (numbers : List ℕ) (low high : ℕ) → NextTo from low high → NextTo from (fold (least_at keyspace shard w) low numbers) (fold (least_at keyspace shard w) high numbers)
     each [] low high near = near
-    each (shard ∷ shards) low high near = each shards (least_at keyspace w low shard) (least_at keyspace w high shard) (at-next keyspace w from low high shard near)
+    each (lane ∷ numbers) low high near = each numbers (least_at keyspace shard w low lane) (least_at keyspace shard w high lane) (at-next keyspace shard w from low high lane near)
 
-fold-next : (workflows : Workflows) (keyspace : List ℕ) (from low high : ℕ) → NextTo from low high → NextTo from (first_needed workflows keyspace low) (first_needed workflows keyspace high)
-fold-next [] keyspace from low high near = near
-fold-next (entry ∷ workflows) keyspace from low high near = fold-next workflows keyspace from (least_of keyspace low entry.1) (least_of keyspace high entry.1) (of-next keyspace entry.1 from low high near)
+fold-next : (workflows : Workflows) (keyspace : List ℕ) (shard from low high : ℕ) → NextTo from low high → NextTo from (first_needed workflows keyspace shard low) (first_needed workflows keyspace shard high)
+fold-next [] keyspace shard from low high near = near
+fold-next (entry ∷ workflows) keyspace shard from low high near = fold-next workflows keyspace shard from (least_of keyspace shard low entry.1) (least_of keyspace shard high entry.1) (of-next keyspace shard entry.1 from low high near)
 
-pub needed-next : (workflows : Workflows) (keyspace : List ℕ) (end : ℕ) → NextTo (suc end) (first_needed workflows keyspace end) (first_needed workflows keyspace (suc end))
-needed-next workflows keyspace end = fold-next workflows keyspace (suc end) end (suc end) (inr (refl, refl))
+pub needed-next : (workflows : Workflows) (keyspace : List ℕ) (shard end : ℕ) → NextTo (suc end) (first_needed workflows keyspace shard end) (first_needed workflows keyspace shard (suc end))
+needed-next workflows keyspace shard end = fold-next workflows keyspace shard (suc end) end (suc end) (inr (refl, refl))
 
 -- ---- a purge
 

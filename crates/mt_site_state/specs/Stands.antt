@@ -1,8 +1,10 @@
 -- Which state of the definitions a core stands for (this profile's own).
-use Rattle.std.specs.Prelude.{◌≡◌, ℕ, List, [], ◌∷◌, length, map, Option, None, Some, option_map, is_some, ⊤}
+use Rattle.std.specs.Prelude.{◌≡◌, ℕ, ◌<◌, true, List, length, map, Option, None, Some, option_map, ⊤}
 use Rattle.std.specs.List.{AllByRecursion}
 use Rattle.std.specs.Map.{keys_of}
 use Rattle.mt_model.specs.declared.entries.Scope.{Scope}
+use Rattle.mt_names.specs.Shards.{AreCuts, shard_count}
+use Rattle.mt_primaries.specs.Primaries.{Primaries, count_of, has_primaries, primary_of, shards_of}
 use Rattle.mt_primary.specs.Primary.{is_denied_at}
 use Rattle.mt_primary.specs.Primary as primary
 use Rattle.mt_workflow.specs.Workflows.{LaneState, WorkflowState, live_of}
@@ -18,16 +20,20 @@ use Rattle.mt_laws.specs.WayBack.{IsReached}
 use Rattle.mt_site_topology.specs.Keys.{IsKept}
 use Rattle.mt_site_topology.specs.Stands.{TopologyStands}
 use Rattle.mt_site_rows.specs.Rows.{RowsStand, stream_of}
-use Rattle.mt_site_state.specs.Core.{CoreState, Primaries, Workflows, primaries_of, primary_at, primary_of, workflow_at}
+use Rattle.mt_site_state.specs.Core.{CoreState, Workflows, workflow_at}
 
--- each keyspace of the state has one shard, and a primary with the tables that it has there and the own list that refuses what that shard's
--- does
+-- each keyspace of the state has a primary for each of its shards, whose bounds are written as they should; each has the tables that the
+-- keyspace has there, and the own list that refuses what that shard's does
 pub record ArePrimaries (p : Plain) (primaries : Primaries) : Type 0 where
-  pub there : (keyspace : List ℕ) → is_some (primary_at primaries keyspace) ≡ has_keyspace p keyspace
+  pub there : (keyspace : List ℕ) → has_primaries primaries keyspace ≡ has_keyspace p keyspace
   pub count : length primaries ≡ length p.topology.keyspaces
-  pub unsharded : (keyspace : List ℕ) → cuts_of p keyspace ≡ []
-  pub tables : (keyspace table : List ℕ) → primary.has_table (primary_of primaries keyspace) table ≡ has_table p keyspace table
-  pub denials : (keyspace table : List ℕ) → is_denied_at (primary_of primaries keyspace) table ≡ refuses p keyspace 0 table
+  pub cuts : (keyspace : List ℕ) → (shards_of primaries keyspace).cuts ≡ cuts_of p keyspace
+  pub ascend : (keyspace : List ℕ) → AreCuts (cuts_of p keyspace)
+  pub shards : (keyspace : List ℕ) → has_keyspace p keyspace ≡ true → count_of primaries keyspace ≡ shard_count (cuts_of p keyspace)
+  pub tables : (keyspace : List ℕ) (shard : ℕ) → shard < count_of primaries keyspace → (table : List ℕ)
+      → primary.has_table (primary_of primaries keyspace shard) table ≡ has_table p keyspace table
+  pub denials : (keyspace : List ℕ) (shard : ℕ) → shard < count_of primaries keyspace → (table : List ℕ)
+      → is_denied_at (primary_of primaries keyspace shard) table ≡ refuses p keyspace shard table
 
 -- a lane of a live workflow as a workflow has it: the key range of its shard, and its streams
 abbrev pub lane_state : Live → Lane → LaneState
@@ -37,16 +43,13 @@ lane_state live lane = record {
   back = option_map (stream_of live lane) (slot_of live lane back);
 }
 
--- a workflow stands for a live one with one lane: its name, sides and tables, the types that it has switched, the way that is open, and its
--- lanes are those of the live one, and what it keeps of the rules is what the topology says in its part as if no workflow were live
+-- a workflow stands for a live one: its name, sides and tables, the types that it has switched, the way that is open, and its lanes are
+-- those of the live one, and what it keeps of the rules is what the topology says in its part as if no workflow were live
 pub record StandsFor (p : Plain) (live : Live) (w : WorkflowState) : Type 0 where
   pub sides : HasSides live (live_of w)
   pub switched : w.switched ≡ live.switched
   pub way : w.way ≡ live.way
   pub kept : IsKept p.topology live w.kept
-  pub lane : Lane
-  pub alone : live.lanes ≡ lane ∷ []
-  pub shard : lane.shard ≡ 0
   pub lanes : w.lanes ≡ map (lane_state live) live.lanes
 
 -- the same where there may be none
@@ -65,7 +68,7 @@ pub record StandsWith (p : Plain) (scopes : List Scope) (core : CoreState) : Typ
   pub reached : IsReached p
   pub scopes_are : p.scopes ≡ scopes
   pub topology : TopologyStands p core.topology
-  pub rows : RowsStand p (primaries_of core.primaries)
+  pub rows : RowsStand p (primary_of core.primaries)
   pub primaries : ArePrimaries p core.primaries
   pub workflows : AreWorkflows p core.workflows
 

@@ -13,19 +13,21 @@ use Rattle.mt_plain.specs.Events.{Answer, forward, done, refused, Refusal, memor
 use Rattle.mt_plain.specs.Next.{types_and, types_without}
 use Rattle.mt_plain.specs.Plain.{last_step, next_step, stands_done, write_journal}
 use Rattle.mt_plain.specs.Refuse.{at_rest, complete_refusal, has_more, most_ways, or_else, refuse_if, share_type}
+use Rattle.mt_primary.specs.Primary.{PrimaryState}
 use Rattle.mt_primary.specs.Writes.{without_table}
 use Rattle.mt_steps.specs.declared.fault.StepFault.{StepFault}
 use Rattle.mt_steps.specs.declared.log.OpenWay.{OpenWay}
 use Rattle.mt_steps.specs.Faults as step
 use Rattle.mt_steps.specs.Plans.{step_at}
-use Rattle.mt_steps.specs.Shards.{shards_of, target_at}
+use Rattle.mt_steps.specs.Shards as lanes
 use Rattle.mt_steps.specs.Steps.{IsUndone, SidesState, Steps}
 use Rattle.mt_steps.specs.Undo.{UndoState, new_log}
 use Rattle.mt_stream.specs.Streams.{has_ended}
 use Rattle.mt_watch.specs.Asking.{Answering}
 use Rattle.mt_workflow.specs.Workflows.{WorkflowState, live_of, slot_of}
 use Rattle.mt_site_topology.specs.Keys.{end_entries, end_keys}
-use Rattle.mt_site_state.specs.Core.{CoreState, primary_of, with_primary, workflow_at}
+use Rattle.mt_primaries.specs.Primaries.{Primaries, primary_of, shards_of, with_all, with_primary, with_shards}
+use Rattle.mt_site_state.specs.Core.{CoreState, workflow_at}
 use Rattle.mt_site_state.specs.Ways.{OpenWays, SiteState, open_at}
 
 -- what becomes of the controller if a test refuses the event, and else it is made, which takes memory if it `grows`. What is refused
@@ -62,7 +64,7 @@ has_copied_at w shard = option_map_or (λ stream. has_ended stream.copied) (slot
 
 -- whether a workflow still has rows to copy
 abbrev pub is_copying : WorkflowState → Bool
-is_copying w = not (list_all (has_copied_at w) (shards_of w))
+is_copying w = not (list_all (has_copied_at w) (lanes.shards_of w))
 
 -- a limit: of the numbers of ways
 abbrev pub no_number_left : SiteState → Option Refusal
@@ -91,12 +93,12 @@ BeginsReverse old workflow types answer new = BeginsReverseAt (workflow_at old.c
 
 -- ---- a step, and an undo
 
--- what a step of a workflow's way works on; the target has one shard yet
+-- what a step of a workflow's way works on: the source has one shard
 abbrev pub sides_of : SiteState → WorkflowState → SidesState
 sides_of s w = record {
   topology = s.core.topology;
-  source = primary_of s.core.primaries w.source;
-  targets = primary_of s.core.primaries w.target ∷ [];
+  source = primary_of s.core.primaries w.source 0;
+  targets = (shards_of s.core.primaries w.target).each;
   workflow = w;
   journal = s.ways.journal;
 }
@@ -106,12 +108,16 @@ abbrev pub open_after : OpenWays → (name : List ℕ) → OpenWay → Option Wa
 open_after ways name o None = remove_entry (same_text name) ways
 open_after ways name o (Some way) = set_value (same_text name) ways o
 
+-- the primaries of a workflow's sides become others
+abbrev pub with_primaries : Primaries → WorkflowState → (source : PrimaryState) → (targets : List PrimaryState) → Primaries
+with_primaries primaries w source targets = with_shards (with_primary primaries w.source 0 source) w.target targets
+
 -- the controller with what a step or an undo has made of these
 abbrev pub with_sides : SiteState → WorkflowState → SidesState → OpenWay → SiteState
 with_sides s w sides o = record {
   core = record {
     topology = sides.topology;
-    primaries = set_value (same_text w.target) (set_value (same_text w.source) s.core.primaries sides.source) (target_at sides.targets 0);
+    primaries = with_primaries s.core.primaries w sides.source sides.targets;
     workflows = set_value (same_text w.name) s.core.workflows sides.workflow;
   };
   ways = record s.ways { opened = open_after s.ways.opened w.name o sides.workflow.way; journal = sides.journal };
@@ -195,7 +201,7 @@ UndoesWorkflow old workflow at answer new = UndoesAt (workflow_at old.core.workf
 abbrev pub completed : CoreState → WorkflowState → CoreState
 completed core w = record {
   topology = without_places (with_entries core.topology (end_entries (live_of w))) (end_keys (live_of w));
-  primaries = with_primary core.primaries w.source (λ primary. fold without_table primary w.tables);
+  primaries = with_all core.primaries w.source (λ primary. fold without_table primary w.tables);
   workflows = remove_entry (same_text w.name) core.workflows;
 }
 

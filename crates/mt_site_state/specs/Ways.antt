@@ -1,6 +1,6 @@
 -- The whole state of the controller: its core, and what it keeps of the ways. Which state of the definitions it stands for. All of this
 -- page is this profile's own, unless a comment names a page of Vitess's documentation.
-use Rattle.std.specs.Prelude.{◌≡◌, ℕ, ◌≤◌, Bool, true, false, List, [], length, map, Option, None, Some, is_some, option_map}
+use Rattle.std.specs.Prelude.{◌≡◌, ℕ, ◌≤◌, ◌<◌, if◌then◌else◌, Bool, true, false, List, [], length, map, Option, None, Some, is_some, option_map}
 use Rattle.std.specs.List.{AllByRecursion, IsDistinct}
 use Rattle.std.specs.Map.{keys_of, lookup}
 use Rattle.std.specs.Option.{option_map_or}
@@ -17,7 +17,7 @@ use Rattle.mt_workflow.specs.Workflows.{WorkflowState}
 use Rattle.mt_plain.specs.Answers.{Answers}
 use Rattle.mt_plain.specs.Events.{Answer, Event, Way}
 use Rattle.mt_plain.specs.Next.{next}
-use Rattle.mt_plain.specs.Plain.{Live, Plain, create_back, live_at, refresh_source, stands_done, write_journal}
+use Rattle.mt_plain.specs.Plain.{Live, Plain, create_back, live_at, refresh_source, stands_done, stands_done_at, write_journal}
 use Rattle.mt_plain.specs.Slots.{slot_before_way}
 use Rattle.mt_laws.specs.Texts.{BringsNames}
 use Rattle.mt_laws.specs.WayBack.{IsReached}
@@ -63,12 +63,17 @@ IsGiven begun number = (1 ≤ number) × (number ≤ begun)
 
 -- ---- what is kept of an open way
 
+-- how many primaries the old owner of a way's tables has: one at the source, one for each shard at the target
+abbrev pub lists_of : Way → ℕ
+lists_of way = if way.back then way.shards else 1
+
 -- as long as the journal isn't written, what is kept gives back what stood before each step that stands done: the entries of the step as
--- they were before the way, an own list without the tables, and for each lane the stream that was there in place of the one that the way has
--- made
+-- they were before the way, for each of the old owner's primaries that was refreshed an own list without the tables, and for each lane the
+-- stream that was there in place of the one that the way has made
 pub record GivesBack (live : Live) (w : WorkflowState) (way : Way) (log : UndoState) : Type 0 where
   pub entries : (n : ℕ) → stands_done way n ≡ true → recorded_of w n log.entries ≡ step_entries w way.before n
-  pub listed : stands_done way refresh_source ≡ true → listed_at log 0 ≡ Some (map (λ table. (table, false)) w.tables)
+  pub listed : (shard : ℕ) → shard < lists_of way → stands_done_at way refresh_source shard ≡ true
+      → listed_at log shard ≡ Some (map (λ table. (table, false)) w.tables)
   pub slots : stands_done way create_back ≡ true
       → log.slots ≡ map (λ lane. option_map (stream_of live lane) (slot_before_way live lane (other_name way))) live.lanes
 

@@ -1,10 +1,11 @@
 -- What an event on a workflow does to a core: it is created, advanced, cancelled and shown (MoveTables: Create, Cancel, Show). All of this
 -- page is this profile's own, unless a comment names a page of Vitess's documentation.
-use Rattle.std.specs.Prelude.{◌≡◌, ℕ, Bool, true, false, not, ◌==◌, ◌||◌, nat_le, List, [], ◌∷◌, ◌++◌, fold, length, Option, None, Some, is_some, unwrap_or, option_map, map, Result, Ok, Err}
+use Rattle.std.specs.Prelude.{◌≡◌, ℕ, Bool, true, false, not, ◌==◌, ◌||◌, nat_le, nat_lt, List, [], ◌∷◌, ◌++◌, fold, length, Option, None, Some, is_some, unwrap_or, option_map, map, Result, Ok, Err}
 use Rattle.std.specs.List.{list_any}
 use Rattle.std.specs.Map.{remove_entry, set_value}
 use Rattle.std.specs.Option.{option_map_or}
 use Rattle.mt_names.specs.Names.{same_text}
+use Rattle.mt_names.specs.Shards.{shard_count}
 use Rattle.mt_names.specs.Types.{no_types}
 use Rattle.mt_model.specs.declared.entries.Entry.{Entry}
 use Rattle.mt_model.specs.declared.entries.Scope.{Scope}
@@ -26,13 +27,14 @@ use Rattle.mt_workflow.specs.declared.fault.WorkflowFault.{WorkflowFault}
 use Rattle.mt_workflow.specs.declared.fault.WorkflowFault.TheVariants as fault
 use Rattle.mt_workflow.specs.Workflows.{LaneState, WorkflowState, live_of, new_workflow, slot_of, with_slot}
 use Rattle.mt_plain.specs.Asks.{create_change}
-use Rattle.mt_plain.specs.Events.{StreamName, Slot, Shown, ShownLane, frozen, Answer, done, shown, refused, Refusal, memory, no_keyspace, no_table, workflow_exists, no_workflow, table_in_workflow, rule_conflict, target_has_table, same_keyspace, no_tables, watcher_refused, no_watcher, stream_stopped, full}
+use Rattle.mt_plain.specs.Events.{StreamName, forward, back, Slot, Shown, ShownLane, frozen, Answer, done, shown, refused, Refusal, memory, no_keyspace, no_table, workflow_exists, no_workflow, table_in_workflow, rule_conflict, target_has_table, same_keyspace, no_tables, watcher_refused, no_watcher, no_shard, sharded_source, stream_stopped, full}
 use Rattle.mt_plain.specs.Plain.{among, each_once}
 use Rattle.mt_plain.specs.Refuse.{cancel_refusal, most_workflows, or_else, refuse_if}
 use Rattle.mt_plain.specs.Slots.{read_side, written_side}
 use Rattle.mt_site_topology.specs.Keys.{kept_entries, keys_of_part, part_entries, rules_only}
 use Rattle.mt_site_rows.specs.Answers.{answer_by_stream}
-use Rattle.mt_site_state.specs.Core.{CoreState, Does, Workflows, primary_at, primary_of, with_primary, workflow_at}
+use Rattle.mt_primaries.specs.Primaries.{has_primaries, primary_of, shards_of, with_all, with_primary}
+use Rattle.mt_site_state.specs.Core.{CoreState, Does, Workflows, workflow_at}
 
 -- ---- Create: what refuses it
 
@@ -63,38 +65,43 @@ abbrev pub is_full : CoreState → (source target : List ℕ) → List (List ℕ
 is_full core source target tables =
     nat_le most_workflows (length core.workflows) || is_some (reserve_refusal core.topology source target tables)
 
--- Create of a set of tables: the name, the tables, the sides, each table, the watcher, the limits
+-- whether a keyspace has several shards
+abbrev pub is_sharded : CoreState → (keyspace : List ℕ) → Bool
+is_sharded core keyspace = nat_lt 1 (shard_count (shards_of core.primaries keyspace).cuts)
+
+-- Create of a set of tables: the name, the tables, the sides, whether the source is sharded, each table, the watcher, the limits
 abbrev pub create_refusal : CoreState → List Scope → (workflow source target : List ℕ) → List (List ℕ) → Option Refusal
 create_refusal core scopes workflow source target tables =
     or_else (refuse_if (is_some (workflow_at core.workflows workflow)) workflow_exists)
     (or_else (refuse_if (length tables == 0) no_tables)
     (or_else (refuse_if (same_text source target) same_keyspace)
-    (or_else (refuse_if (not (is_some (primary_at core.primaries source))) no_keyspace)
-    (or_else (refuse_if (not (is_some (primary_at core.primaries target))) no_keyspace)
+    (or_else (refuse_if (not (has_primaries core.primaries source)) no_keyspace)
+    (or_else (refuse_if (not (has_primaries core.primaries target)) no_keyspace)
+    (or_else (refuse_if (is_sharded core source) sharded_source)
     (or_else (tables_refusal core source target tables)
     (or_else (refuse_if (not (has_scope scopes (scope.Primary target))) no_watcher)
-    (refuse_if (is_full core source target tables) full)))))))
+    (refuse_if (is_full core source target tables) full))))))))
 
 -- ---- Create: what it makes
 
 -- the new workflow: it keeps the rules that stand in its part, and its streams read the source's log from its end on
 abbrev pub new_of : CoreState → (workflow source target : List ℕ) → List (List ℕ) → WorkflowState
 new_of core workflow source target tables =
-    new_workflow core.topology workflow source target tables (end_of (primary_of core.primaries source))
+    new_workflow core.topology workflow source target tables (end_of (primary_of core.primaries source 0))
 
 -- the change with which the watchers of the target's primary are asked
 abbrev pub change_of : WorkflowState → List Entry
 change_of w = create_change (rules_only w.kept) (live_of w)
 
--- the target's primary has the tables, without rows, and takes over what it is told of their denials
+-- a primary of the target has the tables, without rows, and takes over what it is told of their denials
 abbrev pub target_made : WorkflowState → (notice : List Entry) → PrimaryState → PrimaryState
 target_made w notice primary = with_denials (told_by_refresh w.target notice w.tables) (fold with_new_table primary w.tables)
 
--- the part is written over its places, and the workflow is live
+-- the part is written over its places, each primary of the target has the tables, and the workflow is live
 abbrev pub with_created : CoreState → WorkflowState → (notice : List Entry) → CoreState
 with_created core w notice = record {
   topology = with_entries (with_places core.topology (keys_of_part (live_of w))) (part_entries w.kept (live_of w) no_types);
-  primaries = with_primary core.primaries w.target (target_made w notice);
+  primaries = with_all core.primaries w.target (target_made w notice);
   workflows = core.workflows ++ (w.name, w) ∷ [];
 }
 
@@ -120,12 +127,12 @@ Creates old scopes may_answer workflow source target tables = CreatesSet old sco
 
 -- ---- Cancel
 
--- what was kept is written back over the part, which loses the places that hold nothing; the target's primary loses the tables, and the
+-- what was kept is written back over the part, which loses the places that hold nothing; the target's primaries lose the tables, and the
 -- workflow is gone with its streams (MoveTables: Cancel)
 abbrev pub cancelled : CoreState → WorkflowState → CoreState
 cancelled core w = record {
   topology = without_places (with_entries core.topology (kept_entries w.kept (live_of w))) (keys_of_part (live_of w));
-  primaries = with_primary core.primaries w.target (λ primary. fold without_table primary w.tables);
+  primaries = with_all core.primaries w.target (λ primary. fold without_table primary w.tables);
   workflows = remove_entry (same_text w.name) core.workflows;
 }
 
@@ -139,27 +146,43 @@ Cancels old workflow answer new = CancelsAt (workflow_at old.workflows workflow)
 
 -- ---- Advance
 
--- the core with another stream of the first shard of a workflow's target, and another primary at the side that the stream writes
-abbrev pub with_advanced : CoreState → WorkflowState → StreamName → StreamValue → (sink : PrimaryState) → CoreState
-with_advanced core w name stream sink = record core {
-  primaries = set_value (same_text (written_side (live_of w) name)) core.primaries sink;
-  workflows = set_value (same_text w.name) core.workflows (with_slot w 0 name (Some stream));
+-- the shard of the side that a stream of a lane reads, and of the one that it writes: the source has one, the target that of the lane
+abbrev pub shard_read : StreamName → (shard : ℕ) → ℕ
+shard_read forward shard = 0
+shard_read back shard = shard
+
+abbrev pub shard_written : StreamName → (shard : ℕ) → ℕ
+shard_written forward shard = shard
+shard_written back shard = 0
+
+-- the core with another stream of a shard of a workflow's target, and another primary at the side that the stream writes
+abbrev pub with_advanced : CoreState → WorkflowState → StreamName → (shard : ℕ) → StreamValue → (sink : PrimaryState) → CoreState
+with_advanced core w name shard stream sink = record core {
+  primaries = with_primary core.primaries (written_side (live_of w) name) (shard_written name shard) sink;
+  workflows = set_value (same_text w.name) core.workflows (with_slot w shard name (Some stream));
 }
 
 -- a stream of that shard advances between the primaries of its sides (MoveTables: the copy phase and the catchup)
-abbrev pub AdvancesStream : Option StreamValue → CoreState → WorkflowState → StreamName → (at at_most : ℕ) → Answer → CoreState → Type 0
-AdvancesStream None old w name at at_most answer new = (answer ≡ refused stream_stopped) × (new ≡ old)
-AdvancesStream (Some stream) old w name at at_most answer new =
+abbrev pub AdvancesStream : Option StreamValue → CoreState → WorkflowState → StreamName → (shard at at_most : ℕ) → Answer → CoreState → Type 0
+AdvancesStream None old w name shard at at_most answer new = (answer ≡ refused stream_stopped) × (new ≡ old)
+AdvancesStream (Some stream) old w name shard at at_most answer new =
     (result : Result Advanced StreamFault) × (after : StreamValue) × (sink : PrimaryState)
-    × Advances stream (primary_of old.primaries (read_side (live_of w) name)) (primary_of old.primaries (written_side (live_of w) name)) at at_most result after sink
-    × (answer ≡ answer_by_stream result) × (new ≡ with_advanced old w name after sink)
+    × Advances stream (primary_of old.primaries (read_side (live_of w) name) (shard_read name shard))
+    (primary_of old.primaries (written_side (live_of w) name) (shard_written name shard)) at at_most result after sink
+    × (answer ≡ answer_by_stream result) × (new ≡ with_advanced old w name shard after sink)
 
-abbrev pub AdvancesAt : Option WorkflowState → CoreState → StreamName → (at at_most : ℕ) → Answer → CoreState → Type 0
-AdvancesAt None old name at at_most answer new = (answer ≡ refused no_workflow) × (new ≡ old)
-AdvancesAt (Some w) old name at at_most answer new = AdvancesStream (slot_of w 0 name) old w name at at_most answer new
+-- what asks of a shard that the target doesn't have leaves the core as it was
+abbrev pub OrShardRefused : (has_shard : Bool) → CoreState → Answer → CoreState → Type 0 → Type 0
+OrShardRefused true old answer new Made = Made
+OrShardRefused false old answer new Made = (answer ≡ refused no_shard) × (new ≡ old)
 
-abbrev pub AdvancesWorkflow : CoreState → (workflow : List ℕ) → StreamName → (at at_most : ℕ) → Answer → CoreState → Type 0
-AdvancesWorkflow old workflow name at at_most answer new = AdvancesAt (workflow_at old.workflows workflow) old name at at_most answer new
+abbrev pub AdvancesAt : Option WorkflowState → CoreState → StreamName → (shard at at_most : ℕ) → Answer → CoreState → Type 0
+AdvancesAt None old name shard at at_most answer new = (answer ≡ refused no_workflow) × (new ≡ old)
+AdvancesAt (Some w) old name shard at at_most answer new =
+    OrShardRefused (nat_lt shard (length w.lanes)) old answer new (AdvancesStream (slot_of w shard name) old w name shard at at_most answer new)
+
+abbrev pub AdvancesWorkflow : CoreState → (workflow : List ℕ) → StreamName → (shard at at_most : ℕ) → Answer → CoreState → Type 0
+AdvancesWorkflow old workflow name shard at at_most answer new = AdvancesAt (workflow_at old.workflows workflow) old name shard at at_most answer new
 
 -- ---- Show
 

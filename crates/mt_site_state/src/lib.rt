@@ -2,13 +2,9 @@
 #![tactic(auto)]
 
 use indexmap::IndexMap;
-use mt_names::{KeyspaceName, WorkflowName};
-use mt_primary::Primary;
+use mt_names::WorkflowName;
 use mt_steps::OpenWay;
 use mt_workflow::Workflow;
-
-/// Primaries by the names of their keyspaces.
-pub type Primaries = IndexMap<KeyspaceName, Primary>;
 
 /// The live workflows by their names, in the order in which they were created.
 pub type Workflows = IndexMap<WorkflowName, Workflow>;

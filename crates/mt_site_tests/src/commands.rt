@@ -5,8 +5,8 @@ use mt_acts::value_of;
 use mt_event::Reason;
 use mt_model::Op;
 use mt_names::{
-    KeyspaceName, NameFault, RuleKey, RuleTarget, TableName, TabletType, TypeSet, WorkflowName,
-    table_list,
+    KeyspaceName, NameFault, RuleKey, RuleTarget, ShardList, TableName, TabletType, TypeSet,
+    WorkflowName, table_list,
 };
 use mt_site::{Command, Core};
 use mt_stream::Advanced;
@@ -24,12 +24,13 @@ fn begins(core: &mut Core, watchers: &Watchers) -> Result<[bool; 5], NameFault> 
         KeyspaceName::parse("commerce")?,
         KeyspaceName::parse("customer")?,
     );
+    let shards = ShardList::unsharded();
     let table = TableName::parse("corder")?;
     let key = RuleKey::parse("corder")?;
     Ok([
-        core.command(watchers, Command::AddKeyspace(&commerce))
+        core.command(watchers, Command::AddKeyspace(&commerce, &shards))
             .is_ok(),
-        core.command(watchers, Command::AddKeyspace(&customer))
+        core.command(watchers, Command::AddKeyspace(&customer, &shards))
             .is_ok(),
         core.command(watchers, Command::AddTable(&commerce, &table))
             .is_ok(),
@@ -65,10 +66,10 @@ fn moves(
         core.create(watchers, name, &commerce, &customer, &tables)
             .is_ok(),
         matches!(
-            core.advance(name, Slot::Forward, 0, 100),
+            core.advance(name, Slot::Forward, 0, 0, 100),
             Err(Reason::Stale(1))
         ),
-        core.advance(name, Slot::Forward, 1, 100) == Ok(ONE_ROW),
+        core.advance(name, Slot::Forward, 0, 1, 100) == Ok(ONE_ROW),
     ])
 }
 

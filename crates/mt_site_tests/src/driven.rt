@@ -5,7 +5,7 @@ use mt_acts::value_of;
 use mt_event::Reason;
 use mt_model::Op;
 use mt_names::{
-    KeyspaceName, NameFault, RuleKey, RuleTarget, TableName, TabletType, TypeSet, Value,
+    KeyspaceName, NameFault, RuleKey, RuleTarget, ShardList, TableName, TabletType, TypeSet, Value,
     WorkflowName, table_list,
 };
 use mt_site::{Command, Driven, Refusal, Site, drive};
@@ -20,15 +20,18 @@ fn moves(site: &mut Site<Watchers>, name: &WorkflowName) -> Result<[bool; 6], Na
         KeyspaceName::parse("commerce")?,
         KeyspaceName::parse("customer")?,
     );
+    let shards = ShardList::unsharded();
     let table = TableName::parse("corder")?;
     let tables = table_list("corder")?;
     Ok([
-        site.command(Command::AddKeyspace(&commerce)).is_ok(),
-        site.command(Command::AddKeyspace(&customer)).is_ok(),
+        site.command(Command::AddKeyspace(&commerce, &shards))
+            .is_ok(),
+        site.command(Command::AddKeyspace(&customer, &shards))
+            .is_ok(),
         site.command(Command::AddTable(&commerce, &table)).is_ok(),
         writes(site, "a")?,
         site.create(name, &commerce, &customer, &tables).is_ok(),
-        site.advance(name, Slot::Forward, 1, 100).is_ok(),
+        site.advance(name, Slot::Forward, 0, 1, 100).is_ok(),
     ])
 }
 

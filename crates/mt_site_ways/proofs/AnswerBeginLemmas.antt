@@ -1,9 +1,9 @@
 -- What a begin of a way and Complete are answered.
-use Rattle.std.proofs.Common.{◌≡◌, ℕ, Bool, true, false, not, length, List, Option, None, Some, option_map, is_some, refl, sym, ap, ◌∙◌, subst}
+use Rattle.std.proofs.Common.{◌≡◌, inl, inr, ℕ, Bool, true, false, not, List, [], ◌∷◌, Option, None, Some, option_map, is_some, refl, sym, ap, ◌∙◌, subst}
 use Rattle.std.proofs.lemmas.Bool.{true≢false}
-use Rattle.std.specs.List.{list_all, range_with_len}
+use Rattle.std.specs.List.{list_all, list_any}
 use Rattle.std.specs.Option.{option_map_or}
-use Rattle.std.specs.Prelude.{◌&&◌, nat_le}
+use Rattle.std.specs.Prelude.{◌&&◌, ◌||◌, nat_le}
 use Rattle.mt_model.specs.declared.entries.Scope.{Scope}
 use Rattle.mt_names.specs.declared.types.TypeSet.{TypeSet}
 use Rattle.mt_plain.specs.Answers.{Answers}
@@ -15,10 +15,13 @@ use Rattle.mt_plain.specs.Slots.{slot_of}
 use Rattle.mt_stream.specs.Streams.{StreamValue, has_ended}
 use Rattle.mt_workflow.specs.Workflows.{WorkflowState, live_of}
 use Rattle.mt_laws.proofs.AnswerLemmas.{refused_as_decided}
+use Rattle.mt_laws.proofs.InPlaceLemmas.{live_in}
+use Rattle.mt_laws.proofs.LaneLemmas.{IsNumbered, lane_at_it, reached_numbered}
+use Rattle.mt_laws.proofs.LiveLemmas.{IsIn}
 use Rattle.mt_site_rows.specs.Rows.{stream_of}
 use Rattle.mt_site_state.specs.Core.{workflow_at}
 use Rattle.mt_site_state.specs.Stands.{StandsFor}
-use Rattle.mt_site_state.proofs.ShardLemmas.{any_alone, one_lane, slot_is}
+use Rattle.mt_site_state.proofs.LaneLemmas.{all_lanes, slot_is}
 use Rattle.mt_site_state.specs.Switching.{BeginsReverse, BeginsReverseAt, BeginsSwitch, BeginsSwitchAt, Completes, CompletesAt, completed, has_copied_at, is_copying, no_number_left, way_to, with_way}
 use Rattle.mt_site_state.specs.Ways.{SiteState, SiteStands}
 use Rattle.mt_site_events.proofs.ShowLemmas.{forward_there}
@@ -39,18 +42,24 @@ copies w lane (Some s) e = not_ended lane.copied
 
 -- ---- what refuses
 
-and_true : (b : Bool) → (b && true) ≡ b
-and_true true = refl
-and_true false = refl
+-- each lane has copied its rows just where none has rows to copy
+none_copies : (test : Lane → Bool) (lanes : List Lane) → ((lane : Lane) → IsIn lane lanes → not (test lane) ≡ is_still_copying lane.copied)
+    → not (list_all test lanes) ≡ list_any (λ lane. is_still_copying lane.copied) lanes
+none_copies test [] same = refl
+none_copies test (lane ∷ lanes) same =
+    by (test lane) ∙ ap (λ b. b || not (list_all test lanes)) (same lane (inl refl)) ∙ ap (λ b. is_still_copying lane.copied || b) (none_copies test lanes (λ x is. same x (inr is)))
+  where
+    by : (b : Bool) → not (b && list_all test lanes) ≡ (not b || not (list_all test lanes))
+    by true = refl
+    by false = refl
 
-module _ (p : Plain) (live : Live) (w : WorkflowState) (stands : StandsFor p live w) where
+module _ (p : Plain) (live : Live) (w : WorkflowState) (stands : StandsFor p live w) (numbered : IsNumbered live) where
   copying_same : is_copying w ≡ copies_still live
   copying_same =
-      ap (λ n. not (list_all (has_copied_at w) (range_with_len 0 n))) (ap length (one_lane p live w stands))
-      ∙ ap not (and_true (has_copied_at w 0))
-      ∙ ap (λ o. not (option_map_or (λ (s : StreamValue). has_ended s.copied) o false)) (slot_is p live w stands forward)
-      ∙ copies live stands.lane (slot_of live stands.lane forward) (forward_there live stands.lane live.way)
-      ∙ sym (any_alone (λ lane. is_still_copying lane.copied) live.lanes stands.lane stands.alone)
+      ap not (all_lanes p live w stands numbered (has_copied_at w))
+      ∙ none_copies (λ lane. has_copied_at w lane.shard) live.lanes (λ lane is_in.
+      ap (λ o. not (option_map_or (λ (s : StreamValue). has_ended s.copied) o false)) (slot_is p live w stands numbered lane.shard lane (lane_at_it live numbered lane is_in) forward)
+      ∙ copies live lane (slot_of live lane forward) (forward_there live lane live.way))
 
   switch_same : (types : TypeSet) (begun : ℕ) → begun ≡ p.ways
       → at_rest (live_of w) (or_else (refuse_if (not (has_more types w.switched)) nothing_to_switch) (or_else (refuse_if (is_copying w) copying) (refuse_if (nat_le most_ways begun) full)))
@@ -80,6 +89,9 @@ module _ (p : Plain) (live : Live) (w : WorkflowState) (stands : StandsFor p liv
 -- ---- what is answered
 
 module _ (p : Plain) (scopes : List Scope) (old new : SiteState) (stands : SiteStands p scopes old) (workflow : List ℕ) where
+  numbered : (live : Live) → live_at p workflow ≡ Some live → IsNumbered live
+  numbered live is_live = reached_numbered p stands.core.reached live (live_in p workflow live is_live)
+
   -- where no workflow is found, none is live
   unnamed : (event : Event) (test : Live → Option Refusal) → refusal_of p event ≡ in_workflow (live_at p workflow) test → (answer : Answer) → answer ≡ refused no_workflow
       → workflow_at old.core.workflows workflow ≡ None → Answers p event answer
@@ -97,7 +109,7 @@ module _ (p : Plain) (scopes : List Scope) (old new : SiteState) (stands : SiteS
           let r = live_found p (live_at p workflow) (workflow_at old.core.workflows workflow) w found (stands.core.workflows.each workflow) in
           does_answer p (begin_switch workflow types) old (with_way old w (way_to w false (types_and w.switched types))) new
           (at_rest (live_of w) (or_else (refuse_if (not (has_more types w.switched)) nothing_to_switch) (or_else (refuse_if (is_copying w) copying) (no_number_left old))))
-          (ap (λ o. in_workflow o (begin_switch_refusal p types)) r.1 ∙ sym (switch_same p r.0 w r.2 types old.ways.begun stands.ways.begun)) refl true (λ h. refl) answer is
+          (ap (λ o. in_workflow o (begin_switch_refusal p types)) r.1 ∙ sym (switch_same p r.0 w r.2 (numbered r.0 r.1) types old.ways.begun stands.ways.begun)) refl true (λ h. refl) answer is
 
   pub reverse_answers : (types : TypeSet) (answer : Answer) → BeginsReverse old workflow types answer new → Answers p (begin_reverse workflow types) answer
   reverse_answers types answer = by (workflow_at old.core.workflows workflow) refl
@@ -108,7 +120,7 @@ module _ (p : Plain) (scopes : List Scope) (old new : SiteState) (stands : SiteS
           let r = live_found p (live_at p workflow) (workflow_at old.core.workflows workflow) w found (stands.core.workflows.each workflow) in
           does_answer p (begin_reverse workflow types) old (with_way old w (way_to w true (types_without w.switched types))) new
           (at_rest (live_of w) (or_else (refuse_if (not (share_type types w.switched)) nothing_to_reverse) (no_number_left old)))
-          (ap (λ o. in_workflow o (begin_reverse_refusal p types)) r.1 ∙ sym (reverse_same p r.0 w r.2 types old.ways.begun stands.ways.begun)) refl true (λ h. refl) answer is
+          (ap (λ o. in_workflow o (begin_reverse_refusal p types)) r.1 ∙ sym (reverse_same p r.0 w r.2 (numbered r.0 r.1) types old.ways.begun stands.ways.begun)) refl true (λ h. refl) answer is
 
   pub complete_answers : (answer : Answer) → Completes old workflow answer new → Answers p (complete workflow) answer
   complete_answers answer = by (workflow_at old.core.workflows workflow) refl
@@ -118,4 +130,4 @@ module _ (p : Plain) (scopes : List Scope) (old new : SiteState) (stands : SiteS
       by (Some w) found is =
           let r = live_found p (live_at p workflow) (workflow_at old.core.workflows workflow) w found (stands.core.workflows.each workflow) in
           does_answer p (complete workflow) old (record old { core = completed old.core w }) new (complete_refusal (live_of w))
-          (ap (λ o. in_workflow o complete_refusal) r.1 ∙ sym (complete_same p r.0 w r.2)) refl false (λ h. absurd (true≢false (sym h))) answer is
+          (ap (λ o. in_workflow o complete_refusal) r.1 ∙ sym (complete_same p r.0 w r.2 (numbered r.0 r.1))) refl false (λ h. absurd (true≢false (sym h))) answer is

@@ -8,7 +8,7 @@ use Rattle.mt_model.specs.declared.entries.Scope.TheVariants as scope
 use Rattle.mt_plain.specs.Answers.{Answers}
 use Rattle.mt_plain.specs.Events.{StreamName, Slot, Answer, refused, Refusal, no_workflow, nothing_under_way, stale, step, undoing, Way}
 use Rattle.mt_plain.specs.Plain.{Lane, lane_at, Live, Plain, changes_primary, live_at, next_step, owner}
-use Rattle.mt_plain.specs.Refuse.{in_workflow, is_behind, lane_is_behind, or_else, own_refusal, refusal_of, refuse_if}
+use Rattle.mt_plain.specs.Refuse.{in_workflow, lane_is_behind, or_else, own_refusal, refusal_of, refuse_if}
 use Rattle.mt_plain.specs.Refuse as plain
 use Rattle.mt_plain.specs.Slots.{read_shard, read_side, slot_of}
 use Rattle.mt_stream.specs.Streams.{is_level}
@@ -24,16 +24,17 @@ use Rattle.mt_steps.specs.Plans.{all_steps, number, step_at}
 use Rattle.mt_steps.specs.Steps.{SidesState, Steps}
 use Rattle.mt_steps.specs.Undo.{UndoState}
 use Rattle.mt_laws.proofs.AnswerLemmas.{refused_as_decided}
+use Rattle.mt_laws.proofs.InPlaceLemmas.{live_in}
+use Rattle.mt_laws.proofs.LaneLemmas.{IsNumbered, reached_numbered}
 use Rattle.mt_laws.specs.Reached.{HandsOver, IsOnCourse}
 use Rattle.mt_site_rows.specs.Rows.{HoldsItsKeys, stream_of}
-use Rattle.mt_site_state.specs.Core.{primaries_of, primary_of, workflow_at}
+use Rattle.mt_primaries.specs.Primaries.{primary_of}
+use Rattle.mt_site_state.specs.Core.{workflow_at}
 use Rattle.mt_site_state.specs.Stands.{StandsFor}
 use Rattle.mt_site_state.specs.Switching.{OrRefused, StepsAt, StepsKept, StepsWay, StepsWorkflow, answer_by_step, sides_of, step_refusal}
 use Rattle.mt_steps.specs.Shards.{next_shard}
 use Rattle.mt_steps.specs.Steps.{listed_at}
 use Rattle.mt_site_state.specs.Ways.{SiteState, SiteStands, open_at}
-use Rattle.mt_site_state.proofs.ShardLemmas.{has_keys, lane_found, read_first}
-use Rattle.mt_site_ways.proofs.LevelLemmas.{one_behind}
 use Rattle.mt_site_ways.proofs.FoundLemmas.{live_found, no_live}
 use Rattle.mt_site_ways.proofs.RefusalLemmas.{refused_before, refused_behind}
 use Rattle.mt_site_ways.proofs.TakenLemmas.{not_taken, taken}
@@ -66,7 +67,8 @@ module _ (p : Plain) (scopes mine : List Scope) (may_answer : Answering) (old ne
     (hands : (name : List ℕ) (w : Live) → live_at p name ≡ Some w → (way : Way) → w.way ≡ Some way → changes_primary way ≡ true → HandsOver w way)
     (level : (name : List ℕ) (w : Live) → live_at p name ≡ Some w → (shard : ℕ) (lane : Lane) → lane_at w shard ≡ Some lane → HoldsItsKeys w lane
     → (stream : StreamName) (slot : Slot) → slot_of w lane stream ≡ Some slot → read_side w stream ≡ owner w
-    → is_level (stream_of w lane slot) (primaries_of old.core.primaries (read_side w stream) (read_shard lane stream)) ≡ not (lane_is_behind p w lane))
+    → is_level (stream_of w lane slot) (primary_of old.core.primaries (read_side w stream) (read_shard lane stream)) ≡ not (lane_is_behind p w lane))
+    (keys : (name : List ℕ) (w : Live) → live_at p name ≡ Some w → (shard : ℕ) (lane : Lane) → lane_at w shard ≡ Some lane → HoldsItsKeys w lane)
     (workflow : List ℕ) (at : ℕ) (answer : Answer) (alone : (r : Refusal) → answer ≡ refused r → scopes ≡ mine) where
   as_decided : (r : Refusal) → answer ≡ refused r → refusal_of p (step workflow at) ≡ Some r → Answers p (step workflow at) answer
   as_decided r is refuses = subst (Answers p (step workflow at)) (sym is) (refused_as_decided p (step workflow at) r refuses)
@@ -78,12 +80,12 @@ module _ (p : Plain) (scopes mine : List Scope) (may_answer : Answering) (old ne
     refusal_is : (o : Option Way) → w.way ≡ o → refusal_of p (step workflow at) ≡ option_map_or tests o (Some nothing_under_way)
     refusal_is o opens = ap (λ l. in_workflow l (plain.step_refusal p at)) is_live ∙ ap (λ way. option_map_or tests way (Some nothing_under_way)) (sym for.way ∙ opens)
 
-    -- the one lane reads the first shard
-    level_here : (stream : StreamName) (slot : Slot) → slot_of live for.lane stream ≡ Some slot → read_side live stream ≡ owner live
-        → is_level (stream_of live for.lane slot) (primary_of old.core.primaries (read_side live stream)) ≡ not (is_behind p live)
-    level_here stream slot there reads =
-        ap (λ n. is_level (stream_of live for.lane slot) (primaries_of old.core.primaries (read_side live stream) n)) (sym (read_first p live w for stream))
-        ∙ level workflow live is_live 0 for.lane (lane_found p live w for) (has_keys p live w for) stream slot there reads ∙ ap not (one_behind p live for.lane for.alone)
+    numbered : IsNumbered live
+    numbered = reached_numbered p stands.core.reached live (live_in p workflow live is_live)
+
+    level_here : (shard : ℕ) (lane : Lane) → lane_at live shard ≡ Some lane → (stream : StreamName) (slot : Slot) → slot_of live lane stream ≡ Some slot → read_side live stream ≡ owner live
+        → is_level (stream_of live lane slot) (primary_of old.core.primaries (read_side live stream) (read_shard lane stream)) ≡ not (lane_is_behind p live lane)
+    level_here shard lane laned = level workflow live is_live shard lane laned (keys workflow live is_live shard lane laned)
 
     module _ (way : Way) (opens : w.way ≡ Some way) where
       opened : live.way ≡ Some way
@@ -95,14 +97,14 @@ module _ (p : Plain) (scopes mine : List Scope) (may_answer : Answering) (old ne
           let n = number_at live way (course workflow live is_live way opened) in
           subst (Answers p (step workflow at)) (sym is) (
             own ∙ ap (own_refusal p live way) (sym n)
-                ∙ taken p live w for way opened (course workflow live is_live way opened) (hands workflow live is_live way opened) (primary_of old.core.primaries) level_here
+                ∙ taken p live w for numbered way opened (course workflow live is_live way opened) (hands workflow live is_live way opened) old.core.primaries level_here
                 old.ways.journal stands.ways.journal mine may_answer o.number old.core.topology (listed_at o.log (next_shard way))
                 (λ k has. subst (λ l. has_scope l (scope.Primary k) ≡ true) (sym stands.core.scopes_are) (wide k has)) (step_at (next_step way)) n _ steps.attempt,
             refl,
           )
       stepped own o (Err f) sides log steps is =
           subst (Answers p (step workflow at)) (sym is)
-          (not_taken p live w for way opened (course workflow live is_live way opened) (hands workflow live is_live way opened) (primary_of old.core.primaries) level_here
+          (not_taken p live w for numbered way opened (course workflow live is_live way opened) (hands workflow live is_live way opened) old.core.primaries level_here
           old.ways.journal stands.ways.journal mine may_answer o.number old.core.topology (listed_at o.log (next_shard way))
           (stands.core.scopes_are ∙ alone (faults.refusal_of f) is) workflow at is_live own (step_at (next_step way)) (number_at live way (course workflow live is_live way opened)) f _ steps.0)
 

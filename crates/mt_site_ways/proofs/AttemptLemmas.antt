@@ -1,24 +1,18 @@
 -- What an attempt leaves of the journal and of the record of an own list, what a step puts away, and what an undo leaves; on values alone.
-use Rattle.std.proofs.Common.{◌≡◌, ◌≢◌, ℕ, Bool, true, false, not, cond, eqb, ◌&&◌, ◌||◌, List, [], ◌∷◌, ◌++◌, map, Option, None, Some, option_map, refl, sym, ap, subst, ◌∙◌}
-use Rattle.std.proofs.lemmas.Bool.{true≢false}
-use Rattle.std.specs.List.{AllByRecursion}
+use Rattle.std.proofs.Common.{◌≡◌, ◌≢◌, ℕ, Bool, true, false, not, cond, eqb, ◌&&◌, List, [], ◌∷◌, ◌++◌, length, map, Option, None, Some, option_map, refl, sym, ap, subst, ◌∙◌, get_or-set_other, length-set}
+use Rattle.std.proofs.lemmas.Bool.{eqb-false, true≢false}
 use Rattle.std.specs.Option.{option_map_or}
-use Rattle.std.specs.Prelude.{Ok}
+use Rattle.std.specs.Prelude.{Ok, slice_index_or, slice_set}
 use Rattle.mt_names.specs.declared.types.TypeSet.{TypeSet}
-use Rattle.mt_names.specs.Names.{same_text}
-use Rattle.mt_names.proofs.SameLemmas.{same_text_decides}
 use Rattle.mt_model.specs.declared.entries.Scope.{Scope}
 use Rattle.mt_model.specs.Topology.{Marks, TopologyState}
-use Rattle.mt_laws.proofs.LiveLemmas.{all_from_in, any-in, text_differs}
 use Rattle.mt_laws.proofs.WayStepLemmas.{more}
 use Rattle.mt_plain.specs.Events.{StreamName, forward, back, running, stopped, Way}
 use Rattle.mt_plain.specs.Next.{closes, lane_closed, lane_made, lane_stepped, live_stepped, types_stepped}
-use Rattle.mt_plain.specs.Plain.{Lane, Live, Plain, among, before_way, changes_primary, create_back, next_step, owner_by, refresh_source, refresh_target, stands_done, start_back, write_journal}
-use Rattle.mt_plain.specs.Serve.{is_listed_at}
+use Rattle.mt_plain.specs.Plain.{Lane, Live, Plain, before_way, changes_primary, create_back, next_step, refresh_source, refresh_target, stands_done, start_back, write_journal}
 use Rattle.mt_plain.specs.Slots.{feeding_slot, is_feeding, other_slot, slot_at_rest, slot_before_way, slot_by_way}
 use Rattle.mt_plain.specs.Slots as plain
 use Rattle.mt_primary.specs.Denials.{marks_of}
-use Rattle.mt_primary.specs.Primary.{PrimaryState, is_denied_at}
 use Rattle.mt_site_rows.specs.Rows.{stream_of}
 use Rattle.mt_steps.specs.declared.step.Step.{Step}
 use Rattle.mt_steps.specs.declared.step.Step.TheVariants.{SwitchReads, DenySource, RefreshSource, CatchUp, StopFeeding, CreateBack, Journal, AllowTarget, RefreshTarget, SwitchWriteRules, StartBack, FreezeOld}
@@ -27,6 +21,7 @@ use Rattle.mt_steps.specs.Refreshes.{RefreshesSide, Sites}
 use Rattle.mt_steps.specs.Shards.{next_shard, target_at}
 use Rattle.mt_steps.specs.Steps.{Attempts, journal_entry, left_listed, left_slots}
 use Rattle.mt_steps.specs.Streams.{other_name, put_away}
+use Rattle.mt_steps.specs.Undo.{IsLogOf, UndoState}
 use Rattle.mt_stream.specs.Streams.{StreamValue}
 use Rattle.mt_watch.specs.Asking.{Answering}
 use Rattle.mt_workflow.specs.Workflows.{WorkflowState, lane_slot}
@@ -94,19 +89,42 @@ put_away_is w way FreezeOld kept = refl
 
 -- ---- what an undo leaves in the record
 
-pub listed_left : (step : Step) (shard : ℕ) (listed : List (Option Marks)) → eqb (number step) refresh_source ≡ false → left_listed step shard listed ≡ listed
-listed_left SwitchReads shard listed other = refl
-listed_left DenySource shard listed other = refl
-listed_left RefreshSource shard listed other = absurd (true≢false other)
-listed_left CatchUp shard listed other = refl
-listed_left StopFeeding shard listed other = refl
-listed_left CreateBack shard listed other = refl
-listed_left Journal shard listed other = refl
-listed_left AllowTarget shard listed other = refl
-listed_left RefreshTarget shard listed other = refl
-listed_left SwitchWriteRules shard listed other = refl
-listed_left StartBack shard listed other = refl
-listed_left FreezeOld shard listed other = refl
+pub left_at : (step : Step) (shard : ℕ) (listed : List (Option Marks)) (n : ℕ) → (eqb (number step) refresh_source && eqb shard n) ≡ false
+    → slice_index_or (left_listed step shard listed) n None ≡ slice_index_or listed n None
+left_at SwitchReads shard listed n other = refl
+left_at DenySource shard listed n other = refl
+left_at RefreshSource shard listed n other = get_or-set_other listed shard n None None (λ same. eqb-false shard n other (sym same))
+left_at CatchUp shard listed n other = refl
+left_at StopFeeding shard listed n other = refl
+left_at CreateBack shard listed n other = refl
+left_at Journal shard listed n other = refl
+left_at AllowTarget shard listed n other = refl
+left_at RefreshTarget shard listed n other = refl
+left_at SwitchWriteRules shard listed n other = refl
+left_at StartBack shard listed n other = refl
+left_at FreezeOld shard listed n other = refl
+
+-- what is kept for a workflow is kept for it with another list too
+pub listed_log : (w : WorkflowState) (log : UndoState) (shard : ℕ) (listed : Option Marks) → IsLogOf w log → IsLogOf w (record log { listed = slice_set log.listed shard listed })
+listed_log w log shard listed of = record { entries = of.entries; listed = length-set log.listed shard listed ∙ of.listed; slots = of.slots }
+
+-- and without the one that an undo has taken
+pub taken_log : (w : WorkflowState) (step : Step) (shard : ℕ) (log : UndoState) → IsLogOf w log → IsLogOf w (record log { listed = left_listed step shard log.listed })
+taken_log w step shard log of = record { entries = of.entries; listed = long step ∙ of.listed; slots = of.slots }
+  where
+    long : (step : Step) → length (left_listed step shard log.listed) ≡ length log.listed
+    long SwitchReads = refl
+    long DenySource = refl
+    long RefreshSource = length-set log.listed shard None
+    long CatchUp = refl
+    long StopFeeding = refl
+    long CreateBack = refl
+    long Journal = refl
+    long AllowTarget = refl
+    long RefreshTarget = refl
+    long SwitchWriteRules = refl
+    long StartBack = refl
+    long FreezeOld = refl
 
 pub slots_left : (step : Step) (slots : List (Option StreamValue)) → eqb (number step) create_back ≡ false → left_slots step slots ≡ slots
 slots_left SwitchReads slots other = refl
@@ -122,33 +140,9 @@ slots_left SwitchWriteRules slots other = refl
 slots_left StartBack slots other = refl
 slots_left FreezeOld slots other = refl
 
--- ---- own lists
-
-and_none : (b : Bool) → (b && false) ≡ false
+pub and_none : (b : Bool) → (b && false) ≡ false
 and_none true = refl
 and_none false = refl
-
--- the own list of the owner has none of the tables
-pub owner_allowed : (v : Live) → v.source ≢ v.target → (types : TypeSet) → is_listed_at v types (owner_by v types) ≡ false
-owner_allowed v apart types = by types.primary
-  where
-    by : (b : Bool) → ((same_text v.source (cond b v.target v.source) || same_text v.target (cond b v.target v.source)) && cond (same_text v.source (cond b v.target v.source)) b (not b)) ≡ false
-    by true =
-        ap (λ t. (same_text v.source v.target || same_text v.target v.target) && cond t true false) (text_differs v.source v.target apart)
-        ∙ and_none (same_text v.source v.target || same_text v.target v.target)
-    by false =
-        ap (λ t. (same_text v.source v.source || same_text v.target v.source) && cond t false true) ((same_text_decides v.source v.source).1 refl)
-        ∙ and_none (same_text v.source v.source || same_text v.target v.source)
-
--- the tables are among the tables
-pub all_among : (tables : List (List ℕ)) → AllByRecursion (λ table. among tables table ≡ true) tables
-all_among tables = all_from_in (λ table. among tables table ≡ true) tables (λ table is. any-in (λ n. same_text n table) tables table is ((same_text_decides table table).1 refl))
-
--- where none of them is on an own list, that is what is recorded
-pub none_marked : (primary : PrimaryState) (tables : List (List ℕ)) → AllByRecursion (λ table. is_denied_at primary table ≡ false) tables
-    → marks_of primary tables ≡ map (λ table. (table, false)) tables
-none_marked primary [] all = refl
-none_marked primary (t ∷ ts) all = ap (λ b. (t, b) ∷ marks_of primary ts) all.0 ∙ ap (λ l. (t, false) ∷ l) (none_marked primary ts all.1)
 
 -- ---- streams
 

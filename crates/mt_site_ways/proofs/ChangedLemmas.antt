@@ -3,6 +3,8 @@ use Rattle.std.proofs.Common.{◌≡◌, ◌≢◌, ℕ, cond, List, [], ◌∷�
 use Rattle.std.specs.Map.{set_value}
 use Rattle.mt_names.specs.declared.types.TypeSet.{TypeSet}
 use Rattle.mt_names.specs.Names.{same_text}
+use Rattle.mt_names.specs.Shards.{cuts_between}
+use Rattle.mt_plain.specs.Answers.{range_at}
 use Rattle.mt_plain.specs.Events.{Way}
 use Rattle.mt_plain.specs.Next.{with_live}
 use Rattle.mt_plain.specs.Plain.{Lane, Live, Plain, live_at}
@@ -13,9 +15,8 @@ use Rattle.mt_laws.proofs.WayBackLemmas.{has_part-same}
 use Rattle.mt_site_events.proofs.MoveCoreLemmas.{workflows-set}
 use Rattle.mt_site_state.specs.Core.{Workflows, workflow_at}
 use Rattle.mt_site_state.specs.Stands.{AreWorkflows, StandsFor, StandsForAny, lane_state}
-use Rattle.mt_site_state.proofs.ShardLemmas.{no_cuts}
 use Rattle.mt_site_topology.specs.Keys.{IsKept}
-use Rattle.mt_workflow.specs.Workflows.{LaneState, WorkflowState, cuts_in}
+use Rattle.mt_workflow.specs.Workflows.{LaneState, WorkflowState, cuts_in, ranges_in}
 
 -- the workflow of a name stands for the live one of that name
 pub stands_for : (p : Plain) (workflows : Workflows) → AreWorkflows p workflows → (name : List ℕ) (live : Live) (w : WorkflowState) → live_at p name ≡ Some live
@@ -34,16 +35,28 @@ names_with change name keeps (w ∷ ws) =
     ap (λ n. n ∷ map (λ (l : Live). l.name) (with_live change name ws)) (sym (sides_changed change name w (keeps w)).name)
     ∙ ap (λ ns. w.name ∷ ns) (names_with change name keeps ws)
 
+-- the ranges of lanes are those of their shards
+ranges-of : (v : Live) (lanes : List Lane) → ranges_in (map (lane_state v) lanes) ≡ map (range_at v.cuts) (map (λ lane. lane.shard) lanes)
+ranges-of v [] = refl
+ranges-of v (lane ∷ lanes) = ap (λ l. range_at v.cuts lane.shard ∷ l) (ranges-of v lanes)
+
 -- the next state has one live workflow changed, and the topology as if none were live is the same
 module _ (p q : Plain) (name : List ℕ) (change : Live → Live) (keeps : (v : Live) → HasSides v (change v)) (topology : q.topology ≡ p.topology) (lives : q.lives ≡ with_live change name p.lives)
     (elsewhere : (n : List ℕ) → name ≢ n → live_at q n ≡ live_at p n)
     (workflows : Workflows) (are : AreWorkflows p workflows) (live : Live) (w : WorkflowState) (is_live : live_at p name ≡ Some live) (found : workflow_at workflows name ≡ Some w)
-    (now : Live) (is : change live ≡ now) (on : Lane) (alone : now.lanes ≡ on ∷ []) (first : on.shard ≡ 0) where
+    (now : Live) (is : change live ≡ now) (shards : map (λ lane. lane.shard) now.lanes ≡ map (λ lane. lane.shard) live.lanes) where
   abbrev pub for : StandsFor p live w
   for = stands_for p workflows are name live w is_live found
 
   sides : HasSides live now
   sides = subst (HasSides live) is (keeps live)
+
+  -- its lanes have the ranges that they had
+  same_cuts : now.cuts ≡ cuts_in (map (lane_state now) now.lanes)
+  same_cuts =
+      sym sides.cuts ∙ for.sides.cuts ∙ ap cuts_in for.lanes ∙ ap cuts_between (ranges-of live live.lanes)
+      ∙ ap (λ cuts. cuts_between (map (range_at cuts) (map (λ lane. lane.shard) live.lanes))) sides.cuts ∙ ap (λ ns. cuts_between (map (range_at now.cuts) ns)) (sym shards)
+      ∙ sym (ap cuts_between (ranges-of now now.lanes))
 
   is_now : live_at q name ≡ Some now
   is_now =
@@ -62,14 +75,11 @@ module _ (p q : Plain) (name : List ℕ) (change : Live → Live) (keeps : (v : 
         source = sym sides.source ∙ for.sides.source;
         target = sym sides.target ∙ for.sides.target;
         tables = sym sides.tables ∙ for.sides.tables;
-        cuts = sym sides.cuts ∙ no_cuts p live w for ∙ sym (ap cuts_in (same_lanes ∙ ap (map (lane_state now)) alone));
+        cuts = same_cuts ∙ sym (ap cuts_in same_lanes);
       };
       switched = same_types;
       way = same_way;
       kept = subst (λ u. IsKept u now w.kept) (sym topology) (λ key part. for.kept key (has_part-same live now sides key ∙ part));
-      lane = on;
-      alone = alone;
-      shard = first;
       lanes = same_lanes;
     }
 

@@ -1,7 +1,7 @@
 -- Complete, from core to core, and what is kept of the ways.
 use Rattle.std.proofs.Common.{◌≡◌, ◌≢◌, ℕ, true, false, not, fold, List, ◌++◌, map, Option, None, Some, is_some, refl, sym, ap, ◌∙◌, subst, ⊎_elim}
 use Rattle.std.specs.List.{IsDistinct}
-use Rattle.std.specs.Map.{keys_of, remove_entry, set_value}
+use Rattle.std.specs.Map.{keys_of, remove_entry}
 use Rattle.std.specs.Option.{option_map_or}
 use Rattle.std.specs.Prelude.{◌&&◌}
 use Rattle.mt_names.specs.Names.{same_text}
@@ -16,6 +16,7 @@ use Rattle.mt_plain.specs.Events.{Answer, Event, complete, done, Way}
 use Rattle.mt_plain.specs.Next.{next, with_completed}
 use Rattle.mt_plain.specs.Plain.{Live, Plain, among, live_at, mover, moves}
 use Rattle.mt_plain.specs.Refuse.{complete_refusal, in_workflow}
+use Rattle.mt_primaries.specs.Primaries.{Primaries, primary_of, with_all}
 use Rattle.mt_primary.specs.Primary.{IsPrimary, PrimaryState, has_table, is_denied_at}
 use Rattle.mt_primary.specs.Writes.{without_table}
 use Rattle.mt_laws.specs.Changes.{IsOf}
@@ -30,11 +31,9 @@ use Rattle.mt_site_topology.specs.Keys.{IsKept, end_entries, end_entry, end_keys
 use Rattle.mt_site_topology.specs.Stands.{TopologyStands}
 use Rattle.mt_site_rows.specs.Rows.{OtherKeyspacesStay, OtherTablesStay, RowsStand}
 use Rattle.mt_site_rows.specs.Rows as rows
-use Rattle.mt_site_state.specs.Core.{CoreState, Primaries, Workflows, primaries_of, primary_of, workflow_at}
+use Rattle.mt_site_state.specs.Core.{CoreState, Workflows, workflow_at}
 use Rattle.mt_site_state.specs.Stands.{AreWorkflows, StandsFor, StandsForAny, StandsWith}
 use Rattle.mt_site_state.specs.Switching.{completed}
-use Rattle.mt_site_state.proofs.ShardLemmas.{keyspaces_stay}
-use Rattle.mt_site_state.proofs.ShardLemmas as shards
 use Rattle.mt_site_state.specs.Ways.{IsOpenOn, SiteStands, SiteState, WaysStand, WaysState, is_under_way, open_at}
 use Rattle.mt_site_events.proofs.MoveCoreLemmas.{live_found, same_or}
 use Rattle.mt_site_events.proofs.GoneLemmas.{distinct_names, live_gone, names_gone}
@@ -44,7 +43,7 @@ use Rattle.mt_site_ways.proofs.PrimaryLemmas.{others_stay, primaries_stand, tabl
 -- ---- the core that Complete makes, in the words of the live workflow
 
 abbrev pub without_source_tables : Primaries → Live → Primaries
-without_source_tables primaries live = set_value (same_text live.source) primaries (fold without_table (primary_of primaries live.source) live.tables)
+without_source_tables primaries live = with_all primaries live.source (λ primary. fold without_table primary live.tables)
 
 abbrev pub made_of : CoreState → Live → CoreState
 made_of core live = record {
@@ -59,7 +58,7 @@ core_is p core live w for = by w.source (sym for.sides.source) w.target (sym for
     by : (s : List ℕ) → s ≡ live.source → (t : List ℕ) → t ≡ live.target → (ts : List (List ℕ)) → ts ≡ live.tables → (n : List ℕ) → n ≡ live.name
         → record {
           topology = without_places (with_entries core.topology (map (end_entry t) (part_keys s t ts ++ map (about.Present s) ts))) (part_keys s t ts ++ map (about.Present s) ts);
-          primaries = set_value (same_text s) core.primaries (fold without_table (primary_of core.primaries s) ts);
+          primaries = with_all core.primaries s (λ primary. fold without_table primary ts);
           workflows = remove_entry (same_text n) core.workflows;
         } ≡ made_of core live
     by s a t b ts c n d = rw (a, b, c, d) refl
@@ -97,9 +96,6 @@ module _ (p : Plain) (apart : Apart p.lives) (live : Live) (elsewhere : (n : Lis
       switched = for.switched;
       way = for.way;
       kept = keeps n l v.kept is (same ∙ is) for.kept;
-      lane = for.lane;
-      alone = for.alone;
-      shard = for.shard;
       lanes = for.lanes;
     }
 
@@ -177,7 +173,7 @@ module _ (p : Plain) (reached : IsReached p)
     → TopologyStands (next p (complete name) done) (without_places (with_entries t (end_entries l)) (end_keys l)))
     (keeps : (event : Event) (answer : Answer) (name : List ℕ) (l v : Live) (kept : Rules) → Answers p event answer → live_at p name ≡ Some l
     → live_at (next p event answer) name ≡ Some v → IsKept p.topology l kept → IsKept (next p event answer).topology v kept) where
-  module _ (scopes : List Scope) (s : SiteState) (stands : SiteStands p scopes s) (are : (keyspace : List ℕ) → IsPrimary (primary_of s.core.primaries keyspace))
+  module _ (scopes : List Scope) (s : SiteState) (stands : SiteStands p scopes s) (are : (keyspace : List ℕ) (n : ℕ) → IsPrimary (primary_of s.core.primaries keyspace n))
       (w : WorkflowState) (live : Live) (is_live : live_at p live.name ≡ Some live) (found : workflow_at s.core.workflows live.name ≡ Some w) (for : StandsFor p live w)
       (given : Answers p (complete live.name) done) where
     abbrev pub now : Plain
@@ -208,12 +204,10 @@ module _ (p : Plain) (reached : IsReached p)
       reached = subst IsReached is_now (reaches (complete live.name) done given);
       scopes_are = stands.core.scopes_are;
       topology = subst (λ u. TopologyStands u (made_of s.core live).topology) is_now (topology s.core.topology live.name live is_live given stands.core.topology);
-      rows = subst (λ u. RowsStand u (primaries_of (made_of s.core live).primaries)) is_now
-          (rows_keep (primaries_of s.core.primaries) (primaries_of (made_of s.core live).primaries) stands.core.rows live.name live is_live given
-          (keyspaces_stay live.source s.core.primaries (made_of s.core live).primaries
-          (others_stay p s.core.primaries stands.core.primaries are apart live is_in none (placed live.name live is_live) places (movers live.name live is_live) dropped gone gone_denied))
-          (shards.tables_stay live.source s.core.primaries (made_of s.core live).primaries live.tables
-          (tables_stay p s.core.primaries stands.core.primaries are apart live is_in none (placed live.name live is_live) places (movers live.name live is_live) dropped gone gone_denied)));
+      rows = subst (λ u. RowsStand u (primary_of (made_of s.core live).primaries)) is_now
+          (rows_keep (primary_of s.core.primaries) (primary_of (made_of s.core live).primaries) stands.core.rows live.name live is_live given
+          (others_stay p s.core.primaries stands.core.primaries are apart live is_in none (placed live.name live is_live) places (movers live.name live is_live) dropped gone gone_denied)
+          (tables_stay p s.core.primaries stands.core.primaries are apart live is_in none (placed live.name live is_live) places (movers live.name live is_live) dropped gone gone_denied));
       primaries = primaries_stand p s.core.primaries stands.core.primaries are apart live is_in none (placed live.name live is_live) places (movers live.name live is_live) dropped gone gone_denied;
       workflows = workflows_stand p apart live same_elsewhere s.core.workflows stands.core.workflows kept_still;
     }
@@ -233,7 +227,7 @@ module _ (p : Plain) (reached : IsReached p)
 
   -- the live workflow that a workflow stands for has its name
   pub complete_stands : (scopes : List Scope) (s : SiteState) → SiteStands p scopes s → (name : List ℕ) (w : WorkflowState) → workflow_at s.core.workflows name ≡ Some w
-      → ((keyspace : List ℕ) → IsPrimary (primary_of s.core.primaries keyspace)) → Answers p (complete name) done
+      → ((keyspace : List ℕ) (n : ℕ) → IsPrimary (primary_of s.core.primaries keyspace n)) → Answers p (complete name) done
       → SiteStands (next p (complete name) done) scopes (record s { core = completed s.core w })
   complete_stands scopes s stands name w found are given =
       let r = live_found p (live_at p name) (workflow_at s.core.workflows name) w found (stands.core.workflows.each name) in

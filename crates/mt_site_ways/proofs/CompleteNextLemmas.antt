@@ -40,15 +40,15 @@ pub owner_at_target : (w : Live) → complete_refusal w ≡ None → owner w ≡
 owner_at_target w none = ap (λ b. cond b w.target w.source) (at_target w none).1
 
 -- no keyspace but the source refuses a table of the workflow
-pub allowed_before : (w : Live) → complete_refusal w ≡ None → (keyspace : List ℕ) → w.source ≢ keyspace → refuses_by w keyspace 0 ≡ false
-allowed_before w none keyspace other =
+pub allowed_before : (w : Live) → complete_refusal w ≡ None → (keyspace : List ℕ) (shard : ℕ) → w.source ≢ keyspace → refuses_by w keyspace shard ≡ false
+allowed_before w none keyspace shard other =
     ap (λ (t : TypeSet). is_listed_at w t keyspace) types_at_rest
     ∙ ap (λ b. (b || same_text w.target keyspace) && cond b w.switched.primary (not w.switched.primary)) (text_differs w.source keyspace other)
     ∙ ap (λ b. same_text w.target keyspace && not b) (at_target w none).1
     ∙ and-false (same_text w.target keyspace)
   where
-    types_at_rest : list_types w keyspace 0 ≡ w.switched
-    types_at_rest = ap (λ o. option_map_or (λ (way : Way). cond (stands_done_at way (step_of_list w keyspace) 0) way.after way.before) o w.switched) (at_target w none).0
+    types_at_rest : list_types w keyspace shard ≡ w.switched
+    types_at_rest = ap (λ o. option_map_or (λ (way : Way). cond (stands_done_at way (step_of_list w keyspace) shard) way.after way.before) o w.switched) (at_target w none).0
 
 -- ---- the state
 
@@ -62,10 +62,10 @@ module _ (p : Plain) (apart : Apart p.lives) (w : Live) (is_in : IsIn w p.lives)
   pub same_mover : (table : List ℕ) → moves w table ≡ false → mover q table ≡ mover p table
   same_mover = mover_stays p apart w.name w is_in refl
 
-  pub none_refuses : (keyspace table : List ℕ) → moves w table ≡ true → refuses q keyspace 0 table ≡ false
+  pub none_refuses : (keyspace : List ℕ) (shard : ℕ) (table : List ℕ) → moves w table ≡ true → refuses q keyspace shard table ≡ false
   none_refuses = allowed_gone p apart w.name w is_in refl
 
-  pub same_refuses : (keyspace table : List ℕ) → moves w table ≡ false → refuses q keyspace 0 table ≡ refuses p keyspace 0 table
+  pub same_refuses : (keyspace : List ℕ) (shard : ℕ) (table : List ℕ) → moves w table ≡ false → refuses q keyspace shard table ≡ refuses p keyspace shard table
   same_refuses = refused_stays p apart w.name w is_in refl
 
   -- ---- shards

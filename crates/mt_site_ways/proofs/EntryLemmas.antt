@@ -1,20 +1,16 @@
 -- The entries of a step: what the topology says there before the step, what is recorded of it, and what is written.
-use Rattle.std.proofs.Common.{◌≡◌, ◌≢◌, ℕ, ◌<◌, ◌≤◌, Bool, true, false, cond, eqb, leb, ltb, List, [], ◌∷◌, filter, map, Some, refl, sym, ap, ◌∙◌, arith, eqb-true, lt-ltb, le-leb, ◌-◌}
-use Rattle.mt_laws.specs.WayBack.{IsReached}
-use Rattle.mt_laws.proofs.InPlaceLemmas.{live_in}
-use Rattle.mt_laws.proofs.OpenWayLemmas.{reached_shards}
-use Rattle.mt_plain.proofs.PlaceLemmas.{one-last, one-next, one-step, step-first}
+use Rattle.std.proofs.Common.{◌≡◌, ◌≢◌, ℕ, ◌<◌, ◌≤◌, Bool, true, false, cond, eqb, List, [], ◌∷◌, filter, map, Some, refl, sym, ap, ◌∙◌, ⊎_elim, arith, eqb-true, ◌-◌}
+use Rattle.mt_plain.proofs.PlaceLemmas.{step-first}
 use Rattle.mt_laws.proofs.WayStepLemmas.{first_step-le, last-le}
-use Rattle.std.proofs.lemmas.Bool.{and_from, eqb-false, false_from_ne_true}
+use Rattle.std.proofs.lemmas.Bool.{false_from_ne_true}
 use Rattle.std.proofs.lemmas.List.Elements.{recursion_from_All}
 use Rattle.std.specs.Option.{option_map_or}
 use Rattle.mt_names.specs.declared.types.TypeSet.{TypeSet}
-use Rattle.mt_names.specs.Shards.{shard_count}
 use Rattle.mt_model.specs.declared.entries.Entry.{Entry}
 use Rattle.mt_model.specs.declared.entries.EntryKey.{EntryKey}
 use Rattle.mt_model.specs.Topology.{TopologyState, key_of, value_of}
 use Rattle.mt_plain.specs.Events.{Way}
-use Rattle.mt_plain.specs.Plain.{Live, Plain, before_way, behind_last, changes_primary, first_step, has_part, last_step, next_step, part_owner, stands_done, live_at, next_place, repeated_step, shard_at_place}
+use Rattle.mt_plain.specs.Plain.{Live, Plain, before_way, behind_last, changes_primary, has_part, last_step, next_step, part_owner, refresh_source, refresh_target, repeated_step, stands_done, next_place}
 use Rattle.mt_plain.specs.Serve.{serve, step_of_entry, types_by}
 use Rattle.mt_laws.proofs.ListLemmas.{cond-either}
 use Rattle.mt_site_topology.proofs.BeginLemmas.{serve_turned}
@@ -25,12 +21,13 @@ use Rattle.mt_site_topology.proofs.StandLemmas.{same_part}
 use Rattle.mt_site_topology.specs.Keys as live
 use Rattle.mt_site_topology.specs.Stands.{TopologyStands}
 use Rattle.mt_site_state.specs.Stands.{StandsFor}
-use Rattle.mt_steps.proofs.EntryLemmas.{key_of-value_of}
+use Rattle.mt_steps.proofs.EntryLemmas.{key_of-value_of, none_of_step}
 use Rattle.mt_steps.specs.Entries.{is_of_step, recorded, recorded_of, step_entries}
 use Rattle.mt_steps.proofs.PlanLemmas.{number-step_at}
 use Rattle.mt_steps.specs.Plans.{number, step_at}
 use Rattle.mt_workflow.specs.Workflows.{WorkflowState, keys_of_part, live_of, rules_only, wanted}
 use Rattle.mt_site_ways.proofs.KeepLemmas.{entry_step, eqb_turned, filter_same, filtered_same}
+use Rattle.mt_site_ways.proofs.PlaceLemmas.{repeated_either}
 
 -- ---- numbers
 
@@ -46,29 +43,6 @@ module _ (way : Way) (within : next_step way < behind_last way) where
   pub last_numbered : number (step_at (last_step way)) ≡ last_step way
   last_numbered = number-step_at (last_step way) (let le = last-le way in omega (arith, below_twelve, le))
 
--- a way has one shard where the target has
-pub one_shard : (p : Plain) → IsReached p → (name : List ℕ) (live : Live) → live_at p name ≡ Some live → live.cuts ≡ [] → (way : Way) → live.way ≡ Some way → way.shards ≤ 1
-one_shard p reached name live is_live unsharded way opens =
-    let one : way.shards ≡ 1 = reached_shards p reached live (live_in p name live is_live) way opens ∙ ap shard_count unsharded in omega (arith, one)
-
--- each of its places is for the first shard
-pub first_shard : (way : Way) (place : ℕ) → way.shards ≤ 1 → shard_at_place way place ≡ 0
-first_shard way place one =
-    ap (λ n. cond (eqb n (repeated_step way)) (place - repeated_step way) 0) (one-step way place one) ∙ by (eqb place (repeated_step way)) refl
-  where
-    by : (b : Bool) → eqb place (repeated_step way) ≡ b → cond {A = ℕ} b (place - repeated_step way) 0 ≡ 0
-    by true e = let same = eqb-true place (repeated_step way) e in omega (arith, same)
-    by false e = refl
-
--- so the last step stands done, where any does
-pub last_done : (way : Way) → way.shards ≤ 1 → eqb way.done 0 ≡ false → stands_done way (last_step way) ≡ true
-last_done way one some =
-    let ne : way.done ≢ 0 = eqb-false way.done 0 some in
-    let next = one-next way one in
-    let last = one-last way one in
-    and_from (leb (first_step way) (last_step way)) (ltb (last_step way) (next_step way))
-    (le-leb (first_step way) (last_step way) (omega (arith, ne, last))) (lt-ltb (last_step way) (next_step way) (omega (arith, ne, next, last)))
-
 -- where no place stands done it is the first one
 pub none_last : (way : Way) → way.done ≡ 0 → last_step way ≡ 0
 none_last way none =
@@ -77,6 +51,21 @@ none_last way none =
     omega (arith, first, none, is)
 
 -- ---- what is recorded
+
+-- the step that is repeated changes no entry
+filter-none : {A : Type 0} (test : A → Bool) (xs : List A) → ((x : A) → test x ≡ false) → filter test xs ≡ []
+filter-none test [] none = refl
+filter-none test (x ∷ xs) none = ap (λ b. cond b (x ∷ filter test xs) (filter test xs)) (none x) ∙ filter-none test xs none
+
+pub none_repeated : (w : WorkflowState) (types : TypeSet) (way : Way) (n : ℕ) → n ≡ repeated_step way → (es : List Entry) → recorded_of w n es ≡ step_entries w types n
+none_repeated w types way n is es =
+    filter-none (λ e. is_of_step w n (key_of e)) es (λ e. none (key_of e)) ∙ sym (ap (map (wanted w types)) (filter-none (is_of_step w n) (keys_of_part w) none))
+  where
+    none : (key : EntryKey) → is_of_step w n key ≡ false
+    none key = ⊎_elim (by refresh_source (λ e. absurd cc) (λ e. absurd cc) (λ e. absurd cc) (λ e. absurd cc)) (by refresh_target (λ e. absurd cc) (λ e. absurd cc) (λ e. absurd cc) (λ e. absurd cc)) (repeated_either way)
+      where
+        by : (m : ℕ) → m ≢ 0 → m ≢ 1 → m ≢ 7 → m ≢ 9 → repeated_step way ≡ m → is_of_step w n key ≡ false
+        by m a b c d e = none_of_step w n key (λ f. a (sym e ∙ sym is ∙ f)) (λ f. b (sym e ∙ sym is ∙ f)) (λ f. c (sym e ∙ sym is ∙ f)) (λ f. d (sym e ∙ sym is ∙ f))
 
 module _ (w : WorkflowState) (n : ℕ) (t : TopologyState) where
   -- of the step itself what the topology says

@@ -1,5 +1,5 @@
 -- The live workflow of a name, where the controller finds one, and what is found and set again.
-use Rattle.std.proofs.Common.{◌≡◌, ℕ, Bool, true, false, List, [], ◌∷◌, Option, None, Some, is_some, unwrap_or, refl, sym, ap, subst}
+use Rattle.std.proofs.Common.{◌≡◌, ℕ, Bool, true, false, List, [], ◌∷◌, Option, None, Some, refl, sym, ap, subst}
 use Rattle.std.specs.Map.{lookup, set_value}
 use Rattle.mt_names.specs.Names.{same_text}
 use Rattle.mt_plain.specs.Plain.{Live, Plain}
@@ -27,8 +27,3 @@ set_value-same (e ∷ es) k v found = by (set_value-same es k v) (same_text k e.
     by : (lookup (same_text k) es ≡ Some v → set_value (same_text k) es v ≡ es) → (t : Bool) → same_text k e.0 ≡ t → set_value (same_text k) (e ∷ es) v ≡ e ∷ es
     by again true t = let is : Some e.1 ≡ Some v = rw t at found in let was : e.1 ≡ v = cc in rw t (ap (λ x. (e.0, x) ∷ es) (sym was))
     by again false t = rw t (ap (λ l. e ∷ l) (again (rw t at found)))
-
--- what is there is what stands there, whatever would stand for nothing
-pub there_by : {A : Type 0} (o : Option A) (d : A) → is_some o ≡ true → o ≡ Some (unwrap_or o d)
-there_by None d e = absurd cc
-there_by (Some x) d e = refl

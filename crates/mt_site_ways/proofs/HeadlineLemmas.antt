@@ -1,29 +1,53 @@
 -- Where a primary takes writes to a table, the table is writable in the state that the core stands for.
-use Rattle.std.proofs.Common.{◌≡◌, ℕ, ◌<◌, false, ◌||◌, if◌then◌else◌, List, ap, sym, subst, ◌∙◌, arith}
+use Rattle.std.proofs.Common.{◌≡◌, ℕ, ◌<◌, Bool, true, false, ◌||◌, if◌then◌else◌, List, refl, ap, sym, subst, ◌∙◌, ⊎_elim, arith}
+use Rattle.std.proofs.lemmas.Bool.{or_cases, or_left, or_right}
 use Rattle.mt_laws.specs.Changes.{HasSides}
+use Rattle.mt_laws.specs.Reached.{IsInPlace}
+use Rattle.mt_names.proofs.SameLemmas.{same_text_decides}
 use Rattle.mt_names.specs.Names.{same_text}
-use Rattle.mt_names.specs.Shards.{shard_count}
 use Rattle.mt_names.specs.declared.types.TypeSet.{TypeSet}
-use Rattle.mt_plain.specs.Plain.{Live, Plain, cuts_of, is_side, owner}
-use Rattle.mt_plain.specs.Serve.{IsWritable, refuses}
+use Rattle.mt_plain.specs.Plain.{Live, Plain, has_keyspace, is_side, owner}
+use Rattle.mt_plain.specs.Serve.{IsWritable, has_table, refuses}
+use Rattle.mt_primaries.proofs.PrimaryLemmas.{there_from_count}
+use Rattle.mt_primaries.specs.Primaries.{count_of}
 use Rattle.mt_site_state.specs.Core.{CoreState}
 use Rattle.mt_site_state.specs.Stands.{ArePrimaries}
-use Rattle.mt_site_ways.specs.Writable.{TakesWrites}
+use Rattle.mt_site_ways.specs.Writable.{TakesWrites, TakesWritesAt}
 
 pub writable : (p : Plain) (core : CoreState) (side keyspace table : List ℕ) → ArePrimaries p core.primaries → side ≡ keyspace → TakesWrites core keyspace table → IsWritable p side table
-writable p core side keyspace table are same takes =
-    subst (λ k. IsWritable p k table) (sym same)
-    (sym (are.tables keyspace table) ∙ takes.0, (0, subst (λ cuts. 0 < shard_count cuts) (sym (are.unsharded keyspace)) (omega arith), sym (are.denials keyspace table) ∙ takes.1))
+writable p core side keyspace table are same (shard, within, (has, allowed)) =
+    subst (λ k. IsWritable p k table) (sym same) (
+      sym (are.tables keyspace shard within table) ∙ has,
+      (
+        shard,
+        subst (λ c. shard < c) (are.shards keyspace (sym (are.there keyspace) ∙ there_from_count core.primaries keyspace shard within)) within,
+        sym (are.denials keyspace shard within table) ∙ allowed,
+      ),
+    )
 
--- the same the other way round
-pub taken : (p : Plain) (core : CoreState) (keyspace table : List ℕ) → ArePrimaries p core.primaries → IsWritable p keyspace table → TakesWrites core keyspace table
-taken p core keyspace table are is = (are.tables keyspace table ∙ is.0, are.denials keyspace table ∙ free is.1)
+-- a primary takes writes where the state has the table there and doesn't refuse it in that shard
+pub taken : (p : Plain) (core : CoreState) (keyspace : List ℕ) (shard : ℕ) (table : List ℕ) → ArePrimaries p core.primaries → shard < count_of core.primaries keyspace
+    → has_table p keyspace table ≡ true → refuses p keyspace shard table ≡ false → TakesWritesAt core keyspace shard table
+taken p core keyspace shard table are within has allowed = (are.tables keyspace shard within table ∙ has, are.denials keyspace shard within table ∙ allowed)
+
+-- a keyspace has a first shard
+pub first_there : (p : Plain) (core : CoreState) (keyspace : List ℕ) → ArePrimaries p core.primaries → has_keyspace p keyspace ≡ true → 0 < count_of core.primaries keyspace
+first_there p core keyspace are there = let shards = are.shards keyspace there in omega (arith, shards)
+
+-- a side of a live workflow is a keyspace
+pub side_there : (p : Plain) (live : Live) → IsInPlace p.topology live → (keyspace : List ℕ) → is_side live keyspace ≡ true → has_keyspace p keyspace ≡ true
+side_there p live placed keyspace side =
+    ⊎_elim (λ e. subst (λ k. has_keyspace p k ≡ true) ((same_text_decides live.source keyspace).0 e) placed.sides.source)
+    (λ e. subst (λ k. has_keyspace p k ≡ true) ((same_text_decides live.target keyspace).0 e) placed.sides.target)
+    (or_cases (same_text live.source keyspace) (same_text live.target keyspace) side)
+
+-- the owner is one of its sides
+pub owner_side : (live : Live) → is_side live (owner live) ≡ true
+owner_side live = by live.switched.primary
   where
-    free : (shard : ℕ) × (shard < shard_count (cuts_of p keyspace)) × (refuses p keyspace shard table ≡ false) → refuses p keyspace 0 table ≡ false
-    free (shard, below, allowed) =
-        let one : shard < 1 = subst (λ cuts. shard < shard_count cuts) (are.unsharded keyspace) below in
-        let first : shard ≡ 0 = omega (arith, one) in
-        ap (λ n. refuses p keyspace n table) (sym first) ∙ allowed
+    by : (b : Bool) → is_side live (if b then live.target else live.source) ≡ true
+    by true = or_right (same_text live.source live.target) (same_text live.target live.target) ((same_text_decides live.target live.target).1 refl)
+    by false = or_left (same_text live.source live.source) (same_text live.target live.source) ((same_text_decides live.source live.source).1 refl)
 
 -- two workflows with the same sides have a side in common, and if they have switched the same types the owner too
 pub same_side : (w v : Live) (keyspace : List ℕ) → HasSides w v → is_side w keyspace ≡ is_side v keyspace

@@ -17,9 +17,9 @@ pub mod HeadlineLemmas
 pub mod KeepLemmas
 pub mod LevelLemmas
 pub mod ListLemmas
-mod ListedLemmas
 pub mod NumberLemmas
 pub mod OutcomeLemmas
+pub mod PlaceLemmas
 pub mod PrimaryLemmas
 pub mod PrimaryNextLemmas
 pub mod PrimaryStepLemmas

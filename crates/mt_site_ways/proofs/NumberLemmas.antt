@@ -1,14 +1,13 @@
 -- With which step the own list of which side changes, and what it refuses before and behind.
-use Rattle.std.proofs.Common.{◌≡◌, ◌≢◌, ℕ, ◌+◌, ◌-◌, ◌≤◌, Bool, true, false, not, cond, eqb, leb, ltb, min, ◌&&◌, List, Option, Some, refl, sym, ap, ◌∙◌, arith, eqb-true}
+use Rattle.std.proofs.Common.{◌≡◌, ◌≢◌, ℕ, Bool, true, false, not, cond, eqb, ltb, ◌&&◌, List, Option, Some, refl, sym, ap, ◌∙◌, arith, eqb-true}
 use Rattle.std.proofs.lemmas.Bool.{false_from_ne_true, ltb-true}
 use Rattle.std.specs.Option.{option_map_or}
 use Rattle.mt_names.specs.declared.types.TypeSet.{TypeSet}
 use Rattle.mt_names.specs.Names.{same_text}
 use Rattle.mt_plain.specs.Events.{Way}
-use Rattle.mt_plain.specs.Plain.{Live, allow_target, deny_source, is_side, next_place, next_step, owner_by, place_of_refresh, refresh_source, refresh_target, repeated_step, stands_done, stands_done_at}
+use Rattle.mt_plain.specs.Plain.{Live, allow_target, deny_source, is_side, next_place, next_step, owner_by, place_of_refresh, refresh_source, refresh_target, stands_done, stands_done_at}
 use Rattle.mt_plain.specs.Serve.{is_denied_at, is_listed_at, list_types, owned_before, refuses_by, step_of_list}
 use Rattle.mt_laws.proofs.WayStepLemmas.{done_by}
-use Rattle.mt_plain.proofs.PlaceLemmas.{one-next}
 use Rattle.mt_site_rows.proofs.KnownLemmas.{differs, itself}
 
 -- ---- numbers
@@ -31,9 +30,10 @@ at_other n first second false = second
 pub listed_none : (w : Live) (types : TypeSet) (keyspace : List ℕ) → is_side w keyspace ≡ false → is_listed_at w types keyspace ≡ false
 listed_none w types keyspace none = ap (λ b. b && is_denied_at w types keyspace) none
 
-pub list_outside : (w : Live) (types : TypeSet) (b : Bool) (keyspace : List ℕ) → is_side w keyspace ≡ false → cond b (is_listed_at w types keyspace) (refuses_by w keyspace 0) ≡ refuses_by w keyspace 0
-list_outside w types true keyspace none = listed_none w types keyspace none ∙ sym (listed_none w (list_types w keyspace 0) keyspace none)
-list_outside w types false keyspace none = refl
+pub list_outside : (w : Live) (types : TypeSet) (b : Bool) (keyspace : List ℕ) (shard : ℕ) → is_side w keyspace ≡ false
+    → cond b (is_listed_at w types keyspace) (refuses_by w keyspace shard) ≡ refuses_by w keyspace shard
+list_outside w types true keyspace shard none = listed_none w types keyspace none ∙ sym (listed_none w (list_types w keyspace shard) keyspace none)
+list_outside w types false keyspace shard none = refl
 
 module _ (w : Live) (way : Way) (opens : w.way ≡ Some way) (source target : List ℕ) (is_source : w.source ≡ source) (is_target : w.target ≡ target) (apart : source ≢ target) where
   owned_by : (keyspace : List ℕ) → owned_before w keyspace ≡ same_text (cond way.before.primary target source) keyspace
@@ -81,26 +81,12 @@ module _ (w : Live) (way : Way) (opens : w.way ≡ Some way) (source target : Li
 
 -- ---- what stands done where a refresh is next
 
--- with one shard of the target the refresh of a side has the place of its number
-pub one-refresh : (way : Way) (step : ℕ) → way.shards ≤ 1 → place_of_refresh way step 0 ≡ step
-one-refresh way step one =
-    ap (λ n. n + cond (eqb step (repeated_step way)) (min 0 (way.shards - 1)) 0) (first (leb step (repeated_step way))) ∙ ap (λ n. step + n) (later (eqb step (repeated_step way))) ∙ omega arith
-  where
-    first : (b : Bool) → cond b step (step + (way.shards - 1)) ≡ step
-    first true = refl
-    first false = omega (arith, one)
-
-    later : (b : Bool) → cond b (min 0 (way.shards - 1)) 0 ≡ 0
-    later true = omega arith
-    later false = refl
-
 -- one that is next doesn't stand done
-pub not_refreshed : (way : Way) (step : ℕ) → way.shards ≤ 1 → next_step way ≡ step → stands_done_at way step 0 ≡ false
-not_refreshed way step one is =
-    ap (λ n. ltb n (next_place way)) (one-refresh way step one) ∙ ap (ltb step) (sym (one-next way one) ∙ is)
-    ∙ false_from_ne_true (ltb step step) (λ t. let lt = ltb-true step step t in absurd (omega (arith, lt)))
+pub not_refreshed : (way : Way) (step shard : ℕ) → next_place way ≡ place_of_refresh way step shard → stands_done_at way step shard ≡ false
+not_refreshed way step shard is =
+    ap (λ n. ltb n (next_place way)) (sym is) ∙ false_from_ne_true (ltb (next_place way) (next_place way)) (λ t. let lt = ltb-true (next_place way) (next_place way) t in absurd (omega (arith, lt)))
 
-module _ (w : Live) (way : Way) (opens : w.way ≡ Some way) (one : way.shards ≤ 1) where
+module _ (w : Live) (way : Way) (opens : w.way ≡ Some way) where
   -- where a refresh is next, the topology's own step stands done
   pub denied_before : (keyspace : List ℕ) → eqb (next_step way) (step_of_list w keyspace) ≡ true → stands_done way (cond {A = ℕ} (owned_before w keyspace) deny_source allow_target) ≡ true
   denied_before keyspace here = by (owned_before w keyspace) (eqb-true (next_step way) (step_of_list w keyspace) here)
@@ -110,8 +96,8 @@ module _ (w : Live) (way : Way) (opens : w.way ≡ Some way) (one : way.shards �
       by false is = done_by way 7 8 is (omega arith) (omega arith)
 
   -- and the list is still as before the way
-  pub list_before : (keyspace : List ℕ) → eqb (next_step way) (step_of_list w keyspace) ≡ true → refuses_by w keyspace 0 ≡ is_listed_at w way.before keyspace
-  list_before keyspace here =
+  pub list_before : (keyspace : List ℕ) (shard : ℕ) → next_place way ≡ place_of_refresh way (step_of_list w keyspace) shard → refuses_by w keyspace shard ≡ is_listed_at w way.before keyspace
+  list_before keyspace shard here =
       ap (λ types. is_listed_at w types keyspace)
-      (ap (λ (o : Option Way). option_map_or (λ x. cond (stands_done_at x (step_of_list w keyspace) 0) x.after x.before) o w.switched) opens
-      ∙ ap (λ b. cond b way.after way.before) (not_refreshed way (step_of_list w keyspace) one (eqb-true (next_step way) (step_of_list w keyspace) here)))
+      (ap (λ (o : Option Way). option_map_or (λ x. cond (stands_done_at x (step_of_list w keyspace) shard) x.after x.before) o w.switched) opens
+      ∙ ap (λ b. cond b way.after way.before) (not_refreshed way (step_of_list w keyspace) shard here))

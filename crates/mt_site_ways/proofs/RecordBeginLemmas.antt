@@ -1,5 +1,5 @@
 -- What is kept of a way that begins.
-use Rattle.std.proofs.Common.{◌≡◌, ◌≢◌, ℕ, suc, Bool, List, None, Some, refl, sym, ap, ◌∙◌, ◌++◌, ◌∷◌, []}
+use Rattle.std.proofs.Common.{◌≡◌, ◌≢◌, ℕ, suc, Bool, true, List, None, Some, refl, sym, ap, ◌∙◌, ◌++◌, ◌∷◌, []}
 use Rattle.mt_laws.proofs.StepUndoneLemmas.{nothing_done}
 use Rattle.std.proofs.lemmas.Bool.{true≢false}
 use Rattle.std.specs.Map.{set_value}
@@ -7,7 +7,7 @@ use Rattle.mt_names.specs.Names.{same_text}
 use Rattle.mt_names.specs.declared.types.TypeSet.{TypeSet}
 use Rattle.mt_model.specs.declared.entries.Scope.{Scope}
 use Rattle.mt_plain.specs.Events.{Way}
-use Rattle.mt_plain.specs.Plain.{Live, Plain, create_back, live_at, refresh_source}
+use Rattle.mt_plain.specs.Plain.{Live, Plain, create_back, live_at}
 use Rattle.mt_site_state.specs.Core.{workflow_at}
 use Rattle.mt_site_state.specs.Switching.{way_to, with_way}
 use Rattle.mt_site_state.specs.Ways.{IsOpenOn, SiteStands, SiteState, WaysStand}
@@ -15,6 +15,7 @@ use Rattle.mt_steps.proofs.BackLemmas.{new_log_of}
 use Rattle.mt_steps.specs.declared.log.OpenWay.{OpenWay}
 use Rattle.mt_steps.specs.Undo.{new_log}
 use Rattle.mt_workflow.specs.Workflows.{WorkflowState}
+use Rattle.mt_site_ways.proofs.PrimaryNextLemmas.{none_refreshed}
 use Rattle.mt_site_ways.proofs.RecordOpenLemmas.{begins, unused_yet}
 
 module _ (p q : Plain) (scopes : List Scope) (s : SiteState) (stands : SiteStands p scopes s) (name : List ℕ) (w : WorkflowState) (backward : Bool) (types : TypeSet)
@@ -43,7 +44,7 @@ module _ (p q : Plain) (scopes : List Scope) (s : SiteState) (stands : SiteStand
     unused = λ f. unused_yet p q s.core now.core s.ways now.ways stands.ways name w v fresh u found rests refl refl workflows_now open_now refl refl;
     undo = λ f. record {
       entries = λ n t. absurd (true≢false (sym t ∙ nothing_done fresh n refl));
-      listed = λ t. absurd (true≢false (sym t ∙ nothing_done fresh refresh_source refl));
+      listed = λ shard below t. absurd (true≢false (sym t ∙ none_refreshed fresh true shard refl));
       slots = λ t. absurd (true≢false (sym t ∙ nothing_done fresh create_back refl));
     };
   }

@@ -1,13 +1,12 @@
 -- What is kept of a way behind a step of it.
-use Rattle.std.proofs.Common.{◌≡◌, ◌≢◌, ◌≤◌, ℕ, suc, Bool, true, false, cond, eqb, length, List, [], ◌∷◌, ◌++◌, map, None, Some, option_map, refl, sym, ap, ◌∙◌, subst, arith, eqb-true}
+use Rattle.std.proofs.Common.{◌≡◌, ◌≢◌, ℕ, ◌<◌, suc, Bool, true, false, cond, eqb, ◌&&◌, length, List, [], ◌∷◌, ◌++◌, map, None, Some, option_map, refl, sym, ap, ◌∙◌, subst, arith, eqb-true, get_or-set_other}
 use Rattle.mt_laws.proofs.WayLemmas.{journal_once}
-use Rattle.std.proofs.lemmas.Bool.{eq-eqb, false_from_ne_true, true≢false}
+use Rattle.std.proofs.lemmas.Bool.{eq-eqb, eqb-false, false_from_ne_true, true≢false}
 use Rattle.std.proofs.lemmas.List.{length_push}
 use Rattle.std.specs.List.{AllByRecursion}
 use Rattle.std.specs.Map.{set_value}
 use Rattle.std.specs.Option.{option_map_or}
-use Rattle.std.specs.Prelude.{slice_set}
-use Rattle.mt_names.specs.declared.types.TypeSet.{TypeSet}
+use Rattle.std.specs.Prelude.{slice_index_or, slice_set}
 use Rattle.mt_names.specs.Names.{same_text}
 use Rattle.mt_names.proofs.SameLemmas.{same_text_decides}
 use Rattle.mt_model.specs.declared.entries.EntryKey.{EntryKey}
@@ -15,21 +14,17 @@ use Rattle.mt_model.specs.declared.entries.Scope.{Scope}
 use Rattle.mt_journal.specs.declared.entry.JournalEntry.{JournalEntry}
 use Rattle.mt_journal.specs.Journal.{entry_of}
 use Rattle.mt_laws.proofs.ChangeLemmas.{live_after, lives_after}
-use Rattle.mt_laws.proofs.ListLemmas.{cond-ap}
 use Rattle.mt_laws.proofs.LiveLemmas.{IsIn}
 use Rattle.mt_laws.proofs.WayStepLemmas.{before_then, done_by, more, not_before, now_done, undone_by, next-le}
 use Rattle.mt_plain.specs.Events.{done, step, Way}
 use Rattle.mt_plain.specs.Next.{closes, journal_after, lane_stepped, live_stepped, next, on_way_of, types_stepped}
-use Rattle.mt_plain.specs.Plain.{Lane, Live, Plain, before_way, behind_last, create_back, has_part, live_at, mover, moves, next_place, next_step, owner_by, part_owner, refresh_source, refresh_target, stands_done, stands_done_at, write_journal}
-use Rattle.mt_plain.specs.Serve.{is_listed_at, refuses, refuses_by, step_of_list}
+use Rattle.mt_plain.specs.Plain.{Lane, Live, Plain, before_way, behind_last, create_back, has_part, live_at, mover, moves, next_step, part_owner, refresh_source, refresh_target, stands_done, stands_done_at, write_journal}
 use Rattle.mt_primary.specs.Denials.{marks_of}
-use Rattle.mt_primary.specs.Primary.{is_denied_at}
 use Rattle.mt_site_rows.specs.Rows.{stream_of}
-use Rattle.mt_site_state.specs.Core.{primary_of, workflow_at}
+use Rattle.mt_site_state.specs.Core.{workflow_at}
 use Rattle.mt_site_state.specs.Stands.{StandsFor, lane_state}
-use Rattle.mt_site_state.proofs.ShardLemmas.{no_cuts}
 use Rattle.mt_site_state.specs.Switching.{open_after, sides_of, with_sides}
-use Rattle.mt_site_state.specs.Ways.{GivesBack, IsGiven, IsOpenOn, SiteStands, SiteState, WaysStand, open_at}
+use Rattle.mt_site_state.specs.Ways.{GivesBack, IsGiven, IsOpenOn, SiteStands, SiteState, WaysStand, lists_of, open_at}
 use Rattle.mt_steps.proofs.StepLemmas.{stepped_log}
 use Rattle.mt_steps.specs.declared.log.OpenWay.{OpenWay}
 use Rattle.mt_steps.specs.declared.step.Step.{Step}
@@ -41,58 +36,16 @@ use Rattle.mt_steps.specs.Streams.{log_ends, other_name}
 use Rattle.mt_steps.specs.Undo.{UndoState}
 use Rattle.mt_watch.specs.Asking.{Answering}
 use Rattle.mt_workflow.specs.Workflows.{WorkflowState, lane_slot, live_of}
-use Rattle.mt_site_ways.proofs.AttemptLemmas.{all_among, attempt_journal, attempt_listed, none_marked, open_stepped, owner_allowed, put_away_is, saved_stays, slot_stood, stepped_rest}
-use Rattle.mt_site_ways.proofs.EntryLemmas.{first_shard, one_shard, recorded_before, recorded_elsewhere}
+use Rattle.mt_site_ways.proofs.AttemptLemmas.{and_none, attempt_journal, attempt_listed, listed_log, open_stepped, put_away_is, saved_stays, slot_stood, stepped_rest}
+use Rattle.mt_site_ways.proofs.ChangeLemmas.{IsAt}
+use Rattle.mt_site_ways.proofs.EntryLemmas.{recorded_before, recorded_elsewhere}
 use Rattle.mt_site_ways.proofs.KeepLemmas.{Keeps, entries_keep, recorded_keeps, step_keeps}
-use Rattle.mt_site_ways.proofs.ListedLemmas.{listed_log}
-use Rattle.mt_site_ways.proofs.NumberLemmas.{not_refreshed as not_refreshed_yet}
+use Rattle.mt_site_ways.proofs.PlaceLemmas.{before_at}
+use Rattle.mt_site_ways.proofs.PrimaryUndoLemmas.{list_empty, no_tables}
 use Rattle.mt_site_ways.proofs.RecordOpenLemmas.{goes_on, none_pushed, written-push}
 use Rattle.mt_site_ways.proofs.SlotLemmas.{map-in, map-map, slot-state}
 use Rattle.mt_site_ways.proofs.TopologyLemmas.{one_some}
 use Rattle.mt_site_ways.proofs.WholeOpenLemmas.{saved}
-
--- ---- own lists
-
--- what holds of each item, of another thing
-all_of : {A : Type 0} (P Q : A → Type 0) (xs : List A) → ((x : A) → P x → Q x) → AllByRecursion P xs → AllByRecursion Q xs
-all_of P Q [] each all = tt
-all_of P Q (x ∷ xs) each all = (each x all.0, all_of P Q xs each all.1)
-
-module _ (p : Plain) (s : SiteState) (denials : (k n : List ℕ) → is_denied_at (primary_of s.core.primaries k) n ≡ refuses p k 0 n) (w : WorkflowState) (v : Live) (for : StandsFor p v w)
-    (mover_is : (table : List ℕ) → moves v table ≡ true → mover p table ≡ Some v) (apart : v.source ≢ v.target) (way : Way) (opens : v.way ≡ Some way)
-    (not_done : stands_done_at way refresh_source 0 ≡ false) where
-  -- before its refresh the old owner's list refuses none of the tables
-  owner_serves : (table : List ℕ) → moves v table ≡ true → refuses p (owner_by v way.before) 0 table ≡ false
-  owner_serves table moved =
-      ap (λ o. option_map_or (λ x. refuses_by x (owner_by v way.before) 0) o false) (mover_is table moved)
-      ∙ ap (λ n. is_listed_at v (option_map_or (λ (x : Way). cond (stands_done_at x n 0) x.after x.before) v.way v.switched) (owner_by v way.before)) at
-      ∙ ap (λ ts. is_listed_at v ts (owner_by v way.before)) types
-      ∙ owner_allowed v apart way.before
-    where
-      before : before_way v ≡ way.before
-      before = ap (λ o. option_map_or (λ (x : Way). x.before) o v.switched) opens
-
-      at : step_of_list v (owner_by v way.before) ≡ refresh_source
-      at =
-          ap (λ (ts : TypeSet). cond (same_text (owner_by v ts) (owner_by v way.before)) refresh_source refresh_target) before
-          ∙ ap (λ b. cond b refresh_source refresh_target) ((same_text_decides (owner_by v way.before) (owner_by v way.before)).1 refl)
-
-      types : option_map_or (λ (x : Way). cond (stands_done_at x refresh_source 0) x.after x.before) v.way v.switched ≡ way.before
-      types =
-          ap (λ o. option_map_or (λ (x : Way). cond (stands_done_at x refresh_source 0) x.after x.before) o v.switched) opens
-          ∙ ap (λ b. cond b way.after way.before) not_done
-
-  pub empty_listed : marks_of (cond way.before.primary (primary_of s.core.primaries w.target) (primary_of s.core.primaries w.source)) w.tables ≡ map (λ table. (table, false)) w.tables
-  empty_listed =
-      ap (λ x. marks_of x w.tables) (sym (cond-ap (primary_of s.core.primaries) way.before.primary w.target w.source))
-      ∙ ap (λ k. marks_of (primary_of s.core.primaries k) w.tables) owner_is
-      ∙ none_marked (primary_of s.core.primaries (owner_by v way.before)) w.tables
-      (subst (λ ts. AllByRecursion (λ table. is_denied_at (primary_of s.core.primaries (owner_by v way.before)) table ≡ false) ts) for.sides.tables
-      (all_of (λ table. moves v table ≡ true) (λ table. is_denied_at (primary_of s.core.primaries (owner_by v way.before)) table ≡ false) v.tables
-      (λ table moved. denials (owner_by v way.before) table ∙ owner_serves table moved) (all_among v.tables)))
-    where
-      owner_is : cond way.before.primary w.target w.source ≡ owner_by v way.before
-      owner_is = ap (λ x. cond way.before.primary x w.source) (sym for.sides.target) ∙ ap (λ x. cond way.before.primary v.target x) (sym for.sides.source)
 
 -- ---- the live workflow behind a step
 
@@ -107,7 +60,7 @@ live_step p name at v now way is_live named opens is_now =
 
 module _ (p : Plain) (scopes asked : List Scope) (may_answer : Answering) (s : SiteState) (stands : SiteStands p scopes s) (name : List ℕ) (w : WorkflowState) (way : Way) (o : OpenWay)
     (found : workflow_at s.core.workflows name ≡ Some w) (opens : w.way ≡ Some way) (is_open : open_at s.ways.opened name ≡ Some o)
-    (v : Live) (is_live : live_at p name ≡ Some v) (for : StandsFor p v w) (named : v.name ≡ name) (apart : v.source ≢ v.target)
+    (v : Live) (is_live : live_at p name ≡ Some v) (for : StandsFor p v w) (named : v.name ≡ name) (place : IsAt p s.core.primaries v w way)
     (owned : (key : EntryKey) → has_part v key ≡ true → part_owner p key ≡ Some v) (mover_is : (table : List ℕ) → moves v table ≡ true → mover p table ≡ Some v)
     (this : Step) (is_next : number this ≡ next_step way) (sides : SidesState) (log : UndoState)
     (is : IsStepped asked may_answer o.number way this (sides_of s w) o.log sides log) where
@@ -122,13 +75,6 @@ module _ (p : Plain) (scopes asked : List Scope) (may_answer : Answering) (s : S
 
   kept_before : IsOpenOn s.ways.journal v w way o
   kept_before = stands.ways.each name v w way o is_live found opens is_open
-
-  one : way.shards ≤ 1
-  one = one_shard p stands.core.reached name v is_live (no_cuts p v w for) way v_opens
-
-  -- the place is for the first shard
-  at_first : next_shard way ≡ 0
-  at_first = first_shard way (next_place way) one
 
   -- what was kept, with the list that the step has taken
   abbrev taken : UndoState
@@ -182,21 +128,36 @@ module _ (p : Plain) (scopes asked : List Scope) (may_answer : Answering) (s : S
           let le = next-le way in
           true≢false (sym (done_by (more way) write_journal (next_step (more way)) refl (omega arith) (omega (arith, at, le))) ∙ not_written))
 
-      listed_give : stands_done (more way) refresh_source ≡ true → listed_at log 0 ≡ Some (map (λ table. (table, false)) now.tables)
-      listed_give done_now =
-          sym (ap (listed_at log) at_first)
-          ∙ attempt_listed asked may_answer o.number s.core.topology w way (sites way (sides_of s w) o.log) (sites way sides log) this not_refreshed is.attempt
-          ∙ ap (λ m. cond (eqb (number this) refresh_source) (Some (marks_of (cond way.before.primary (target_at (sides_of s w).targets m) (sides_of s w).source) w.tables)) (listed_at o.log m)) at_first
-          ∙ ap (λ n. cond (eqb n refresh_source) (Some (marks_of (cond way.before.primary (target_at (sides_of s w).targets 0) (sides_of s w).source) w.tables)) (listed_at o.log 0)) is_next
-          ∙ by (eqb (next_step way) refresh_source) refl
-          ∙ ap (λ ts. Some (map (λ table. (table, false)) ts)) (sym keeps.tables)
+      -- what stands in the record for the shard of the next place
+      listed_here : listed_at log (next_shard way)
+          ≡ cond (eqb (next_step way) refresh_source) (Some (marks_of (cond way.before.primary (target_at (sides_of s w).targets (next_shard way)) (sides_of s w).source) w.tables)) (listed_at o.log (next_shard way))
+      listed_here =
+          attempt_listed asked may_answer o.number s.core.topology w way (sites way (sides_of s w) o.log) (sites way sides log) this not_refreshed is.attempt
+          ∙ ap (λ n. cond (eqb n refresh_source) (Some (marks_of (cond way.before.primary (target_at (sides_of s w).targets (next_shard way)) (sides_of s w).source) w.tables)) (listed_at o.log (next_shard way))) is_next
+
+      listed_give : (shard : ℕ) → shard < lists_of (more way) → stands_done_at (more way) refresh_source shard ≡ true → listed_at log shard ≡ Some (map (λ table. (table, false)) now.tables)
+      listed_give shard below done_now = by (eqb (next_shard way) shard) refl ∙ ap (λ ts. Some (map (λ table. (table, false)) ts)) (sym keeps.tables)
         where
-          by : (b : Bool) → eqb (next_step way) refresh_source ≡ b
-              → cond b (Some (marks_of (cond way.before.primary (target_at (sides_of s w).targets 0) (sides_of s w).source) w.tables)) (listed_at o.log 0) ≡ Some (map (λ table. (table, false)) w.tables)
-          by true b =
-              ap Some (empty_listed p s stands.core.primaries.denials w v for mover_is apart way v_opens
-              (not_refreshed_yet way refresh_source one (eqb-true (next_step way) refresh_source b)))
-          by false b = gives.listed (before_then way refresh_source b done_now)
+          -- a list of another refresh was kept before
+          stood : (eqb (next_step way) refresh_source && eqb (next_shard way) shard) ≡ false → listed_at o.log shard ≡ Some (no_tables w)
+          stood other = gives.listed shard below (before_at way shard below other done_now)
+
+          here : next_shard way ≡ shard → (b : Bool) → eqb (next_step way) refresh_source ≡ b → listed_at log shard ≡ Some (no_tables w)
+          here same true b =
+              subst (λ n. listed_at log n ≡ Some (no_tables w)) same
+              (listed_here ∙ ap (λ c. cond c (Some (marks_of (cond way.before.primary (target_at (sides_of s w).targets (next_shard way)) (sides_of s w).source) w.tables)) (listed_at o.log (next_shard way))) b
+              ∙ ap Some (list_empty p s.core.primaries v w way place mover_is (eqb-true (next_step way) refresh_source b)))
+          here same false b =
+              ap (listed_at log) (sym same)
+              ∙ listed_here ∙ ap (λ c. cond c (Some (marks_of (cond way.before.primary (target_at (sides_of s w).targets (next_shard way)) (sides_of s w).source) w.tables)) (listed_at o.log (next_shard way))) b
+              ∙ ap (listed_at o.log) same ∙ stood (ap (λ c. c && eqb (next_shard way) shard) b)
+
+          by : (b : Bool) → eqb (next_shard way) shard ≡ b → listed_at log shard ≡ Some (no_tables w)
+          by true e = here (eqb-true (next_shard way) shard e) (eqb (next_step way) refresh_source) refl
+          by false e =
+              ap (λ l. slice_index_or l shard None) is.listed
+              ∙ get_or-set_other o.log.listed (next_shard way) shard (listed_at log (next_shard way)) None (λ same. eqb-false (next_shard way) shard e (sym same))
+              ∙ stood (ap (λ c. eqb (next_step way) refresh_source && c) e ∙ and_none (eqb (next_step way) refresh_source))
 
       slots_give : (live : Live) → live ≡ live_stepped p v way → stands_done (more way) create_back ≡ true → log.slots ≡ map (saved live way) live.lanes
       slots_give live is_stepped done_now =

@@ -1,29 +1,27 @@
 -- What is kept of a way behind an undo of a step of it, and behind its close where no step stands done.
-use Rattle.std.proofs.Common.{[], ◌≡◌, ◌≢◌, ℕ, ◌-◌, Bool, true, false, cond, eqb, length, List, map, Option, None, Some, refl, sym, ap, ◌∙◌, subst, arith, eqb-true, ◌+◌}
+use Rattle.std.proofs.Common.{[], ◌≡◌, ◌≢◌, ℕ, ◌<◌, ◌-◌, Bool, true, false, cond, eqb, ◌&&◌, length, List, map, None, Some, refl, sym, ap, ◌∙◌, subst, arith, eqb-true}
 use Rattle.std.proofs.lemmas.Bool.{eqb-false, false_from_ne_true, true≢false}
 use Rattle.std.specs.List.{AllByRecursion}
 use Rattle.std.specs.Map.{set_value}
 use Rattle.std.specs.Option.{option_map_or}
-use Rattle.std.specs.Prelude.{slice_index_or}
 use Rattle.mt_names.specs.Names.{same_text}
 use Rattle.mt_names.proofs.SameLemmas.{same_text_decides}
 use Rattle.mt_model.specs.declared.entries.Scope.{Scope}
-use Rattle.mt_model.specs.Topology.{Marks}
 use Rattle.mt_journal.specs.declared.entry.JournalEntry.{JournalEntry}
 use Rattle.mt_journal.specs.Journal.{entry_of}
 use Rattle.mt_laws.proofs.ChangeLemmas.{live_after, lives_after}
 use Rattle.mt_laws.proofs.LiveLemmas.{IsIn}
 use Rattle.mt_laws.proofs.WayLemmas.{undo_before_journal}
-use Rattle.mt_laws.proofs.WayStepLemmas.{fewer, undone_by, was_done}
+use Rattle.mt_laws.proofs.WayStepLemmas.{fewer, undone_by, was_done, was_done_at}
 use Rattle.mt_plain.specs.Answers.{Answers}
 use Rattle.mt_plain.specs.Events.{done, undo, Way}
 use Rattle.mt_plain.specs.Next.{live_undone, next, on_way_of}
-use Rattle.mt_plain.specs.Plain.{Lane, Live, Plain, before_way, create_back, last_step, live_at, next_step, refresh_source, stands_done, write_journal, first_step, next_place, step_at_place}
+use Rattle.mt_plain.specs.Plain.{Lane, Live, Plain, before_way, create_back, last_step, live_at, refresh_source, stands_done, stands_done_at, write_journal}
 use Rattle.mt_plain.specs.Refuse.{in_workflow, undo_refusal}
 use Rattle.mt_site_state.specs.Core.{workflow_at}
 use Rattle.mt_site_state.specs.Stands.{StandsFor}
 use Rattle.mt_site_state.specs.Switching.{open_after, sides_of, with_sides}
-use Rattle.mt_site_state.specs.Ways.{GivesBack, IsGiven, IsOpenOn, SiteStands, SiteState, WaysStand, open_at}
+use Rattle.mt_site_state.specs.Ways.{GivesBack, IsGiven, IsOpenOn, SiteStands, SiteState, WaysStand, lists_of, open_at}
 use Rattle.mt_steps.specs.declared.log.OpenWay.{OpenWay}
 use Rattle.mt_steps.specs.declared.step.Step.{Step}
 use Rattle.mt_steps.specs.Entries.{recorded_of, step_entries}
@@ -34,9 +32,9 @@ use Rattle.mt_steps.specs.Steps.{IsUndone, SidesState, left_listed, listed_at}
 use Rattle.mt_steps.specs.Streams.{other_name}
 use Rattle.mt_steps.specs.Undo.{UndoState}
 use Rattle.mt_workflow.specs.Workflows.{WorkflowState, live_of}
-use Rattle.mt_site_ways.proofs.AttemptLemmas.{listed_left, saved_stays, slots_left}
+use Rattle.mt_site_ways.proofs.AttemptLemmas.{left_at, saved_stays, slots_left, taken_log}
 use Rattle.mt_site_ways.proofs.KeepLemmas.{Keeps, entries_keep, recorded_keeps, undo_keeps}
-use Rattle.mt_site_ways.proofs.ListedLemmas.{taken_log}
+use Rattle.mt_site_ways.proofs.PlaceLemmas.{last_fewer, not_last}
 use Rattle.mt_site_ways.proofs.RecordOpenLemmas.{goes_on}
 use Rattle.mt_site_ways.proofs.SlotLemmas.{map-in}
 use Rattle.mt_site_ways.proofs.TopologyLemmas.{one_some}
@@ -92,17 +90,11 @@ module _ (p : Plain) (scopes : List Scope) (s : SiteState) (stands : SiteStands 
     way_now : now.way ≡ cond (eqb (way.done - 1) 0) None (Some (fewer way))
     way_now = ap (λ (x : WorkflowState). x.way) is.workflow
 
-    one_less : next_step (fewer way) ≡ last_step way
-    one_less =
-        let ne : way.done ≢ 0 = eqb-false way.done 0 some in
-        let e : first_step way + (way.done - 1) ≡ next_place way - 1 = omega (arith, ne) in
-        ap (step_at_place way) e
-
     -- a step that still stands done is not the one undone
     not_this : (n : ℕ) → stands_done (fewer way) n ≡ true → eqb (number this) n ≡ false
     not_this n done_now = false_from_ne_true (eqb (number this) n) (λ t.
         let same : last_step way ≡ n = sym is_last ∙ eqb-true (number this) n t in
-        true≢false (sym done_now ∙ undone_by (fewer way) n n (one_less ∙ same) (omega arith)))
+        true≢false (sym done_now ∙ undone_by (fewer way) n n (last_fewer way some ∙ same) (omega arith)))
 
     module _ (goes : eqb (way.done - 1) 0 ≡ false) where
       still_open : now.way ≡ Some (fewer way)
@@ -120,11 +112,11 @@ module _ (p : Plain) (scopes : List Scope) (s : SiteState) (stands : SiteStands 
           ∙ gives.entries n (was_done way n done_now)
           ∙ sym (entries_keep w now keeps before_now way.before n)
 
-      listed_give : stands_done (fewer way) refresh_source ≡ true → listed_at log 0 ≡ Some (map (λ table. (table, false)) now.tables)
-      listed_give done_now =
-          ap (λ (x : UndoState). listed_at x 0) is.log
-          ∙ ap (λ (l : List (Option Marks)). slice_index_or l 0 None) (listed_left this (last_shard way) o.log.listed (not_this refresh_source done_now))
-          ∙ gives.listed (was_done way refresh_source done_now) ∙ ap (λ ts. Some (map (λ table. (table, false)) ts)) (sym keeps.tables)
+      listed_give : (shard : ℕ) → shard < lists_of (fewer way) → stands_done_at (fewer way) refresh_source shard ≡ true → listed_at log shard ≡ Some (map (λ table. (table, false)) now.tables)
+      listed_give shard below done_now =
+          ap (λ (x : UndoState). listed_at x shard) is.log
+          ∙ left_at this (last_shard way) o.log.listed shard (ap (λ n. eqb n refresh_source && eqb (last_shard way) shard) is_last ∙ not_last way shard (eqb-false way.done 0 some) below done_now)
+          ∙ gives.listed shard below (was_done_at way refresh_source shard done_now) ∙ ap (λ ts. Some (map (λ table. (table, false)) ts)) (sym keeps.tables)
 
       slots_give : (live : Live) → live ≡ live_undone v way → stands_done (fewer way) create_back ≡ true → log.slots ≡ map (saved live way) live.lanes
       slots_give live is_undone done_now =
@@ -144,7 +136,7 @@ module _ (p : Plain) (scopes : List Scope) (s : SiteState) (stands : SiteStands 
       open_now : (live : Live) → live ≡ live_undone v way → IsOpenOn sides.journal live now (fewer way) u
       open_now live is_undone = record {
         kept = undone_log way this s.core.topology sides.topology w now taken log [] (recorded_of w (number this) o.log.entries) is.topology is.workflow is.log
-            (taken_log w this (last_shard way) o.log taken refl kept_before.kept);
+            (taken_log w this (last_shard way) o.log kept_before.kept);
         unused = λ f. ap (λ es. entry_of es o.number) is.journal ∙ kept_before.unused not_written;
         undo = λ f. record { entries = entries_give; listed = listed_give; slots = slots_give live is_undone };
       }

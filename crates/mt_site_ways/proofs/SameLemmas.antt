@@ -1,12 +1,11 @@
 -- A step that is refused leaves the controller as it was.
-use Rattle.std.proofs.Common.{◌≡◌, ℕ, true, List, Option, None, Some, is_some, Result, Ok, Err, refl, sym, ap, ◌∙◌, subst}
+use Rattle.std.proofs.Common.{◌≡◌, ℕ, List, Option, None, Some, Result, Ok, Err, refl, sym, ap, ◌∙◌, subst}
 use Rattle.std.specs.Bool.{⊤}
-use Rattle.std.specs.Map.{set_value}
-use Rattle.mt_names.specs.Names.{same_text}
 use Rattle.mt_model.specs.declared.entries.Scope.{Scope}
 use Rattle.mt_plain.specs.Events.{done, refused, Refusal, Way}
 use Rattle.mt_plain.specs.Plain.{Live, Plain, live_at, next_step}
-use Rattle.mt_primary.specs.Primary.{empty_primary}
+use Rattle.mt_primaries.proofs.PrimaryLemmas.{with_primary-same, with_shards-same}
+use Rattle.mt_primaries.specs.Primaries.{Primaries, primary_of, shards_of, with_shards}
 use Rattle.mt_watch.specs.Asking.{Answering}
 use Rattle.mt_workflow.specs.Workflows.{WorkflowState}
 use Rattle.mt_steps.specs.declared.fault.StepFault.{StepFault}
@@ -14,27 +13,24 @@ use Rattle.mt_steps.specs.declared.log.OpenWay.{OpenWay}
 use Rattle.mt_steps.specs.Plans.{step_at}
 use Rattle.mt_steps.specs.Steps.{SidesState, Steps}
 use Rattle.mt_steps.specs.Undo.{UndoState}
-use Rattle.mt_laws.specs.Reached.{IsInPlace}
-use Rattle.mt_site_state.specs.Core.{Primaries, Workflows, primary_at, primary_of, workflow_at}
+use Rattle.mt_site_state.specs.Core.{Workflows, workflow_at}
 use Rattle.mt_site_state.specs.Stands.{StandsFor}
-use Rattle.mt_site_state.specs.Switching.{OrRefused, StepsAt, StepsKept, StepsWay, StepsWorkflow, answer_by_step, open_after, sides_of, step_refusal, with_sides}
+use Rattle.mt_site_state.specs.Switching.{OrRefused, StepsAt, StepsKept, StepsWay, StepsWorkflow, answer_by_step, open_after, sides_of, step_refusal, with_primaries, with_sides}
 use Rattle.mt_site_state.specs.Ways.{OpenWays, SiteState, SiteStands, open_at}
-use Rattle.mt_site_ways.proofs.FoundLemmas.{live_found, set_value-same, there_by}
+use Rattle.mt_site_ways.proofs.FoundLemmas.{live_found, set_value-same}
+
+-- the primaries with what was there set again
+pub primaries_same : (primaries : Primaries) (w : WorkflowState) → with_primaries primaries w (primary_of primaries w.source 0) (shards_of primaries w.target).each ≡ primaries
+primaries_same primaries w = ap (λ ps. with_shards ps w.target (shards_of primaries w.target).each) (with_primary-same primaries w.source 0) ∙ with_shards-same primaries w.target
 
 -- the controller with what was there set again
 module _ (s : SiteState) (w : WorkflowState) (way : Way) (o : OpenWay) (opens : w.way ≡ Some way) (found : workflow_at s.core.workflows w.name ≡ Some w)
-    (source : is_some (primary_at s.core.primaries w.source) ≡ true) (target : is_some (primary_at s.core.primaries w.target) ≡ true) (kept : open_at s.ways.opened w.name ≡ Some o) where
-  primaries_same : set_value (same_text w.target) (set_value (same_text w.source) s.core.primaries (primary_of s.core.primaries w.source)) (primary_of s.core.primaries w.target) ≡ s.core.primaries
-  primaries_same =
-      ap (λ (ps : Primaries). set_value (same_text w.target) ps (primary_of s.core.primaries w.target))
-      (set_value-same s.core.primaries w.source (primary_of s.core.primaries w.source) (there_by (primary_at s.core.primaries w.source) empty_primary source))
-      ∙ set_value-same s.core.primaries w.target (primary_of s.core.primaries w.target) (there_by (primary_at s.core.primaries w.target) empty_primary target)
-
+    (kept : open_at s.ways.opened w.name ≡ Some o) where
   open_same : open_after s.ways.opened w.name o w.way ≡ s.ways.opened
   open_same = ap (open_after s.ways.opened w.name o) opens ∙ set_value-same s.ways.opened w.name o kept
 
   pub sides_same : with_sides s w (sides_of s w) o ≡ s
-  sides_same = by _ primaries_same _ (set_value-same s.core.workflows w.name w found) _ open_same
+  sides_same = by _ (primaries_same s.core.primaries w) _ (set_value-same s.core.workflows w.name w found) _ open_same
     where
       by : (ps : Primaries) → ps ≡ s.core.primaries → (ws : Workflows) → ws ≡ s.core.workflows → (os : OpenWays) → os ≡ s.ways.opened
           → record { core = record { topology = s.core.topology; primaries = ps; workflows = ws }; ways = record s.ways { opened = os; journal = s.ways.journal } } ≡ s
@@ -43,19 +39,10 @@ module _ (s : SiteState) (w : WorkflowState) (way : Way) (o : OpenWay) (opens : 
 -- ---- whatever refuses it
 
 module _ (p : Plain) (scopes mine : List Scope) (may_answer : Answering) (old new : SiteState) (stands : SiteStands p scopes old)
-    (named : (name : List ℕ) (w : Live) → live_at p name ≡ Some w → w.name ≡ name) (placed : (name : List ℕ) (w : Live) → live_at p name ≡ Some w → IsInPlace p.topology w)
-    (workflow : List ℕ) (at : ℕ) (r : Refusal) where
+    (named : (name : List ℕ) (w : Live) → live_at p name ≡ Some w → w.name ≡ name) (workflow : List ℕ) (at : ℕ) (r : Refusal) where
   module _ (w : WorkflowState) (found : workflow_at old.core.workflows workflow ≡ Some w) (live : Live) (is_live : live_at p workflow ≡ Some live) (for : StandsFor p live w) where
     found_here : workflow_at old.core.workflows w.name ≡ Some w
     found_here = subst (λ n. workflow_at old.core.workflows n ≡ Some w) (sym (named workflow live is_live) ∙ for.sides.name) found
-
-    source_there : is_some (primary_at old.core.primaries w.source) ≡ true
-    source_there =
-        subst (λ k. is_some (primary_at old.core.primaries k) ≡ true) for.sides.source (stands.core.primaries.there live.source ∙ (placed workflow live is_live).sides.source)
-
-    target_there : is_some (primary_at old.core.primaries w.target) ≡ true
-    target_there =
-        subst (λ k. is_some (primary_at old.core.primaries k) ≡ true) for.sides.target (stands.core.primaries.there live.target ∙ (placed workflow live is_live).sides.target)
 
     module _ (way : Way) (opens : w.way ≡ Some way) where
       failed : (o : OpenWay) → open_at old.ways.opened w.name ≡ Some o → (result : Result ⊤ StepFault) (sides : SidesState) (log : UndoState)
@@ -64,7 +51,7 @@ module _ (p : Plain) (scopes mine : List Scope) (may_answer : Answering) (old ne
       failed o kept (Ok made) sides log steps is same = absurd (let never : refused r ≡ done = is in cc)
       failed o kept (Err f) sides log steps is same =
           same ∙ ap (λ x. with_sides old w x (record { number = o.number; log = log })) steps.1 ∙ ap (λ x. with_sides old w (sides_of old w) (record { number = o.number; log = x })) steps.2
-          ∙ sides_same old w way o opens found_here source_there target_there kept
+          ∙ sides_same old w way o opens found_here kept
 
       kept_same : (k : Option OpenWay) → open_at old.ways.opened w.name ≡ k → StepsKept k old mine may_answer w way (refused r) new → new ≡ old
       kept_same None kept is = absurd is

@@ -1,55 +1,57 @@
--- The primaries of two keyspaces are set, one after the other.
-use Rattle.std.proofs.Common.{◌≡◌, ◌≢◌, ℕ, true, List, length, Option, is_some, sym, ap, ◌∙◌, subst, ⊎_elim}
-use Rattle.std.proofs.lemmas.Map.{length-set_value}
-use Rattle.std.specs.Map.{set_value}
-use Rattle.std.specs.Prelude.{unwrap_or}
+-- The primaries of two keyspaces become others: that of the first shard of one, and all of the other's.
+use Rattle.std.proofs.Common.{◌≡◌, ◌≢◌, ℕ, ◌<◌, true, List, length, sym, ap, ◌∙◌, subst, ⊎_elim, arith}
 use Rattle.mt_names.specs.Names.{same_text}
-use Rattle.mt_names.proofs.EntryLemmas.{is_some-set_value, lookup-set_value_elsewhere, lookup-set_value_here, same_or_other, some_from}
+use Rattle.mt_names.proofs.EntryLemmas.{same_or_other}
 use Rattle.mt_names.proofs.SameLemmas.{same_text_decides}
-use Rattle.mt_primary.specs.Primary.{PrimaryState, empty_primary}
-use Rattle.mt_site_state.specs.Core.{Primaries, primary_at, primary_of}
+use Rattle.mt_primaries.proofs.PrimaryLemmas.{count-with_primary, count-with_shards, cuts-with_primary, cuts-with_shards, has-with_primary, has-with_shards, length-with_primary, length-with_shards, of-with_shards_here, primary-with_shards_elsewhere, with_primary-here, with_primary-other}
+use Rattle.mt_primaries.specs.Primaries.{Primaries, count_of, has_primaries, primary_in, primary_of, shards_of, with_primary, with_shards}
+use Rattle.mt_primary.specs.Primary.{PrimaryState}
+use Rattle.mt_steps.specs.Shards.{target_at}
 
-abbrev or_empty : Option PrimaryState → PrimaryState
-or_empty o = unwrap_or o empty_primary
-
-module _ (old : Primaries) (source target : List ℕ) (at_source at_target : PrimaryState) where
+module _ (old : Primaries) (source target : List ℕ) (at_source : PrimaryState) (targets : List PrimaryState) where
   abbrev first : Primaries
-  first = set_value (same_text source) old at_source
+  first = with_primary old source 0 at_source
 
   abbrev pub both_set : Primaries
-  both_set = set_value (same_text target) (set_value (same_text source) old at_source) at_target
+  both_set = with_shards (with_primary old source 0 at_source) target targets
 
-  pub both_there : (keyspace : List ℕ) → is_some (primary_at both_set keyspace) ≡ is_some (primary_at old keyspace)
-  both_there keyspace = is_some-set_value same_text first target keyspace at_target ∙ is_some-set_value same_text old source keyspace at_source
+  pub both_there : (keyspace : List ℕ) → has_primaries both_set keyspace ≡ has_primaries old keyspace
+  both_there keyspace = has-with_shards first target targets keyspace ∙ has-with_primary old source 0 at_source keyspace
 
-  pub both_count : length both_set ≡ length old
-  both_count = length-set_value (same_text target) first at_target ∙ length-set_value (same_text source) old at_source
+  pub both_length : length both_set ≡ length old
+  both_length = length-with_shards first target targets ∙ length-with_primary old source 0 at_source
 
-  module _ (apart : source ≢ target) (source_there : is_some (primary_at old source) ≡ true) (target_there : is_some (primary_at old target) ≡ true) where
-    target_now : primary_of both_set target ≡ at_target
-    target_now =
-        let (state, found) = some_from (primary_at first target) (is_some-set_value same_text old source target at_source ∙ target_there) in
-        ap or_empty (lookup-set_value_here same_text same_text_decides first target at_target state found)
+  pub both_cuts : (keyspace : List ℕ) → (shards_of both_set keyspace).cuts ≡ (shards_of old keyspace).cuts
+  both_cuts keyspace = cuts-with_shards first target targets keyspace ∙ cuts-with_primary old source 0 at_source keyspace
 
-    source_now : primary_of both_set source ≡ at_source
-    source_now =
-        let (state, found) = some_from (primary_at old source) source_there in
-        ap or_empty
-        (lookup-set_value_elsewhere same_text same_text_decides first target source at_target (λ e. apart (sym e))
-        ∙ lookup-set_value_here same_text same_text_decides old source at_source state found)
+  module _ (long : length targets ≡ count_of old target) where
+    pub both_counts : (keyspace : List ℕ) → count_of both_set keyspace ≡ count_of old keyspace
+    both_counts keyspace =
+        count-with_shards first target targets (long ∙ sym (count-with_primary old source 0 at_source target)) keyspace ∙ count-with_primary old source 0 at_source keyspace
 
-    others_now : (keyspace : List ℕ) → source ≢ keyspace → target ≢ keyspace → primary_of both_set keyspace ≡ primary_of old keyspace
-    others_now keyspace s t =
-        ap or_empty
-        (lookup-set_value_elsewhere same_text same_text_decides first target keyspace at_target t
-        ∙ lookup-set_value_elsewhere same_text same_text_decides old source keyspace at_source s)
+  module _ (apart : source ≢ target) (one : count_of old source ≡ 1) (target_there : has_primaries old target ≡ true) where
+    source_now : primary_of both_set source 0 ≡ at_source
+    source_now = primary-with_shards_elsewhere first target targets source 0 (λ e. apart (sym e)) ∙ with_primary-here old source 0 at_source (omega (arith, one))
 
-    -- what holds of the two, and of the others as they were, holds of each
-    pub of_each : (P : List ℕ → PrimaryState → Type 0) → P source at_source → P target at_target
-        → ((keyspace : List ℕ) → source ≢ keyspace → target ≢ keyspace → P keyspace (primary_of old keyspace)) → (keyspace : List ℕ) → P keyspace (primary_of both_set keyspace)
-    of_each P s t others keyspace =
-        ⊎_elim (λ e. subst (λ k. P k (primary_of both_set k)) e (subst (P source) (sym source_now) s)) (λ no_source.
-        ⊎_elim (λ e. subst (λ k. P k (primary_of both_set k)) e (subst (P target) (sym target_now) t)) (λ no_target.
-        subst (P keyspace) (sym (others_now keyspace no_source no_target)) (others keyspace no_source no_target))
-        (same_or_other same_text same_text_decides target keyspace))
-        (same_or_other same_text same_text_decides source keyspace)
+    target_now : (n : ℕ) → primary_of both_set target n ≡ target_at targets n
+    target_now n = ap (λ s. primary_in s n) (of-with_shards_here first target targets (has-with_primary old source 0 at_source target ∙ target_there))
+
+    others_now : (keyspace : List ℕ) (n : ℕ) → source ≢ keyspace → target ≢ keyspace → primary_of both_set keyspace n ≡ primary_of old keyspace n
+    others_now keyspace n s t = primary-with_shards_elsewhere first target targets keyspace n t ∙ with_primary-other old source 0 at_source keyspace n (λ e same. s e)
+
+    -- what holds of these, and of the others as they were, holds of each
+    pub of_each : (P : List ℕ → ℕ → PrimaryState → Type 0) → P source 0 at_source → ((n : ℕ) → n < count_of old target → P target n (target_at targets n))
+        → ((keyspace : List ℕ) (n : ℕ) → source ≢ keyspace → target ≢ keyspace → n < count_of old keyspace → P keyspace n (primary_of old keyspace n))
+        → (keyspace : List ℕ) (n : ℕ) → n < count_of old keyspace → P keyspace n (primary_of both_set keyspace n)
+    of_each P s t others keyspace n within =
+        ⊎_elim here (λ no_source. ⊎_elim there (λ no_target. subst (P keyspace n) (sym (others_now keyspace n no_source no_target)) (others keyspace n no_source no_target within))
+        (same_or_other same_text same_text_decides target keyspace)) (same_or_other same_text same_text_decides source keyspace)
+      where
+        only : (m : ℕ) → m ≡ 0 → P source m (primary_of both_set source m)
+        only m e = subst (λ k. P source k (primary_of both_set source k)) (sym e) (subst (P source 0) (sym source_now) s)
+
+        here : source ≡ keyspace → P keyspace n (primary_of both_set keyspace n)
+        here e = subst (λ k. P k n (primary_of both_set k n)) e (only n (let lt : n < count_of old source = subst (λ k. n < count_of old k) (sym e) within in omega (arith, lt, one)))
+
+        there : target ≡ keyspace → P keyspace n (primary_of both_set keyspace n)
+        there e = subst (λ k. P k n (primary_of both_set k n)) e (subst (P target n) (sym (target_now n)) (t n (subst (λ k. n < count_of old k) (sym e) within)))

@@ -1,6 +1,6 @@
 -- What a step may be refused for is what the definitions refuse it for.
 use Rattle.std.proofs.Common.{◌≡◌, ℕ, ◌<◌, Bool, true, false, not, cond, eqb, ◌||◌, List, [], ◌∷◌, length, slice_get, Option, None, Some, Ok, Err, refl, sym, ap, ◌∙◌, subst, arith}
-use Rattle.std.proofs.lemmas.Bool.{le-leb, lt-leb}
+use Rattle.std.proofs.lemmas.Bool.{le-leb, lt-leb, true≢false}
 use Rattle.std.specs.List.{list_any}
 use Rattle.std.specs.Option.{option_map_or}
 use Rattle.std.specs.Prelude.{◌&&◌, ◌==◌, if◌then◌else◌, nat_lt, option_and_then}
@@ -10,10 +10,10 @@ use Rattle.mt_model.specs.declared.entries.Scope.TheVariants as scope
 use Rattle.mt_model.specs.Topology.{Marks, TopologyState}
 use Rattle.mt_plain.specs.Answers.{Refuses}
 use Rattle.mt_plain.specs.Events.{StreamName, Slot, Way, step, not_level, no_watcher, full}
-use Rattle.mt_plain.specs.Plain.{Live, Plain, catch_up, changes_primary, create_back, live_at, next_step, owner, refresh_source, refresh_target, switch_reads, write_journal}
-use Rattle.mt_plain.specs.Refuse.{asked_by_step, asked_keyspace, is_behind, is_next_step, is_of_primary, may_grow, most_journal_entries, new_owner, old_owner, own_refusal, refusal_of, refuse_if, steps_that_grow, watcher_refusal, will_read_other_side}
-use Rattle.mt_plain.specs.Slots.{read_side, slot_of}
-use Rattle.mt_primary.specs.Primary.{PrimaryState}
+use Rattle.mt_plain.specs.Plain.{Lane, Live, Plain, catch_up, changes_primary, create_back, lane_at, live_at, next_step, owner, refresh_source, refresh_target, switch_reads, write_journal}
+use Rattle.mt_plain.specs.Refuse.{asked_by_step, asked_keyspace, is_behind, is_next_step, is_of_primary, lane_is_behind, may_grow, most_journal_entries, new_owner, old_owner, own_refusal, refusal_of, refuse_if, steps_that_grow, watcher_refusal, will_read_other_side}
+use Rattle.mt_plain.specs.Slots.{read_shard, read_side, slot_of}
+use Rattle.mt_primaries.specs.Primaries.{Primaries, primary_of, shards_of}
 use Rattle.mt_stream.specs.Streams.{is_level}
 use Rattle.mt_watch.specs.Asking.{Answering}
 use Rattle.mt_watch.specs.Scopes.{has_scope}
@@ -29,9 +29,9 @@ use Rattle.mt_steps.specs.Refreshes.{Sites}
 use Rattle.mt_steps.specs.Shards.{next_shard}
 use Rattle.mt_steps.specs.Steps.{Attempts, Journals, answer_if_level, journal_entry}
 use Rattle.mt_laws.specs.Reached.{HandsOver, IsOnCourse}
+use Rattle.mt_laws.proofs.LaneLemmas.{IsNumbered}
 use Rattle.mt_site_rows.specs.Rows.{stream_of}
 use Rattle.mt_site_state.specs.Stands.{StandsFor}
-use Rattle.mt_site_state.proofs.ShardLemmas.{no_cuts}
 use Rattle.mt_site_ways.proofs.LevelLemmas.{caught_same, reads_same}
 use Rattle.mt_site_ways.proofs.RefreshLemmas.{WhyRefused, not_refreshed, refreshed, same_watchers, watched_by, watcher_of}
 
@@ -63,13 +63,13 @@ module _ (p : Plain) (live : Live) (w : WorkflowState) (for : StandsFor p live w
 
 -- ---- by the step
 
-module _ (p : Plain) (live : Live) (w : WorkflowState) (for : StandsFor p live w) (way : Way) (opens : live.way ≡ Some way) (course : IsOnCourse live way)
-    (hands : changes_primary way ≡ true → HandsOver live way) (at : List ℕ → PrimaryState)
-    (level : (stream : StreamName) (slot : Slot) → slot_of live for.lane stream ≡ Some slot → read_side live stream ≡ owner live
-    → is_level (stream_of live for.lane slot) (at (read_side live stream)) ≡ not (is_behind p live))
+module _ (p : Plain) (live : Live) (w : WorkflowState) (for : StandsFor p live w) (numbered : IsNumbered live) (way : Way) (opens : live.way ≡ Some way) (course : IsOnCourse live way)
+    (hands : changes_primary way ≡ true → HandsOver live way) (primaries : Primaries)
+    (level : (shard : ℕ) (lane : Lane) → lane_at live shard ≡ Some lane → (stream : StreamName) (slot : Slot) → slot_of live lane stream ≡ Some slot → read_side live stream ≡ owner live
+    → is_level (stream_of live lane slot) (primary_of primaries (read_side live stream) (read_shard lane stream)) ≡ not (lane_is_behind p live lane))
     (journal : List JournalEntry) (entries : length journal ≡ p.journal) (mine : List Scope) (may_answer : Answering) (id : ℕ) (t : TopologyState) (listed : Option Marks) where
   abbrev pub sites_now : Sites
-  sites_now = record { source = at w.source; targets = at w.target ∷ []; journal = journal; listed = listed }
+  sites_now = record { source = primary_of primaries w.source 0; targets = (shards_of primaries w.target).each; journal = journal; listed = listed }
 
   room : length journal < most_journal_entries → own_refusal p live way write_journal ≡ None
   room less = ap (λ b. refuse_if b full) (lt-leb most_journal_entries p.journal (omega (arith, less, entries)))
@@ -84,9 +84,9 @@ module _ (p : Plain) (live : Live) (w : WorkflowState) (for : StandsFor p live w
         watched p keyspace (sym (same_watchers keyspace p.scopes) ∙ wide keyspace (subst (λ k. has_scope mine (scope.Primary k) ≡ true) (sym same) has))
 
     pub taken : (s : Step) → number s ≡ next_step way → (new : Sites) → Attempts mine may_answer id t w way s sites_now (Ok tt) new → own_refusal p live way (number s) ≡ None
-    taken SwitchReads n new is = passes_level (will_read_other_side live way && is_behind p live) _ (reads_same p live w for way opens course at level n) (sym is.0)
+    taken SwitchReads n new is = passes_level (will_read_other_side live way && is_behind p live) _ (reads_same p live w for numbered way opens course primaries level n) (sym is.0)
     taken RefreshSource n new is = asked_there (old_owner live) _ (old_is p live w for way opens) (refreshed mine may_answer t w sites_now new way.before.primary (next_shard way) is)
-    taken CatchUp n new is = passes_level (is_behind p live) _ (caught_same p live w for way opens course at level hands n) (sym is.0)
+    taken CatchUp n new is = passes_level (is_behind p live) _ (caught_same p live w for numbered way opens course primaries level hands n) (sym is.0)
     taken Journal n new is = room is.0.0
     taken RefreshTarget n new is = asked_there (new_owner live) _ (new_is p live w for way opens) (refreshed mine may_answer t w sites_now new (not way.before.primary) (next_shard way) is)
     taken other n new is = refl
@@ -97,12 +97,22 @@ module _ (p : Plain) (live : Live) (w : WorkflowState) (for : StandsFor p live w
     own_by : (n : ℕ) → n ≡ next_step way → refusal_of p (step workflow count) ≡ own_refusal p live way n
     own_by n is = same ∙ ap (own_refusal p live way) (sym is)
 
-    grows : (n : ℕ) → n ≡ next_step way → may_grow p (step workflow count) ≡ (eqb n refresh_source || (eqb n write_journal || (eqb n refresh_target || false)))
-    grows n is =
+    grows : (n : ℕ) → n ≡ next_step way → (eqb n refresh_source || (eqb n write_journal || (eqb n refresh_target || false))) ≡ true → may_grow p (step workflow count) ≡ true
+    grows n is one =
         ap (λ l. option_map_or (λ v. list_any (is_next_step v) (steps_that_grow v)) l false) is_live
-        ∙ ap (λ cuts. list_any (is_next_step live) (refresh_source ∷ write_journal ∷ refresh_target ∷ (if nat_lt 1 (shard_count cuts) then create_back ∷ [] else []))) (no_cuts p live w for)
-        ∙ ap (λ o. list_any (λ m. option_map_or (λ (v : Way). next_step v == m) o false) (refresh_source ∷ write_journal ∷ refresh_target ∷ [])) opens
-        ∙ ap (λ m. eqb m refresh_source || (eqb m write_journal || (eqb m refresh_target || false))) (sym is)
+        ∙ ap (λ o. list_any (λ m. option_map_or (λ (v : Way). next_step v == m) o false) (steps_that_grow live)) opens
+        ∙ ap (λ m. eqb m refresh_source || (eqb m write_journal || (eqb m refresh_target || list_any (eqb m) more))) (sym is)
+        ∙ by (eqb n refresh_source) (eqb n write_journal) (eqb n refresh_target) one
+      where
+        -- with several shards the step that makes their streams is one of these too
+        more : List ℕ
+        more = if nat_lt 1 (shard_count live.cuts) then create_back ∷ [] else []
+
+        by : (a b c : Bool) → (a || (b || (c || false))) ≡ true → (a || (b || (c || list_any (eqb n) more))) ≡ true
+        by true b c e = refl
+        by false true c e = refl
+        by false false true e = refl
+        by false false false e = absurd (true≢false (sym e))
 
     asked : (n : ℕ) → n ≡ next_step way → asked_keyspace p (step workflow count) ≡ cond (eqb n refresh_source) (Some (old_owner live)) (cond (eqb n refresh_target) (Some (new_owner live)) None)
     asked n is =
@@ -118,7 +128,7 @@ module _ (p : Plain) (live : Live) (w : WorkflowState) (for : StandsFor p live w
 
     journal_refused : (n : write_journal ≡ next_step way) (f : StepFault) (e : JournalEntry) (new : List JournalEntry) → Journals e journal (Err f) new → Refuses p (step workflow count) (steps.refusal_of f)
     journal_refused n fault.Full e new is = own_by write_journal n ∙ no_room is.0
-    journal_refused n fault.Memory e new is = (own_by write_journal n ∙ room is.0, grows write_journal n)
+    journal_refused n fault.Memory e new is = (own_by write_journal n ∙ room is.0, grows write_journal n refl)
     journal_refused n other e new is = absurd is
 
     module _ (keyspace : List ℕ) (tests : refusal_of p (step workflow count) ≡ watcher_refusal p keyspace) (may : may_grow p (step workflow count) ≡ true)
@@ -139,13 +149,13 @@ module _ (p : Plain) (live : Live) (w : WorkflowState) (for : StandsFor p live w
     pub not_taken : (s : Step) → number s ≡ next_step way → (f : StepFault) (new : Sites) → Attempts mine may_answer id t w way s sites_now (Err f) new
         → Refuses p (step workflow count) (steps.refusal_of f)
     not_taken SwitchReads n f new is =
-        level_refused (will_read_other_side live way && is_behind p live) _ (reads_same p live w for way opens course at level n) (own_by switch_reads n) f (sym is.0)
+        level_refused (will_read_other_side live way && is_behind p live) _ (reads_same p live w for numbered way opens course primaries level n) (own_by switch_reads n) f (sym is.0)
     not_taken RefreshSource n f new is =
-        refresh_refused (old_owner live) (own_by refresh_source n) (grows refresh_source n) (asked refresh_source n) f
+        refresh_refused (old_owner live) (own_by refresh_source n) (grows refresh_source n refl) (asked refresh_source n) f
         (subst (λ k. WhyRefused mine k f) (sym (old_is p live w for way opens)) (not_refreshed mine may_answer t w sites_now new way.before.primary (next_shard way) f is))
-    not_taken CatchUp n f new is = level_refused (is_behind p live) _ (caught_same p live w for way opens course at level hands n) (own_by catch_up n) f (sym is.0)
-    not_taken Journal n f new is = journal_refused n f (journal_entry id w way (at w.source) (at w.target ∷ [])) new.journal is.0
+    not_taken CatchUp n f new is = level_refused (is_behind p live) _ (caught_same p live w for numbered way opens course primaries level hands n) (own_by catch_up n) f (sym is.0)
+    not_taken Journal n f new is = journal_refused n f (journal_entry id w way (primary_of primaries w.source 0) (shards_of primaries w.target).each) new.journal is.0
     not_taken RefreshTarget n f new is =
-        refresh_refused (new_owner live) (own_by refresh_target n) (grows refresh_target n) (asked refresh_target n) f
+        refresh_refused (new_owner live) (own_by refresh_target n) (grows refresh_target n refl) (asked refresh_target n) f
         (subst (λ k. WhyRefused mine k f) (sym (new_is p live w for way opens)) (not_refreshed mine may_answer t w sites_now new (not way.before.primary) (next_shard way) f is))
     not_taken other n f new is = absurd (let h : Ok tt ≡ Err f = sym is.0 in cc)

@@ -1,12 +1,13 @@
 -- What a step and an undo write in the topology leads to one that stands for the next state.
-use Rattle.std.proofs.Common.{◌≡◌, ℕ, ◌<◌, ◌≤◌, Bool, true, false, cond, eqb, List, Option, None, Some, refl, sym, ap, ◌∙◌, subst, eqb-true}
+use Rattle.std.proofs.Common.{◌≡◌, ℕ, ◌<◌, Bool, true, false, cond, eqb, List, Option, None, Some, refl, sym, ap, ◌∙◌, subst, eqb-true}
+use Rattle.std.proofs.lemmas.Bool.{eqb-false}
 use Rattle.mt_laws.proofs.StepUndoneLemmas.{nothing_done}
 use Rattle.std.specs.Option.{option_map_or}
 use Rattle.mt_model.specs.declared.entries.EntryKey.{EntryKey}
 use Rattle.mt_model.specs.Part.{with_entries}
 use Rattle.mt_model.specs.Topology.{TopologyState, value_of}
 use Rattle.mt_plain.specs.Events.{Way}
-use Rattle.mt_plain.specs.Plain.{Live, Plain, behind_last, has_part, last_step, live_at, next_step, part_owner, stands_done}
+use Rattle.mt_plain.specs.Plain.{Live, Plain, behind_last, has_part, last_step, live_at, next_step, part_owner, repeated_step, stands_done}
 use Rattle.mt_plain.specs.Serve.{serve, served_by, served_entry, step_of_entry, types_by}
 use Rattle.mt_laws.specs.Effects.{entry_undone}
 use Rattle.mt_site_topology.proofs.PartLemmas.{part_entry}
@@ -19,7 +20,8 @@ use Rattle.mt_steps.specs.Entries.{recorded_of, step_entries}
 use Rattle.mt_steps.specs.Plans.{number, step_at}
 use Rattle.mt_steps.specs.Undo.{UndoState}
 use Rattle.mt_workflow.specs.Workflows.{WorkflowState}
-use Rattle.mt_site_ways.proofs.EntryLemmas.{entries_joined, last_done, last_numbered, next_numbered}
+use Rattle.mt_site_ways.proofs.EntryLemmas.{entries_joined, last_numbered, next_numbered, none_repeated}
+use Rattle.mt_site_ways.proofs.PlaceLemmas.{last_stands}
 
 -- ---- the live workflow for which one stands
 
@@ -50,11 +52,16 @@ module _ (p q : Plain) (t : TopologyState) (w : WorkflowState) (v : Live) (for :
       subst (λ es. TopologyStands q (with_entries t es))
       (sym (ap (step_entries w way.after) (next_numbered way within) ∙ entries_joined p w v for way.after (next_step way))) stands
 
-  pub undo_leaves : way.shards ≤ 1 → (log : UndoState) → GivesBack v w way log → eqb way.done 0 ≡ false → TopologyStands q (with_entries t (live.step_entries w.kept v way.before (last_step way)))
+  pub undo_leaves : (log : UndoState) → GivesBack v w way log → eqb way.done 0 ≡ false → TopologyStands q (with_entries t (live.step_entries w.kept v way.before (last_step way)))
       → TopologyStands q (with_entries t (recorded_of w (number (step_at (last_step way))) log.entries))
-  undo_leaves one log gives some stands =
+  undo_leaves log gives some stands =
       subst (λ es. TopologyStands q (with_entries t es))
-      (sym (ap (λ n. recorded_of w n log.entries) (last_numbered way within) ∙ gives.entries (last_step way) (last_done way one some) ∙ entries_joined p w v for way.before (last_step way))) stands
+      (sym (ap (λ n. recorded_of w n log.entries) (last_numbered way within) ∙ by (eqb (last_step way) (repeated_step way)) refl ∙ entries_joined p w v for way.before (last_step way))) stands
+    where
+      -- of a refresh that is repeated, and so may stand done for some shards alone, nothing is recorded
+      by : (b : Bool) → eqb (last_step way) (repeated_step way) ≡ b → recorded_of w (last_step way) log.entries ≡ step_entries w way.before (last_step way)
+      by true b = none_repeated w way.before way (last_step way) (eqb-true (last_step way) (repeated_step way) b) log.entries
+      by false b = gives.entries (last_step way) (last_stands way some (eqb-false (last_step way) (repeated_step way) b))
 
 -- ---- a way of which no step stands done
 

@@ -1,8 +1,8 @@
 -- What begins, steps and undos leave of the workflows.
-use Rattle.std.proofs.Common.{◌≡◌, ◌≢◌, ℕ, suc, ◌-◌, ◌<◌, ◌≤◌, Bool, true, false, cond, eqb, length, List, map, Option, None, Some, option_map, refl, sym, ap, ◌∙◌, subst, arith}
+use Rattle.std.proofs.Common.{◌≡◌, ◌≢◌, ◌⊎◌, inl, inr, ℕ, suc, ◌-◌, ◌<◌, ◌≤◌, Bool, true, false, cond, eqb, List, map, Option, None, Some, option_map, refl, sym, ap, ◌∙◌, subst, arith}
 use Rattle.mt_site_ways.specs.Ends.{ends_of, log_end_for}
 use Rattle.mt_site_ways.proofs.EntryLemmas.{none_last}
-use Rattle.mt_plain.proofs.PlaceLemmas.{one-last, one-next}
+use Rattle.mt_plain.proofs.PlaceLemmas.{step-first}
 use Rattle.std.specs.Map.{set_value}
 use Rattle.std.specs.Option.{option_map_or}
 use Rattle.std.specs.Prelude.{◌||◌}
@@ -12,22 +12,23 @@ use Rattle.mt_names.specs.Shards.{shard_count}
 use Rattle.mt_plain.specs.Answers.{range_at}
 use Rattle.mt_plain.specs.Events.{StreamName, forward, back, running, Slot, Way}
 use Rattle.mt_plain.specs.Next.{closes, lane_stepped, live_stepped, live_undone, on_way_of, way_undone, with_step, with_undo, with_way, with_way_to}
-use Rattle.mt_plain.specs.Plain.{Copied, Lane, Live, Plain, behind_last, changes_primary, create_back, last_step, live_at, next_step, stands_done, stop_feeding, write_journal}
+use Rattle.mt_plain.specs.Plain.{Copied, Lane, Live, Plain, behind_last, changes_primary, create_back, last_step, live_at, next_place, next_step, refresh_source, refresh_target, repeated_step, stands_done, stop_feeding, write_journal}
 use Rattle.mt_plain.specs.Slots.{is_feeding, slot_before_way}
 use Rattle.mt_plain.specs.Slots as plain
 use Rattle.mt_laws.specs.Effects.{in_state, slot_stepped, slot_undone}
 use Rattle.mt_laws.specs.WayBack.{IsReached}
 use Rattle.mt_laws.proofs.ChangeLemmas.{sides-live_stepped, sides-on_way, sides-undone}
 use Rattle.mt_laws.proofs.CopyLemmas.{all_copied, copied-stepped}
-use Rattle.mt_laws.proofs.LaneLemmas.{shard-stepped}
+use Rattle.mt_laws.proofs.InPlaceLemmas.{live_in}
+use Rattle.mt_laws.proofs.LaneLemmas.{reached_numbered, shard-stepped}
 use Rattle.mt_laws.proofs.LiveLemmas.{IsIn}
 use Rattle.mt_laws.proofs.StepCountLemmas.{few_done}
-use Rattle.mt_laws.proofs.WayStepLemmas.{done_by, fewer, more}
+use Rattle.mt_laws.proofs.WayStepLemmas.{OneOn, done_by, fewer, more, repeated-ge}
 use Rattle.mt_site_rows.specs.Rows.{stream_of}
 use Rattle.mt_site_state.specs.Core.{Workflows, workflow_at}
 use Rattle.mt_site_state.specs.Stands.{AreWorkflows, StandsFor, lane_state}
 use Rattle.mt_site_state.specs.Switching.{way_to}
-use Rattle.mt_site_state.proofs.ShardLemmas.{no_cuts, one_lane}
+use Rattle.mt_site_state.proofs.LaneLemmas.{lane_count, lanes_alike}
 use Rattle.mt_stream.specs.Streams.{StreamValue}
 use Rattle.mt_workflow.specs.Workflows.{LaneState, WorkflowState, lane_slot}
 use Rattle.mt_steps.specs.declared.step.Step.{Step}
@@ -35,6 +36,7 @@ use Rattle.mt_steps.proofs.PlanLemmas.{number-step_at}
 use Rattle.mt_steps.specs.Plans.{number, step_at}
 use Rattle.mt_steps.specs.Streams.{other_name, types_after, way_after, workflow_stepped, workflow_undone}
 use Rattle.mt_site_ways.proofs.ChangedLemmas.{changed-workflows, stands_for, with_traffic}
+use Rattle.mt_site_ways.proofs.PlaceLemmas.{last_on, repeated_either}
 use Rattle.mt_site_ways.proofs.SlotLemmas.{begun-slot, either-same, lane-same, lane_undone, lane_with_streams, lanes-stepped, lanes-undone, map-in, map-map, range-stepped, range-undone, stepped-slots, undone-slots}
 
 -- ---- the events
@@ -45,15 +47,15 @@ module _ (p : Plain) (workflows : Workflows) (are : AreWorkflows p workflows) (n
   for = stands_for p workflows are name live w is_live found
 
   -- a begin
-  module _ (rests : live.way ≡ None) (backward : Bool) (change : TypeSet → TypeSet)
+  module _ (reached : IsReached p) (rests : live.way ≡ None) (backward : Bool) (change : TypeSet → TypeSet)
       (elsewhere : (n : List ℕ) → name ≢ n → live_at (with_way p name backward change) n ≡ live_at p n) where
     pub begun-workflows : AreWorkflows (with_way p name backward change) (set_value (same_text w.name) workflows (record w { way = Some (way_to w backward (change w.switched)) }))
     begun-workflows =
         changed-workflows p (with_way p name backward change) name (with_way_to backward change) (λ v. record { name = refl; source = refl; target = refl; tables = refl; cuts = refl }) refl refl elsewhere
-        workflows are live w is_live found (with_way_to backward change live) refl for.lane for.alone for.shard
+        workflows are live w is_live found (with_way_to backward change live) refl refl
         (Some (way_to w backward (change w.switched))) w.switched w.lanes
         (ap (λ n. Some (record { back = backward; shards = n; before = w.switched; after = change w.switched; done = 0; undoing = false }))
-        (ap length (one_lane p live w for) ∙ sym (ap shard_count (no_cuts p live w for)))
+        (lanes_alike p live w for ∙ lane_count live (reached_numbered p reached live (live_in p name live is_live)))
         ∙ ap (λ (types : TypeSet). Some (record { back = backward; shards = shard_count live.cuts; before = types; after = change types; done = 0; undoing = false })) for.switched)
         for.switched
         (for.lanes ∙ map-in (lane_state live) (lane_state (with_way_to backward change live)) live.lanes (λ lane is.
@@ -126,8 +128,8 @@ module _ (p : Plain) (workflows : Workflows) (are : AreWorkflows p workflows) (n
           (with_traffic w (way_after way next_one) (types_after w.switched way next_one) made_lanes))
       stepped =
           changed-workflows p (with_step p name) name (λ v. on_way_of (live_stepped p v) v) (λ v. sides-on_way v (live_stepped p v) (sides-live_stepped p v) v.way) refl refl elsewhere
-          workflows are live w is_live found now (ap (λ o. option_map_or (live_stepped p live) o live) opens) (lane_stepped p live way for.lane)
-          (ap (map (lane_stepped p live way)) for.alone) (shard-stepped p live way for.lane ∙ for.shard)
+          workflows are live w is_live found now (ap (λ o. option_map_or (live_stepped p live) o live) opens)
+          (map-map (λ lane. lane.shard) (lane_stepped p live way) live.lanes ∙ map-in (λ lane. (lane_stepped p live way lane).shard) (λ lane. lane.shard) live.lanes (λ lane is_in. shard-stepped p live way lane))
           (way_after way next_one) (types_after w.switched way next_one) made_lanes
           (ap (λ n. cond (eqb (suc n) (behind_last way)) None (Some (more way))) numbered)
           (ap (λ n. cond (eqb (suc n) (behind_last way) || eqb n write_journal) way.after w.switched) numbered
@@ -141,7 +143,7 @@ module _ (p : Plain) (workflows : Workflows) (are : AreWorkflows p workflows) (n
           (lanes-stepped w way (lane_state live) live.lanes for.lanes (log_end_for p live) (next_step way) below))) stepped
 
     -- an undo, before the journal
-    module _ (one : way.shards ≤ 1) (before : stands_done way write_journal ≡ false) (elsewhere : (n : List ℕ) → name ≢ n → live_at (with_undo p name) n ≡ live_at p n)
+    module _ (before : stands_done way write_journal ≡ false) (elsewhere : (n : List ℕ) → name ≢ n → live_at (with_undo p name) n ≡ live_at p n)
         (slots : (lane : Lane) (stream : StreamName) → plain.slot_of (live_undone live way) lane stream
         ≡ slot_undone way stream (slot_before_way live lane stream) (plain.slot_of live lane stream)) where
       abbrev left : Live
@@ -152,7 +154,7 @@ module _ (p : Plain) (workflows : Workflows) (are : AreWorkflows p workflows) (n
           → AreWorkflows (with_undo p name) (set_value (same_text w.name) workflows (with_traffic w v w.switched lanes))
       with_left v lanes is =
           changed-workflows p (with_undo p name) name (λ x. on_way_of (live_undone x) x) (λ x. sides-on_way x (live_undone x) (sides-undone x) x.way) refl refl elsewhere
-          workflows are live w is_live found left (ap (λ o. option_map_or (live_undone live) o live) opens) for.lane for.alone for.shard
+          workflows are live w is_live found left (ap (λ o. option_map_or (live_undone live) o live) opens) refl
           v w.switched lanes is for.switched
 
       -- the stream that a lane had before the way
@@ -164,13 +166,25 @@ module _ (p : Plain) (workflows : Workflows) (are : AreWorkflows p workflows) (n
         last_one = step_at (last_step way)
 
         early : last_step way < 6
-        early = let few = few_done way before in let next = one-next way one in let last = one-last way one in omega (arith, few, next, last)
+        early = by (last_on way) (repeated_either way)
+          where
+            few : next_step way ≤ 6
+            few = few_done way before
+
+            by : (next_place way ≡ 0) ⊎ OneOn (next_step way) (last_step way) (repeated_step way) → (repeated_step way ≡ refresh_source) ⊎ (repeated_step way ≡ refresh_target) → last_step way < 6
+            by (inl none) r = let is = step-first way (next_place way - 1) (let ge = repeated-ge way in omega (arith, none, ge)) in omega (arith, is, none)
+            by (inr (inl e)) r = omega (arith, e, few)
+            by (inr (inr e)) (inl r) = let is = e.1 in omega (arith, is, r)
+            by (inr (inr e)) (inr r) = let same = e.0 in let is = e.1 in absurd (omega (arith, same, is, r, few))
 
         was_made : last_step way ≡ create_back → kept ≡ map saved live.lanes
-        was_made is =
-            let next = one-next way one in
-            let last = one-last way one in
-            gives_back (done_by way create_back 6 (omega (arith, is, next, last)) (omega arith) (omega arith))
+        was_made is = gives_back (by (last_on way) (repeated_either way))
+          where
+            by : (next_place way ≡ 0) ⊎ OneOn (next_step way) (last_step way) (repeated_step way) → (repeated_step way ≡ refresh_source) ⊎ (repeated_step way ≡ refresh_target) → stands_done way create_back ≡ true
+            by (inl none) r = let first = step-first way (next_place way - 1) (let ge = repeated-ge way in omega (arith, none, ge)) in absurd (omega (arith, is, first, none))
+            by (inr (inl e)) r = done_by way create_back 6 (omega (arith, is, e)) (omega arith) (omega arith)
+            by (inr (inr e)) (inl r) = let same = e.1 in absurd (omega (arith, is, same, r))
+            by (inr (inr e)) (inr r) = let same = e.1 in absurd (omega (arith, is, same, r))
 
         lane-undone : (lane : Lane) → IsIn lane live.lanes → lane_undone way last_one (saved lane) (lane_state live lane) ≡ lane_state left lane
         lane-undone lane is_in = lane-same (lane_undone way last_one (saved lane) (lane_state live lane)) (lane_state left lane) (range-undone way last_one (saved lane) (lane_state live lane)) same

@@ -1,5 +1,5 @@
 -- What comes of a step, if each part of the controller stands for the next state.
-use Rattle.std.proofs.Common.{◌≡◌, ℕ, true, List, [], ◌∷◌, ◌++◌, Some, sym, ap, ◌∙◌, subst}
+use Rattle.std.proofs.Common.{◌≡◌, ℕ, true, List, ◌++◌, Some, sym, ap, ◌∙◌, subst}
 use Rattle.std.proofs.lemmas.Bool.{or_right}
 use Rattle.std.proofs.lemmas.List.Folds.{list_any-append}
 use Rattle.std.specs.Map.{set_value}
@@ -8,21 +8,20 @@ use Rattle.mt_model.specs.declared.entries.Scope.{Scope}
 use Rattle.mt_model.specs.declared.entries.Scope.TheVariants as scope
 use Rattle.mt_model.specs.Part.{with_entries}
 use Rattle.mt_plain.specs.Plain.{Live, Plain, next_step}
+use Rattle.mt_primaries.specs.Primaries.{Primaries, primary_of, shards_of}
 use Rattle.mt_watch.specs.Asking.{Answering}
 use Rattle.mt_watch.specs.Scopes.{has_scope, same_scope}
 use Rattle.mt_workflow.specs.Workflows.{WorkflowState}
 use Rattle.mt_steps.specs.declared.log.OpenWay.{OpenWay}
 use Rattle.mt_steps.specs.Entries.{step_entries}
 use Rattle.mt_steps.specs.Plans.{number, step_at}
-use Rattle.mt_steps.specs.Shards.{target_at}
 use Rattle.mt_steps.specs.Steps.{SidesState}
 use Rattle.mt_steps.specs.Streams.{log_ends, workflow_stepped}
 use Rattle.mt_laws.specs.WayBack.{IsReached}
 use Rattle.mt_site_topology.specs.Stands.{TopologyStands}
 use Rattle.mt_site_rows.specs.Rows.{RowsStand}
-use Rattle.mt_site_state.specs.Core.{Primaries, primaries_of, primary_of}
 use Rattle.mt_site_state.specs.Stands.{ArePrimaries, AreWorkflows, StandsFor}
-use Rattle.mt_site_state.specs.Switching.{with_sides}
+use Rattle.mt_site_state.specs.Switching.{with_primaries, with_sides}
 use Rattle.mt_site_state.specs.Ways.{SiteState, SiteStands, WaysStand, open_at}
 use Rattle.mt_site_ways.proofs.OutcomeLemmas.{IsMade, SteppedBy}
 
@@ -43,11 +42,11 @@ still_watched more scopes keyspace has =
 
 -- the primaries with those of the sides
 abbrev pub primaries_with : SiteState → WorkflowState → SidesState → Primaries
-primaries_with old w sides = set_value (same_text w.target) (set_value (same_text w.source) old.core.primaries sides.source) (target_at sides.targets 0)
+primaries_with old w sides = with_primaries old.core.primaries w sides.source sides.targets
 
 -- what stands for a state once all its parts do
 pub sides_stand : (q : Plain) (scopes : List Scope) (old : SiteState) (w : WorkflowState) (sides : SidesState) (o : OpenWay) → IsReached q → q.scopes ≡ scopes
-    → TopologyStands q sides.topology → ArePrimaries q (primaries_with old w sides) × RowsStand q (primaries_of (primaries_with old w sides))
+    → TopologyStands q sides.topology → ArePrimaries q (primaries_with old w sides) × RowsStand q (primary_of (primaries_with old w sides))
     → AreWorkflows q (set_value (same_text w.name) old.core.workflows sides.workflow)
     → WaysStand q (with_sides old w sides o).core (with_sides old w sides o).ways → SiteStands q scopes (with_sides old w sides o)
 sides_stand q scopes old w sides o reached are topology primaries workflows ways = record {
@@ -64,8 +63,8 @@ module _ (q : Plain) (scopes mine : List Scope) (may_answer : Answering) (old ne
 
   pub step_stands : IsReached q → q.scopes ≡ scopes
       → TopologyStands q (with_entries old.core.topology (step_entries m.w m.way.after (number (step_at (next_step m.way)))))
-      → ArePrimaries q (primaries_with old m.w m.sides) × RowsStand q (primaries_of (primaries_with old m.w m.sides))
-      → (ends : List ℕ) → log_ends m.way (primary_of old.core.primaries m.w.source) (primary_of old.core.primaries m.w.target ∷ []) ≡ ends
+      → ArePrimaries q (primaries_with old m.w m.sides) × RowsStand q (primary_of (primaries_with old m.w m.sides))
+      → (ends : List ℕ) → log_ends m.way (primary_of old.core.primaries m.w.source 0) (shards_of old.core.primaries m.w.target).each ≡ ends
       → AreWorkflows q (set_value (same_text m.w.name) old.core.workflows (stepped ends))
       → WaysStand q (with_sides old m.w m.sides kept).core (with_sides old m.w m.sides kept).ways → SiteStands q scopes new
   step_stands reached are topology primaries ends ends_are workflows ways =

@@ -1,12 +1,12 @@
 -- What comes of an undo, if each part of the controller stands for the next state.
-use Rattle.std.proofs.Common.{◌≡◌, Bool, true, false, eqb, List, None, is_some, refl, sym, ap, ◌∙◌, subst, ◌≤◌}
+use Rattle.std.proofs.Common.{◌≡◌, Bool, true, false, eqb, List, None, refl, sym, subst}
 use Rattle.std.specs.Map.{set_value}
 use Rattle.mt_names.specs.Names.{same_text}
 use Rattle.mt_model.specs.declared.entries.Scope.{Scope}
 use Rattle.mt_model.specs.Part.{with_entries}
 use Rattle.mt_plain.specs.Events.{Way}
-use Rattle.mt_plain.specs.Plain.{Live, Plain, last_step, refresh_source, stands_done}
-use Rattle.mt_primary.specs.Primary.{empty_primary}
+use Rattle.mt_plain.specs.Plain.{Plain, last_step}
+use Rattle.mt_primaries.specs.Primaries.{Primaries, primary_of}
 use Rattle.mt_workflow.specs.Workflows.{WorkflowState}
 use Rattle.mt_steps.specs.declared.log.OpenWay.{OpenWay}
 use Rattle.mt_steps.specs.Entries.{recorded_of}
@@ -14,21 +14,14 @@ use Rattle.mt_steps.specs.Plans.{number, step_at}
 use Rattle.mt_steps.specs.Steps.{IsUndone, SidesState}
 use Rattle.mt_steps.specs.Streams.{workflow_undone}
 use Rattle.mt_steps.specs.Undo.{UndoState}
-use Rattle.mt_laws.specs.Reached.{IsInPlace}
 use Rattle.mt_laws.specs.WayBack.{IsReached}
 use Rattle.mt_site_topology.specs.Stands.{TopologyStands}
 use Rattle.mt_site_rows.specs.Rows.{RowsStand}
-use Rattle.mt_site_ways.proofs.FoundLemmas.{set_value-same, there_by}
-use Rattle.mt_site_ways.proofs.EntryLemmas.{last_done}
-use Rattle.mt_site_state.specs.Core.{Primaries, primaries_of, primary_at, primary_of}
-use Rattle.mt_site_state.specs.Stands.{ArePrimaries, AreWorkflows, StandsFor}
+use Rattle.mt_site_ways.proofs.SameLemmas.{primaries_same}
+use Rattle.mt_site_state.specs.Stands.{ArePrimaries, AreWorkflows}
 use Rattle.mt_site_state.specs.Switching.{Undoes, sides_of, with_sides}
 use Rattle.mt_site_state.specs.Ways.{SiteState, SiteStands, WaysStand}
 use Rattle.mt_site_ways.proofs.WayStepLemmas.{primaries_with, sides_stand}
-
--- an undone refresh stood done
-pub refresh_done : (way : Way) → way.shards ≤ 1 → eqb way.done 0 ≡ false → last_step way ≡ refresh_source → stands_done way refresh_source ≡ true
-refresh_done way one some last = subst (λ n. stands_done way n ≡ true) last (last_done way one some)
 
 -- ---- what is undone
 
@@ -46,7 +39,7 @@ undone_either q scopes made way old new kept now is last none = by (eqb way.done
 module _ (q : Plain) (scopes : List Scope) (old : SiteState) (w : WorkflowState) (way : Way) (o : OpenWay) where
   pub undo_stands : (sides : SidesState) (log : UndoState) → IsUndone way (step_at (last_step way)) (sides_of old w) o.log sides log → IsReached q → q.scopes ≡ scopes
       → TopologyStands q (with_entries old.core.topology (recorded_of w (number (step_at (last_step way))) o.log.entries))
-      → ArePrimaries q (primaries_with old w sides) × RowsStand q (primaries_of (primaries_with old w sides))
+      → ArePrimaries q (primaries_with old w sides) × RowsStand q (primary_of (primaries_with old w sides))
       → AreWorkflows q (set_value (same_text w.name) old.core.workflows (workflow_undone w way (step_at (last_step way)) o.log.slots))
       → WaysStand q (with_sides old w sides (record { number = o.number; log = log })).core (with_sides old w sides (record { number = o.number; log = log })).ways
       → SiteStands q scopes (with_sides old w sides (record { number = o.number; log = log }))
@@ -58,23 +51,10 @@ module _ (q : Plain) (scopes : List Scope) (old : SiteState) (w : WorkflowState)
   abbrev pub closed : SidesState
   closed = record (sides_of old w) { workflow = record w { way = None } }
 
-  module _ (p : Plain) (are_there : ArePrimaries p old.core.primaries) (live : Live) (for : StandsFor p live w) (placed : IsInPlace p.topology live) where
-    source_there : is_some (primary_at old.core.primaries w.source) ≡ true
-    source_there = subst (λ k. is_some (primary_at old.core.primaries k) ≡ true) for.sides.source (are_there.there live.source ∙ placed.sides.source)
-
-    target_there : is_some (primary_at old.core.primaries w.target) ≡ true
-    target_there = subst (λ k. is_some (primary_at old.core.primaries k) ≡ true) for.sides.target (are_there.there live.target ∙ placed.sides.target)
-
-    primaries_same : primaries_with old w closed ≡ old.core.primaries
-    primaries_same =
-        ap (λ (ps : Primaries). set_value (same_text w.target) ps (primary_of old.core.primaries w.target))
-        (set_value-same old.core.primaries w.source (primary_of old.core.primaries w.source) (there_by (primary_at old.core.primaries w.source) empty_primary source_there))
-        ∙ set_value-same old.core.primaries w.target (primary_of old.core.primaries w.target) (there_by (primary_at old.core.primaries w.target) empty_primary target_there)
-
-    pub closed_stands : IsReached q → q.scopes ≡ scopes → TopologyStands q old.core.topology → ArePrimaries q old.core.primaries × RowsStand q (primaries_of old.core.primaries)
-        → AreWorkflows q (set_value (same_text w.name) old.core.workflows (record w { way = None }))
-        → WaysStand q (with_sides old w closed o).core (with_sides old w closed o).ways
-        → SiteStands q scopes (with_sides old w closed o)
-    closed_stands reached are topology primaries workflows ways =
-        sides_stand q scopes old w closed o reached are topology
-        (subst (λ (ps : Primaries). ArePrimaries q ps × RowsStand q (primaries_of ps)) (sym primaries_same) primaries) workflows ways
+  pub closed_stands : IsReached q → q.scopes ≡ scopes → TopologyStands q old.core.topology → ArePrimaries q old.core.primaries × RowsStand q (primary_of old.core.primaries)
+      → AreWorkflows q (set_value (same_text w.name) old.core.workflows (record w { way = None }))
+      → WaysStand q (with_sides old w closed o).core (with_sides old w closed o).ways
+      → SiteStands q scopes (with_sides old w closed o)
+  closed_stands reached are topology primaries workflows ways =
+      sides_stand q scopes old w closed o reached are topology
+      (subst (λ (ps : Primaries). ArePrimaries q ps × RowsStand q (primary_of ps)) (sym (primaries_same old.core.primaries w)) primaries) workflows ways

@@ -11,9 +11,9 @@ ghost use Rattle.mt_site_state.specs.Ways.{SiteState, SiteStands};
 ghost use Rattle.mt_watch.specs.Scopes.{has_scope};
 
 use mt_laws::{
-    a_live_workflow_is_found_by_its_part, live_workflows_stand_in_place, ways_keep_their_course,
+    a_live_workflow_is_found_by_its_part, a_live_workflow_knows_its_shards, ways_keep_their_course,
 };
-use mt_site_rows::a_stream_is_level_where_all_is_fed;
+use mt_site_rows::{a_lane_holds_its_keys, a_stream_is_level_where_all_is_fed};
 use mt_watch::Asks;
 
 /// A step is answered as the definitions allow: done, or refused by a test, by a watcher, or if no memory is left. What is done
@@ -29,8 +29,9 @@ pub fn a_step_answers_as_the_definitions_allow<W: Asks>(watchers: &W)
         → StepsWorkflow old (W.scopes watchers.now) (W.may_answer watchers.now) workflow at (refused r) new → new ≡ old }
 {
     a_live_workflow_is_found_by_its_part();
-    live_workflows_stand_in_place();
+    a_live_workflow_knows_its_shards();
     ways_keep_their_course();
+    a_lane_holds_its_keys();
     a_stream_is_level_where_all_is_fed();
 }
 

@@ -6,7 +6,8 @@ ghost use Rattle.mt_plain.specs.Events.{complete, done};
 ghost use Rattle.mt_plain.specs.Next.{next};
 ghost use Rattle.mt_plain.specs.Plain.{Plain};
 ghost use Rattle.mt_primary.specs.Primary.{IsPrimary};
-ghost use Rattle.mt_site_state.specs.Core.{primary_of, workflow_at};
+ghost use Rattle.mt_primaries.specs.Primaries.{primary_of};
+ghost use Rattle.mt_site_state.specs.Core.{workflow_at};
 ghost use Rattle.mt_site_state.specs.Switching.{completed};
 ghost use Rattle.mt_site_state.specs.Ways.{SiteState, SiteStands};
 ghost use Rattle.mt_workflow.specs.Workflows.{WorkflowState};
@@ -25,7 +26,7 @@ use mt_site_topology::{complete_writes_the_end, what_is_kept_stays_what_stood};
 pub fn what_complete_makes_stands_for_the_next_state()
     ensures { (p : Plain) (scopes : List Scope) (s : SiteState) → SiteStands p scopes s
         → (name : List ℕ) (w : WorkflowState) → workflow_at s.core.workflows name ≡ Some w
-        → ((keyspace : List ℕ) → IsPrimary (primary_of s.core.primaries keyspace))
+        → ((keyspace : List ℕ) (n : ℕ) → IsPrimary (primary_of s.core.primaries keyspace n))
         → Answers p (complete name) done
         → SiteStands (next p (complete name) done) scopes (record s { core = completed s.core w }) }
 {

@@ -1,14 +1,16 @@
 //! Laws on the events that are of no way, for the whole controller.
-ghost use Rattle.std.specs.Prelude.{◌≡◌, ℕ, List, [], Option};
+ghost use Rattle.std.specs.Prelude.{◌≡◌, ℕ, List, Option};
 ghost use Rattle.mt_model.specs.declared.entries.Scope.{Scope};
 ghost use Rattle.mt_model.specs.declared.rows.Op.{Op};
 ghost use Rattle.mt_names.specs.declared.keys.RuleKey.{RuleKey};
 ghost use Rattle.mt_names.specs.declared.keys.RuleTarget.{RuleTarget};
 ghost use Rattle.mt_names.specs.declared.types.TabletType.{TabletType};
+ghost use Rattle.mt_names.specs.Shards.{AreCuts, Cuts};
 ghost use Rattle.mt_plain.specs.Events.{Answer, StreamName, add_keyspace, add_table, advance, cancel, create, edit_rule, read, show, write};
 ghost use Rattle.mt_primary.specs.Primary.{IsPrimary};
 ghost use Rattle.mt_site_state.specs.ByHand.{AddsKeyspace, AddsTable, EditsRule, ReadsRow, WritesRow};
-ghost use Rattle.mt_site_state.specs.Core.{CoreState, primary_of};
+ghost use Rattle.mt_primaries.specs.Primaries.{primary_of};
+ghost use Rattle.mt_site_state.specs.Core.{CoreState};
 ghost use Rattle.mt_site_state.specs.Ways.{SiteState, SiteSteps};
 ghost use Rattle.mt_site_state.specs.Workflows.{AdvancesWorkflow, Cancels, Creates, ShowsWorkflow};
 
@@ -24,8 +26,8 @@ use mt_watch::Asks;
 
 /// A keyspace, a table, a rule by hand, a write and a read step, and leave what is kept of the ways as it is.
 pub fn events_by_hand_step_and_leave_the_ways()
-    ensures keyspace { (scopes : List Scope) (old : SiteState) (new : CoreState) (name : List ℕ) (answer : Answer)
-        → AddsKeyspace old.core name answer new → SiteSteps scopes old (add_keyspace name []) answer (record old { core = new }) }
+    ensures keyspace { (scopes : List Scope) (old : SiteState) (new : CoreState) (name : List ℕ) (cuts : Cuts) (answer : Answer) → AreCuts cuts
+        → AddsKeyspace old.core name cuts answer new → SiteSteps scopes old (add_keyspace name cuts) answer (record old { core = new }) }
     ensures table { (scopes : List Scope) (old : SiteState) (new : CoreState) (keyspace table : List ℕ) (answer : Answer)
         → AddsTable old.core keyspace table answer new → SiteSteps scopes old (add_table keyspace table) answer (record old { core = new }) }
     ensures rule { (scopes : List Scope) (old : SiteState) (new : CoreState) (key : RuleKey) (target : Option RuleTarget) (answer : Answer)
@@ -57,12 +59,12 @@ pub fn a_create_steps_and_leaves_the_ways<W: Asks>(watchers: &W)
 
 /// An advance, Cancel and Show step, and leave what is kept of the ways as it is.
 pub fn events_on_workflows_step_and_leave_the_ways()
-    ensures advance { (scopes : List Scope) (old : SiteState) (new : CoreState) (workflow : List ℕ) (name : StreamName) (at at_most : ℕ) (answer : Answer)
-        → AdvancesWorkflow old.core workflow name at at_most answer new
-        → ((keyspace : List ℕ) → IsPrimary (primary_of old.core.primaries keyspace))
-        → SiteSteps scopes old (advance workflow name 0 at at_most) answer (record old { core = new }) }
+    ensures advance { (scopes : List Scope) (old : SiteState) (new : CoreState) (workflow : List ℕ) (name : StreamName) (shard at at_most : ℕ) (answer : Answer)
+        → AdvancesWorkflow old.core workflow name shard at at_most answer new
+        → ((keyspace : List ℕ) (n : ℕ) → IsPrimary (primary_of old.core.primaries keyspace n))
+        → SiteSteps scopes old (advance workflow name shard at at_most) answer (record old { core = new }) }
     ensures cancel { (scopes : List Scope) (old : SiteState) (new : CoreState) (workflow : List ℕ) (answer : Answer)
-        → Cancels old.core workflow answer new → ((keyspace : List ℕ) → IsPrimary (primary_of old.core.primaries keyspace))
+        → Cancels old.core workflow answer new → ((keyspace : List ℕ) (n : ℕ) → IsPrimary (primary_of old.core.primaries keyspace n))
         → SiteSteps scopes old (cancel workflow) answer (record old { core = new }) }
     ensures show { (scopes : List Scope) (old : SiteState) (new : CoreState) (workflow : List ℕ) (answer : Answer)
         → ShowsWorkflow old.core workflow answer new → SiteSteps scopes old (show workflow) answer (record old { core = new }) }

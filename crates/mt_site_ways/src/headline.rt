@@ -1,5 +1,5 @@
 //! The headline, said of cores: what Cancel gives back, what reads answer, and where a moved table can be written.
-ghost use Rattle.std.specs.Prelude.{◌≡◌, ◌↔◌, ℕ, false, true, List, None, Some, option_map};
+ghost use Rattle.std.specs.Prelude.{◌≡◌, ◌↔◌, ◌<◌, ℕ, false, true, List, None, Some, option_map};
 ghost use Rattle.mt_laws.specs.Acknowledged.{acknowledged, row_by};
 ghost use Rattle.mt_laws.specs.WayBack.{IsBegin, NoWayBetween, SinceCreate, WayFrom, in_part};
 ghost use Rattle.mt_model.specs.declared.entries.EntryKey.{EntryKey};
@@ -14,16 +14,18 @@ ghost use Rattle.mt_plain.specs.Events.{Event, begin_reverse, begin_switch, canc
 ghost use Rattle.mt_plain.specs.Next.{next};
 ghost use Rattle.mt_plain.specs.Plain.{Plain, among, changed_types, is_side, opening, owner};
 ghost use Rattle.mt_plain.specs.Writes.{client_number, client_row};
+ghost use Rattle.mt_primaries.specs.Primaries.{count_of};
 ghost use Rattle.mt_site_state.specs.ByHand.{ReadsRow};
 ghost use Rattle.mt_site_state.specs.Core.{CoreState, workflow_at};
 ghost use Rattle.mt_site_state.specs.Stands.{IsCore, StandsWith};
 ghost use Rattle.mt_workflow.specs.Workflows.{WorkflowState, live_of};
-ghost use Rattle.mt_site_ways.specs.Writable.{TakesWrites};
+ghost use Rattle.mt_site_ways.specs.Writable.{TakesWrites, TakesWritesAt};
 
 use mt_laws::{
     a_live_workflow_is_found_by_its_part, a_moved_table_is_never_writable_in_two,
     a_reversal_gives_the_part_back, an_abandoned_way_gives_the_part_back,
     cancel_gives_the_part_back, each_primary_read_answers_from_the_acknowledged_writes,
+    live_workflows_stand_in_place,
 };
 use mt_site_events::a_read_steps;
 
@@ -80,8 +82,8 @@ pub fn reads_of_a_core_answer_the_acknowledged_writes()
     each_primary_read_answers_from_the_acknowledged_writes();
 }
 
-/// The primaries of the two keyspaces of a live workflow never both take writes to a table that it moves, whatever steps
-/// stand done; and where no way is open, that of the owner does, and the other one doesn't.
+/// The two keyspaces of a live workflow never both have a primary that takes writes to a table that it moves, whatever steps
+/// stand done; and where no way is open, each primary of the owner takes them, and none of the other keyspace does.
 pub fn a_moved_table_of_a_core_is_never_writable_in_two()
     ensures stands { (scopes : List Scope) (p : Plain) (core : CoreState) → StandsWith p scopes core
         → (name : List ℕ) (w : WorkflowState) → workflow_at core.workflows name ≡ Some w → (table : List ℕ)
@@ -93,7 +95,11 @@ pub fn a_moved_table_of_a_core_is_never_writable_in_two()
         → (name : List ℕ) (w : WorkflowState) → workflow_at core.workflows name ≡ Some w → w.way ≡ None → (table : List ℕ)
         → among w.tables table ≡ true → (keyspace : List ℕ) → is_side (live_of w) keyspace ≡ true
         → TakesWrites core keyspace table ↔ (keyspace ≡ owner (live_of w)) }
+    ensures each_shard { (core : CoreState) → IsCore core
+        → (name : List ℕ) (w : WorkflowState) → workflow_at core.workflows name ≡ Some w → w.way ≡ None → (table : List ℕ)
+        → among w.tables table ≡ true → (shard : ℕ) → shard < count_of core.primaries (owner (live_of w)) → TakesWritesAt core (owner (live_of w)) shard table }
 {
     a_live_workflow_is_found_by_its_part();
+    live_workflows_stand_in_place();
     a_moved_table_is_never_writable_in_two();
 }

@@ -1,22 +1,22 @@
 //! Laws on what the events of a way do to the primaries of a core: a step, an undo, and a begin.
-ghost use Rattle.std.specs.Prelude.{◌≡◌, ℕ, ◌==◌, true, false, map, List, [], ◌∷◌, Option, Some, Ok};
-ghost use Rattle.std.specs.Map.{set_value};
+ghost use Rattle.std.specs.Prelude.{◌≡◌, ℕ, ◌==◌, true, false, map, List, Option, Some, Ok};
 ghost use Rattle.mt_model.specs.declared.entries.Scope.{Scope};
 ghost use Rattle.mt_model.specs.Topology.{Marks};
 ghost use Rattle.mt_names.specs.declared.types.TypeSet.{TypeSet};
-ghost use Rattle.mt_names.specs.Names.{same_text};
 ghost use Rattle.mt_plain.specs.Answers.{Answers};
 ghost use Rattle.mt_plain.specs.Events.{Way, begin_reverse, begin_switch, done, step, undo};
 ghost use Rattle.mt_plain.specs.Next.{next};
 ghost use Rattle.mt_plain.specs.Plain.{Live, Plain, last_step, live_at, next_step, refresh_source};
 ghost use Rattle.mt_primary.specs.Primary.{PrimaryState};
 ghost use Rattle.mt_site_rows.specs.Rows.{RowsStand};
-ghost use Rattle.mt_site_state.specs.Core.{CoreState, primaries_of, primary_of, workflow_at};
+ghost use Rattle.mt_primaries.specs.Primaries.{primary_of, shards_of};
+ghost use Rattle.mt_site_state.specs.Core.{CoreState, workflow_at};
 ghost use Rattle.mt_site_state.specs.Stands.{ArePrimaries, StandsWith};
+ghost use Rattle.mt_site_state.specs.Switching.{with_primaries};
 ghost use Rattle.mt_steps.specs.Plans.{step_at};
 ghost use Rattle.mt_steps.specs.Refreshes.{Sites};
 ghost use Rattle.mt_steps.specs.Steps.{Attempts, IsGivenBack, given_listed};
-ghost use Rattle.mt_steps.specs.Shards.{last_shard, target_at};
+ghost use Rattle.mt_steps.specs.Shards.{last_shard};
 ghost use Rattle.mt_steps.specs.Streams.{log_ends};
 ghost use Rattle.mt_workflow.specs.Workflows.{WorkflowState};
 ghost use Rattle.mt_site_ways.specs.Ends.{ends_of};
@@ -24,6 +24,7 @@ ghost use Rattle.mt_site_ways.specs.Ends.{ends_of};
 use mt_laws::{
     a_live_workflow_is_found_by_its_part, a_workflow_that_changes_changes_its_own_part,
     live_workflows_stand_in_place, steps_and_undos_change_the_state_by_their_numbers,
+    ways_keep_their_course,
 };
 use mt_primary::{
     a_notice_tells_what_its_change_tells, a_refresh_concerns_named_tables, a_refresh_is_taken_back,
@@ -38,13 +39,14 @@ pub fn a_step_leaves_the_primaries<W: Asks>(watchers: &W)
     ensures { (p : Plain) (scopes : List Scope) (core : CoreState) → StandsWith p scopes core
         → (name : List ℕ) (live : Live) (w : WorkflowState) (way : Way) (at id : ℕ) (old new : Sites) → live_at p name ≡ Some live
         → workflow_at core.workflows name ≡ Some w → w.way ≡ Some way → Answers p (step name at) done
-        → old.source ≡ primary_of core.primaries w.source → old.targets ≡ primary_of core.primaries w.target ∷ []
+        → old.source ≡ primary_of core.primaries w.source 0 → old.targets ≡ (shards_of core.primaries w.target).each
         → Attempts (W.scopes watchers.now) (W.may_answer watchers.now) id core.topology w way (step_at (next_step way)) old (Ok tt) new
-        → ArePrimaries (next p (step name at) done) (set_value (same_text w.target) (set_value (same_text w.source) core.primaries new.source) (target_at new.targets 0))
-        × RowsStand (next p (step name at) done) (primaries_of (set_value (same_text w.target) (set_value (same_text w.source) core.primaries new.source) (target_at new.targets 0))) }
+        → ArePrimaries (next p (step name at) done) (with_primaries core.primaries w new.source new.targets)
+        × RowsStand (next p (step name at) done) (primary_of (with_primaries core.primaries w new.source new.targets)) }
 {
     a_live_workflow_is_found_by_its_part();
     live_workflows_stand_in_place();
+    ways_keep_their_course();
     steps_and_undos_change_the_state_by_their_numbers();
     a_notice_tells_what_its_change_tells();
     a_refresh_concerns_named_tables();
@@ -53,21 +55,22 @@ pub fn a_step_leaves_the_primaries<W: Asks>(watchers: &W)
     a_step_keeps_rows_and_logs();
 }
 
-/// A refresh of the old owner's primary records that its own list had none of the tables.
+/// A refresh of a primary of the old owner records that its own list had none of the tables.
 pub fn a_refresh_records_an_empty_list<W: Asks>(watchers: &W)
     ensures { (p : Plain) (scopes : List Scope) (core : CoreState) → StandsWith p scopes core
         → (name : List ℕ) (live : Live) (w : WorkflowState) (way : Way) (at id : ℕ) (old new : Sites) → live_at p name ≡ Some live
         → workflow_at core.workflows name ≡ Some w → w.way ≡ Some way → Answers p (step name at) done
-        → old.source ≡ primary_of core.primaries w.source → old.targets ≡ primary_of core.primaries w.target ∷ []
+        → old.source ≡ primary_of core.primaries w.source 0 → old.targets ≡ (shards_of core.primaries w.target).each
         → next_step way ≡ refresh_source
         → Attempts (W.scopes watchers.now) (W.may_answer watchers.now) id core.topology w way (step_at (next_step way)) old (Ok tt) new
         → new.listed ≡ Some (map (λ table. (table, false)) w.tables) }
 {
     a_live_workflow_is_found_by_its_part();
     live_workflows_stand_in_place();
+    ways_keep_their_course();
 }
 
-/// What an undo gives back to the old owner's primary leaves primaries that have the tables, rows and logs of the next state, and
+/// What an undo gives back to a primary of the old owner leaves primaries that have the tables, rows and logs of the next state, and
 /// whose own lists refuse what is refused there, if an undone refresh gives back a list without the tables.
 pub fn an_undo_leaves_the_primaries()
     ensures last { (p : Plain) (scopes : List Scope) (core : CoreState) → StandsWith p scopes core
@@ -75,16 +78,17 @@ pub fn an_undo_leaves_the_primaries()
         → live_at p name ≡ Some live → workflow_at core.workflows name ≡ Some w → w.way ≡ Some way → Answers p (undo name at) done
         → (way.done == 0) ≡ false
         → (last_step way ≡ refresh_source → listed ≡ Some (map (λ table. (table, false)) w.tables))
-        → IsGivenBack way.before.primary (last_shard way) (given_listed (step_at (last_step way)) listed) (primary_of core.primaries w.source) (primary_of core.primaries w.target ∷ []) source targets
-        → ArePrimaries (next p (undo name at) done) (set_value (same_text w.target) (set_value (same_text w.source) core.primaries source) (target_at targets 0))
-        × RowsStand (next p (undo name at) done) (primaries_of (set_value (same_text w.target) (set_value (same_text w.source) core.primaries source) (target_at targets 0))) }
+        → IsGivenBack way.before.primary (last_shard way) (given_listed (step_at (last_step way)) listed) (primary_of core.primaries w.source 0) (shards_of core.primaries w.target).each source targets
+        → ArePrimaries (next p (undo name at) done) (with_primaries core.primaries w source targets)
+        × RowsStand (next p (undo name at) done) (primary_of (with_primaries core.primaries w source targets)) }
     ensures none { (p : Plain) (scopes : List Scope) (core : CoreState) → StandsWith p scopes core
         → (name : List ℕ) (live : Live) (w : WorkflowState) (way : Way) (at : ℕ) → live_at p name ≡ Some live
         → workflow_at core.workflows name ≡ Some w → w.way ≡ Some way → Answers p (undo name at) done → (way.done == 0) ≡ true
-        → ArePrimaries (next p (undo name at) done) core.primaries × RowsStand (next p (undo name at) done) (primaries_of core.primaries) }
+        → ArePrimaries (next p (undo name at) done) core.primaries × RowsStand (next p (undo name at) done) (primary_of core.primaries) }
 {
     a_live_workflow_is_found_by_its_part();
     live_workflows_stand_in_place();
+    ways_keep_their_course();
     steps_and_undos_change_the_state_by_their_numbers();
     a_notice_tells_what_its_change_tells();
     a_refresh_concerns_named_tables();
@@ -99,11 +103,11 @@ pub fn a_begin_leaves_the_primaries()
     ensures switch { (p : Plain) (scopes : List Scope) (core : CoreState) → StandsWith p scopes core
         → (name : List ℕ) (types : TypeSet) → Answers p (begin_switch name types) done
         → ArePrimaries (next p (begin_switch name types) done) core.primaries
-        × RowsStand (next p (begin_switch name types) done) (primaries_of core.primaries) }
+        × RowsStand (next p (begin_switch name types) done) (primary_of core.primaries) }
     ensures reverse { (p : Plain) (scopes : List Scope) (core : CoreState) → StandsWith p scopes core
         → (name : List ℕ) (types : TypeSet) → Answers p (begin_reverse name types) done
         → ArePrimaries (next p (begin_reverse name types) done) core.primaries
-        × RowsStand (next p (begin_reverse name types) done) (primaries_of core.primaries) }
+        × RowsStand (next p (begin_reverse name types) done) (primary_of core.primaries) }
 {
     a_live_workflow_is_found_by_its_part();
     a_workflow_that_changes_changes_its_own_part();
@@ -115,5 +119,7 @@ pub fn a_log_ends_where_the_definitions_say()
     ensures { (p : Plain) (scopes : List Scope) (core : CoreState) → StandsWith p scopes core
         → (name : List ℕ) (live : Live) (w : WorkflowState) (way : Way) → live_at p name ≡ Some live
         → workflow_at core.workflows name ≡ Some w → w.way ≡ Some way
-        → log_ends way (primary_of core.primaries w.source) (primary_of core.primaries w.target ∷ []) ≡ ends_of p live }
-{}
+        → log_ends way (primary_of core.primaries w.source 0) (shards_of core.primaries w.target).each ≡ ends_of p live }
+{
+    live_workflows_stand_in_place();
+}

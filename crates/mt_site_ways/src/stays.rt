@@ -1,12 +1,13 @@
 //! Laws on what keeps a state of the controller one.
-ghost use Rattle.std.specs.Prelude.{◌≡◌, ◌++◌, ℕ, ◌<◌, true, false, List, [], ◌∷◌, None, Some, is_some, length};
+ghost use Rattle.std.specs.Prelude.{◌≡◌, ◌++◌, ℕ, ◌<◌, true, false, List, None, Some, is_some, length};
 ghost use Rattle.mt_journal.specs.Journal.{entry_of};
 ghost use Rattle.mt_laws.specs.Texts.{BringsNames};
 ghost use Rattle.mt_model.specs.declared.entries.Scope.{Scope};
 ghost use Rattle.mt_plain.specs.Answers.{Answers};
 ghost use Rattle.mt_plain.specs.Events.{Answer, Event, Way, create};
 ghost use Rattle.mt_plain.specs.Plain.{behind_last, next_step, opening, stands_done, write_journal};
-ghost use Rattle.mt_site_state.specs.Core.{CoreState, primary_of, workflow_at};
+ghost use Rattle.mt_primaries.specs.Primaries.{primary_of, shards_of};
+ghost use Rattle.mt_site_state.specs.Core.{CoreState, workflow_at};
 ghost use Rattle.mt_site_state.specs.Stands.{IsCore};
 ghost use Rattle.mt_site_state.specs.Ways.{HasSiteState, IsSite, SiteState, SiteStands, SiteSteps, empty_site, open_at};
 ghost use Rattle.mt_site_state.specs.Workflows.{Creates};
@@ -71,10 +72,11 @@ pub fn each_open_way_has_a_record()
     ways_keep_their_course();
 }
 
-/// If the next step of an open way looks whether the feeding stream is level, the primary that this stream reads keeps what it has still to read.
+/// If the next step of an open way looks whether the feeding streams are level, the primaries that these read keep what they have still to
+/// read.
 pub fn what_a_step_looks_at_is_kept()
     ensures { (s : SiteState) → IsSite s → (name : List ℕ) (w : WorkflowState) (way : Way) → workflow_at s.core.workflows name ≡ Some w
-        → w.way ≡ Some way → KeepsToTest w way (next_step way) (primary_of s.core.primaries w.source) (primary_of s.core.primaries w.target ∷ []) }
+        → w.way ≡ Some way → KeepsToTest w way (next_step way) (primary_of s.core.primaries w.source 0) (shards_of s.core.primaries w.target).each }
 {
     ways_keep_their_course();
     a_stream_that_reads_the_owner_is_in_use();

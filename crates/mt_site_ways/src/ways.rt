@@ -5,7 +5,7 @@ ghost use Rattle.mt_model.specs.declared.entries.Scope.{Scope};
 ghost use Rattle.mt_names.specs.declared.types.TypeSet.{TypeSet};
 ghost use Rattle.mt_plain.specs.Events.{Answer, begin_reverse, begin_switch, complete, step, undo};
 ghost use Rattle.mt_primary.specs.Primary.{IsPrimary};
-ghost use Rattle.mt_site_state.specs.Core.{primary_of};
+ghost use Rattle.mt_primaries.specs.Primaries.{primary_of};
 ghost use Rattle.mt_site_state.specs.Switching.{BeginsReverse, BeginsSwitch, Completes, StepsWorkflow, UndoesWorkflow};
 ghost use Rattle.mt_site_state.specs.Ways.{IsSite, SiteState, SiteSteps};
 
@@ -20,7 +20,7 @@ use crate::{
 };
 use mt_laws::{
     a_live_workflow_is_found_by_its_part, each_next_state_is_reached,
-    live_workflows_stand_in_place, only_named_events_change_a_workflow,
+    only_named_events_change_a_workflow, ways_keep_their_course,
 };
 use mt_site_topology::a_way_that_begins_leaves_the_topology;
 use mt_watch::Asks;
@@ -68,7 +68,7 @@ pub fn an_undo_steps<W: Asks>(watchers: &W)
 {
     a_live_workflow_is_found_by_its_part();
     each_next_state_is_reached();
-    live_workflows_stand_in_place();
+    ways_keep_their_course();
     an_undo_answers_as_the_definitions_allow();
     an_undo_leaves_the_primaries();
     an_undo_leaves_the_workflows();
@@ -79,7 +79,7 @@ pub fn an_undo_steps<W: Asks>(watchers: &W)
 /// Complete leads from each state that the controller stands for to the next one.
 pub fn a_complete_steps()
     ensures { (scopes : List Scope) (old new : SiteState) (workflow : List ℕ) (answer : Answer)
-        → Completes old workflow answer new → ((keyspace : List ℕ) → IsPrimary (primary_of old.core.primaries keyspace))
+        → Completes old workflow answer new → ((keyspace : List ℕ) (n : ℕ) → IsPrimary (primary_of old.core.primaries keyspace n))
         → SiteSteps scopes old (complete workflow) answer new }
 {
     a_complete_answers_as_the_definitions_allow();

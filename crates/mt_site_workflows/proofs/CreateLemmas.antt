@@ -8,18 +8,19 @@ use Rattle.mt_names.specs.Names.{same_text}
 use Rattle.mt_model.specs.declared.entries.Scope.{Scope}
 use Rattle.mt_model.specs.declared.entries.Scope.TheVariants as scope
 use Rattle.mt_model.specs.Topology.{TopologyState}
-use Rattle.mt_plain.specs.Events.{Refusal, refused, memory, no_keyspace, workflow_exists, same_keyspace, no_tables, watcher_refused, no_watcher, full}
+use Rattle.mt_plain.specs.Events.{Refusal, refused, memory, no_keyspace, workflow_exists, same_keyspace, no_tables, watcher_refused, no_watcher, sharded_source, full}
 use Rattle.mt_plain.specs.Plain.{among}
 use Rattle.mt_plain.specs.Refuse.{or_else, refuse_if}
-use Rattle.mt_laws.proofs.LiveLemmas.{text_apart, text_differs}
+use Rattle.mt_laws.proofs.LiveLemmas.{text_differs}
 use Rattle.mt_watch.specs.Asking.{Answering}
 use Rattle.mt_watch.specs.Scopes.{has_scope}
 use Rattle.mt_workflow.specs.declared.fault.WorkflowFault.{WorkflowFault}
 use Rattle.mt_workflow.specs.declared.fault.WorkflowFault.TheVariants as fault
 use Rattle.mt_workflow.specs.Creates as create
 use Rattle.mt_workflow.specs.Workflows.{WorkflowState}
-use Rattle.mt_site_state.specs.Core.{CoreState, Workflows, primary_at, workflow_at}
-use Rattle.mt_site_state.specs.Workflows.{CreatesSet, create_refusal, is_full, is_moved, refusal_by_table, table_refusal, tables_refusal}
+use Rattle.mt_primaries.specs.Primaries.{has_primaries}
+use Rattle.mt_site_state.specs.Core.{CoreState, Workflows, workflow_at}
+use Rattle.mt_site_state.specs.Workflows.{CreatesSet, create_refusal, is_full, is_moved, is_sharded, refusal_by_table, table_refusal, tables_refusal}
 
 -- ---- live workflows
 
@@ -49,46 +50,6 @@ none-refuses (Some fault) e = cc
 pub one-refuses : (r : Option WorkflowFault) (fault : WorkflowFault) → create.answer_of r ≡ Err fault → r ≡ Some fault
 one-refuses None fault e = cc
 one-refuses (Some other) fault e = cc
-
--- ---- a set that no test refuses
-
-or-none : (a b : Option Refusal) → or_else a b ≡ None → (a ≡ None) × (b ≡ None)
-or-none None b e = (refl, e)
-or-none (Some r) b e = absurd cc
-
-if-none : (t : Bool) (r : Refusal) → refuse_if t r ≡ None → t ≡ false
-if-none true r e = absurd cc
-if-none false r e = refl
-
-if-not-none : (t : Bool) (r : Refusal) → refuse_if (not t) r ≡ None → t ≡ true
-if-not-none true r e = refl
-if-not-none false r e = absurd cc
-
--- what holds of it
-pub record IsFree (core : CoreState) (scopes : List Scope) (workflow source target : List ℕ) (tables : List (List ℕ)) : Type 0 where
-  pub new : is_some (workflow_at core.workflows workflow) ≡ false
-  pub apart : source ≢ target
-  pub read : is_some (primary_at core.primaries source) ≡ true
-  pub written : is_some (primary_at core.primaries target) ≡ true
-  pub watched : has_scope scopes (scope.Primary target) ≡ true
-
-pub free-set : (core : CoreState) (scopes : List Scope) (workflow source target : List ℕ) (tables : List (List ℕ)) → create_refusal core scopes workflow source target tables ≡ None
-    → IsFree core scopes workflow source target tables
-free-set core scopes workflow source target tables none =
-    let by_name = or-none (refuse_if (is_some (workflow_at core.workflows workflow)) workflow_exists) _ none in
-    let by_tables = or-none (refuse_if (length tables == 0) no_tables) _ by_name.1 in
-    let by_sides = or-none (refuse_if (same_text source target) same_keyspace) _ by_tables.1 in
-    let by_source = or-none (refuse_if (not (is_some (primary_at core.primaries source))) no_keyspace) _ by_sides.1 in
-    let by_target = or-none (refuse_if (not (is_some (primary_at core.primaries target))) no_keyspace) _ by_source.1 in
-    let by_each = or-none (tables_refusal core source target tables) _ by_target.1 in
-    let by_watcher = or-none (refuse_if (not (has_scope scopes (scope.Primary target))) no_watcher) _ by_each.1 in
-    record {
-      new = if-none (is_some (workflow_at core.workflows workflow)) workflow_exists by_name.0;
-      apart = text_apart source target (if-none (same_text source target) same_keyspace by_sides.0);
-      read = if-not-none (is_some (primary_at core.primaries source)) no_keyspace by_source.0;
-      written = if-not-none (is_some (primary_at core.primaries target)) no_keyspace by_target.0;
-      watched = if-not-none (has_scope scopes (scope.Primary target)) no_watcher by_watcher.0;
-    }
 
 -- ---- a set that a test refuses
 
@@ -140,11 +101,12 @@ tests-set core scopes workflow source target tables =
     tests-or (refuse_if (is_some (workflow_at core.workflows workflow)) workflow_exists) _ (tests-if (is_some (workflow_at core.workflows workflow)) workflow_exists refl)
     (tests-or (refuse_if (length tables == 0) no_tables) _ (tests-if (length tables == 0) no_tables refl)
     (tests-or (refuse_if (same_text source target) same_keyspace) _ (tests-if (same_text source target) same_keyspace refl)
-    (tests-or (refuse_if (not (is_some (primary_at core.primaries source))) no_keyspace) _ (tests-if (not (is_some (primary_at core.primaries source))) no_keyspace refl)
-    (tests-or (refuse_if (not (is_some (primary_at core.primaries target))) no_keyspace) _ (tests-if (not (is_some (primary_at core.primaries target))) no_keyspace refl)
+    (tests-or (refuse_if (not (has_primaries core.primaries source)) no_keyspace) _ (tests-if (not (has_primaries core.primaries source)) no_keyspace refl)
+    (tests-or (refuse_if (not (has_primaries core.primaries target)) no_keyspace) _ (tests-if (not (has_primaries core.primaries target)) no_keyspace refl)
+    (tests-or (refuse_if (is_sharded core source) sharded_source) _ (tests-if (is_sharded core source) sharded_source refl)
     (tests-or (tables_refusal core source target tables) _ (tests-tables core source target tables)
     (tests-or (refuse_if (not (has_scope scopes (scope.Primary target))) no_watcher) _ (tests-if (not (has_scope scopes (scope.Primary target))) no_watcher refl)
-    (tests-if (is_full core source target tables) full refl)))))))
+    (tests-if (is_full core source target tables) full refl))))))))
 
 -- what a test refuses is refused
 pub refused-set : (core : CoreState) (scopes : List Scope) (may_answer : Answering) (workflow source target : List ℕ) (tables : List (List ℕ)) (r : Refusal)

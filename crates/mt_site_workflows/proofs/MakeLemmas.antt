@@ -1,15 +1,13 @@
 -- Create: what a new workflow keeps, and what becomes of the core that it is made in.
-use Rattle.std.proofs.Common.{◌≡◌, ℕ, true, false, List, [], ◌∷◌, ◌++◌, map, Option, None, Some, is_some, unwrap_or, Result, Ok, Err, refl, ap, sym, subst, ◌∙◌}
+use Rattle.std.proofs.Common.{◌≡◌, ℕ, true, false, List, [], ◌∷◌, ◌++◌, map, Option, None, Some, is_some, Result, Ok, Err, refl, ap, sym, subst, ◌∙◌}
 use Rattle.std.specs.Prelude.{⊤}
-use Rattle.std.proofs.lemmas.Map.Steps.{set_value_same}
-use Rattle.std.specs.Map.{set_value}
 use Rattle.indexmap.proofs.CallerLemmas.{insert_entry-new}
 use Rattle.indexmap.specs.IndexMap.{IndexMap, insert_entry}
 use Rattle.mt_names.specs.declared.keys.RuleKey.{RuleKey}
 use Rattle.mt_names.specs.declared.keys.RuleTarget.{RuleTarget}
 use Rattle.mt_names.specs.Names.{same_text}
 use Rattle.mt_names.specs.Shards.{Cuts, ranges_of}
-use Rattle.mt_names.proofs.EntryLemmas.{none_from, some_from}
+use Rattle.mt_names.proofs.EntryLemmas.{none_from}
 use Rattle.mt_model.specs.declared.entries.EntryKey.{EntryKey}
 use Rattle.mt_model.specs.declared.entries.EntryKey.TheVariants as about
 use Rattle.mt_model.specs.declared.entries.Scope.{Scope}
@@ -25,14 +23,11 @@ use Rattle.mt_topology.specs.Part.{reserve_refusal}
 use Rattle.mt_watch.specs.Asking.{Answering}
 use Rattle.mt_watch.specs.Scopes.{has_scope}
 use Rattle.mt_workflow.specs.Workflows.{WorkflowState, kept_of, keys_of_rules, new_lane, new_workflow}
-use Rattle.mt_site_state.specs.Core.{CoreState, Primaries, Workflows, primary_at, primary_of, workflow_at}
+use Rattle.mt_primaries.proofs.PrimaryLemmas.{with_shards-same}
+use Rattle.mt_primaries.specs.Primaries.{Primaries, shards_of, with_shards}
+use Rattle.mt_site_state.specs.Core.{CoreState, Workflows, workflow_at}
 use Rattle.mt_site_state.specs.Workflows.{CreatesSet, change_of, create_refusal, new_of}
 use Rattle.mt_site_workflows.specs.Create.{Makes, MakesAtTarget, Prepares}
-use Rattle.mt_primary.specs.Primary.{PrimaryState, empty_primary}
-
--- a primary that is there is the one of its keyspace
-pub found-is : (primaries : Primaries) (keyspace : List ℕ) (state : PrimaryState) → primary_at primaries keyspace ≡ Some state → primary_of primaries keyspace ≡ state
-found-is primaries keyspace state found = ap (λ o. unwrap_or o empty_primary) found
 
 -- ---- places change no rule
 
@@ -75,23 +70,21 @@ sides-there t source target tables none = by (keyspace_at t.keyspaces source) re
     by (Some s) at_source None at_target = absurd (let h = rw (at_source, at_target) at none in cc)
     by (Some s) at_source (Some g) at_target = (ap is_some at_source, ap is_some at_target)
 
--- ---- the primary of the target
+-- ---- the primaries of the target
 
--- as it was, where it isn't made
-pub not-prepared : (scopes : List Scope) (may_answer : Answering) (made : WorkflowState) (old new : Primaries) (r : Reason) → is_some (primary_at old made.target) ≡ true
+-- as they were, where they aren't made
+pub not-prepared : (scopes : List Scope) (may_answer : Answering) (made : WorkflowState) (old new : Primaries) (r : Reason)
     → has_scope scopes (scope.Primary made.target) ≡ true → MakesAtTarget scopes may_answer made (change_of made) old (Err r) new → Prepares scopes may_answer made old (Err r) new
-not-prepared scopes may_answer made old new r there watched makes = by r makes
+not-prepared scopes may_answer made old new r watched makes = by r makes
   where
-    kept : set_value (same_text made.target) old (primary_of old made.target) ≡ old
-    kept =
-        let found = some_from (primary_at old made.target) there in
-        ap (set_value (same_text made.target) old) (found-is old made.target found.0 found.1) ∙ set_value_same (same_text made.target) old found.0 found.1
+    kept : with_shards old made.target (shards_of old made.target).each ≡ old
+    kept = with_shards-same old made.target
 
     by : (r : Reason) → MakesAtTarget scopes may_answer made (change_of made) old (Err r) new → Prepares scopes may_answer made old (Err r) new
-    by reason.Memory (primary, same, is) = is ∙ ap (set_value (same_text made.target) old) same ∙ kept
-    by (reason.WatcherRefused index) (primary, (asks, same), is) = (asks, is ∙ ap (set_value (same_text made.target) old) same ∙ kept)
-    by reason.NoWatcher (primary, (lacks, same), is) = absurd (let h = sym watched ∙ lacks in cc)
-    by other (primary, makes, is) = makes
+    by reason.Memory (each, same, is) = is ∙ ap (with_shards old made.target) same ∙ kept
+    by (reason.WatcherRefused index) (each, (asks, same), is) = (asks, is ∙ ap (with_shards old made.target) same ∙ kept)
+    by reason.NoWatcher (each, (lacks, same), is) = absurd (let h = sym watched ∙ lacks in cc)
+    by other (each, makes, is) = makes
 
 -- ---- the whole
 

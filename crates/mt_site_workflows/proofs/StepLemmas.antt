@@ -13,10 +13,11 @@ use Rattle.mt_steps.specs.declared.log.OpenWay.{OpenWay}
 use Rattle.mt_steps.specs.Steps.{SidesState}
 use Rattle.mt_watch.specs.Asking.{Answering}
 use Rattle.mt_workflow.specs.Workflows.{WorkflowState}
-use Rattle.mt_site_state.specs.Core.{Primaries, Workflows, workflow_at}
-use Rattle.mt_site_state.specs.Switching.{OrRefused, StepsAt, StepsKept, StepsOn, StepsWay, StepsWorkflow, UndoesAt, UndoesKept, UndoesOn, UndoesWay, UndoesWorkflow, answer_by_step, open_after, step_refusal, undo_refusal, with_sides}
+use Rattle.mt_primaries.specs.Primaries.{Primaries}
+use Rattle.mt_site_state.specs.Core.{Workflows, workflow_at}
+use Rattle.mt_site_state.specs.Switching.{OrRefused, StepsAt, StepsKept, StepsOn, StepsWay, StepsWorkflow, UndoesAt, UndoesKept, UndoesOn, UndoesWay, UndoesWorkflow, answer_by_step, open_after, step_refusal, undo_refusal, with_primaries, with_sides}
 use Rattle.mt_site_state.specs.Ways.{OpenWays, SiteState, open_at}
-use Rattle.mt_site_workflows.specs.Ways.{CanStep, IsUnderWay, StepsBetween, UndoesBetween, left_open, with_primaries}
+use Rattle.mt_site_workflows.specs.Ways.{CanStep, IsUnderWay, StepsBetween, UndoesBetween, left_open}
 
 -- ---- what stands under way
 
@@ -52,7 +53,7 @@ kept-whole old name w later found is =
 
 -- each part is in its place
 whole : (old : SiteState) (name : List ℕ) (w new_w : WorkflowState) (o new_o : OpenWay) (sides : SidesState) (new_t : TopologyState) (new_primaries : Primaries) (later : Workflows) (meanwhile opened : OpenWays) (left : Option Way) (new_journal : List JournalEntry)
-    → w.name ≡ name → new_t ≡ sides.topology → new_primaries ≡ with_primaries old.core.primaries w sides → new_w ≡ sides.workflow → new_journal ≡ sides.journal → new_o ≡ o
+    → w.name ≡ name → new_t ≡ sides.topology → new_primaries ≡ with_primaries old.core.primaries w sides.source sides.targets → new_w ≡ sides.workflow → new_journal ≡ sides.journal → new_o ≡ o
     → later ≡ set_value (same_text name) old.core.workflows new_w → meanwhile ≡ set_value (same_text name) old.ways.opened new_o → left ≡ new_w.way → opened ≡ left_open meanwhile name left
     → record { core = record { topology = new_t; primaries = new_primaries; workflows = later }; ways = record { opened = opened; journal = new_journal; begun = old.ways.begun } } ≡ with_sides old w sides o
 whole old name w new_w o new_o sides new_t new_primaries later meanwhile opened left new_journal named topology primaries workflow journal kept set put closes is =
@@ -65,9 +66,9 @@ whole old name w new_w o new_o sides new_t new_primaries later meanwhile opened 
     ∙ ap (left_open (set_value (same_text name) old.ways.opened o) name) (closes ∙ ap (λ v. v.way) workflow)
     ∙ open-after old.ways.opened name o sides.workflow.way ∙ ap (λ n. open_after old.ways.opened n o sides.workflow.way) (sym named) in
     ap (λ t. made t new_primaries later opened new_journal) topology ∙ ap (λ ps. made sides.topology ps later opened new_journal) primaries
-    ∙ ap (λ ws. made sides.topology (with_primaries old.core.primaries w sides) ws opened new_journal) workflows
-    ∙ ap (λ os. made sides.topology (with_primaries old.core.primaries w sides) (set_value (same_text w.name) old.core.workflows sides.workflow) os new_journal) ways
-    ∙ ap (made sides.topology (with_primaries old.core.primaries w sides) (set_value (same_text w.name) old.core.workflows sides.workflow) (open_after old.ways.opened w.name o sides.workflow.way)) journal
+    ∙ ap (λ ws. made sides.topology (with_primaries old.core.primaries w sides.source sides.targets) ws opened new_journal) workflows
+    ∙ ap (λ os. made sides.topology (with_primaries old.core.primaries w sides.source sides.targets) (set_value (same_text w.name) old.core.workflows sides.workflow) os new_journal) ways
+    ∙ ap (made sides.topology (with_primaries old.core.primaries w sides.source sides.targets) (set_value (same_text w.name) old.core.workflows sides.workflow) (open_after old.ways.opened w.name o sides.workflow.way)) journal
 
 -- ---- a step
 

@@ -74,8 +74,8 @@ pub not-made : (old new : PrimaryState) (name : List ℕ) (r : Result ⊤ Primar
 not-made old new name (Ok done) e did = absurd (true≢false (sym e))
 not-made old new name (Err fault) e did = did.1
 
--- what the watchers refuse leaves the primary
-pub target-refused : (scopes : List Scope) (may_answer : Answering) (w : WorkflowState) (change : List Entry) (old now : PrimaryState) (fault : WatchersFault) (r : Reason)
+-- what the watchers refuse leaves the primaries
+pub target-refused : (scopes : List Scope) (may_answer : Answering) (w : WorkflowState) (change : List Entry) (old now : List PrimaryState) (fault : WatchersFault) (r : Reason)
     → AsksEach scopes may_answer (scope.Primary w.target) change (Err fault) → r ≡ refusal_by_watchers fault → now ≡ old → MakesTarget scopes may_answer w change old (Err r) now
 target-refused scopes may_answer w change old now (watchers.Refused i) r asks is same = rw is (asks, same)
 target-refused scopes may_answer w change old now watchers.NoWatcher r asks is same = rw is (asks, same)

@@ -1,15 +1,15 @@
--- Where primaries stand among the others.
-use Rattle.std.specs.Prelude.{◌≡◌, ℕ, zero, suc, List, [], ◌∷◌, Some, slice_get}
-use Rattle.std.specs.Map.{keys_of}
-use Rattle.mt_site_state.specs.Core.{Primaries, Workflows}
-use Rattle.mt_site_state.specs.Purges.{without_unneeded}
+-- Primaries by the places of their keyspaces.
+use Rattle.std.specs.Prelude.{ℕ, zero, suc, List, [], ◌∷◌}
+use Rattle.mt_primaries.specs.Primaries.{Primaries, ShardsState}
+use Rattle.mt_site_state.specs.Core.{Workflows}
+use Rattle.mt_site_state.specs.Purges.{purged_from}
 
--- the primary at a place is that of a keyspace
-abbrev pub IsAt : Primaries → (keyspace : List ℕ) → (place : ℕ) → Type 0
-IsAt primaries keyspace place = slice_get (keys_of primaries) place ≡ Some keyspace
+-- the logs of a keyspace's primaries are purged
+abbrev pub purged_shards : Workflows → List ℕ × ShardsState → List ℕ × ShardsState
+purged_shards workflows entry = (entry.0, record { cuts = entry.1.cuts; each = purged_from workflows entry.0 0 entry.1.each })
 
--- the log of the primary at a place is purged
+-- those of the keyspace at a place are
 abbrev pub with_purge_at : Workflows → (place : ℕ) → Primaries → Primaries
 with_purge_at workflows place [] = []
-with_purge_at workflows zero (entry ∷ entries) = (entry.0, without_unneeded workflows entry.0 entry.1) ∷ entries
+with_purge_at workflows zero (entry ∷ entries) = purged_shards workflows entry ∷ entries
 with_purge_at workflows (suc place) (entry ∷ entries) = entry ∷ with_purge_at workflows place entries

@@ -1,5 +1,5 @@
--- What becomes of the primary of a target as a workflow is created (this profile's own).
-use Rattle.std.specs.Prelude.{◌≡◌, ⊤, List, Result, Ok, Err}
+-- What becomes of the primaries of a target as a workflow is created (this profile's own).
+use Rattle.std.specs.Prelude.{◌≡◌, ⊤, ℕ, zero, suc, List, [], ◌∷◌, map, Result, Ok, Err}
 use Rattle.mt_model.specs.declared.entries.Entry.{Entry}
 use Rattle.mt_model.specs.declared.entries.Scope.{Scope}
 use Rattle.mt_model.specs.declared.entries.Scope.TheVariants as scope
@@ -18,10 +18,16 @@ refusal_by_watchers (watchers.Refused index) = reason.WatcherRefused index
 refusal_by_watchers watchers.NoWatcher = reason.NoWatcher
 refusal_by_watchers other = reason.Memory
 
--- the tables are there, and the watchers' notice is taken over; or nothing changed, if there is no memory or the watchers refuse
-abbrev pub MakesTarget : List Scope → Answering → WorkflowState → (change : List Entry) → PrimaryState → Result ⊤ Reason → PrimaryState → Type 0
+-- the first ones of some primaries are changed
+abbrev pub changed_to : (PrimaryState → PrimaryState) → (count : ℕ) → List PrimaryState → List PrimaryState
+changed_to change zero primaries = primaries
+changed_to change (suc count) [] = []
+changed_to change (suc count) (primary ∷ primaries) = change primary ∷ changed_to change count primaries
+
+-- each primary has the tables, and takes the watchers' notice over; or none changed, if there is no memory or the watchers refuse
+abbrev pub MakesTarget : List Scope → Answering → WorkflowState → (change : List Entry) → List PrimaryState → Result ⊤ Reason → List PrimaryState → Type 0
 MakesTarget scopes may_answer w change old (Ok done) new =
-    (notice : List Entry) × AsksEach scopes may_answer (scope.Primary w.target) change (Ok notice) × (new ≡ target_made w notice old)
+    (notice : List Entry) × AsksEach scopes may_answer (scope.Primary w.target) change (Ok notice) × (new ≡ map (target_made w notice) old)
 MakesTarget scopes may_answer w change old (Err reason.Memory) new = new ≡ old
 MakesTarget scopes may_answer w change old (Err (reason.WatcherRefused index)) new =
     AsksEach scopes may_answer (scope.Primary w.target) change (Err (watchers.Refused index)) × (new ≡ old)

@@ -1,6 +1,6 @@
 -- What the calls on a way ask for, and what they do to what they work on (this profile's own).
 use Rattle.std.specs.Prelude.{◌≡◌, ◌≢◌, ⊤, ℕ, ◌<◌, suc, ◌==◌, true, false, All, List, [], ◌∷◌, ◌++◌, length, Option, None, Some, is_some, Result}
-use Rattle.std.specs.Map.{remove_entry, set_value}
+use Rattle.std.specs.Map.{remove_entry}
 use Rattle.mt_names.specs.Names.{same_text}
 use Rattle.mt_model.specs.declared.entries.Scope.{Scope}
 use Rattle.mt_model.specs.Topology.{TopologyState, has_place}
@@ -11,33 +11,34 @@ use Rattle.mt_plain.specs.Plain.{next_step, stands_done, write_journal}
 use Rattle.mt_steps.specs.declared.fault.StepFault.{StepFault}
 use Rattle.mt_steps.specs.declared.log.OpenWay.{OpenWay}
 use Rattle.mt_steps.specs.Plans.{step_at}
-use Rattle.mt_steps.specs.Shards.{target_at}
 use Rattle.mt_steps.specs.Steps.{SidesState, Steps}
 use Rattle.mt_steps.specs.Streams.{KeepsToTest}
 use Rattle.mt_steps.specs.Undo.{IsLogOf, UndoState, new_log}
 use Rattle.mt_watch.specs.Asking.{Answering}
 use Rattle.mt_workflow.specs.Workflows.{WorkflowState, keys_of_part, live_of}
 use Rattle.mt_site_topology.specs.Keys.{end_keys}
-use Rattle.mt_site_state.specs.Core.{Primaries, Workflows, primary_at, primary_of, workflow_at}
-use Rattle.mt_site_state.specs.Switching.{Undoes}
-use Rattle.mt_site_state.specs.Ways.{OpenWays, open_at}
+use Rattle.mt_primaries.specs.Primaries.{Primaries, count_of, has_primaries, primary_of, shards_of}
+use Rattle.mt_site_state.specs.Core.{Workflows, workflow_at}
+use Rattle.mt_site_state.specs.Switching.{Undoes, sides_of, with_primaries}
+use Rattle.mt_site_state.specs.Ways.{OpenWays, SiteState, open_at}
 
--- a workflow with an open way stands in its place: under its own name, with primaries at both of its sides, which are two, a place in the
--- topology for each key of its part, a next step, and what is kept of the way kept for it; its number is new to the journal until the
--- way has written its entry, its target has one shard, and the primary that the feeding stream reads keeps what it has still to read, if the
--- next step looks at that
+-- a workflow with an open way stands in its place: under its own name, with one primary at its source and one for each lane at its target,
+-- which are two keyspaces, a place in the topology for each key of its part, a next step, and what is kept of the way kept for it; its
+-- number is new to the journal until the way has written its entry, and the primaries that the feeding streams read keep what these have
+-- still to read, if the next step looks at that
 pub record IsUnderWay (t : TopologyState) (primaries : Primaries) (journal : List JournalEntry) (name : List ℕ) (w : WorkflowState) (way : Way) (o : OpenWay) : Type 0 where
   pub named : w.name ≡ name
-  pub source : is_some (primary_at primaries w.source) ≡ true
-  pub target : is_some (primary_at primaries w.target) ≡ true
+  pub source : has_primaries primaries w.source ≡ true
+  pub target : has_primaries primaries w.target ≡ true
+  pub single : count_of primaries w.source ≡ 1
+  pub targets : count_of primaries w.target ≡ length w.lanes
   pub apart : w.source ≢ w.target
   pub places : All (λ key. has_place t key ≡ true) (keys_of_part w)
   pub within : next_step way < 12
   pub kept : IsLogOf w o.log
   pub unused : stands_done way write_journal ≡ false → entry_of journal o.number ≡ None
-  pub one : length w.lanes ≡ 1
   pub shards : way.shards ≡ length w.lanes
-  pub unread : KeepsToTest w way (next_step way) (primary_of primaries w.source) (primary_of primaries w.target ∷ [])
+  pub unread : KeepsToTest w way (next_step way) (primary_of primaries w.source 0) (shards_of primaries w.target).each
 
 -- so does each, and something is kept of each open way
 pub record CanStep (t : TopologyState) (primaries : Primaries) (workflows : Workflows) (journal : List JournalEntry) (opened : OpenWays) (name : List ℕ) : Type 0 where
@@ -45,23 +46,21 @@ pub record CanStep (t : TopologyState) (primaries : Primaries) (workflows : Work
   pub each : (w : WorkflowState) (way : Way) (o : OpenWay) → workflow_at workflows name ≡ Some w → w.way ≡ Some way → open_at opened name ≡ Some o
       → IsUnderWay t primaries journal name w way o
 
--- what is worked on, with the primaries in their places; the target has one shard yet
+-- what is worked on, with the primaries in their places: it is that of each state that has these parts
 abbrev pub sides_between : TopologyState → Primaries → WorkflowState → List JournalEntry → SidesState
-sides_between t primaries w journal = record { topology = t; source = primary_of primaries w.source; targets = primary_of primaries w.target ∷ []; workflow = w; journal = journal }
-
--- the primaries of a workflow's sides become others
-abbrev pub with_primaries : Primaries → WorkflowState → SidesState → Primaries
-with_primaries primaries w sides = set_value (same_text w.target) (set_value (same_text w.source) primaries sides.source) (target_at sides.targets 0)
+sides_between t primaries w journal =
+    let s : SiteState = record { core = record { topology = t; primaries = primaries; workflows = [] }; ways = record { opened = []; journal = journal; begun = 0 } } in
+    sides_of s w
 
 -- a workflow without a way can begin one: nothing is kept for it
 abbrev pub CanBegin : Workflows → OpenWays → (name : List ℕ) → Type 0
 CanBegin workflows opened name = (w : WorkflowState) → workflow_at workflows name ≡ Some w → (w.name ≡ name) × (w.way ≡ None → open_at opened name ≡ None)
 
--- a workflow can be completed: it stands under its own name, each key that Complete writes has a place, its source has a primary, and its
--- sides are two
+-- a workflow can be completed: it stands under its own name, each key that Complete writes has a place, its source has primaries, and
+-- its sides are two
 pub record CanComplete (t : TopologyState) (primaries : Primaries) (workflows : Workflows) (name : List ℕ) : Type 0 where
   pub named : (w : WorkflowState) → workflow_at workflows name ≡ Some w → w.name ≡ name
-  pub source : (w : WorkflowState) → workflow_at workflows name ≡ Some w → is_some (primary_at primaries w.source) ≡ true
+  pub source : (w : WorkflowState) → workflow_at workflows name ≡ Some w → has_primaries primaries w.source ≡ true
   pub apart : (w : WorkflowState) → workflow_at workflows name ≡ Some w → w.source ≢ w.target
   pub places : (w : WorkflowState) → workflow_at workflows name ≡ Some w → All (λ key. has_place t key ≡ true) (end_keys (live_of w))
 
@@ -86,7 +85,7 @@ abbrev pub StepsBetween : List Scope → Answering → TopologyState → Primari
 StepsBetween scopes may_answer t primaries w way journal o result new_t new_primaries new_w new_journal new =
     (sides : SidesState) × (log : UndoState)
     × Steps scopes may_answer o.number way (step_at (next_step way)) (sides_between t primaries w journal) o.log result sides log
-    × (new_t ≡ sides.topology) × (new_primaries ≡ with_primaries primaries w sides) × (new_w ≡ sides.workflow) × (new_journal ≡ sides.journal)
+    × (new_t ≡ sides.topology) × (new_primaries ≡ with_primaries primaries w sides.source sides.targets) × (new_w ≡ sides.workflow) × (new_journal ≡ sides.journal)
     × (new ≡ record { number = o.number; log = log })
 
 -- the step that was done last is undone; where none is, the way is closed
@@ -94,5 +93,5 @@ abbrev pub UndoesBetween : TopologyState → Primaries → WorkflowState → Way
 UndoesBetween t primaries w way journal o new_t new_primaries new_w new_journal new =
     (sides : SidesState) × (log : UndoState)
     × Undoes (way.done == 0) way (sides_between t primaries w journal) o.log sides log
-    × (new_t ≡ sides.topology) × (new_primaries ≡ with_primaries primaries w sides) × (new_w ≡ sides.workflow) × (new_journal ≡ sides.journal)
+    × (new_t ≡ sides.topology) × (new_primaries ≡ with_primaries primaries w sides.source sides.targets) × (new_w ≡ sides.workflow) × (new_journal ≡ sides.journal)
     × (new ≡ record { number = o.number; log = log })

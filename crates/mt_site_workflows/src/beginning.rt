@@ -5,7 +5,7 @@ ghost use Rattle.mt_journal.specs.declared.entry.JournalEntry.{JournalEntry};
 ghost use Rattle.mt_model.specs.Topology.{TopologyState};
 ghost use Rattle.mt_plain.specs.Events as plain;
 ghost use Rattle.mt_plain.specs.Refuse.{at_rest, has_more, most_ways, or_else, refuse_if, share_type};
-ghost use Rattle.mt_site_state.specs.Core.{Primaries};
+ghost use Rattle.mt_primaries.specs.Primaries.{Primaries};
 ghost use Rattle.mt_site_state.specs.Switching.{BeginsReverse, BeginsSwitch, has_copied_at, is_copying};
 ghost use Rattle.mt_site_state.specs.Ways.{open_at};
 ghost use Rattle.mt_site_workflows.specs.Ways.{CanBegin, OpensWay};

@@ -1,10 +1,11 @@
 //! Cancel: a workflow is taken back.
-ghost use Rattle.std.specs.Prelude.{◌≡◌, true, All, Some, None, is_some, option_map, fold};
+ghost use Rattle.std.specs.Prelude.{◌≡◌, true, All, Some, None, option_map, fold};
 ghost use Rattle.mt_event.specs.Reasons.{done_by, reason_from};
 ghost use Rattle.mt_model.specs.Topology.{has_place};
 ghost use Rattle.mt_plain.specs.Refuse.{cancel_refusal};
 ghost use Rattle.mt_primary.specs.Writes.{without_table};
-ghost use Rattle.mt_site_state.specs.Core.{primary_at, with_primary, workflow_at};
+ghost use Rattle.mt_primaries.specs.Primaries.{has_primaries, with_all};
+ghost use Rattle.mt_site_state.specs.Core.{workflow_at};
 ghost use Rattle.mt_site_state.specs.Workflows.{Cancels};
 ghost use Rattle.mt_site_topology.specs.Keys.{kept_entries, keys_of_part};
 ghost use Rattle.mt_workflow.specs.Workflows.{WorkflowState, live_of};
@@ -55,9 +56,9 @@ pub fn cancel(
     workflows: &mut Workflows,
     name: &WorkflowName,
 ) -> Result<(), Reason>
-    requires { CanCancel topology.old primaries.old.entries workflows.old.entries name.now }
-    ensures { Cancels (record { topology = topology.old; primaries = primaries.old.entries; workflows = workflows.old.entries }) name.now (done_by result)
-        (record { topology = topology.new; primaries = primaries.new.entries; workflows = workflows.new.entries }) }
+    requires { CanCancel topology.old primaries.old workflows.old.entries name.now }
+    ensures { Cancels (record { topology = topology.old; primaries = primaries.old; workflows = workflows.old.entries }) name.now (done_by result)
+        (record { topology = topology.new; primaries = primaries.new; workflows = workflows.new.entries }) }
 {
     let Some(workflow) = mt_few::get(workflows, name) else {
         return Err(Reason::NoWorkflow);

@@ -1,5 +1,5 @@
 //! Complete: a workflow is finished.
-ghost use Rattle.std.specs.Prelude.{◌≡◌, ◌≢◌, true, false, All, map, is_some, option_map, fold};
+ghost use Rattle.std.specs.Prelude.{◌≡◌, ◌≢◌, true, false, All, map, option_map, fold};
 ghost use Rattle.mt_event.specs.Reasons.{done_by, reason_from};
 ghost use Rattle.mt_model.specs.declared.entries.EntryKey.{EntryKey};
 ghost use Rattle.mt_model.specs.Part.{with_entries, without_place, without_places};
@@ -8,7 +8,7 @@ ghost use Rattle.mt_model.specs.declared.entries.EntryKey.TheVariants as about;
 ghost use Rattle.mt_model.specs.Topology.{has_place, with_entry};
 ghost use Rattle.mt_plain.specs.Refuse.{complete_refusal};
 ghost use Rattle.mt_primary.specs.Writes.{without_table};
-ghost use Rattle.mt_site_state.specs.Core.{primary_at, with_primary};
+ghost use Rattle.mt_primaries.specs.Primaries.{has_primaries, with_all};
 ghost use Rattle.mt_site_state.specs.Switching.{Completes};
 ghost use Rattle.mt_site_state.specs.Ways.{WaysState};
 ghost use Rattle.mt_site_workflows.specs.Ways.{CanComplete};
@@ -113,9 +113,9 @@ pub fn complete(
     workflows: &mut Workflows,
     name: &WorkflowName,
 ) -> Result<(), Reason>
-    requires { CanComplete topology.old primaries.old.entries workflows.old.entries name.now }
-    ensures { (ways : WaysState) → Completes (record { core = record { topology = topology.old; primaries = primaries.old.entries; workflows = workflows.old.entries }; ways = ways }) name.now (done_by result)
-        (record { core = record { topology = topology.new; primaries = primaries.new.entries; workflows = workflows.new.entries }; ways = ways }) }
+    requires { CanComplete topology.old primaries.old workflows.old.entries name.now }
+    ensures { (ways : WaysState) → Completes (record { core = record { topology = topology.old; primaries = primaries.old; workflows = workflows.old.entries }; ways = ways }) name.now (done_by result)
+        (record { core = record { topology = topology.new; primaries = primaries.new; workflows = workflows.new.entries }; ways = ways }) }
 {
     let Some(workflow) = mt_few::get(workflows, name) else {
         return Err(Reason::NoWorkflow);

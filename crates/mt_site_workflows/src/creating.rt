@@ -1,20 +1,22 @@
 //! Create: tables become a workflow's, which moves them.
-ghost use Rattle.std.specs.Prelude.{◌≡◌, ◌≢◌, ◌<◌, ◌≤◌, ℕ, List, true, false, All, IsTrue, None, OnOk, is_some, length, option_map};
+ghost use Rattle.std.specs.Prelude.{◌≡◌, ◌≢◌, ◌<◌, ◌≤◌, ℕ, List, true, false, All, IsTrue, None, OnOk, is_some, length, nat_lt, option_map};
 ghost use Rattle.indexmap.specs.IndexMap.{spare};
 ghost use Rattle.indexmap.specs.IndexSet.{insert_key};
 ghost use Rattle.mt_event.specs.Events.{done_from, refusal_from};
 ghost use Rattle.mt_event.specs.Reasons.{done_by};
 ghost use Rattle.mt_model.specs.Part.{part_keys};
-ghost use Rattle.mt_model.specs.Topology.{has_place};
+ghost use Rattle.mt_model.specs.Topology.{cuts_at, has_place};
 ghost use Rattle.std.specs.List.{AllByRecursion};
 ghost use Rattle.mt_names.specs.Names.{IsKeyspaceName, IsTableName, same_text};
+ghost use Rattle.mt_names.specs.Shards.{shard_count};
 ghost use Rattle.mt_names.specs.Tables.{most_tables};
 ghost use Rattle.mt_plain.specs.Events.{full};
 ghost use Rattle.mt_plain.specs.Plain.{among, each_once};
 ghost use Rattle.mt_plain.specs.Refuse.{or_else, refuse_if};
 ghost use Rattle.mt_primary.specs.Primary.{end_of, has_table};
-ghost use Rattle.mt_site_state.specs.Core.{primary_at, primary_of, workflow_at};
-ghost use Rattle.mt_site_state.specs.Core as core;
+ghost use Rattle.mt_primaries.specs.Primaries.{count_of, has_primaries, primary_of, shards_of};
+ghost use Rattle.mt_primaries.specs.Primaries as primaries;
+ghost use Rattle.mt_site_state.specs.Core.{workflow_at};
 ghost use Rattle.mt_site_state.specs.Workflows.{Creates, CreatesSet, create_refusal, is_full, is_moved, refusal_by_table, table_refusal, tables_refusal};
 ghost use Rattle.mt_workflow.specs.Creates.{is_sharded};
 ghost use Rattle.mt_workflow.specs.Workflows.{new_workflow};
@@ -22,6 +24,7 @@ ghost use Rattle.mt_site_workflows.specs.Create.{CanCreate, IsReady, Makes, Make
 
 use crate::asking::change_of;
 use crate::parts::write_part;
+use crate::places::{has_primaries, place_of};
 use crate::target::make_target;
 use crate::{Primaries, Workflows};
 use arrayvec::ArrayVec;
@@ -127,7 +130,7 @@ fn table_refusal(
 ) -> Option<Refusal>
     requires apart { source.now ≢ target.now }
     requires unsharded { is_sharded topology.now.keyspaces source.now ≡ false }
-    ensures { (primaries : core.Primaries) → option_map refusal_from result
+    ensures { (primaries : primaries.Primaries) → option_map refusal_from result
         ≡ table_refusal (record { topology = topology.now; primaries = primaries; workflows = workflows.now.entries }) source.now target.now table.now }
 {
     let is_moved = is_moved(workflows, table);
@@ -147,7 +150,7 @@ fn tables_refusal(
 ) -> Option<Refusal>
     requires apart { source.now ≢ target.now }
     requires unsharded { is_sharded topology.now.keyspaces source.now ≡ false }
-    ensures { (primaries : core.Primaries) → option_map refusal_from result
+    ensures { (primaries : primaries.Primaries) → option_map refusal_from result
         ≡ tables_refusal (record { topology = topology.now; primaries = primaries; workflows = workflows.now.entries }) source.now target.now tables.now }
 {
     for table in tables {
@@ -158,8 +161,17 @@ fn tables_refusal(
     None
 }
 
-/// What refuses a set of tables, if anything does before the limits: the name, the tables, the sides, each table, the
-/// watcher.
+/// Whether a keyspace has several shards. It takes no memory.
+fn is_sharded(primaries: &Primaries, keyspace: &KeyspaceName) -> bool
+    requires { has_primaries primaries.now keyspace.now ≡ true }
+    ensures { result ≡ nat_lt 1 (shard_count (shards_of primaries.now keyspace.now).cuts) }
+{
+    let place = place_of(primaries, keyspace);
+    primaries.all(place).len() > 1
+}
+
+/// What refuses a set of tables, if anything does before the limits: the name, the tables, the sides, whether
+/// the source is sharded, each table, the watcher.
 fn refusal_before<W: Asks>(
     topology: &Topology,
     primaries: &Primaries,
@@ -167,10 +179,10 @@ fn refusal_before<W: Asks>(
     watchers: &W,
     asked: Move<'_>,
 ) -> Option<Refusal>
-    requires { is_sharded topology.now.keyspaces asked.source.now ≡ false }
-    ensures { create_refusal (record { topology = topology.now; primaries = primaries.now.entries; workflows = workflows.now.entries }) (W.scopes watchers.now) asked.entry.name.now asked.entry.source.now asked.entry.target.now asked.entry.tables.now
+    requires { (shards_of primaries.now asked.source.now).cuts ≡ cuts_at topology.now.keyspaces asked.source.now }
+    ensures { create_refusal (record { topology = topology.now; primaries = primaries.now; workflows = workflows.now.entries }) (W.scopes watchers.now) asked.entry.name.now asked.entry.source.now asked.entry.target.now asked.entry.tables.now
         ≡ or_else (option_map refusal_from result)
-        (refuse_if (is_full (record { topology = topology.now; primaries = primaries.now.entries; workflows = workflows.now.entries }) asked.entry.source.now asked.entry.target.now asked.entry.tables.now) full) }
+        (refuse_if (is_full (record { topology = topology.now; primaries = primaries.now; workflows = workflows.now.entries }) asked.entry.source.now asked.entry.target.now asked.entry.tables.now) full) }
 {
     if workflows.contains_key(asked.name) {
         return Some(Refusal::Other(Reason::WorkflowExists));
@@ -181,11 +193,14 @@ fn refusal_before<W: Asks>(
     if asked.source == asked.target {
         return Some(Refusal::Other(Reason::SameKeyspace));
     }
-    if !primaries.contains_key(asked.source) {
+    if !has_primaries(primaries, asked.source) {
         return Some(Refusal::Other(Reason::NoKeyspace));
     }
-    if !primaries.contains_key(asked.target) {
+    if !has_primaries(primaries, asked.target) {
         return Some(Refusal::Other(Reason::NoKeyspace));
+    }
+    if is_sharded(primaries, asked.source) {
+        return Some(Refusal::Other(Reason::ShardedSource));
     }
     if let Some(refusal) = tables_refusal(
         topology,
@@ -202,35 +217,31 @@ fn refusal_before<W: Asks>(
     None
 }
 
-/// How long the log of a keyspace's primary is.
+/// How long the log of a keyspace's first shard is.
 fn position_of(primaries: &Primaries, keyspace: &KeyspaceName) -> Position
-    requires { is_some (primary_at primaries.now.entries keyspace.now) ≡ true }
-    ensures { result ≡ end_of (primary_of primaries.now.entries keyspace.now) }
+    requires { has_primaries primaries.now keyspace.now ≡ true }
+    ensures { result ≡ end_of (primary_of primaries.now keyspace.now 0) }
 {
-    match mt_few::get(primaries, keyspace) {
-        None => unreachable!(),
-        Some(primary) => primary.position(),
-    }
+    let place = place_of(primaries, keyspace);
+    primaries.all(place)[0].position()
 }
 
-/// Makes the tables of a new workflow at the primary of its target, as its watchers are asked.
+/// Makes the tables of a new workflow at the primaries of its target, as their watchers are asked.
 fn make_at_target<W: Asks>(
     primaries: &mut Primaries,
     watchers: &W,
     workflow: &Workflow,
     change: &Change,
 ) -> Result<(), Reason>
-    requires there { is_some (primary_at primaries.old.entries workflow.now.target) ≡ true }
-    requires absent { (table : List ℕ) → among workflow.now.tables table ≡ true → has_table (primary_of primaries.old.entries workflow.now.target) table ≡ false }
-    ensures { MakesAtTarget (W.scopes watchers.now) (W.may_answer watchers.now) workflow.now change.now primaries.old.entries result primaries.new.entries }
+    requires there { has_primaries primaries.old workflow.now.target ≡ true }
+    requires absent { (shard : ℕ) → shard < count_of primaries.old workflow.now.target → (table : List ℕ) → among workflow.now.tables table ≡ true → has_table (primary_of primaries.old workflow.now.target shard) table ≡ false }
+    ensures { MakesAtTarget (W.scopes watchers.now) (W.may_answer watchers.now) workflow.now change.now primaries.old result primaries.new }
 {
-    match mt_few::get_mut(primaries, workflow.target()) {
-        None => unreachable!(),
-        Some(primary) => make_target(primary, watchers, workflow, change),
-    }
+    let place = place_of(primaries, workflow.target());
+    make_target(primaries.all_mut(place), watchers, workflow, change)
 }
 
-/// Makes room for a new workflow, and its tables at the primary of its target. `F0 Memory`, then `F23 WatcherRefused`.
+/// Makes room for a new workflow, and its tables at the primaries of its target. `F0 Memory`, then `F23 WatcherRefused`.
 fn prepare<W: Asks>(
     alloc: Global,
     primaries: &mut Primaries,
@@ -238,8 +249,8 @@ fn prepare<W: Asks>(
     watchers: &W,
     workflow: &Workflow,
 ) -> Result<(), Reason>
-    requires { IsReady (W.scopes watchers.now) primaries.old.entries workflow.now.source workflow.now.target workflow.now.tables }
-    ensures made { Prepares (W.scopes watchers.now) (W.may_answer watchers.now) workflow.now primaries.old.entries result primaries.new.entries }
+    requires { IsReady (W.scopes watchers.now) primaries.old workflow.now.source workflow.now.target workflow.now.tables }
+    ensures made { Prepares (W.scopes watchers.now) (W.may_answer watchers.now) workflow.now primaries.old result primaries.new }
     ensures room { OnOk result (1 ≤ spare workflows.new) }
     ensures workflows { workflows.new.entries ≡ workflows.old.entries }
 {
@@ -262,12 +273,12 @@ fn make<W: Asks>(
     asked: Move<'_>,
 ) -> Result<(), Reason>
     requires few { length asked.tables.now ≤ most_tables }
-    requires ready { IsReady (W.scopes watchers.now) primaries.old.entries asked.source.now asked.target.now asked.tables.now }
+    requires ready { IsReady (W.scopes watchers.now) primaries.old asked.source.now asked.target.now asked.tables.now }
     requires new { is_some (workflow_at workflows.old.entries asked.name.now) ≡ false }
     requires places { All (λ key. has_place topology.old key ≡ true) (part_keys asked.source.now asked.target.now asked.tables.now) }
-    ensures { Makes (W.scopes watchers.now) (W.may_answer watchers.now) (new_workflow topology.old asked.entry.name.now asked.entry.source.now asked.entry.target.now asked.entry.tables.now (end_of (primary_of primaries.old.entries asked.entry.source.now)))
-        (record { topology = topology.old; primaries = primaries.old.entries; workflows = workflows.old.entries }) result
-        (record { topology = topology.new; primaries = primaries.new.entries; workflows = workflows.new.entries }) }
+    ensures { Makes (W.scopes watchers.now) (W.may_answer watchers.now) (new_workflow topology.old asked.entry.name.now asked.entry.source.now asked.entry.target.now asked.entry.tables.now (end_of (primary_of primaries.old asked.entry.source.now 0)))
+        (record { topology = topology.old; primaries = primaries.old; workflows = workflows.old.entries }) result
+        (record { topology = topology.new; primaries = primaries.new; workflows = workflows.new.entries }) }
 {
     let Move {
         name,
@@ -317,9 +328,9 @@ fn create_set<W: Asks>(
 ) -> Result<(), Refusal>
     requires few { length asked.tables.now ≤ most_tables }
     requires once { each_once asked.tables.now ≡ asked.tables.now }
-    requires can { CanCreate (record { topology = topology.old; primaries = primaries.old.entries; workflows = workflows.old.entries }) (W.scopes watchers.now) asked.name.now asked.source.now asked.target.now asked.tables.now }
-    ensures { CreatesSet (record { topology = topology.old; primaries = primaries.old.entries; workflows = workflows.old.entries }) (W.scopes watchers.now) (W.may_answer watchers.now) asked.entry.name.now asked.entry.source.now asked.entry.target.now asked.entry.tables.now (done_from result)
-        (record { topology = topology.new; primaries = primaries.new.entries; workflows = workflows.new.entries }) }
+    requires can { CanCreate (record { topology = topology.old; primaries = primaries.old; workflows = workflows.old.entries }) (W.scopes watchers.now) asked.name.now asked.source.now asked.target.now asked.tables.now }
+    ensures { CreatesSet (record { topology = topology.old; primaries = primaries.old; workflows = workflows.old.entries }) (W.scopes watchers.now) (W.may_answer watchers.now) asked.entry.name.now asked.entry.source.now asked.entry.target.now asked.entry.tables.now (done_from result)
+        (record { topology = topology.new; primaries = primaries.new; workflows = workflows.new.entries }) }
 {
     if let Some(refusal) = refusal_before(topology, primaries, workflows, watchers, asked) {
         return Err(refusal);
@@ -336,7 +347,7 @@ fn create_set<W: Asks>(
 
 /// Creates a workflow that moves some tables from a source to a target; a table that is named twice counts once. The first
 /// of these that holds is answered, and then nothing changed: `F6 WorkflowExists`, `F12 NoTables`, `F11 SameKeyspace`,
-/// `F1 NoKeyspace`, of each table in the order named `F2 NoTable`, `F8 TableInWorkflow`, `F10 TargetHasTable` or
+/// `F1 NoKeyspace`, `F33 ShardedSource`, of each table in the order named `F2 NoTable`, `F8 TableInWorkflow`, `F10 TargetHasTable` or
 /// `F9 RuleConflict`, `F24 NoWatcher`, `F27 Full`, `F0 Memory` and `F23 WatcherRefused`. (Vitess: Create of MoveTables)
 pub fn create<W: Asks>(
     alloc: Global,
@@ -347,9 +358,9 @@ pub fn create<W: Asks>(
     asked: Move<'_>,
 ) -> Result<(), Refusal>
     requires few { length asked.tables.now ≤ most_tables }
-    requires can { CanCreate (record { topology = topology.old; primaries = primaries.old.entries; workflows = workflows.old.entries }) (W.scopes watchers.now) asked.name.now asked.source.now asked.target.now (each_once asked.tables.now) }
-    ensures { Creates (record { topology = topology.old; primaries = primaries.old.entries; workflows = workflows.old.entries }) (W.scopes watchers.now) (W.may_answer watchers.now) asked.entry.name.now asked.entry.source.now asked.entry.target.now asked.entry.tables.now (done_from result)
-        (record { topology = topology.new; primaries = primaries.new.entries; workflows = workflows.new.entries }) }
+    requires can { CanCreate (record { topology = topology.old; primaries = primaries.old; workflows = workflows.old.entries }) (W.scopes watchers.now) asked.name.now asked.source.now asked.target.now (each_once asked.tables.now) }
+    ensures { Creates (record { topology = topology.old; primaries = primaries.old; workflows = workflows.old.entries }) (W.scopes watchers.now) (W.may_answer watchers.now) asked.entry.name.now asked.entry.source.now asked.entry.target.now asked.entry.tables.now (done_from result)
+        (record { topology = topology.new; primaries = primaries.new; workflows = workflows.new.entries }) }
 {
     if is_set(asked.tables) {
         return create_set(alloc, topology, primaries, workflows, watchers, asked);

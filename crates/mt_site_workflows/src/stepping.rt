@@ -1,8 +1,9 @@
 //! The next step of a way.
-ghost use Rattle.std.specs.Prelude.{◌≡◌, ℕ, true, None, Some, is_some, length, option_map};
+ghost use Rattle.std.specs.Prelude.{◌≡◌, ◌<◌, ℕ, true, None, Some, is_some, length, option_map};
 ghost use Rattle.mt_event.specs.Reasons.{done_by, reason_from};
 ghost use Rattle.mt_model.specs.Topology.{has_place};
-ghost use Rattle.mt_site_state.specs.Core.{primary_at};
+ghost use Rattle.mt_primaries.specs.Places.{with_one};
+ghost use Rattle.mt_primaries.specs.Primaries.{has_primaries, primary_in};
 ghost use Rattle.mt_site_state.specs.Switching.{StepsWorkflow, answer_by_step, step_refusal};
 ghost use Rattle.mt_site_workflows.specs.Ways.{CanStep, IsUnderWay, StepsBetween, left_open};
 ghost use Rattle.mt_journal.specs.Journal.{entry_of};
@@ -15,18 +16,18 @@ ghost use Rattle.mt_steps.specs.Streams.{KeepsToTest};
 ghost use Rattle.mt_steps.specs.Undo.{IsLogOf};
 ghost use Rattle.mt_workflow.specs.Workflows.{way_from};
 
-use crate::primaries::{exchange_at, place_of};
+use crate::places::place_of;
 use crate::{OpenWays, Primaries, Workflows};
 use mt_event::Reason;
 use mt_journal::Journal;
 use mt_names::WorkflowName;
+use mt_primaries::{Shards, two_of};
 use mt_primary::Primary;
 use mt_steps::{OpenWay, Sides, Step, StepFault, UndoLog, do_step, next_step};
 use mt_topology::Topology;
 use mt_watch::Asks;
 use mt_workflow::{Way, Workflow};
 use std::alloc::Global;
-use std::slice;
 
 /// The refusal of the controller for one of a step.
 fn refusal_by_step(fault: StepFault) -> Reason
@@ -114,8 +115,43 @@ fn step_on<W: Asks>(
     do_step(alloc, &mut sides, log, step)
 }
 
-/// Does the step that is next between the primaries of a workflow's sides, wherever they stand: it takes both out of their places
-/// meanwhile, and leaves empty ones there, which takes no memory.
+/// Does so between the shards of both sides: the source has one.
+fn step_beside<W: Asks>(
+    alloc: Global,
+    topology: &mut Topology,
+    source: &mut Shards,
+    target: &mut Shards,
+    workflow: &mut Workflow,
+    journal: &mut Journal,
+    watchers: &W,
+    id: u64,
+    log: &mut UndoLog,
+    step: Step,
+) -> Result<(), StepFault>
+    requires open { is_some workflow.old.way ≡ true }
+    requires next { number step ≡ next_step (open_way workflow.old) }
+    requires places { HasPlaces topology.old workflow.old }
+    requires log { IsLogOf workflow.old log.old }
+    requires single { 0 < length source.old.each }
+    requires targets { length target.old.each ≡ length workflow.old.lanes }
+    requires shards { (open_way workflow.old).shards ≡ length workflow.old.lanes }
+    requires kept { KeepsToTest workflow.old (open_way workflow.old) (number step) (primary_in source.old 0) target.old.each }
+    requires fresh { number step ≡ write_journal → entry_of journal.old id ≡ None }
+    ensures source { source.new ≡ with_one source.old 0 (primary_in source.new 0) }
+    ensures cuts { target.new.cuts ≡ target.old.cuts }
+    ensures steps { Steps (W.scopes watchers.now) (W.may_answer watchers.now) id (open_way workflow.old) step
+        (record { topology = topology.old; source = primary_in source.old 0; targets = target.old.each; workflow = workflow.old; journal = journal.old }) log.old
+        result
+        (record { topology = topology.new; source = primary_in source.new 0; targets = target.new.each; workflow = workflow.new; journal = journal.new }) log.new }
+{
+    let one = source.shard_mut(0);
+    let all = target.all_mut();
+    step_on(
+        alloc, topology, one, all, workflow, journal, watchers, id, log, step,
+    )
+}
+
+/// Does the step that is next between the primaries of a workflow's sides, wherever they stand.
 #[inline(never)]
 fn step_between<W: Asks>(
     alloc: Global,
@@ -128,29 +164,26 @@ fn step_between<W: Asks>(
     watchers: &W,
 ) -> Result<(), StepFault>
     requires way { workflow.old.way ≡ Some (way_from way) }
-    requires stands { IsUnderWay topology.old primaries.old.entries journal.old workflow.old.name workflow.old (way_from way) kept.old }
-    ensures { StepsBetween (W.scopes watchers.now) (W.may_answer watchers.now) topology.old primaries.old.entries workflow.old (way_from way) journal.old kept.old result
-        topology.new primaries.new.entries workflow.new journal.new kept.new }
+    requires stands { IsUnderWay topology.old primaries.old journal.old workflow.old.name workflow.old (way_from way) kept.old }
+    ensures { StepsBetween (W.scopes watchers.now) (W.may_answer watchers.now) topology.old primaries.old workflow.old (way_from way) journal.old kept.old result
+        topology.new primaries.new workflow.new journal.new kept.new }
 {
-    let at_source = place_of(primaries, workflow.source());
-    let at_target = place_of(primaries, workflow.target());
-    let mut source = exchange_at(primaries, at_source, Primary::new(alloc));
-    let mut target = exchange_at(primaries, at_target, Primary::new(alloc));
-    let result = step_on(
+    let source = place_of(primaries, workflow.source());
+    let target = place_of(primaries, workflow.target());
+    let places = primaries.places_mut();
+    let (from, to) = two_of(places, source, target);
+    step_beside(
         alloc,
         topology,
-        &mut source,
-        slice::from_mut(&mut target),
+        from,
+        to,
         workflow,
         journal,
         watchers,
         kept.number,
         &mut kept.log,
         next_step(way),
-    );
-    exchange_at(primaries, at_source, source);
-    exchange_at(primaries, at_target, target);
-    result
+    )
 }
 
 /// Does the next step of the way that is open on a live workflow, and closes the way behind its last one: `F7 NoWorkflow`,
@@ -167,10 +200,10 @@ pub fn step<W: Asks>(
     name: &WorkflowName,
     at: u64,
 ) -> Result<(), Reason>
-    requires { CanStep topology.old primaries.old.entries workflows.old.entries journal.old opened.old.entries name.now }
-    ensures { (begun : ℕ) → StepsWorkflow (record { core = record { topology = topology.old; primaries = primaries.old.entries; workflows = workflows.old.entries }; ways = record { opened = opened.old.entries; journal = journal.old; begun = begun } })
+    requires { CanStep topology.old primaries.old workflows.old.entries journal.old opened.old.entries name.now }
+    ensures { (begun : ℕ) → StepsWorkflow (record { core = record { topology = topology.old; primaries = primaries.old; workflows = workflows.old.entries }; ways = record { opened = opened.old.entries; journal = journal.old; begun = begun } })
         (W.scopes watchers.now) (W.may_answer watchers.now) name.now at (done_by result)
-        (record { core = record { topology = topology.new; primaries = primaries.new.entries; workflows = workflows.new.entries }; ways = record { opened = opened.new.entries; journal = journal.new; begun = begun } }) }
+        (record { core = record { topology = topology.new; primaries = primaries.new; workflows = workflows.new.entries }; ways = record { opened = opened.new.entries; journal = journal.new; begun = begun } }) }
 {
     let Some(workflow) = mt_few::get_mut(workflows, name) else {
         return Err(Reason::NoWorkflow);

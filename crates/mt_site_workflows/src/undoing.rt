@@ -2,6 +2,8 @@
 ghost use Rattle.std.specs.Prelude.{◌≡◌, ◌<◌, ◌==◌, ℕ, false, true, Some, is_some, length, option_map};
 ghost use Rattle.mt_event.specs.Reasons.{done_by, reason_from};
 ghost use Rattle.mt_plain.specs.Plain.{last_step, stands_done, write_journal};
+ghost use Rattle.mt_primaries.specs.Places.{with_one};
+ghost use Rattle.mt_primaries.specs.Primaries.{primary_in};
 ghost use Rattle.mt_steps.specs.Entries.{HasPlaces};
 ghost use Rattle.mt_steps.specs.Plans.{step_at};
 ghost use Rattle.mt_steps.specs.Steps.{IsUndone, open_way};
@@ -10,19 +12,18 @@ ghost use Rattle.mt_site_state.specs.Switching.{UndoesWorkflow, undo_refusal};
 ghost use Rattle.mt_site_workflows.specs.Ways.{CanStep, IsUnderWay, UndoesBetween};
 ghost use Rattle.mt_workflow.specs.Workflows.{way_from};
 
-use crate::primaries::{exchange_at, place_of};
+use crate::places::place_of;
 use crate::stepping::close;
 use crate::{OpenWays, Primaries, Workflows};
 use mt_event::Reason;
 use mt_journal::Journal;
 use mt_names::WorkflowName;
+use mt_primaries::{Shards, two_of};
 use mt_primary::Primary;
 use mt_steps::{OpenWay, Sides, UndoLog, undo_last};
 use mt_topology::Topology;
 use mt_watch::Asks;
 use mt_workflow::{Way, Workflow};
-use std::alloc::Global;
-use std::slice;
 
 /// What refuses an undo: `F19 PastJournal`, `F25 Stale`.
 fn undo_refusal(way: Way, at: u64) -> Option<Reason>
@@ -71,11 +72,39 @@ fn undo_on<W: Asks>(
     undo_last(&mut sides, log)
 }
 
-/// Undoes the step that was done last between the primaries of a workflow's sides, wherever they stand: it takes both out of their places
-/// meanwhile, and leaves empty ones there, which takes no memory.
+/// Does so between the shards of both sides: the source has one.
+fn undo_beside<W: Asks>(
+    topology: &mut Topology,
+    source: &mut Shards,
+    target: &mut Shards,
+    workflow: &mut Workflow,
+    journal: &mut Journal,
+    watchers: &W,
+    id: u64,
+    log: &mut UndoLog,
+)
+    requires open { is_some workflow.old.way ≡ true }
+    requires some { 0 < (open_way workflow.old).done }
+    requires before { last_step (open_way workflow.old) < write_journal }
+    requires single { 0 < length source.old.each }
+    requires targets { length target.old.each ≡ length workflow.old.lanes }
+    requires shards { (open_way workflow.old).shards ≡ length workflow.old.lanes }
+    requires places { HasPlaces topology.old workflow.old }
+    requires log { IsLogOf workflow.old log.old }
+    ensures source { source.new ≡ with_one source.old 0 (primary_in source.new 0) }
+    ensures cuts { target.new.cuts ≡ target.old.cuts }
+    ensures undone { IsUndone (open_way workflow.old) (step_at (last_step (open_way workflow.old)))
+        (record { topology = topology.old; source = primary_in source.old 0; targets = target.old.each; workflow = workflow.old; journal = journal.old }) log.old
+        (record { topology = topology.new; source = primary_in source.new 0; targets = target.new.each; workflow = workflow.new; journal = journal.new }) log.new }
+{
+    let one = source.shard_mut(0);
+    let all = target.all_mut();
+    undo_on(topology, one, all, workflow, journal, watchers, id, log);
+}
+
+/// Undoes the step that was done last between the primaries of a workflow's sides, wherever they stand.
 #[inline(never)]
 fn undo_done<W: Asks>(
-    alloc: Global,
     topology: &mut Topology,
     primaries: &mut Primaries,
     workflow: &mut Workflow,
@@ -85,33 +114,30 @@ fn undo_done<W: Asks>(
     watchers: &W,
 )
     requires way { workflow.old.way ≡ Some (way_from way) }
-    requires stands { IsUnderWay topology.old primaries.old.entries journal.old workflow.old.name workflow.old (way_from way) kept.old }
+    requires stands { IsUnderWay topology.old primaries.old journal.old workflow.old.name workflow.old (way_from way) kept.old }
     requires before { stands_done (way_from way) write_journal ≡ false }
     requires some { (way.done == 0) ≡ false }
-    ensures { UndoesBetween topology.old primaries.old.entries workflow.old (way_from way) journal.old kept.old
-        topology.new primaries.new.entries workflow.new journal.new kept.new }
+    ensures { UndoesBetween topology.old primaries.old workflow.old (way_from way) journal.old kept.old
+        topology.new primaries.new workflow.new journal.new kept.new }
 {
-    let at_source = place_of(primaries, workflow.source());
-    let at_target = place_of(primaries, workflow.target());
-    let mut source = exchange_at(primaries, at_source, Primary::new(alloc));
-    let mut target = exchange_at(primaries, at_target, Primary::new(alloc));
-    undo_on(
+    let source = place_of(primaries, workflow.source());
+    let target = place_of(primaries, workflow.target());
+    let places = primaries.places_mut();
+    let (from, to) = two_of(places, source, target);
+    undo_beside(
         topology,
-        &mut source,
-        slice::from_mut(&mut target),
+        from,
+        to,
         workflow,
         journal,
         watchers,
         kept.number,
         &mut kept.log,
     );
-    exchange_at(primaries, at_source, source);
-    exchange_at(primaries, at_target, target);
 }
 
 /// Undoes the step that was done last between the primaries of a workflow's sides, or closes the way, if none of its steps stands done.
 fn undo_between<W: Asks>(
-    alloc: Global,
     topology: &mut Topology,
     primaries: &mut Primaries,
     workflow: &mut Workflow,
@@ -121,25 +147,22 @@ fn undo_between<W: Asks>(
     watchers: &W,
 )
     requires way { workflow.old.way ≡ Some (way_from way) }
-    requires stands { IsUnderWay topology.old primaries.old.entries journal.old workflow.old.name workflow.old (way_from way) kept.old }
+    requires stands { IsUnderWay topology.old primaries.old journal.old workflow.old.name workflow.old (way_from way) kept.old }
     requires before { stands_done (way_from way) write_journal ≡ false }
-    ensures { UndoesBetween topology.old primaries.old.entries workflow.old (way_from way) journal.old kept.old
-        topology.new primaries.new.entries workflow.new journal.new kept.new }
+    ensures { UndoesBetween topology.old primaries.old workflow.old (way_from way) journal.old kept.old
+        topology.new primaries.new workflow.new journal.new kept.new }
 {
     if way.done == 0 {
         workflow.set_way(None);
         return;
     }
-    undo_done(
-        alloc, topology, primaries, workflow, way, journal, kept, watchers,
-    );
+    undo_done(topology, primaries, workflow, way, journal, kept, watchers);
 }
 
 /// Undoes the last step of the way that is open on a live workflow, and closes the way if none stands done then: `F7 NoWorkflow`,
 /// `F14 NothingUnderWay`, `F19 PastJournal`, `F25 Stale`. It takes no memory, and asks nobody. (Vitess: Cancel of a switch of
 /// traffic before its journal)
 pub fn undo<W: Asks>(
-    alloc: Global,
     topology: &mut Topology,
     primaries: &mut Primaries,
     workflows: &mut Workflows,
@@ -149,9 +172,9 @@ pub fn undo<W: Asks>(
     name: &WorkflowName,
     at: u64,
 ) -> Result<(), Reason>
-    requires { CanStep topology.old primaries.old.entries workflows.old.entries journal.old opened.old.entries name.now }
-    ensures { (begun : ℕ) → UndoesWorkflow (record { core = record { topology = topology.old; primaries = primaries.old.entries; workflows = workflows.old.entries }; ways = record { opened = opened.old.entries; journal = journal.old; begun = begun } }) name.now at (done_by result)
-        (record { core = record { topology = topology.new; primaries = primaries.new.entries; workflows = workflows.new.entries }; ways = record { opened = opened.new.entries; journal = journal.new; begun = begun } }) }
+    requires { CanStep topology.old primaries.old workflows.old.entries journal.old opened.old.entries name.now }
+    ensures { (begun : ℕ) → UndoesWorkflow (record { core = record { topology = topology.old; primaries = primaries.old; workflows = workflows.old.entries }; ways = record { opened = opened.old.entries; journal = journal.old; begun = begun } }) name.now at (done_by result)
+        (record { core = record { topology = topology.new; primaries = primaries.new; workflows = workflows.new.entries }; ways = record { opened = opened.new.entries; journal = journal.new; begun = begun } }) }
 {
     let Some(workflow) = mt_few::get_mut(workflows, name) else {
         return Err(Reason::NoWorkflow);
@@ -165,9 +188,7 @@ pub fn undo<W: Asks>(
     let Some(kept) = mt_few::get_mut(opened, name) else {
         unreachable!()
     };
-    undo_between(
-        alloc, topology, primaries, workflow, way, journal, kept, watchers,
-    );
+    undo_between(topology, primaries, workflow, way, journal, kept, watchers);
     close(opened, name, workflow.way());
     Ok(())
 }

@@ -16,7 +16,7 @@ taken-push [] call = omega arith
 taken-push (c ∷ calls) call = omega (arith, taken-push calls call)
 
 advances-push : (workflow : List ℕ) (stream : Slot) (max at : ℕ) (calls : List Call) (call : Call) → AreAdvances workflow stream max at calls
-    → call.event ≡ event.Advance workflow stream (position_after at calls) max → AreAdvances workflow stream max at (calls ++ call ∷ [])
+    → call.event ≡ event.Advance workflow stream 0 (position_after at calls) max → AreAdvances workflow stream max at (calls ++ call ∷ [])
 advances-push workflow stream max at [] call are is = (is, tt)
 advances-push workflow stream max at (c ∷ calls) call are is = (are.0, advances-push workflow stream max (next_position at c.answer) calls call are.1 is)
 
@@ -35,7 +35,7 @@ not_begun workflow stream max old = (
 )
 
 pub one_more : (workflow : List ℕ) (stream : Slot) (max line : ℕ) (old now new : List Call) (at taken : ℕ) (call : Call) → IsUnderWay workflow stream max line old now at taken
-    → call.event ≡ event.Advance workflow stream at max → new ≡ now ++ call ∷ []
+    → call.event ≡ event.Advance workflow stream 0 at max → new ≡ now ++ call ∷ []
     → IsUnderWay workflow stream max (line + 1) old new (next_position at call.answer) (taken + one_if_taken call.answer)
 one_more workflow stream max line old now new at taken call way is adds =
     let calls = way.0 in
@@ -44,7 +44,7 @@ one_more workflow stream max line old now new at taken call way is adds =
       adds ∙ ap (λ l. l ++ call ∷ []) way.1 ∙ append_assoc old calls (call ∷ []),
       record {
         few = omega (arith, few, way.2.few);
-        each = advances-push workflow stream max 0 calls call way.2.each (is ∙ ap (λ n. event.Advance workflow stream n max) way.3);
+        each = advances-push workflow stream max 0 calls call way.2.each (is ∙ ap (λ n. event.Advance workflow stream 0 n max) way.3);
         counted = ap (λ n. n + one_if_taken call.answer) way.2.counted ∙ sym (taken-push calls call);
       },
       ap (λ n. next_position n call.answer) way.3 ∙ sym (position-push 0 calls call),

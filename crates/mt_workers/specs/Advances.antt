@@ -22,11 +22,11 @@ abbrev pub position_after : (at : ℕ) → List Call → ℕ
 position_after at [] = at
 position_after at (call ∷ calls) = position_after (next_position at call.answer) calls
 
--- advances of a stream, the first at a position, and each other one where the answer before it says
+-- advances of a stream of the first shard, the first at a position, and each other one where the answer before it says
 abbrev pub AreAdvances : (workflow : List ℕ) → Slot → (max at : ℕ) → List Call → Type 0
 AreAdvances workflow stream max at [] = Unit {0}
 AreAdvances workflow stream max at (call ∷ calls) =
-    (call.event ≡ event.Advance workflow stream at max) × AreAdvances workflow stream max (next_position at call.answer) calls
+    (call.event ≡ event.Advance workflow stream 0 at max) × AreAdvances workflow stream max (next_position at call.answer) calls
 
 -- how many of some advances were taken
 abbrev pub one_if_taken : Answer → ℕ

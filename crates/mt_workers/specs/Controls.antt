@@ -1,5 +1,5 @@
 -- What a controller asks for, and what follows from each answer (MoveTables: SwitchTraffic, ReverseTraffic; the tries are this profile's own).
-use Rattle.std.specs.Prelude.{◌≡◌, ◌+◌, ◌-◌, ℕ, min, nat_lt, Bool, true, false, if◌then◌else◌, List, [], ◌∷◌, ◌++◌, Result, Ok, Err}
+use Rattle.std.specs.Prelude.{◌≡◌, ◌+◌, ◌-◌, ℕ, min, nat_lt, Bool, true, false, if◌then◌else◌, List, [], ◌∷◌, ◌++◌, Result, Ok, Err, slice_get}
 use Rattle.std.specs.List.{AllByRecursion}
 use Rattle.std.specs.Option.{option_map_or}
 use Rattle.mt_desk.specs.declared.history.Call.{Call}
@@ -7,6 +7,7 @@ use Rattle.mt_event.specs.declared.driven.Driven.{Driven}
 use Rattle.mt_event.specs.declared.driven.Driven.TheVariants.{Done, Abandoned, Stopped}
 use Rattle.mt_event.specs.declared.event.Event.{Event}
 use Rattle.mt_event.specs.declared.event.Event.TheVariants as event
+use Rattle.mt_event.specs.declared.lanes.ShownLane.{ShownLane}
 use Rattle.mt_event.specs.declared.refusal.Refusal.{Refusal}
 use Rattle.mt_event.specs.declared.reason.Reason.TheVariants as reason
 use Rattle.mt_event.specs.declared.refusal.Refusal.TheVariants as refusal
@@ -55,6 +56,13 @@ with_position course at = record course { position = at }
 abbrev pub one_try_fewer : Course → Course
 one_try_fewer course = record course { tries = course.tries - 1 }
 
+-- where the stream that feeds on a way stands, of a shard, and of the first one as Show tells it
+abbrev pub feeding_position : (back : Bool) → ShownLane → ℕ
+feeding_position back lane = if back then option_map_or (λ stream. stream.position) lane.back 0 else lane.forward.position
+
+abbrev pub position_on : Shown → (back : Bool) → ℕ
+position_on shown back = option_map_or (feeding_position back) (slice_get shown.lanes.items 0) 0
+
 -- what Show tells of the open way
 abbrev pub course_on : (tries : ℕ) → Shown → Way → Course
 course_on tries shown way = record {
@@ -62,7 +70,7 @@ course_on tries shown way = record {
   first = first_step (way_from way);
   behind = behind_last (way_from way);
   done = min way.done most_steps;
-  position = if way.back then option_map_or (λ stream. stream.position) shown.back 0 else shown.forward.position;
+  position = position_on shown way.back;
   tries = tries;
 }
 
@@ -77,7 +85,7 @@ course_of tries none (Err why) = Err why
 -- the event that is due
 abbrev pub due : (workflow : List ℕ) → Turn → Course → Event
 due workflow Steps course = event.Step workflow course.done
-due workflow Feeds course = event.Advance workflow (feeding course) course.position most_at_once
+due workflow Feeds course = event.Advance workflow (feeding course) 0 course.position most_at_once
 due workflow (GivesUp why) course = event.Undo workflow course.done
 
 -- before the journal, whose step has the number 6, all is undone; behind it the controller stops
@@ -178,7 +186,7 @@ Controls workflow types back tries (call ∷ calls) result =
 
 -- an event that a controller of this workflow asks for
 abbrev pub IsOfController : (workflow : List ℕ) → Event → Type 0
-IsOfController workflow (event.Advance name stream at max) = name ≡ workflow
+IsOfController workflow (event.Advance name stream shard at max) = name ≡ workflow
 IsOfController workflow (event.BeginSwitch name types) = name ≡ workflow
 IsOfController workflow (event.BeginReverse name types) = name ≡ workflow
 IsOfController workflow (event.Step name at) = name ≡ workflow

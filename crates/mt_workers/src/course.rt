@@ -1,9 +1,9 @@
 //! What a controller knows of the way that it goes.
 ghost use Rattle.std.specs.Prelude.{◌≡◌, ◌≤◌, IfOk, min};
-ghost use Rattle.mt_workers.specs.Controls.{course_of, course_on, most_steps};
+ghost use Rattle.mt_workers.specs.Controls.{course_of, course_on, feeding_position, most_steps, position_on};
 
 use mt_desk::Answer;
-use mt_event::{Refusal, Reply, Shown};
+use mt_event::{Refusal, Reply, Shown, ShownLane};
 use mt_names::Position;
 use mt_workflow::Way;
 
@@ -35,23 +35,39 @@ pub(crate) fn steps_told(told: u64) -> u8
     if told < MOST_STEPS { told as u8 } else { 12 }
 }
 
+/// The position of the stream of a lane that feeds on a way.
+fn feeding_position(lane: &ShownLane, back: bool) -> Position
+    ensures { result ≡ feeding_position back lane.now }
+{
+    match (back, lane.back) {
+        (false, _) => lane.forward.position,
+        (true, Some(stream)) => stream.position,
+        (true, None) => 0,
+    }
+}
+
+/// The position that Show told of the stream of the first shard that feeds on a way.
+fn position_on(shown: &Shown, back: bool) -> Position
+    ensures { result ≡ position_on shown.now back }
+{
+    match shown.lanes.first() {
+        Some(lane) => feeding_position(lane, back),
+        None => 0,
+    }
+}
+
 /// What Show told of the way that is open.
 fn course_on(tries: u64, shown: &Shown, way: Way) -> Course
     ensures course { result ≡ course_on tries shown.now way }
     ensures done { result.done ≤ most_steps }
     ensures behind { result.behind ≤ most_steps }
 {
-    let position = match (way.back, shown.back) {
-        (false, _) => shown.forward.position,
-        (true, Some(stream)) => stream.position,
-        (true, None) => 0,
-    };
     Course {
         back: way.back,
         first: way.first_step(),
         behind: way.behind_last(),
         done: steps_told(u64::from(way.done)),
-        position,
+        position: position_on(shown, way.back),
         tries,
     }
 }

@@ -33,10 +33,10 @@ fn one_if_taken(answer: &Answer) -> u64
     }
 }
 
-/// Advances a stream of a workflow again and again, so many times at most, each time by at most `max` rows or entries: the first time
-/// at position 0, and then where the last answer says that it is. A refusal takes a turn too; `F25 Stale` says where the stream is. It
-/// gives its pass back, and the number of advances that were taken. It ends early only where the desk refuses a call, with its
-/// `DeskFault` told by nobody. (Vitess: a VReplication stream, which goes on by itself)
+/// Advances a stream of a workflow, that of its target's first shard, again and again, so many times at most, each time by at most `max`
+/// rows or entries: the first time at position 0, and then where the last answer says that it is. A refusal takes a turn too; `F25 Stale`
+/// says where the stream is. It gives its pass back, and the number of advances that were taken. It ends early only where the desk refuses
+/// a call, with its `DeskFault` told by nobody. (Vitess: a VReplication stream, which goes on by itself)
 pub fn stream_worker<R: Wait, G: Gate, D: DeskName, W: Asks + Drop, H: Wait + Drop>(
     rt: &R,
     gate: &G,
@@ -58,6 +58,7 @@ pub fn stream_worker<R: Wait, G: Gate, D: DeskName, W: Asks + Drop, H: Wait + Dr
         let event = Event::Advance {
             workflow: workflow.copied(),
             stream,
+            shard: 0,
             at,
             max,
         };

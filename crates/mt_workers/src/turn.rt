@@ -47,6 +47,7 @@ pub(crate) fn due(workflow: &WorkflowName, turn: &Turn, course: Course) -> Event
             } else {
                 Slot::Forward
             },
+            shard: 0,
             at: course.position,
             max: MOST_AT_ONCE,
         },

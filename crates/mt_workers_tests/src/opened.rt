@@ -8,7 +8,7 @@ use crate::turns::{Turns, in_turn};
 use arrayvec::ArrayVec;
 use mt_desk::{Desk, DeskFault, DeskName};
 use mt_event::Event;
-use mt_names::{KeyspaceName, NameFault, TableName, WorkflowName};
+use mt_names::{KeyspaceName, NameFault, ShardList, TableName, WorkflowName};
 use mt_routes::Opened;
 use mt_site::Site;
 use mt_watch::{Asks, Callback, Change, Notice, Scope, WatchFault, Watcher, Watchers, tell};
@@ -35,9 +35,11 @@ fn events() -> Result<[Event; 5], NameFault> {
     Ok([
         Event::AddKeyspace {
             keyspace: KeyspaceName::parse("commerce")?,
+            shards: ShardList::unsharded(),
         },
         Event::AddKeyspace {
             keyspace: KeyspaceName::parse("customer")?,
+            shards: ShardList::unsharded(),
         },
         Event::AddTable {
             keyspace: KeyspaceName::parse("commerce")?,
@@ -52,6 +54,7 @@ fn events() -> Result<[Event; 5], NameFault> {
         Event::Advance {
             workflow: WorkflowName::parse("mv")?,
             stream: Slot::Forward,
+            shard: 0,
             at: 0,
             max: 100,
         },

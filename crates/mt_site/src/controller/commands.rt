@@ -1,6 +1,7 @@
 //! Commands: events whose names are lent, and that are answered by nothing but that they are done.
 ghost use Rattle.std.specs.Prelude.{◌≡◌, List, [], ◌∷◌, OnErr, option_copied};
 ghost use Rattle.mt_event.specs.Reasons.{done_by};
+ghost use Rattle.mt_names.specs.Shards.{AreCuts};
 ghost use Rattle.mt_plain.specs.Events as plain;
 ghost use Rattle.mt_site_state.specs.ByHand.{AddsKeyspace, AddsTable, EditsRule};
 ghost use Rattle.mt_site_state.specs.Purges.{IsPurged};
@@ -20,11 +21,11 @@ use crate::given_up::a_move_can_be_given_up;
 use crate::primaries::each_is_a_primary;
 use mt_event::{Event, Reason};
 use mt_laws::every_run_keeps_the_headline;
-use mt_names::{KeyspaceName, RuleKey, RuleTarget, TableName, TypeSet, WorkflowName};
+use mt_names::{KeyspaceName, RuleKey, RuleTarget, ShardList, TableName, TypeSet, WorkflowName};
 use mt_site_events::{
-    a_purged_core_stands, each_keyspace_of_a_core_has_a_primary,
-    keyspaces_of_a_core_have_one_shard, primaries_of_a_core_have_the_tables_of_its_topology,
-    what_is_purged_stays_purged, workflows_of_a_core_stand_in_place,
+    a_purged_core_stands, each_shard_of_a_core_has_a_primary,
+    primaries_of_a_core_have_the_tables_of_its_topology, what_is_purged_stays_purged,
+    workflows_of_a_core_know_their_shards, workflows_of_a_core_stand_in_place,
 };
 use mt_site_ways::{
     a_begin_steps, a_complete_steps, a_purged_site_stands, a_site_stays_one, a_step_steps,
@@ -38,8 +39,8 @@ use mt_watch::Asks;
 /// names of its own and is as large as sixteen of them. (Vitess: the commands of MoveTables, in atomic steps)
 #[derive(Drop)]
 pub enum Command<'a> {
-    /// Makes a keyspace.
-    AddKeyspace(&'a KeyspaceName),
+    /// Makes a keyspace of some shards.
+    AddKeyspace(&'a KeyspaceName, &'a ShardList),
     /// Makes a table in a keyspace.
     AddTable(&'a KeyspaceName, &'a TableName),
     /// Sets the routing rule of a key, or takes it away.
@@ -69,7 +70,9 @@ impl<'a> Command<'a> {
         ensures event { IfSome result (λ command. event_of_command command ≡ event_of event.now) }
     {
         match event {
-            Event::AddKeyspace { keyspace } => Some(Command::AddKeyspace(keyspace)),
+            Event::AddKeyspace { keyspace, shards } => {
+                Some(Command::AddKeyspace(keyspace, shards))
+            }
             Event::AddTable { keyspace, table } => Some(Command::AddTable(keyspace, table)),
             Event::EditRule { key, target } => Some(Command::EditRule(key, target.as_ref())),
             Event::BeginSwitch { workflow, types } => Some(Command::BeginSwitch(workflow, *types)),
@@ -119,7 +122,7 @@ impl Core {
     {
         each_is_a_primary(self.alloc, &self.primaries);
         let told = match command {
-            Command::AddKeyspace(keyspace) => self.add_keyspace(keyspace),
+            Command::AddKeyspace(keyspace, shards) => self.add_keyspace(keyspace, shards),
             Command::AddTable(keyspace, table) => self.add_table(keyspace, table),
             Command::EditRule(key, target) => self.edit_rule(key, target),
             Command::BeginSwitch(workflow, types) => self.begin_switch(workflow, types),
@@ -135,16 +138,18 @@ impl Core {
 
     /// Adds a keyspace without tables: `F30 Exists`, `F27 Full`, `F0 Memory`.
     #[inline(never)]
-    fn add_keyspace(&mut self, name: &KeyspaceName) -> Result<(), Reason>
-        ensures does { AddsKeyspace self.old.core name.now (done_by result) self.new.core }
+    fn add_keyspace(&mut self, name: &KeyspaceName, shards: &ShardList) -> Result<(), Reason>
+        ensures does { AddsKeyspace self.old.core name.now shards.now (done_by result) self.new.core }
+        ensures bounds { AreCuts shards.now }
         ensures ways { self.new.ways ≡ self.old.ways }
         ensures unchanged { OnErr result (self.new ≡ self.old) }
     {
-        each_keyspace_of_a_core_has_a_primary();
+        each_shard_of_a_core_has_a_primary();
         primaries_of_a_core_have_the_tables_of_its_topology();
         a_site_stays_one();
         events_by_hand_step_and_leave_the_ways();
-        by_hand::add_keyspace(self.alloc, &mut self.topology, &mut self.primaries, name)
+        shards.facts();
+        by_hand::add_keyspace(&mut self.topology, &mut self.primaries, name, shards)
     }
 
     /// Adds a table without rows: `F1 NoKeyspace`, `F30 Exists`, `F27 Full`, `F0 Memory`.
@@ -154,7 +159,7 @@ impl Core {
         ensures ways { self.new.ways ≡ self.old.ways }
         ensures unchanged { OnErr result (self.new ≡ self.old) }
     {
-        each_keyspace_of_a_core_has_a_primary();
+        each_shard_of_a_core_has_a_primary();
         primaries_of_a_core_have_the_tables_of_its_topology();
         a_site_stays_one();
         events_by_hand_step_and_leave_the_ways();
@@ -245,7 +250,7 @@ impl Core {
         workflows_of_a_core_stand_in_place();
         each_open_way_has_a_record();
         what_a_step_looks_at_is_kept();
-        keyspaces_of_a_core_have_one_shard();
+        workflows_of_a_core_know_their_shards();
         a_step_steps(watchers);
         step(
             self.alloc,
@@ -270,10 +275,9 @@ impl Core {
         workflows_of_a_core_stand_in_place();
         each_open_way_has_a_record();
         what_a_step_looks_at_is_kept();
-        keyspaces_of_a_core_have_one_shard();
+        workflows_of_a_core_know_their_shards();
         an_undo_steps(watchers);
         undo(
-            self.alloc,
             &mut self.topology,
             &mut self.primaries,
             &mut self.workflows,
@@ -292,6 +296,7 @@ impl Core {
     {
         a_site_stays_one();
         workflows_of_a_core_stand_in_place();
+        workflows_of_a_core_know_their_shards();
         primaries_of_a_core_have_the_tables_of_its_topology();
         a_complete_steps();
         each_is_a_primary(self.alloc, &self.primaries);

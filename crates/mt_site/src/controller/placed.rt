@@ -37,10 +37,14 @@ impl Core {
     pub fn place_of(&self, target: RuleTarget) -> Place
         ensures { result.target ≡ target }
     {
-        let hint = match self.primaries.get_full(&target.keyspace) {
-            Some((place, _, primary)) => Hint {
-                primary: place,
-                table: primary.place_of(&target.table).unwrap_or(usize::MAX),
+        let hint = match self.primaries.place(&target.keyspace) {
+            Some(place) => Hint {
+                keyspace: place,
+                table: self
+                    .primaries
+                    .at(place, 0)
+                    .place_of(&target.table)
+                    .unwrap_or(usize::MAX),
             },
             None => NOWHERE,
         };

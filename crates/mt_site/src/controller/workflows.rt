@@ -13,6 +13,7 @@ ghost use Rattle.mt_site.specs.Headline.{KeepsTheHeadline};
 ghost use Rattle.mt_site.specs.Show.{shown_answer};
 ghost use Rattle.mt_site.specs.Stood.{IsSiteWith};
 
+use crate::advance::Asked;
 use crate::controller::Core;
 use crate::primaries::each_is_a_primary;
 use crate::{advance, show};
@@ -21,9 +22,9 @@ use mt_event::{Reason, Refusal, ShownOf};
 use mt_laws::every_run_keeps_the_headline;
 use mt_names::{KeyspaceName, MAX_TABLES, Position, TableName, WorkflowName};
 use mt_site_events::{
-    a_create_can_be_taken_back, a_purged_core_stands, keyspaces_of_a_core_have_one_shard,
+    a_create_can_be_taken_back, a_purged_core_stands, each_shard_of_a_core_has_a_primary,
     streams_of_a_core_lie_in_their_logs, what_is_purged_stays_purged,
-    workflows_of_a_core_stand_in_place,
+    workflows_of_a_core_know_their_shards, workflows_of_a_core_stand_in_place,
 };
 use mt_site_ways::{
     a_create_leaves_a_site, a_create_steps_and_leaves_the_ways, a_purged_site_stands,
@@ -82,7 +83,7 @@ impl Core {
         let tables = tables.as_slice();
         names_are_names(source, target, tables);
         a_site_stays_one();
-        keyspaces_of_a_core_have_one_shard();
+        each_shard_of_a_core_has_a_primary();
         a_create_can_be_taken_back(watchers);
         a_create_leaves_a_site(watchers);
         a_create_steps_and_leaves_the_ways(watchers);
@@ -101,21 +102,22 @@ impl Core {
         )
     }
 
-    /// Advances a stream of a workflow: what `apply` does with the event Advance, without an event and a reply by value. It asks nobody.
-    /// `F7 NoWorkflow`, `F26 Stopped`, `F25 Stale`, `F27 Full`, `F0 Memory`; each leaves the core as it was. (Vitess: VReplication, the
-    /// copy phase and the catchup)
+    /// Advances a stream that a workflow has for a shard of its target, by its place: what `apply` does with the event Advance, without
+    /// an event and a reply by value. It asks nobody. `F7 NoWorkflow`, `F32 NoShard`, `F26 Stopped`, `F25 Stale`, `F27 Full`, `F0 Memory`;
+    /// each leaves the core as it was. (Vitess: VReplication, the copy phase and the catchup)
     pub fn advance(
         &mut self,
         workflow: &WorkflowName,
         stream: Slot,
+        shard: u8,
         at: Position,
         max: u16,
     ) -> Result<Advanced, Reason>
-        ensures does { AdvancesAndPurges self.old.core workflow.now (stream_name stream) at max (advanced_from result) self.new.core }
+        ensures does { AdvancesAndPurges self.old.core workflow.now (stream_name stream) shard at max (advanced_from result) self.new.core }
         ensures ways { self.new.ways ≡ self.old.ways }
-        ensures steps { (scopes : List Scope) → SiteSteps scopes self.old (plain.advance workflow.now (stream_name stream) 0 at max) (advanced_from result) self.new }
+        ensures steps { (scopes : List Scope) → SiteSteps scopes self.old (plain.advance workflow.now (stream_name stream) shard at max) (advanced_from result) self.new }
         ensures unchanged { OnErr result (self.new ≡ self.old) }
-        ensures headline { (scopes : List Scope) → KeepsTheHeadline scopes self.old (plain.advance workflow.now (stream_name stream) 0 at max ∷ []) (advanced_from result ∷ []) self.new }
+        ensures headline { (scopes : List Scope) → KeepsTheHeadline scopes self.old (plain.advance workflow.now (stream_name stream) shard at max ∷ []) (advanced_from result ∷ []) self.new }
         ensures stood { (scopes : List Scope) → IsSiteWith scopes self.old → IsSiteWith scopes self.new }
         ensures purged { IsPurged self.old.core → IsPurged self.new.core }
     {
@@ -123,7 +125,13 @@ impl Core {
         a_purged_site_stands();
         what_is_purged_stays_purged();
         every_run_keeps_the_headline();
-        match self.do_advance(workflow, stream, at, max) {
+        let asked = Asked {
+            shard,
+            slot: stream,
+            at,
+            max,
+        };
+        match self.do_advance(workflow, asked) {
             Ok(counts) => {
                 self.purge();
                 Ok(counts)
@@ -133,32 +141,20 @@ impl Core {
     }
 
     /// Does what an advance asks for, and leaves the logs.
-    fn do_advance(
-        &mut self,
-        workflow: &WorkflowName,
-        stream: Slot,
-        at: Position,
-        max: u16,
-    ) -> Result<Advanced, Reason>
-        ensures does { AdvancesWorkflow self.old.core workflow.now (stream_name stream) at max (advanced_from result) self.new.core }
+    fn do_advance(&mut self, workflow: &WorkflowName, asked: Asked) -> Result<Advanced, Reason>
+        ensures does { AdvancesWorkflow self.old.core workflow.now (stream_name asked.slot) asked.shard asked.at asked.max (advanced_from result) self.new.core }
         ensures ways { self.new.ways ≡ self.old.ways }
-        ensures steps { (scopes : List Scope) → SiteSteps scopes self.old (plain.advance workflow.now (stream_name stream) 0 at max) (advanced_from result) self.new }
+        ensures steps { (scopes : List Scope)
+            → SiteSteps scopes self.old (plain.advance workflow.now (stream_name asked.slot) asked.shard asked.at asked.max) (advanced_from result) self.new }
         ensures unchanged { OnErr result (self.new ≡ self.old) }
     {
         workflows_of_a_core_stand_in_place();
+        workflows_of_a_core_know_their_shards();
         streams_of_a_core_lie_in_their_logs();
         a_site_stays_one();
         events_on_workflows_step_and_leave_the_ways();
         each_is_a_primary(self.alloc, &self.primaries);
-        advance::advance(
-            self.alloc,
-            &mut self.primaries,
-            &mut self.workflows,
-            workflow,
-            stream,
-            at,
-            max,
-        )
+        advance::advance(&mut self.primaries, &mut self.workflows, workflow, asked)
     }
 
     /// Tells of a workflow: what `apply` does with the event Show, without an event and a reply by value. `F7 NoWorkflow`. It takes no
@@ -169,7 +165,7 @@ impl Core {
         ensures headline { (scopes : List Scope) → KeepsTheHeadline scopes self.now (plain.show name.now ∷ []) (shown_answer result ∷ []) self.now }
     {
         a_site_stays_one();
-        keyspaces_of_a_core_have_one_shard();
+        workflows_of_a_core_know_their_shards();
         streams_of_a_core_lie_in_their_logs();
         events_on_workflows_step_and_leave_the_ways();
         every_run_keeps_the_headline();

@@ -18,6 +18,6 @@ invariant_of-cached g c =
     let old = c.args.cached.now.site.core.core in
     record {
       lead = subst (λ t. LeadThere t c.args.cached.now.names.kept.entries)
-          (sym (advance_leaves_topology old c.advance.new.self.core.core c.args.workflow.now (stream_name c.args.stream) c.args.at c.args.max (advanced_from c.advance.result) c.advance.ensures.does))
+          (sym (advance_leaves_topology old c.advance.new.self.core.core c.args.workflow.now (stream_name c.args.stream) 0 c.args.at c.args.max (advanced_from c.advance.result) c.advance.ensures.does))
           c.args.cached.now.lead;
     }

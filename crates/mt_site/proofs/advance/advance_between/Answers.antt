@@ -1,85 +1,102 @@
--- The primary that is written is out of its place meanwhile, and the other one stays in its own.
-use Rattle.std.proofs.Common.{◌≡◌, ◌≤◌, Some, ap, is_some, rules, slice_get, subst, sym, ◌∙◌}
-use Rattle.std.specs.Map.{values_of}
+-- Both sides' shards are lent at their places.
+use Rattle.std.proofs.Common.{ap, arith, length, subst, ◌∙◌}
+use Rattle.std.proofs.lemmas.Map.Entries.{length-values_of}
 use Rattle.mt_names.proofs.EntryLemmas.{some_from}
-use Rattle.mt_plain.specs.Slots.{read_side, written_side}
-use Rattle.mt_primary.specs.Primary.{PrimaryState, end_of, has_table}
-use Rattle.mt_site_state.specs.Core.{primary_at, primary_of}
-use Rattle.mt_site_workflows.proofs.PrimaryLemmas.{still-at}
-use Rattle.mt_site_workflows.specs.Places.{IsAt}
-use Rattle.mt_workflow.specs.Advance.{AdvancesSlot}
-use Rattle.mt_workflow.specs.Workflows.{live_of, slot_of, stream_name}
-use Rattle.mt_site.proofs.PrimaryLemmas.{other-at, put-back}
+use Rattle.mt_primaries.proofs.PrimaryLemmas.{there_from_count}
+use Rattle.mt_primaries.specs.Places.{IsAt}
+use Rattle.mt_primaries.specs.Primaries.{has_primaries}
+use Rattle.mt_site_workflows.proofs.PrimaryLemmas.{places-apart}
+use Rattle.mt_workflow.specs.Workflows.{slot_of, stream_name}
+use Rattle.mt_site.proofs.AdvanceLemmas.{advanced-between, shard-beside, single-beside, stands-beside}
+use Rattle.mt_site.proofs.CoreLemmas.{lane_below}
 use Rattle.mt_site.proofs.advance.advance_between.Goals as goal
 
-pub place_of-read-requires : goal.place_of-read-requires
-place_of-read-requires c =
-    let (s, found) = some_from (slot_of c.args.workflow.now 0 (stream_name c.args.slot)) c.requires.there in
-    ap (λ k. is_some (primary_at c.args.primaries.now.entries k)) c.read_side.ensures ∙ (c.requires.between s found).read
+pub place_of-source-requires : goal.place_of-source-requires
+place_of-source-requires c =
+    let w = c.args.workflow.now in
+    let (s, found) = some_from (slot_of w c.args.asked.shard (stream_name c.args.asked.slot)) c.requires.there in
+    let one = (c.requires.between s found).source in
+    ap (has_primaries c.args.primaries.now) c.source.ensures ∙ there_from_count c.args.primaries.now w.source 0 (omega (arith, one))
 
-pub place_of-written-requires : goal.place_of-written-requires
-place_of-written-requires c =
-    let (s, found) = some_from (slot_of c.args.workflow.now 0 (stream_name c.args.slot)) c.requires.there in
-    ap (λ k. is_some (primary_at c.args.primaries.now.entries k)) c.written_side.ensures ∙ (c.requires.between s found).written
+pub place_of-target-requires : goal.place_of-target-requires
+place_of-target-requires c =
+    let w = c.args.workflow.now in
+    let n = c.args.asked.shard in
+    let (s, found) = some_from (slot_of w n (stream_name c.args.asked.slot)) c.requires.there in
+    let below = lane_below w n (stream_name c.args.asked.slot) s found in
+    let lanes = (c.requires.between s found).target in
+    ap (has_primaries c.args.primaries.now) c.target.ensures ∙ there_from_count c.args.primaries.now w.target n (omega (arith, below, lanes))
 
-pub exchange_at-sink-requires : goal.exchange_at-sink-requires
-exchange_at-sink-requires c = ap is_some c.place_of-written.ensures.at
+pub two_of-from-requires-clause-first : goal.two_of-from-requires-clause-first
+two_of-from-requires-clause-first c =
+    let all = ap length c.places_mut-places.ensures.value ∙ length-values_of c.args.primaries.now in
+    omega (arith, all, c.place_of-source.ensures.within)
 
-pub advance-result-requires-clause-kept : goal.advance-result-requires-clause-kept
-advance-result-requires-clause-kept c = λ s found runs.
-    let old = c.args.primaries.now.entries in
-    let read = read_side (live_of c.args.workflow.now) (stream_name c.args.slot) in
-    let written = written_side (live_of c.args.workflow.now) (stream_name c.args.slot) in
-    let at_read : IsAt old read c.place_of-read.result = search rules in
-    let at_written : IsAt old written c.place_of-written.result = search rules in
-    let stood : slice_get (values_of c.exchange_at-sink.new.primaries.entries) c.place_of-read.result ≡ Some c.index.result.now = search rules in
-    subst (λ (p : PrimaryState). p.log.purged ≤ s.position)
-    (other-at old c.exchange_at-sink.new.primaries.entries read written c.new.result (c.exchange_at-sink.ensures.after written at_written) (c.requires.between s found).apart
-    c.place_of-read.result c.index.result.now c.exchange_at-sink.ensures.places c.place_of-read.ensures.distinct at_read stood)
-    ((c.requires.between s found).kept runs)
+pub two_of-from-requires-clause-second : goal.two_of-from-requires-clause-second
+two_of-from-requires-clause-second c =
+    let all = ap length c.places_mut-places.ensures.value ∙ length-values_of c.args.primaries.now in
+    omega (arith, all, c.place_of-target.ensures.within)
 
-pub advance-result-requires-clause-within : goal.advance-result-requires-clause-within
-advance-result-requires-clause-within c = λ s found.
-    let old = c.args.primaries.now.entries in
-    let read = read_side (live_of c.args.workflow.now) (stream_name c.args.slot) in
-    let written = written_side (live_of c.args.workflow.now) (stream_name c.args.slot) in
-    let at_read : IsAt old read c.place_of-read.result = search rules in
-    let at_written : IsAt old written c.place_of-written.result = search rules in
-    let stood : slice_get (values_of c.exchange_at-sink.new.primaries.entries) c.place_of-read.result ≡ Some c.index.result.now = search rules in
-    subst (λ (p : PrimaryState). s.position ≤ end_of p)
-    (other-at old c.exchange_at-sink.new.primaries.entries read written c.new.result (c.exchange_at-sink.ensures.after written at_written) (c.requires.between s found).apart
-    c.place_of-read.result c.index.result.now c.exchange_at-sink.ensures.places c.place_of-read.ensures.distinct at_read stood)
-    (c.requires.between s found).within
+pub two_of-from-requires-clause-apart : goal.two_of-from-requires-clause-apart
+two_of-from-requires-clause-apart c =
+    let ps = c.args.primaries.now in
+    let w = c.args.workflow.now in
+    let a = c.place_of-source.result in
+    let b = c.place_of-target.result in
+    let at_source : IsAt ps w.source a = subst (λ k. IsAt ps k a) c.source.ensures c.place_of-source.ensures.at in
+    let at_target : IsAt ps w.target b = subst (λ k. IsAt ps k b) c.target.ensures c.place_of-target.ensures.at in
+    let (s, found) = some_from (slot_of w c.args.asked.shard (stream_name c.args.asked.slot)) c.requires.there in
+    places-apart ps w.source w.target a b at_source at_target (c.requires.between s found).apart
 
-pub advance-result-requires-clause-there : goal.advance-result-requires-clause-there
-advance-result-requires-clause-there c = λ s found table named.
-    let old = c.args.primaries.now.entries in
-    let written = written_side (live_of c.args.workflow.now) (stream_name c.args.slot) in
-    let at_written : IsAt old written c.place_of-written.result = search rules in
-    ap (λ p. has_table p table) (c.exchange_at-sink.ensures.before written at_written) ∙ (c.requires.between s found).there table named
+-- ---- and so they are between the shards of both
 
-pub exchange_at-requires : goal.exchange_at-requires
-exchange_at-requires c =
-    ap is_some (still-at c.args.primaries.now.entries c.exchange_at-sink.new.primaries.entries _ c.place_of-written.result c.exchange_at-sink.ensures.places c.place_of-written.ensures.at)
+pub advance_beside-requires-clause-single : goal.advance_beside-requires-clause-single
+advance_beside-requires-clause-single c =
+    let ps = c.args.primaries.now in
+    let w = c.args.workflow.now in
+    let n = c.args.asked.shard in
+    let name = stream_name c.args.asked.slot in
+    let a = c.place_of-source.result in
+    let b = c.place_of-target.result in
+    let at_source = subst (λ k. IsAt ps k a) c.source.ensures c.place_of-source.ensures.at in
+    let at_target = subst (λ k. IsAt ps k b) c.target.ensures c.place_of-target.ensures.at in
+    let (s, found) = some_from (slot_of w n name) c.requires.there in
+    single-beside ps c.place_of-source.ensures.distinct c.places_mut-places.result.now c.places_mut-places.ensures.value w a b at_source at_target c.two_of-from.result.0.now c.two_of-from.result.1.now c.two_of-from.ensures.first c.two_of-from.ensures.second name n s (c.requires.between s found)
+
+pub advance_beside-requires-clause-shard : goal.advance_beside-requires-clause-shard
+advance_beside-requires-clause-shard c =
+    let ps = c.args.primaries.now in
+    let w = c.args.workflow.now in
+    let n = c.args.asked.shard in
+    let name = stream_name c.args.asked.slot in
+    let a = c.place_of-source.result in
+    let b = c.place_of-target.result in
+    let at_source = subst (λ k. IsAt ps k a) c.source.ensures c.place_of-source.ensures.at in
+    let at_target = subst (λ k. IsAt ps k b) c.target.ensures c.place_of-target.ensures.at in
+    let (s, found) = some_from (slot_of w n name) c.requires.there in
+    shard-beside ps c.place_of-source.ensures.distinct c.places_mut-places.result.now c.places_mut-places.ensures.value w a b at_source at_target c.two_of-from.result.0.now c.two_of-from.result.1.now c.two_of-from.ensures.first c.two_of-from.ensures.second name n s (c.requires.between s found) found
+
+pub advance_beside-requires-clause-stands : goal.advance_beside-requires-clause-stands
+advance_beside-requires-clause-stands c = λ s found.
+    let ps = c.args.primaries.now in
+    let w = c.args.workflow.now in
+    let n = c.args.asked.shard in
+    let name = stream_name c.args.asked.slot in
+    let a = c.place_of-source.result in
+    let b = c.place_of-target.result in
+    let at_source = subst (λ k. IsAt ps k a) c.source.ensures c.place_of-source.ensures.at in
+    let at_target = subst (λ k. IsAt ps k b) c.target.ensures c.place_of-target.ensures.at in
+    stands-beside ps c.place_of-source.ensures.distinct c.places_mut-places.result.now c.places_mut-places.ensures.value w a b at_source at_target c.two_of-from.result.0.now c.two_of-from.result.1.now c.two_of-from.ensures.first c.two_of-from.ensures.second name n s (c.requires.between s found)
 
 pub returns : goal.returns
 returns c =
+    let ps = c.args.primaries.now in
     let w = c.args.workflow.now in
-    let name = stream_name c.args.slot in
-    let old = c.args.primaries.now.entries in
-    let meanwhile = c.exchange_at-sink.new.primaries.entries in
-    let read = read_side (live_of w) name in
-    let written = written_side (live_of w) name in
-    let (s, found) = some_from (slot_of w 0 name) c.requires.there in
-    let at_read : IsAt old read c.place_of-read.result = search rules in
-    let at_written : IsAt old written c.place_of-written.result = search rules in
-    let is = c.exchange_at-sink.ensures.after written at_written in
-    let stood : slice_get (values_of meanwhile) c.place_of-read.result ≡ Some c.index.result.now = search rules in
-    let source = other-at old meanwhile read written c.new.result is (c.requires.between s found).apart c.place_of-read.result c.index.result.now c.exchange_at-sink.ensures.places c.place_of-read.ensures.distinct at_read stood in
-    let to : PrimaryState → PrimaryState → Type 0 = λ from sink. AdvancesSlot (slot_of w 0 name) from sink c.args.at c.args.max c.advance-result.result (slot_of c.advance-result.new.self 0 name) c.advance-result.new.sink in (
-      c.advance-result.new.sink,
-      subst (λ from. to from (primary_of old written)) (sym source) (subst (to c.index.result.now) (c.exchange_at-sink.ensures.before written at_written) c.advance-result.ensures.advances),
-      c.advance-result.ensures.rest,
-      put-back old meanwhile read written c.new.result is c.exchange_at.new.primaries.entries c.advance-result.new.sink
-          (c.exchange_at.ensures.after written (still-at old meanwhile written c.place_of-written.result c.exchange_at-sink.ensures.places at_written)),
-    )
+    let n = c.args.asked.shard in
+    let name = stream_name c.args.asked.slot in
+    let a = c.place_of-source.result in
+    let b = c.place_of-target.result in
+    let at_source = subst (λ k. IsAt ps k a) c.source.ensures c.place_of-source.ensures.at in
+    let at_target = subst (λ k. IsAt ps k b) c.target.ensures c.place_of-target.ensures.at in
+    let (s, found) = some_from (slot_of w n name) c.requires.there in
+    advanced-between ps c.place_of-source.ensures.distinct c.places_mut-places.result.now c.places_mut-places.ensures.value w a b at_source at_target c.two_of-from.result.0.now c.two_of-from.result.1.now c.two_of-from.ensures.first c.two_of-from.ensures.second (c.requires.between s found).apart name n c.args.asked.at c.args.asked.max c.advance_beside.result c.advance_beside.new.workflow _ _ c.advance_beside.ensures

@@ -8,8 +8,9 @@ use Rattle.mt_site.proofs.advance.advance_stream.Goals as goal
 pub returns : goal.returns
 returns c =
     let w = c.args.workflow.now in
-    let name = stream_name c.args.slot in
-    let there : is_some (slot_of w 0 name) ≡ true = search rules in
+    let name = stream_name c.args.asked.slot in
+    let shard = c.args.asked.shard in
+    let there : is_some (slot_of w shard name) ≡ true = search rules in
     let (sink, advances, rest, put) = c.advance_between.ensures in
-    one_from c.args.primaries.now.entries c.advance_between.new.primaries.entries w c.advance_between.new.workflow name c.args.at c.args.max (advanced_from c.told.result)
-    c.advance_between.result (slot_of w 0 name) (slot_of c.advance_between.new.workflow 0 name) sink there c.told.ensures advances rest put
+    one_from c.args.primaries.now c.advance_between.new.primaries w c.advance_between.new.workflow name shard c.args.asked.at c.args.asked.max (advanced_from c.told.result)
+    c.advance_between.result (slot_of w shard name) (slot_of c.advance_between.new.workflow shard name) sink there c.told.ensures advances rest put

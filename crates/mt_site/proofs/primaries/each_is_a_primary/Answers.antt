@@ -1,17 +1,21 @@
--- One primary more.
-use Rattle.std.proofs.Common.{subst, sym, ◌∙◌}
-use Rattle.mt_primary.specs.Primary.{IsPrimary}
-use Rattle.mt_site.proofs.PrimaryLemmas.{AreEach, each-more, each-none, each-of}
+-- Those of one place more; a shard that isn't there has a primary as an empty one.
+use Rattle.std.proofs.Common.{◌≡◌, ◌<◌, ⊎_elim, arith, get_or, length, subst, sym}
+use Rattle.std.proofs.lemmas.Bool.{cases_lt}
+use Rattle.mt_primaries.specs.Places.{IsAt}
+use Rattle.mt_primary.specs.Primary.{IsPrimary, empty_primary}
+use Rattle.mt_site.proofs.PrimaryLemmas.{all-of}
 use Rattle.mt_site.proofs.primaries.each_is_a_primary.Goals as goal
 
-pub loop-primary-init : goal.loop-primary-init
-loop-primary-init c = λ are. subst AreEach (c.into_iter-primary-iterator.ensures.into_iter_gives ∙ c.iter-primary-items.ensures.rest) are
-
-pub loop-primary-preserved : goal.loop-primary-preserved
-loop-primary-preserved c = λ are.
-    c.loop-primary.invariant (subst AreEach (sym c.in-Some.ensures.steps) (each-more c.in-Some.field-0-0.now c.in-Some.primary.now c.next.new.self c.what_holds-in-loop-primary.ensures are))
+pub loop-place-preserved : goal.loop-place-preserved
+loop-place-preserved c = λ k p within at n below.
+    ⊎_elim (λ less. c.loop-place.invariant k p less at n below)
+    (λ past.
+    let here : p ≡ c.loop-place.place = omega (arith, within, past) in
+    let each = c.all.ensures k (subst (IsAt c.args.primaries.now k) here at) in
+    subst (λ l. IsPrimary (get_or l n empty_primary)) each (c.each_is_one.ensures n (subst (λ l. n < length l) (sym each) below))) (cases_lt p c.loop-place.place)
 
 pub returns : goal.returns
 returns c =
-    each-of c.args.primaries.now.entries (subst IsPrimary c.new.ensures c.what_holds-2.ensures)
-    (c.loop-primary.invariant (subst AreEach (sym c.in-None.ensures.steps.0) each-none))
+    let all = c.len-place-end.ensures in
+    all-of c.args.primaries.now (subst IsPrimary c.new.ensures c.what_holds-2.ensures)
+    (λ k p within at n below. c.loop-place.invariant k p (omega (arith, within, all, c.loop-place-test.false)) at n below)

@@ -1,6 +1,6 @@
--- If those that are left are primaries, all are.
-use Rattle.mt_site.proofs.PrimaryLemmas.{AreEach}
+-- What is true of every primary is true of those of the places before this one.
+use Rattle.mt_site.proofs.PrimaryLemmas.{ArePlaces}
 use Rattle.mt_site.proofs.primaries.each_is_a_primary.Given as goal
 
-abbrev pub invariant-loop-primary : goal.invariant-loop-primary
-invariant-loop-primary l = AreEach l.primary-iterator → AreEach l.primaries.entries
+abbrev pub invariant-loop-place : goal.invariant-loop-place
+invariant-loop-place l = ArePlaces l.primaries l.place

@@ -1,27 +1,37 @@
--- An advance of the feeding stream from its position is asked for, and what follows is what the definitions say of its answer.
-use Rattle.std.proofs.Common.{ap, sym, ◌∙◌}
+-- An advance of the feeding stream of a shard from its position is asked for, and what follows is what the definitions say of its answer.
+use Rattle.std.proofs.Common.{ap, nat_lt, suc, sym, ◌∙◌}
 use Rattle.std.specs.Prelude.{if◌then◌else◌}
 use Rattle.mt_site.specs.Advance.{advanced_from}
 use Rattle.mt_plain.specs.Drive as plain
 use Rattle.mt_plain.specs.Events.{advance}
 use Rattle.mt_workflow.specs.Workflows.{stream_name}
-use Rattle.mt_site.specs.Drives.{heard_from}
-use Rattle.mt_site.proofs.TurnLemmas.{advance_due, no_more_lanes, turn_taken}
+use Rattle.mt_site.specs.Drives.{heard_from, turn_from}
+use Rattle.mt_site.proofs.TurnLemmas.{advance_due, goes_on_either, turn_taken}
 use Rattle.mt_site.proofs.turn.feed.Goals as goal
 
 pub returns-in-Ok : goal.returns-in-Ok
 returns-in-Ok c scopes =
     let name = c.args.workflow.now in
-    turn_taken scopes c.args.core.now c.advance.new.self (plain.feeds name 0 c.args.tries) (plain.goes_on (plain.steps name c.args.tries))
-    (advance name (stream_name c.feeding-stream.result.0) 0 c.feeding-stream.result.1 100) (advanced_from c.advance.result) (c.advance.ensures.steps scopes)
-    (λ p stands. advance_due p name c.args.tries (stream_name c.feeding-stream.result.0) c.feeding-stream.result.1 (c.feeding-stream.ensures.stream p scopes stands) (c.feeding-stream.ensures.position p scopes stands))
-    (λ q stands. ap (λ r. plain.heard q (plain.feeds name 0 c.args.tries) (advanced_from r)) c.in-Ok.is
-    ∙ ap (λ b. if b then plain.goes_on (plain.feeds name 1 c.args.tries) else plain.goes_on (plain.steps name c.args.tries)) (no_more_lanes q scopes c.advance.new.self name stands))
+    let shard = c.args.shard in
+    let tries = c.args.tries in
+    turn_taken scopes c.args.core.now c.advance.new.self (plain.feeds name shard tries) (plain.goes_on (turn_from name c.fed.result))
+    (advance name (stream_name c.feeding-stream.result) shard c.position_of-at.result 100) (advanced_from c.advance.result) (c.advance.ensures.steps scopes)
+    (λ p stands.
+    let feeds = c.feeding-stream.ensures p name (c.way_of.ensures p scopes stands) in
+    advance_due p name shard tries (stream_name c.feeding-stream.result) c.position_of-at.result feeds (c.position_of-at.ensures p scopes stands ∙ ap (λ s. plain.position_of p name s shard) feeds))
+    (λ q stands. ap (λ r. plain.heard q (plain.feeds name shard tries) (advanced_from r)) c.in-Ok.is
+    ∙ goes_on_either (nat_lt (suc shard) (plain.lanes_of q name)) (plain.feeds name (suc shard) tries) (plain.steps name tries)
+    ∙ ap (λ n. plain.goes_on (if nat_lt (suc shard) n then plain.feeds name (suc shard) tries else plain.steps name tries)) (sym (c.shards_of.ensures q scopes stands))
+    ∙ ap plain.goes_on (sym (c.fed.ensures name)))
 
 pub returns-in-Err : goal.returns-in-Err
 returns-in-Err c scopes =
     let name = c.args.workflow.now in
-    turn_taken scopes c.args.core.now c.advance.new.self (plain.feeds name 0 c.args.tries) (heard_from name c.fail.result)
-    (advance name (stream_name c.feeding-stream.result.0) 0 c.feeding-stream.result.1 100) (advanced_from c.advance.result) (c.advance.ensures.steps scopes)
-    (λ p stands. advance_due p name c.args.tries (stream_name c.feeding-stream.result.0) c.feeding-stream.result.1 (c.feeding-stream.ensures.stream p scopes stands) (c.feeding-stream.ensures.position p scopes stands))
-    (λ q stands. ap (λ r. plain.heard q (plain.feeds name 0 c.args.tries) (advanced_from r)) c.in-Err.is ∙ sym (c.fail.ensures q name (c.way_of.ensures q scopes stands)))
+    let shard = c.args.shard in
+    let tries = c.args.tries in
+    turn_taken scopes c.args.core.now c.advance.new.self (plain.feeds name shard tries) (heard_from name c.fail.result)
+    (advance name (stream_name c.feeding-stream.result) shard c.position_of-at.result 100) (advanced_from c.advance.result) (c.advance.ensures.steps scopes)
+    (λ p stands.
+    let feeds = c.feeding-stream.ensures p name (c.way_of.ensures p scopes stands) in
+    advance_due p name shard tries (stream_name c.feeding-stream.result) c.position_of-at.result feeds (c.position_of-at.ensures p scopes stands ∙ ap (λ s. plain.position_of p name s shard) feeds))
+    (λ q stands. ap (λ r. plain.heard q (plain.feeds name shard tries) (advanced_from r)) c.in-Err.is ∙ sym (c.fail.ensures q name (c.way_of-in-Err.ensures q scopes stands)))

@@ -3,7 +3,7 @@ use Rattle.mt_site_events.proofs.AdvanceLemmas.{advance_steps}
 use Rattle.mt_site_events.proofs.advancing.an_advance_steps.Goals as goal
 
 pub returns : goal.returns
-returns c = λ scopes old new workflow name at at_most answer advances are p stands.
+returns c = λ scopes old new workflow name shard at at_most answer advances are p stands.
     let reached = stands.reached in
     advance_steps p reached
     (c.a_live_workflow_is_found_by_its_part.ensures.named p)
@@ -15,4 +15,5 @@ returns c = λ scopes old new workflow name at at_most answer advances are p sta
     (λ t event answer. c.what_changes_no_entry_leaves_the_topology.ensures.rows p t event answer reached)
     (λ event answer name w v kept. c.what_is_kept_stays_what_stood.ensures p event answer name w v kept reached)
     (c.only_named_events_change_a_workflow.ensures.elsewhere p)
-    scopes old new stands are workflow name at at_most answer advances
+    (c.a_lane_holds_its_keys.ensures p reached)
+    scopes old new stands are workflow name shard at at_most answer advances

@@ -1,4 +1,4 @@
--- The keyspace is told by the core as by the state, and its primary is empty, which is as none.
+-- The keyspace is told by the core as by the state, and its primaries are empty, which is as none.
 use Rattle.mt_site_events.proofs.HandLemmas.{keyspace_steps}
 use Rattle.mt_site_events.proofs.by_hand.a_keyspace_steps.Goals as goal
 

@@ -1,4 +1,4 @@
--- The table is told by the core as by the state, and its keyspace's primary has it without rows.
+-- The table is told by the core as by the state, and each primary of its keyspace has it without rows.
 use Rattle.mt_model.specs.declared.entries.EntryKey.TheVariants as about
 use Rattle.mt_site_events.proofs.HandTableLemmas.{table_steps}
 use Rattle.mt_site_events.proofs.by_hand.a_table_steps.Goals as goal

@@ -1,4 +1,5 @@
-use Rattle.std.proofs.Common.{refl, ◌∙◌}
+use Rattle.std.proofs.Common.{ℕ, ◌<◌, refl, ap, ◌∙◌, ⊎_elim}
+use Rattle.std.proofs.lemmas.Bool.{cases_lt}
 use Rattle.mt_names.specs.Types.{no_types}
 use Rattle.mt_model.specs.declared.entries.Scope.TheVariants as scope
 use Rattle.mt_watch.specs.Notices.{notice_of}
@@ -6,11 +7,14 @@ use Rattle.mt_plain.specs.Answers.{Answers}
 use Rattle.mt_plain.specs.Events.{create, done}
 use Rattle.mt_plain.specs.Next.{next}
 use Rattle.mt_plain.specs.Plain.{each_once}
+use Rattle.mt_primaries.specs.Primaries.{count_of, primary_of, with_all}
+use Rattle.mt_primaries.proofs.PrimaryLemmas.{with_all-each, with_all-past}
+use Rattle.mt_primary.specs.Primary.{row_at}
+use Rattle.mt_site_rows.specs.Rows.{OtherTablesStay}
 use Rattle.mt_workflow.specs.Workflows.{live_of}
 use Rattle.mt_site_topology.specs.Keys.{created_live}
-use Rattle.mt_site_state.specs.Core.{primaries_of, primary_of, with_primary}
 use Rattle.mt_site_state.specs.Workflows.{change_of, new_of, target_made}
-use Rattle.mt_site_state.proofs.ShardLemmas.{keyspaces_stay, no_row, tables_stay}
+use Rattle.mt_site_events.specs.Made.{AreMadeDenied}
 use Rattle.mt_site_events.proofs.ListLemmas.{at_named}
 use Rattle.mt_site_events.proofs.RefusedLemmas.{passes}
 use Rattle.mt_site_events.proofs.RoomLemmas.{CanMove}
@@ -23,20 +27,23 @@ returns c = λ p scopes core stands workflow source target tables none.
     let w = new_of core workflow source target (each_once tables) in
     let notice = notice_of (scope.Primary target) (change_of w) in
     let v = created_live p workflow source target (each_once tables) in
-    let at = primary_of core.primaries target in
     let all = passes p workflow source target (each_once tables) none in
     let live = c.create_writes_the_part.ensures.live p workflow source target tables given in
     let reached = c.each_next_state_is_reached.ensures.next p stands.reached (create workflow source target tables) done given in
     let sides = (c.live_workflows_stand_in_place.ensures.placed (next p (create workflow source target tables) done) reached workflow v live).sides.apart in
-    let made = c.the_target_has_the_tables_denied.ensures w at sides (λ table m. stands.primaries.tables target table ∙ (at_named (CanMove p source target) (each_once tables) all.can table m).there) in
+    let made : (n : ℕ) → n < count_of core.primaries target → AreMadeDenied (each_once tables) (primary_of core.primaries target n) (target_made w notice (primary_of core.primaries target n))
+    = λ n within. c.the_target_has_the_tables_denied.ensures w (primary_of core.primaries target n) sides
+    (λ table m. stands.primaries.tables target n within table ∙ (at_named (CanMove p source target) (each_once tables) all.can table m).there) in
+    let new = with_all core.primaries target (target_made w notice) in
     taken p scopes core stands workflow source target (each_once tables) all.free live
     (c.only_named_events_change_a_workflow.ensures.elsewhere p (create workflow source target tables) done)
     (c.create_writes_the_part.ensures.kept p core.topology workflow source target tables v stands.reached given live stands.topology) notice
-    made (stands.primaries.there target ∙ all.there) sides all.can reached
+    made sides all.can reached
     (c.create_writes_the_part.ensures.stands p core.topology workflow source target tables v stands.reached given live stands.topology)
     (c.entries_follow_from_sides_types_and_way.ensures.part v (live_of w) w.kept no_types refl refl refl)
     (λ others there.
-    let new = with_primary core.primaries target (target_made w notice) in
-    c.a_create_keeps_rows_and_logs.ensures p stands.reached (primaries_of core.primaries) (primaries_of new) stands.rows
-    workflow source target tables given (keyspaces_stay target core.primaries new others) (tables_stay target core.primaries new (each_once tables) there.stay)
-    (λ table m. no_row target core.primaries new table (there.empty table m)))
+    c.a_create_keeps_rows_and_logs.ensures p stands.reached (primary_of core.primaries) (primary_of new) stands.rows
+    workflow source target tables given others
+    (λ n. with_all-each core.primaries target (target_made w notice) (λ k m was is. OtherTablesStay (each_once tables) was is) (λ k m s. record { log = refl; rows = λ table other key. refl }) (λ m within. (made m within).stay) target n)
+    (λ table m n key. ⊎_elim (λ within. (there n within).empty table m key)
+    (λ past. ap (λ s. row_at s table key) (with_all-past core.primaries target (target_made w notice) n past)) (cases_lt n (count_of core.primaries target))))

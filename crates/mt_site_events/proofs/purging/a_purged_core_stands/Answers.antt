@@ -6,5 +6,5 @@ pub returns : goal.returns
 returns c = record {
   stands = λ p scopes old new stands purges. purged-stands p scopes old stands new purges (c.a_purge_keeps_rows_and_logs.ensures p stands.reached);
   all = λ old new answer. all-behind old new answer;
-  one = λ old new keyspace answer. one-behind old new keyspace answer;
+  one = λ old new keyspace shard answer. one-behind old new keyspace shard answer;
 }

@@ -6,8 +6,8 @@ use Rattle.mt_site_events.proofs.tables.primaries_of_a_core_have_the_tables_of_i
 
 pub returns : goal.returns
 returns c = record {
-  tables = λ core is keyspace table. ∥∥₁_elim is (search props)
-      (λ h. h.stands.primaries.tables keyspace table ∙ has_present h.state keyspace table core.topology h.stands.topology);
+  tables = λ core is keyspace shard within table. ∥∥₁_elim is (search props)
+      (λ h. h.stands.primaries.tables keyspace shard within table ∙ has_present h.state keyspace table core.topology h.stands.topology);
   places = λ core is keyspace table. ∥∥₁_elim is (search props)
       (λ h. place_present h.state keyspace table core.topology h.stands.topology (c.only_what_stands_has_a_place.ensures.tables h.state h.reached keyspace table));
 }

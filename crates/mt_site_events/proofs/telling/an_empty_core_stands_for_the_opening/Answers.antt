@@ -1,10 +1,10 @@
 -- There is nothing anywhere.
 use Rattle.std.proofs.Common.{refl, []}
 use Rattle.mt_plain.specs.Plain.{opening}
+use Rattle.mt_primaries.specs.Primaries.{primary_of}
 use Rattle.mt_site_rows.specs.Rows.{no_primaries}
 use Rattle.mt_site_rows.proofs.KnownLemmas.{same_primaries}
-use Rattle.mt_site_state.specs.Core.{primaries_of}
-use Rattle.mt_site_state.proofs.ShardLemmas.{none_there}
+use Rattle.mt_site_events.proofs.FactStayLemmas.{none_are, none_there}
 use Rattle.mt_site_events.proofs.telling.an_empty_core_stands_for_the_opening.Goals as goal
 
 pub returns : goal.returns
@@ -12,7 +12,7 @@ returns c = λ scopes. record {
   reached = c.each_next_state_is_reached.ensures.opening scopes;
   scopes_are = refl;
   topology = c.the_empty_topology_stands_for_the_opening.ensures scopes;
-  rows = same_primaries (opening scopes) no_primaries (primaries_of []) (c.the_opening_has_no_rows.ensures scopes) none_there;
-  primaries = record { there = λ keyspace. refl; count = refl; unsharded = λ keyspace. refl; tables = λ keyspace table. refl; denials = λ keyspace table. refl };
+  rows = same_primaries (opening scopes) no_primaries (primary_of []) (c.the_opening_has_no_rows.ensures scopes) none_there;
+  primaries = none_are scopes;
   workflows = record { each = λ name. tt; names = refl };
 }

@@ -1,12 +1,15 @@
-use Rattle.std.proofs.Common.{◌≡◌, ℕ, List, Some, sym, ◌∙◌}
+use Rattle.std.proofs.Common.{◌≡◌, ℕ, ◌<◌, List, Some, length, sym, ap, ◌∙◌, subst, arith}
 use Rattle.std.proofs.Math.Logic.{∥∥₁_elim}
 use denote.Struct.Props.{props}
 use Rattle.mt_plain.specs.Plain.{Live, live_at}
 use Rattle.mt_laws.specs.Reached.{IsInPlace}
+use Rattle.mt_primaries.specs.Primaries.{count_of}
 use Rattle.mt_workflow.specs.Workflows.{WorkflowState}
 use Rattle.mt_site_state.specs.Core.{CoreState, workflow_at}
 use Rattle.mt_site_state.specs.Stands.{HasState, StandsFor}
+use Rattle.mt_site_state.proofs.LaneLemmas.{lanes_alike}
 use Rattle.mt_site_events.proofs.FoundLemmas.{live_of_state}
+use Rattle.mt_site_events.proofs.ShardLemmas.{source_count, target_count}
 use Rattle.mt_site_events.proofs.WorkflowLemmas.{part_places, source_has, source_there, target_has, target_there, two_sides}
 use Rattle.mt_site_events.proofs.workflows.workflows_of_a_core_stand_in_place.Goals as goal
 
@@ -17,6 +20,16 @@ returns c =
     = λ core h name w at. live_of_state h.state (live_at h.state name) (workflow_at core.workflows name) w (h.stands.workflows.each name) at in
     let placed : (core : CoreState) (h : HasState core) (name : List ℕ) (live : Live) → live_at h.state name ≡ Some live → IsInPlace h.state.topology live
     = λ core h name live at. c.live_workflows_stand_in_place.ensures.placed h.state h.reached name live at in
+    let first_shard : (core : CoreState) (h : HasState core) (name : List ℕ) (w : WorkflowState) (live : Live) → live_at h.state name ≡ Some live → StandsFor h.state live w
+    → 0 < count_of core.primaries w.source
+    = λ core h name w live there stands.
+    let one = source_count h.state h.reached name live there core.primaries h.stands.primaries (placed core h name live there).sides.source in
+    subst (λ k. 0 < count_of core.primaries k) stands.sides.source (subst (λ m. 0 < m) (sym one) (omega arith)) in
+    let target_lanes : (core : CoreState) (h : HasState core) (name : List ℕ) (w : WorkflowState) (live : Live) → live_at h.state name ≡ Some live → StandsFor h.state live w
+    → length w.lanes ≡ count_of core.primaries w.target
+    = λ core h name w live there stands.
+    lanes_alike h.state live w stands ∙ sym (target_count h.state h.reached name live there core.primaries h.stands.primaries (placed core h name live there).sides.target)
+    ∙ ap (count_of core.primaries) stands.sides.target in
     record {
       named = λ core is name w at. ∥∥₁_elim is (search props)
           (λ h. let (live, there, stands) = stood core h name w at in sym stands.sides.name ∙ c.a_live_workflow_is_found_by_its_part.ensures.named h.state name live there);
@@ -30,8 +43,10 @@ returns c =
           (λ h. let (live, there, stands) = stood core h name w at in
           part_places core h live w stands (placed core h name live there) (c.what_is_written_has_a_place.ensures.part h.state core.topology name live h.reached there h.stands.topology) i d inside);
       at_source = λ core is name w at table moved. ∥∥₁_elim is (search props)
-          (λ h. let (live, there, stands) = stood core h name w at in source_has core h live w stands (placed core h name live there) table moved);
-      at_target = λ core is name w at table moved. ∥∥₁_elim is (search props)
           (λ h. let (live, there, stands) = stood core h name w at in
-          target_has core h live w stands (placed core h name live there) (c.a_live_workflow_is_found_by_its_part.ensures.owner h.state h.reached name live there) table moved);
+          source_has core h live w stands (placed core h name live there) (first_shard core h name w live there stands) table moved);
+      at_target = λ core is name w at shard within table moved. ∥∥₁_elim is (search props)
+          (λ h. let (live, there, stands) = stood core h name w at in
+          target_has core h live w stands (placed core h name live there) (c.a_live_workflow_is_found_by_its_part.ensures.owner h.state h.reached name live there) shard
+          (subst (λ m. shard < m) (target_lanes core h name w live there stands) within) table moved);
     }

@@ -1,5 +1,5 @@
 -- No workflow changes, and no way is begun or stepped.
-use Rattle.std.proofs.Common.{ap, []}
+use Rattle.std.proofs.Common.{ap}
 use Rattle.mt_plain.specs.Events.{add_keyspace, add_table, edit_rule, read, write}
 use Rattle.mt_site_state.specs.Core.{CoreState}
 use Rattle.mt_site_ways.proofs.EventLemmas.{keyspace_same, rule_same, table_same, write_same}
@@ -14,8 +14,9 @@ returns c =
       elsewhere = c.only_named_events_change_a_workflow.ensures.elsewhere;
     } in
     record {
-      keyspace = λ scopes old new name answer is.
-          steps_beside laws (add_keyspace name []) (λ e. e) (λ e. e) scopes old new answer (c.a_keyspace_steps.ensures scopes old.core new name answer is) (λ n e. e) (keyspace_same old.core new name answer is);
+      keyspace = λ scopes old new name cuts answer ascend is.
+          steps_beside laws (add_keyspace name cuts) (λ e. e) (λ e. e) scopes old new answer (c.a_keyspace_steps.ensures scopes old.core new name cuts answer ascend is) (λ n e. e)
+          (keyspace_same old.core new name cuts answer is);
       table = λ scopes old new keyspace table answer is.
           steps_beside laws (add_table keyspace table) (λ e. e) (λ e. e) scopes old new answer (c.a_table_steps.ensures scopes old.core new keyspace table answer is) (λ n e. e)
           (table_same old.core new keyspace table answer is);

@@ -16,9 +16,9 @@ returns c =
     } in
     let named = c.a_live_workflow_is_found_by_its_part.ensures.named in
     record {
-      advance = λ scopes old new workflow name at at_most answer is are.
-          site_steps laws (advance workflow name 0 at at_most) (λ e. e) (λ e. e) scopes old new answer (c.an_advance_steps.ensures scopes old.core new workflow name at at_most answer is are)
-          (λ p stands given behind. advance_keeps laws p scopes old.core new stands workflow name at at_most (named p workflow) (c.ways_keep_their_course.ensures.course p stands.reached workflow) answer is given);
+      advance = λ scopes old new workflow name shard at at_most answer is are.
+          site_steps laws (advance workflow name shard at at_most) (λ e. e) (λ e. e) scopes old new answer (c.an_advance_steps.ensures scopes old.core new workflow name shard at at_most answer is are)
+          (λ p stands given behind. advance_keeps laws p scopes old.core new stands workflow name shard at at_most (named p workflow) (c.ways_keep_their_course.ensures.course p stands.reached workflow) answer is given);
       cancel = λ scopes old new workflow answer is are.
           site_steps laws (cancel workflow) (λ e. e) (λ e. e) scopes old new answer (c.a_cancel_steps.ensures scopes old.core new workflow answer is are)
           (λ p stands given behind. cancel_keeps laws p scopes old.core new stands workflow (named p workflow) answer is behind);

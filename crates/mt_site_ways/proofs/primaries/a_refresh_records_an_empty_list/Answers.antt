@@ -1,7 +1,5 @@
 -- The list of the old owner's primary is still as before the way.
 use Rattle.std.proofs.Common.{sym, ◌∙◌}
-use Rattle.mt_site_state.proofs.ShardLemmas.{no_cuts}
-use Rattle.mt_site_ways.proofs.EntryLemmas.{one_shard}
 use Rattle.mt_site_ways.proofs.PrimaryNextLemmas.{on_way, stood}
 use Rattle.mt_site_ways.proofs.PrimaryUndoLemmas.{recorded}
 use Rattle.mt_site_ways.proofs.primaries.a_refresh_records_an_empty_list.Goals as goal
@@ -9,8 +7,10 @@ use Rattle.mt_site_ways.proofs.primaries.a_refresh_records_an_empty_list.Goals a
 pub returns : goal.returns
 returns g c = λ p scopes core stands name live w way at id old new is_live found opens given from_source from_target next attempts.
     let for = stood p scopes core stands name live w is_live found in
+    let opened = sym for.way ∙ opens in
     let is_at =
-    on_way p core.primaries stands.primaries live w for way opens (one_shard p stands.reached name live is_live (no_cuts p live w for) way (sym for.way ∙ opens)) (c.live_workflows_stand_in_place.ensures.placed p stands.reached name live is_live)
+    on_way p core.primaries stands.primaries live w for way opens stands.reached name is_live (c.ways_keep_their_course.ensures.course p stands.reached name live is_live way opened)
+    (c.ways_keep_their_course.ensures.writes p stands.reached name live is_live way opened) (c.live_workflows_stand_in_place.ensures.placed p stands.reached name live is_live)
     (c.a_live_workflow_is_found_by_its_part.ensures.owner p stands.reached name live is_live) in
     recorded p core.primaries live w way is_at (c.a_live_workflow_is_found_by_its_part.ensures.mover p stands.reached name live is_live) next
     (g.W.Asks.scopes c.args.watchers.now) (g.W.Asks.may_answer c.args.watchers.now) id core.topology old new from_source from_target attempts

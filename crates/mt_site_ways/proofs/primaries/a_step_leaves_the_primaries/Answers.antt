@@ -1,14 +1,11 @@
 -- A refresh takes over what the topology says at its side, and no other step changes a primary.
-use Rattle.std.proofs.Common.{refl, sym, ap, ◌∙◌, cond}
-use Rattle.mt_plain.specs.Serve.{refuses}
-use Rattle.mt_plain.specs.Plain.{next_step, moves}
-use Rattle.mt_site_state.proofs.ShardLemmas.{no_cuts}
-use Rattle.mt_site_ways.proofs.EntryLemmas.{one_shard}
+use Rattle.std.proofs.Common.{refl, sym, ◌∙◌}
 use Rattle.mt_plain.specs.Events.{step, done}
 use Rattle.mt_plain.specs.Next.{live_stepped, next, on_way_of}
+use Rattle.mt_laws.specs.Effects.{list_stepped}
+use Rattle.mt_primaries.specs.Primaries.{primary_of}
 use Rattle.mt_site_rows.proofs.StepLemmas.{stepped_sides}
-use Rattle.mt_site_state.specs.Core.{primaries_of}
-use Rattle.mt_site_ways.proofs.ChangeLemmas.{IsAt, list_changed, stepped_by_number}
+use Rattle.mt_site_ways.proofs.ChangeLemmas.{IsAt, stepped_lists}
 use Rattle.mt_site_ways.proofs.DenialLemmas.{Known}
 use Rattle.mt_site_ways.proofs.ListLemmas.{IsNext}
 use Rattle.mt_site_ways.proofs.PrimaryNextLemmas.{on_way, stood, tables_stay}
@@ -28,18 +25,18 @@ returns g c = λ p scopes core stands name live w way at id old new is_live foun
       change = c.a_notice_tells_what_its_change_tells.ensures.change;
     } in
     let for = stood p scopes core stands name live w is_live found in
+    let opened = sym for.way ∙ opens in
     let is_at : IsAt p core.primaries live w way =
-    on_way p core.primaries stands.primaries live w for way opens (one_shard p stands.reached name live is_live (no_cuts p live w for) way (sym for.way ∙ opens)) (c.live_workflows_stand_in_place.ensures.placed p stands.reached name live is_live)
+    on_way p core.primaries stands.primaries live w for way opens stands.reached name is_live (c.ways_keep_their_course.ensures.course p stands.reached name live is_live way opened)
+    (c.ways_keep_their_course.ensures.writes p stands.reached name live is_live way opened) (c.live_workflows_stand_in_place.ensures.placed p stands.reached name live is_live)
     (c.a_live_workflow_is_found_by_its_part.ensures.owner p stands.reached name live is_live) in
     let q = next p (step name at) done in
-    let is_next : IsNext p q live (list_changed live (next_step way) way.after) = record {
+    let is_next : IsNext p q live (list_stepped live way) = record {
       topology = refl;
       tables = tables_stay p name (λ v. on_way_of (live_stepped p v) v) (stepped_sides p);
-      refused = λ keyspace table.
-          c.steps_and_undos_change_the_state_by_their_numbers.ensures.step_lists p stands.reached name live way is_live is_at.opens at keyspace 0 table
-          ∙ ap (λ b. cond (moves live table) b (refuses p keyspace 0 table)) (stepped_by_number live way is_at.one keyspace);
+      refused = λ keyspace shard table. c.steps_and_undos_change_the_state_by_their_numbers.ensures.step_lists p stands.reached name live way is_live opened at keyspace shard table;
       moved = c.a_live_workflow_is_found_by_its_part.ensures.mover p stands.reached name live is_live;
     } in
-    step_stands known p q core.primaries live w way is_at is_next
-    (c.a_step_keeps_rows_and_logs.ensures p stands.reached (primaries_of core.primaries) stands.rows name at given)
+    step_stands known p q core.primaries live w way is_at
+    (stepped_lists p q core.primaries live w way is_at is_next (c.a_step_keeps_rows_and_logs.ensures p stands.reached (primary_of core.primaries) stands.rows name at given))
     core.topology stands.topology.served.entries (g.W.Asks.scopes c.args.watchers.now) (g.W.Asks.may_answer c.args.watchers.now) id old new from_source from_target attempts

@@ -1,23 +1,22 @@
 -- An undone refresh gives a list without the tables back, and no other undo changes a primary.
-use Rattle.std.proofs.Common.{◌≡◌, ℕ, ◌≤◌, List, Some, refl, sym, ap, ◌∙◌, cond}
-use Rattle.mt_plain.specs.Serve.{refuses}
-use Rattle.mt_site_state.proofs.ShardLemmas.{no_cuts}
-use Rattle.mt_site_ways.proofs.EntryLemmas.{one_shard}
+use Rattle.std.proofs.Common.{◌≡◌, ℕ, List, Some, refl, sym, ◌∙◌}
 use Rattle.mt_model.specs.declared.entries.Scope.{Scope}
 use Rattle.mt_plain.specs.Answers.{Answers}
 use Rattle.mt_plain.specs.Events.{undo, done, Way}
 use Rattle.mt_plain.specs.Next.{live_undone, next, on_way_of}
-use Rattle.mt_plain.specs.Plain.{Live, Plain, live_at, last_step, moves}
+use Rattle.mt_plain.specs.Plain.{Live, Plain, live_at}
+use Rattle.mt_laws.specs.Effects.{list_undone}
+use Rattle.mt_primaries.specs.Primaries.{primary_of}
 use Rattle.mt_workflow.specs.Workflows.{WorkflowState}
 use Rattle.mt_site_rows.specs.Rows.{RowsStand}
 use Rattle.mt_site_rows.proofs.KeepLemmas.{undone_sides}
-use Rattle.mt_site_state.specs.Core.{CoreState, primaries_of, workflow_at}
+use Rattle.mt_site_state.specs.Core.{CoreState, workflow_at}
 use Rattle.mt_site_state.specs.Stands.{StandsWith}
+use Rattle.mt_site_ways.proofs.ChangeLemmas.{IsAt, undone_lists}
 use Rattle.mt_site_ways.proofs.DenialLemmas.{Known}
-use Rattle.mt_site_ways.proofs.ListLemmas.{IsNext}
+use Rattle.mt_site_ways.proofs.ListLemmas.{IsNext, same_stand}
 use Rattle.mt_site_ways.proofs.PrimaryNextLemmas.{on_way, stood, tables_stay}
-use Rattle.mt_site_ways.proofs.ChangeLemmas.{IsAt, list_changed, undone_by_number}
-use Rattle.mt_site_ways.proofs.PrimaryUndoLemmas.{before_journal, none_stands, undo_stands}
+use Rattle.mt_site_ways.proofs.PrimaryUndoLemmas.{before_journal, none_undone, undo_stands}
 use Rattle.mt_site_ways.proofs.primaries.an_undo_leaves_the_primaries.Goals as goal
 
 pub returns : goal.returns
@@ -36,29 +35,32 @@ returns c =
     → workflow_at core.workflows name ≡ Some w → w.way ≡ Some way → IsAt p core.primaries live w way
     = λ p scopes core stands name live w way is_live found opens.
     let for = stood p scopes core stands name live w is_live found in
-    on_way p core.primaries stands.primaries live w for way opens (one_shard p stands.reached name live is_live (no_cuts p live w for) way (sym for.way ∙ opens))
-    (c.live_workflows_stand_in_place.ensures.placed p stands.reached name live is_live)
+    let opened = sym for.way ∙ opens in
+    on_way p core.primaries stands.primaries live w for way opens stands.reached name is_live (c.ways_keep_their_course.ensures.course p stands.reached name live is_live way opened)
+    (c.ways_keep_their_course.ensures.writes p stands.reached name live is_live way opened) (c.live_workflows_stand_in_place.ensures.placed p stands.reached name live is_live)
     (c.a_live_workflow_is_found_by_its_part.ensures.owner p stands.reached name live is_live) in
-    let is_next : (p : Plain) (scopes : List Scope) (core : CoreState) → StandsWith p scopes core → (name : List ℕ) (live : Live) (way : Way) (at : ℕ) → live_at p name ≡ Some live → live.way ≡ Some way → way.shards ≤ 1
-    → Answers p (undo name at) done → IsNext p (next p (undo name at) done) live (list_changed live (last_step way) way.before)
-    = λ p scopes core stands name live way at is_live opens one given.
+    let is_next : (p : Plain) (scopes : List Scope) (core : CoreState) → StandsWith p scopes core → (name : List ℕ) (live : Live) (way : Way) (at : ℕ) → live_at p name ≡ Some live → live.way ≡ Some way
+    → Answers p (undo name at) done → IsNext p (next p (undo name at) done) live (list_undone live way)
+    = λ p scopes core stands name live way at is_live opens given.
     record {
       topology = refl;
       tables = tables_stay p name (λ v. on_way_of (live_undone v) v) undone_sides;
-      refused = λ keyspace table.
-          c.steps_and_undos_change_the_state_by_their_numbers.ensures.undo_lists p stands.reached name live way is_live opens at given keyspace 0 table
-          ∙ ap (λ b. cond (moves live table) b (refuses p keyspace 0 table)) (undone_by_number live way one keyspace);
+      refused = λ keyspace shard table. c.steps_and_undos_change_the_state_by_their_numbers.ensures.undo_lists p stands.reached name live way is_live opens at given keyspace shard table;
       moved = c.a_live_workflow_is_found_by_its_part.ensures.mover p stands.reached name live is_live;
     } in
     let rows : (p : Plain) (scopes : List Scope) (core : CoreState) → StandsWith p scopes core → (name : List ℕ) (at : ℕ) → Answers p (undo name at) done
-    → RowsStand (next p (undo name at) done) (primaries_of core.primaries)
-    = λ p scopes core stands name at given. c.events_that_change_no_row_keep_rows_and_logs.ensures.undo p stands.reached (primaries_of core.primaries) stands.rows name at given in
+    → RowsStand (next p (undo name at) done) (primary_of core.primaries)
+    = λ p scopes core stands name at given. c.events_that_change_no_row_keep_rows_and_logs.ensures.undo p stands.reached (primary_of core.primaries) stands.rows name at given in
     record {
-      last = λ p scopes core stands name live w way at listed source target is_live found opens given some_done is_listed gives.
+      last = λ p scopes core stands name live w way at listed source targets is_live found opens given some_done is_listed gives.
           let this = is_at p scopes core stands name live w way is_live found opens in
-          undo_stands known p (next p (undo name at) done) core.primaries live w way this (is_next p scopes core stands name live way at is_live this.opens this.one given) (rows p scopes core stands name at given)
-          (before_journal p name live way at is_live this.opens given.0) listed source target is_listed gives;
+          let q = next p (undo name at) done in
+          undo_stands known p q core.primaries live w way this
+          (undone_lists p q core.primaries live w way this (is_next p scopes core stands name live way at is_live this.opens given) (rows p scopes core stands name at given))
+          (before_journal p name live way at is_live this.opens given.0) listed source targets is_listed gives;
       none = λ p scopes core stands name live w way at is_live found opens given none.
-          let this = is_at p scopes core stands name live w way is_live found opens in
-          none_stands known p (next p (undo name at) done) core.primaries live w way this (is_next p scopes core stands name live way at is_live this.opens this.one given) (rows p scopes core stands name at given) none;
+          let opened = (is_at p scopes core stands name live w way is_live found opens).opens in
+          let q = next p (undo name at) done in
+          same_stand p q live (list_undone live way) (is_next p scopes core stands name live way at is_live opened given) core.primaries stands.primaries (rows p scopes core stands name at given)
+          (λ keyspace n. none_undone live way keyspace n none);
     }

@@ -1,7 +1,5 @@
 -- What the workflow writes is what the live one serves, for which it stands.
 use Rattle.std.proofs.Common.{sym, ◌∙◌}
-use Rattle.mt_site_state.proofs.ShardLemmas.{no_cuts}
-use Rattle.mt_site_ways.proofs.EntryLemmas.{one_shard}
 use Rattle.mt_plain.specs.Events.{done, step, undo}
 use Rattle.mt_plain.specs.Next.{next}
 use Rattle.mt_site_topology.proofs.StandLemmas.{Laws, stays}
@@ -28,7 +26,7 @@ returns c =
           let for = stands_for p s.core.workflows name w live stands.workflows found is_live in
           let opened = sym for.way ∙ opens in
           undo_leaves p (next p (undo name at) done) s.core.topology w live for way (c.ways_keep_their_course.ensures.course p stands.reached name live is_live way opened).within
-          (one_shard p stands.reached name live is_live (no_cuts p live w for) way opened) log gives some
+          log gives some
           (c.steps_and_undos_write_what_is_theirs.ensures.undo p s.core.topology name live way w.kept at stands.reached is_live opened for.kept given stands.topology);
       closed = λ p scopes s stands name w way at found opens given none.
           let r = live_for p s.core.workflows name w stands.workflows found in

@@ -8,6 +8,7 @@ use Rattle.mt_site_topology.proofs.BeginLemmas.{at_rest-none}
 use Rattle.mt_steps.specs.Plans.{step_at}
 use Rattle.mt_site_ways.proofs.RecordBeginLemmas.{begin_stays}
 use Rattle.mt_site_ways.proofs.EntryLemmas.{last_numbered, next_numbered}
+use Rattle.mt_site_ways.proofs.PrimaryNextLemmas.{on_way}
 use Rattle.mt_site_ways.proofs.RecordStepLemmas.{step_stays}
 use Rattle.mt_site_ways.proofs.TopologyLemmas.{live_for}
 use Rattle.mt_site_ways.proofs.RecordUndoLemmas.{close_stays, undo_stays}
@@ -34,7 +35,8 @@ returns g c =
           let r = live_for p s.core.workflows name w stands.core.workflows found in
           let course = c.ways_keep_their_course.ensures.course p stands.core.reached name r.0 r.1 way (sym r.2.way ∙ opens) in
           step_stays p scopes asked may_answer s stands name w way o found opens is_open r.0 r.1 r.2 (name_is p name r.0 r.1)
-          (c.live_workflows_stand_in_place.ensures.placed p stands.core.reached name r.0 r.1).sides.apart
+          (on_way p s.core.primaries stands.core.primaries r.0 w r.2 way opens stands.core.reached name r.1 course (c.ways_keep_their_course.ensures.writes p stands.core.reached name r.0 r.1 way (sym r.2.way ∙ opens))
+          (c.live_workflows_stand_in_place.ensures.placed p stands.core.reached name r.0 r.1) (c.a_live_workflow_is_found_by_its_part.ensures.owner p stands.core.reached name r.0 r.1))
           (c.a_live_workflow_is_found_by_its_part.ensures.owner p stands.core.reached name r.0 r.1)
           (c.a_live_workflow_is_found_by_its_part.ensures.mover p stands.core.reached name r.0 r.1)
           (step_at (next_step way)) (next_numbered way course.within) sides log is at (λ n other. elsewhere p (step name at) done n other);

@@ -1,14 +1,14 @@
-use Rattle.std.proofs.Common.{None, Some, is_some, length, ap, sym, ◌∙◌}
+use Rattle.std.proofs.Common.{None, Some, is_some, ap, sym, ◌∙◌}
 use Rattle.std.proofs.Math.Logic.{∥∥₁_elim}
 use Rattle.std.proofs.Props.{props}
 use Rattle.mt_journal.specs.Journal.{entry_of}
 use Rattle.mt_names.proofs.EntryLemmas.{none_from}
 use Rattle.mt_plain.specs.Plain.{live_at}
 use Rattle.mt_laws.proofs.InPlaceLemmas.{live_in}
+use Rattle.mt_laws.proofs.LaneLemmas.{reached_numbered}
 use Rattle.mt_laws.proofs.OpenWayLemmas.{reached_shards}
-use Rattle.mt_names.specs.Shards.{shard_count}
 use Rattle.mt_site_events.proofs.FoundLemmas.{live_of_state}
-use Rattle.mt_site_state.proofs.ShardLemmas.{no_cuts, one_lane}
+use Rattle.mt_site_state.proofs.LaneLemmas.{lane_count, lanes_alike}
 use Rattle.mt_site_state.specs.Core.{workflow_at}
 use Rattle.mt_site_state.specs.Ways.{open_at}
 use Rattle.mt_site_ways.proofs.SetLemmas.{keys_set}
@@ -33,7 +33,8 @@ returns c = record {
   shards = λ s is name w way found on. ∥∥₁_elim is (hlevel props)
       (λ h.
       let (live, is_live, for) = live_of_state h.state (live_at h.state name) (workflow_at s.core.workflows name) w (h.stands.core.workflows.each name) found in
-      reached_shards h.state h.reached live (live_in h.state name live is_live) way (sym for.way ∙ on) ∙ ap shard_count (no_cuts h.state live w for) ∙ sym (ap length (one_lane h.state live w for)));
+      reached_shards h.state h.reached live (live_in h.state name live is_live) way (sym for.way ∙ on)
+      ∙ sym (lanes_alike h.state live w for ∙ lane_count live (reached_numbered h.state h.reached live (live_in h.state name live is_live))));
   unused = λ s is name w way o found on opened unwritten.
       none_from (entry_of s.ways.journal o.number) (∥∥₁_elim is (hlevel props) (λ h. ap is_some ((open_of s h name w way o found on opened).1.unused unwritten)));
 }

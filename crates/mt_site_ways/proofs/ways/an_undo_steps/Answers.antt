@@ -1,21 +1,20 @@
 -- Until the journal is written, what is kept gives back what stood before the way; so each part of the controller stands for the next state.
-use Rattle.std.proofs.Common.{ℕ, ◌-◌, List, None, sym, ap, ◌∙◌, subst}
-use Rattle.mt_site_state.proofs.ShardLemmas.{no_cuts}
+use Rattle.std.proofs.Common.{ℕ, ◌≤◌, List, None, sym, ap, ◌∙◌, subst, arith}
 use Rattle.mt_steps.specs.Shards.{last_shard}
 use Rattle.mt_steps.specs.Steps.{listed_at}
-use Rattle.mt_site_ways.proofs.EntryLemmas.{first_shard, one_shard}
 use Rattle.mt_model.specs.declared.entries.Scope.{Scope}
 use Rattle.mt_plain.specs.Answers.{Answers}
 use Rattle.mt_plain.specs.Events.{done, undo}
 use Rattle.mt_plain.specs.Next.{next}
-use Rattle.mt_plain.specs.Plain.{Plain, next_place}
+use Rattle.mt_plain.specs.Plain.{Plain}
+use Rattle.mt_site_ways.proofs.PlaceLemmas.{last_refresh}
 use Rattle.mt_site_ways.proofs.PrimaryUndoLemmas.{before_journal}
 use Rattle.mt_site_ways.proofs.TopologyLemmas.{live_for}
 use Rattle.mt_site_state.specs.Switching.{UndoesWorkflow, sides_of, with_sides}
 use Rattle.mt_site_state.specs.Ways.{SiteState, SiteStands}
 use Rattle.mt_site_ways.proofs.OutcomeLemmas.{IsMade, UndoneBy, stands_behind, undo_outcome}
 use Rattle.mt_site_ways.proofs.WayStepLemmas.{kept_at}
-use Rattle.mt_site_ways.proofs.WayUndoLemmas.{closed_stands, refresh_done, undo_stands, undone_either}
+use Rattle.mt_site_ways.proofs.WayUndoLemmas.{closed_stands, undo_stands, undone_either}
 use Rattle.mt_site_ways.proofs.ways.an_undo_steps.Goals as goal
 
 pub returns : goal.returns
@@ -27,7 +26,8 @@ returns g c =
     let q = next p (undo workflow at) done in
     let (live, is_live, for) = live_for p old.core.workflows workflow m.w stands.core.workflows m.found in
     let kept = kept_at p old workflow live m.w m.o for (c.a_live_workflow_is_found_by_its_part.ensures.named p workflow live is_live) m.kept in
-    let one = one_shard p reached workflow live is_live (no_cuts p live m.w for) m.way (sym for.way ∙ m.opens) in
+    let shards = (c.ways_keep_their_course.ensures.course p reached workflow live is_live m.way (sym for.way ∙ m.opens)).shards in
+    let has_one : 1 ≤ m.way.shards = omega (arith, shards) in
     let reached_next = c.each_next_state_is_reached.ensures.next p reached (undo workflow at) done given in
     subst (SiteStands q scopes) (sym m.made)
     (undone_either q scopes (with_sides old m.w m.sides (record { number = m.o.number; log = m.log })) m.way (sides_of old m.w) m.sides m.o.log m.log m.is
@@ -36,13 +36,13 @@ returns g c =
     undo_stands q scopes old m.w m.way m.o m.sides m.log is reached_next stands.core.scopes_are
     (c.steps_and_undos_leave_the_topology.ensures.undo p scopes old stands.core workflow live m.w m.way at m.o.log is_live m.found m.opens given some gives)
     (c.an_undo_leaves_the_primaries.ensures.last p scopes old.core stands.core workflow live m.w m.way at (listed_at m.o.log (last_shard m.way)) m.sides.source m.sides.targets is_live m.found m.opens given some
-    (λ last. ap (listed_at m.o.log) (first_shard m.way (next_place m.way - 1) one) ∙ gives.listed (refresh_done m.way one some last)) is.listed)
+    (λ last. let (below, stood) = last_refresh m.way has_one some last in gives.listed (last_shard m.way) below stood) is.listed)
     (c.an_undo_leaves_the_workflows.ensures.last p reached old.core.workflows stands.core.workflows workflow live m.w m.way at m.o.log.slots is_live m.found m.opens given some gives.slots)
     (c.what_is_kept_of_the_ways_stays.ensures.undo p scopes old stands workflow m.w m.way m.o at m.sides m.log m.found m.opens kept given some is))
     (λ none sides log.
     subst (SiteStands q scopes) (sym (ap (λ s. with_sides old m.w s (record { number = m.o.number; log = m.log })) sides
     ∙ ap (λ l. with_sides old m.w (record (sides_of old m.w) { workflow = record m.w { way = None } }) (record { number = m.o.number; log = l })) log))
-    (closed_stands q scopes old m.w m.way m.o p stands.core.primaries live for (c.live_workflows_stand_in_place.ensures.placed p reached workflow live is_live)
+    (closed_stands q scopes old m.w m.way m.o
     reached_next stands.core.scopes_are
     (c.steps_and_undos_leave_the_topology.ensures.closed p scopes old stands.core workflow m.w m.way at m.found m.opens given none)
     (c.an_undo_leaves_the_primaries.ensures.none p scopes old.core stands.core workflow live m.w m.way at is_live m.found m.opens given none)

@@ -1,6 +1,5 @@
 -- What the undo makes of the slots is what it makes of the streams.
 use Rattle.std.proofs.Common.{◌≡◌, ℕ, false, List, Some, sym, ap, ◌∙◌, eqb-true}
-use Rattle.mt_site_ways.proofs.EntryLemmas.{one_shard}
 use Rattle.mt_plain.specs.Answers.{Answers}
 use Rattle.mt_plain.specs.Events.{StreamName, Way, done, undo}
 use Rattle.mt_plain.specs.Next.{live_undone}
@@ -10,9 +9,8 @@ use Rattle.mt_plain.specs.Slots.{slot_before_way, slot_of}
 use Rattle.mt_laws.specs.Effects.{slot_undone}
 use Rattle.mt_laws.specs.WayBack.{IsReached}
 use Rattle.mt_laws.proofs.WayLemmas.{undo_before_journal}
-use Rattle.mt_site_events.proofs.MoveCoreLemmas.{live_found}
+use Rattle.mt_site_ways.proofs.FoundLemmas.{live_found}
 use Rattle.mt_site_state.specs.Core.{workflow_at}
-use Rattle.mt_site_state.proofs.ShardLemmas.{no_cuts}
 use Rattle.mt_site_ways.proofs.ChangedLemmas.{stands_for}
 use Rattle.mt_site_ways.proofs.WayLemmas.{closed-workflows, undone-workflows}
 use Rattle.mt_site_ways.proofs.workflows.an_undo_leaves_the_workflows.Goals as goal
@@ -35,14 +33,14 @@ returns c =
           let for = stands_for p workflows are name live w is_live found in
           let opens : live.way ≡ Some way = sym for.way ∙ is_open in
           let before = not_journaled p name live way at is_live opens given in
-          undone-workflows p workflows are name live w is_live found way opens (one_shard p reached name live is_live (no_cuts p live w for) way opens) before
+          undone-workflows p workflows are name live w is_live found way opens before
           (λ n other. c.only_named_events_change_a_workflow.ensures.elsewhere p (undo name at) done n other)
           (slots p reached name live way is_live opens before) kept gives_back;
       none = λ p reached workflows are name w way at found is_open given none.
           let (live, is_live, for) = live_found p (live_at p name) (workflow_at workflows name) w found (are.each name) in
           let opens : live.way ≡ Some way = sym for.way ∙ is_open in
           let before = not_journaled p name live way at is_live opens given in
-          closed-workflows p workflows are name live w is_live found way opens (one_shard p reached name live is_live (no_cuts p live w for) way opens) before
+          closed-workflows p workflows are name live w is_live found way opens before
           (λ n other. c.only_named_events_change_a_workflow.ensures.elsewhere p (undo name at) done n other)
           (slots p reached name live way is_live opens before) (eqb-true way.done 0 none);
     }

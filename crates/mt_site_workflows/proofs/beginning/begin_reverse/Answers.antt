@@ -6,7 +6,7 @@ use Rattle.mt_model.specs.Topology.{TopologyState}
 use Rattle.mt_plain.specs.Events as plain
 use Rattle.mt_plain.specs.Next.{types_without}
 use Rattle.mt_plain.specs.Refuse.{at_rest, most_ways, or_else, refuse_if, share_type}
-use Rattle.mt_site_state.specs.Core.{Primaries}
+use Rattle.mt_primaries.specs.Primaries.{Primaries}
 use Rattle.mt_site_state.specs.Switching.{BeginsReverseAt, way_to, with_way}
 use Rattle.mt_site_state.specs.Ways.{SiteState}
 use Rattle.mt_workflow.specs.Workflows.{live_of}

@@ -6,7 +6,7 @@ use Rattle.mt_model.specs.Topology.{TopologyState}
 use Rattle.mt_plain.specs.Events as plain
 use Rattle.mt_plain.specs.Next.{types_and}
 use Rattle.mt_plain.specs.Refuse.{at_rest, has_more, most_ways, or_else, refuse_if}
-use Rattle.mt_site_state.specs.Core.{Primaries}
+use Rattle.mt_primaries.specs.Primaries.{Primaries}
 use Rattle.mt_site_state.specs.Switching.{BeginsSwitchAt, is_copying, way_to, with_way}
 use Rattle.mt_site_state.specs.Ways.{SiteState}
 use Rattle.mt_workflow.specs.Workflows.{live_of}

@@ -11,7 +11,8 @@ use Rattle.mt_plain.specs.Events.{full}
 use Rattle.mt_plain.specs.Refuse.{most_workflows, or_else, refuse_if}
 use Rattle.mt_topology.specs.Part.{reserve_refusal}
 use Rattle.mt_workflow.specs.Workflows.{new_workflow}
-use Rattle.mt_site_state.specs.Core.{CoreState, primary_of}
+use Rattle.mt_primaries.specs.Primaries.{primary_of}
+use Rattle.mt_site_state.specs.Core.{CoreState}
 use Rattle.mt_site_state.specs.Workflows.{create_refusal, is_full, new_of}
 use Rattle.mt_site_workflows.specs.Create.{Makes}
 use Rattle.mt_site_workflows.proofs.CreateLemmas.{refused-set}
@@ -20,7 +21,7 @@ use Rattle.mt_site_workflows.proofs.creating.create_set.Goals as goal
 
 pub returns-in-Some : goal.returns-in-Some
 returns-in-Some g c =
-    let core : CoreState = record { topology = c.args.topology.now; primaries = c.args.primaries.now.entries; workflows = c.args.workflows.now.entries } in
+    let core : CoreState = record { topology = c.args.topology.now; primaries = c.args.primaries.now; workflows = c.args.workflows.now.entries } in
     refused-set core (g.W.Asks.scopes c.args.watchers.now) (g.W.Asks.may_answer c.args.watchers.now) c.args.asked.name.now c.args.asked.source.now c.args.asked.target.now c.args.asked.tables.now (refusal_from c.in-Some.refusal)
     (c.refusal_before.ensures ∙ ap (λ o. or_else (option_map refusal_from o) (refuse_if (is_full core c.args.asked.source.now c.args.asked.target.now c.args.asked.tables.now) full)) c.in-Some.is)
 
@@ -32,20 +33,20 @@ make-requires-clause-places g c =
 
 pub returns-in-Ok : goal.returns-in-Ok
 returns-in-Ok g c =
-    let core : CoreState = record { topology = c.args.topology.now; primaries = c.args.primaries.now.entries; workflows = c.args.workflows.now.entries } in
+    let core : CoreState = record { topology = c.args.topology.now; primaries = c.args.primaries.now; workflows = c.args.workflows.now.entries } in
     let few : nat_le most_workflows (length core.workflows) ≡ false = lt-leb most_workflows (length core.workflows) (omega (arith, c.len.ensures.len)) in
     let fits : is_full core c.args.asked.source.now c.args.asked.target.now c.args.asked.tables.now ≡ false =
     ap (λ b. b || is_some (reserve_refusal c.args.topology.now c.args.asked.source.now c.args.asked.target.now c.args.asked.tables.now)) few ∙ ap is_some c.in-Ok.ensures.0 in
     let none : create_refusal core (g.W.Asks.scopes c.args.watchers.now) c.args.asked.name.now c.args.asked.source.now c.args.asked.target.now c.args.asked.tables.now ≡ None =
     c.refusal_before.ensures ∙ ap (λ o. or_else (option_map refusal_from o) (refuse_if (is_full core c.args.asked.source.now c.args.asked.target.now c.args.asked.tables.now) full)) c.in_default.is
     ∙ ap (λ b. refuse_if b full) fits in
-    let position = end_of (primary_of c.args.primaries.now.entries c.args.asked.source.now) in
+    let position = end_of (primary_of c.args.primaries.now c.args.asked.source.now 0) in
     let is : new_workflow c.reserve_part.new.self c.args.asked.name.now c.args.asked.source.now c.args.asked.target.now c.args.asked.tables.now position ≡ new_of core c.args.asked.name.now c.args.asked.source.now c.args.asked.target.now c.args.asked.tables.now =
     ap (λ (t : TopologyState). new_workflow t c.args.asked.name.now c.args.asked.source.now c.args.asked.target.now c.args.asked.tables.now position) c.in-Ok.ensures.1
     ∙ new-placed c.args.topology.now (part_keys c.args.asked.source.now c.args.asked.target.now c.args.asked.tables.now) c.args.asked.name.now c.args.asked.source.now c.args.asked.target.now c.args.asked.tables.now position in
     rw c.answer_by_reason.ensures (
     made-set core (g.W.Asks.scopes c.args.watchers.now) (g.W.Asks.may_answer c.args.watchers.now) c.args.asked.name.now c.args.asked.source.now c.args.asked.target.now c.args.asked.tables.now c.reserve_part.new.self c.make.result
-    (record { topology = c.make.new.topology; primaries = c.make.new.primaries.entries; workflows = c.make.new.workflows.entries })
+    (record { topology = c.make.new.topology; primaries = c.make.new.primaries; workflows = c.make.new.workflows.entries })
     none c.in-Ok.ensures.1 (c.requires.can.back none)
     (subst (λ w. Makes (g.W.Asks.scopes c.args.watchers.now) (g.W.Asks.may_answer c.args.watchers.now) w (record core { topology = c.reserve_part.new.self }) c.make.result
-    (record { topology = c.make.new.topology; primaries = c.make.new.primaries.entries; workflows = c.make.new.workflows.entries })) is c.make.ensures))
+    (record { topology = c.make.new.topology; primaries = c.make.new.primaries; workflows = c.make.new.workflows.entries })) is c.make.ensures))

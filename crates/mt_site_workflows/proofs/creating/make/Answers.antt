@@ -6,7 +6,8 @@ use Rattle.mt_model.specs.Topology.{TopologyState}
 use Rattle.mt_primary.specs.Primary.{end_of}
 use Rattle.mt_workflow.specs.Workflows.{WorkflowState, live_of, new_workflow}
 use Rattle.mt_site_topology.specs.Keys.{part_entries}
-use Rattle.mt_site_state.specs.Core.{CoreState, Primaries, Workflows, primary_of, with_primary}
+use Rattle.mt_primaries.specs.Primaries.{Primaries, primary_of, with_all}
+use Rattle.mt_site_state.specs.Core.{CoreState, Workflows}
 use Rattle.mt_site_state.specs.Workflows.{target_made}
 use Rattle.mt_site_workflows.specs.Create.{Prepares}
 use Rattle.mt_site_workflows.proofs.MakeLemmas.{workflow_pushed}
@@ -14,18 +15,18 @@ use Rattle.mt_site_workflows.proofs.creating.make.Goals as goal
 
 pub returns-in-Ok-insert : goal.returns-in-Ok-insert
 returns-in-Ok-insert g c =
-    let made : WorkflowState = new_workflow c.args.topology.now c.args.asked.name.now c.args.asked.source.now c.args.asked.target.now c.args.asked.tables.now (end_of (primary_of c.args.primaries.now.entries c.args.asked.source.now)) in
+    let made : WorkflowState = new_workflow c.args.topology.now c.args.asked.name.now c.args.asked.source.now c.args.asked.target.now c.args.asked.tables.now (end_of (primary_of c.args.primaries.now c.args.asked.source.now 0)) in
     let is : c.in-Ok.workflow ≡ made =
     c.in-Ok.ensures.value
     ∙ ap (λ ts. new_workflow c.args.topology.now c.args.asked.name.now c.args.asked.source.now c.args.asked.target.now ts c.position_of-position.result) c.requires.ready.once
     ∙ ap (new_workflow c.args.topology.now c.args.asked.name.now c.args.asked.source.now c.args.asked.target.now c.args.asked.tables.now) c.position_of-position.ensures in
     let after =
-    subst (λ w. Prepares (g.W.Asks.scopes c.args.watchers.now) (g.W.Asks.may_answer c.args.watchers.now) w c.args.primaries.now.entries (Ok tt) c.prepare.new.primaries.entries) is c.in-Ok-prepare.ensures.made in
+    subst (λ w. Prepares (g.W.Asks.scopes c.args.watchers.now) (g.W.Asks.may_answer c.args.watchers.now) w c.args.primaries.now (Ok tt) c.prepare.new.primaries) is c.in-Ok-prepare.ensures.made in
     let written : c.write_part.new.topology ≡ with_entries c.args.topology.now (part_entries made.kept (live_of made) no_types) =
     c.write_part.ensures ∙ ap (λ (w : WorkflowState). with_entries c.args.topology.now (part_entries w.kept (live_of w) no_types)) is in
     let pushed = c.in-Ok-insert.ensures.entries ∙ workflow_pushed c.prepare.new.workflows c.args.workflows.now.entries c.args.asked.name.now c.copied.result c.in-Ok.workflow made c.in-Ok-prepare.ensures.workflows c.copied.ensures is c.requires.new in
-    let by_topology : TopologyState → CoreState = λ t. record { topology = t; primaries = c.prepare.new.primaries.entries; workflows = c.insert.new.self.entries } in
+    let by_topology : TopologyState → CoreState = λ t. record { topology = t; primaries = c.prepare.new.primaries; workflows = c.insert.new.self.entries } in
     let by_primaries : Primaries → CoreState = λ ps. record { topology = with_entries c.args.topology.now (part_entries made.kept (live_of made) no_types); primaries = ps; workflows = c.insert.new.self.entries } in
-    let primaries = with_primary c.args.primaries.now.entries made.target (target_made made after.0) in
+    let primaries = with_all c.args.primaries.now made.target (target_made made after.0) in
     let by_workflows : Workflows → CoreState = λ ws. record { topology = with_entries c.args.topology.now (part_entries made.kept (live_of made) no_types); primaries = primaries; workflows = ws } in
     (after.0, after.1, ap by_topology written ∙ ap by_primaries after.2 ∙ ap by_workflows pushed)

@@ -1,25 +1,29 @@
--- The target's primary is made where it stands.
-use Rattle.std.proofs.Common.{◌≡◌, Some, ap, subst, sym, ◌∙◌}
-use Rattle.std.specs.Map.{set_value}
-use Rattle.mt_names.specs.Names.{same_text}
-use Rattle.mt_primary.specs.Primary.{has_table}
-use Rattle.mt_site_state.specs.Core.{primary_at}
+-- The target's primaries are made where they stand.
+use Rattle.std.proofs.Common.{ap, get_or, length, subst, ◌<◌, ◌∙◌}
+use Rattle.mt_primary.specs.Primary.{empty_primary, has_table}
+use Rattle.mt_primaries.specs.Places.{IsAt}
 use Rattle.mt_site_workflows.specs.Target.{MakesTarget}
-use Rattle.mt_site_workflows.proofs.MakeLemmas.{found-is}
+use Rattle.mt_site_workflows.proofs.PrimaryLemmas.{lent-at}
 use Rattle.mt_site_workflows.proofs.creating.make_at_target.Goals as goal
 
 pub make_target-requires : goal.make_target-requires
 make_target-requires g c =
-    let at : primary_at c.args.primaries.now.entries c.args.workflow.now.target ≡ Some c.in-Some.primary.now =
-    ap (primary_at c.args.primaries.now.entries) (sym c.target.ensures) ∙ sym c.in-Some.ensures.value in
-    record { absent = λ table is. ap (λ p. has_table p table) (sym (found-is c.args.primaries.now.entries c.args.workflow.now.target c.in-Some.primary.now at)) ∙ c.requires.absent table is }
+    let ps = c.args.primaries.now in
+    let k = c.args.workflow.now.target in
+    let at : IsAt ps k c.place_of-place.result = subst (λ name. IsAt ps name c.place_of-place.result) c.target.ensures c.place_of-place.ensures.at in
+    let each = c.all_mut.ensures.value k at in
+    record {
+      absent = λ shard within table is.
+          ap (λ (l : _). has_table (get_or l shard empty_primary) table) each ∙ c.requires.absent shard (subst (λ l. shard < length l) each within) table is;
+    }
 
 pub returns : goal.returns
 returns g c =
-    let at : primary_at c.args.primaries.now.entries c.args.workflow.now.target ≡ Some c.in-Some.primary.now =
-    ap (primary_at c.args.primaries.now.entries) (sym c.target.ensures) ∙ sym c.in-Some.ensures.value in (
-      c.make_target.new.primary,
-      subst (λ p. MakesTarget (g.W.Asks.scopes c.args.watchers.now) (g.W.Asks.may_answer c.args.watchers.now) c.args.workflow.now c.args.change.now p c.make_target.result c.make_target.new.primary)
-          (sym (found-is c.args.primaries.now.entries c.args.workflow.now.target c.in-Some.primary.now at)) c.make_target.ensures,
-      (c.get_mut.follows.holds c.make_target.new.primary).0 ∙ ap (λ k. set_value (same_text k) c.args.primaries.now.entries c.make_target.new.primary) c.target.ensures,
+    let ps = c.args.primaries.now in
+    let w = c.args.workflow.now in
+    let at : IsAt ps w.target c.place_of-place.result = subst (λ name. IsAt ps name c.place_of-place.result) c.target.ensures c.place_of-place.ensures.at in
+    let each = c.all_mut.ensures.value w.target at in (
+      c.make_target.new.primaries,
+      subst (λ old. MakesTarget (g.W.Asks.scopes c.args.watchers.now) (g.W.Asks.may_answer c.args.watchers.now) w c.args.change.now old c.make_target.result c.make_target.new.primaries) each c.make_target.ensures,
+      lent-at ps w.target c.place_of-place.result c.make_target.new.primaries at (c.make_target.auto.primaries ∙ ap length each),
     )

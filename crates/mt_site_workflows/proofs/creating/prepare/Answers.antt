@@ -9,8 +9,8 @@ returns-in_err-make_at_target-clause-made g c =
     let w = c.args.workflow.now in
     let same : Err c.in_err-make_at_target.field-0.0 ≡ c.from_residual-in_err-make_at_target.result = search rules in
     let makes =
-    subst (λ change. MakesAtTarget (g.W.Asks.scopes c.args.watchers.now) (g.W.Asks.may_answer c.args.watchers.now) w change c.args.primaries.now.entries (Err c.in_err-make_at_target.field-0.0) c.make_at_target.new.primaries.entries)
+    subst (λ change. MakesAtTarget (g.W.Asks.scopes c.args.watchers.now) (g.W.Asks.may_answer c.args.watchers.now) w change c.args.primaries.now (Err c.in_err-make_at_target.field-0.0) c.make_at_target.new.primaries)
     c.in_ok-change.ensures.value c.in_err-make_at_target.ensures in
-    subst (λ r. Prepares (g.W.Asks.scopes c.args.watchers.now) (g.W.Asks.may_answer c.args.watchers.now) w c.args.primaries.now.entries r c.make_at_target.new.primaries.entries) same
-    (not-prepared (g.W.Asks.scopes c.args.watchers.now) (g.W.Asks.may_answer c.args.watchers.now) w c.args.primaries.now.entries c.make_at_target.new.primaries.entries c.in_err-make_at_target.field-0.0
-    c.requires.written c.requires.watched makes)
+    subst (λ r. Prepares (g.W.Asks.scopes c.args.watchers.now) (g.W.Asks.may_answer c.args.watchers.now) w c.args.primaries.now r c.make_at_target.new.primaries) same
+    (not-prepared (g.W.Asks.scopes c.args.watchers.now) (g.W.Asks.may_answer c.args.watchers.now) w c.args.primaries.now c.make_at_target.new.primaries c.in_err-make_at_target.field-0.0
+    c.requires.watched makes)

@@ -5,4 +5,4 @@ use Rattle.mt_site_state.specs.Purges.{first_needed, least_of}
 use Rattle.mt_site_workflows.proofs.purging.first_needed.Given as goal
 
 abbrev pub invariant-loop-workflow : goal.invariant-loop-workflow
-invariant-loop-workflow l = fold (λ least entry. least_of l.keyspace least entry.1) l.least l.workflow-iterator ≡ first_needed l.workflows.entries l.keyspace l.end
+invariant-loop-workflow l = fold (λ least entry. least_of l.keyspace l.shard least entry.1) l.least l.workflow-iterator ≡ first_needed l.workflows.entries l.keyspace l.shard l.end

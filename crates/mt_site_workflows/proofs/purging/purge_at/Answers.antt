@@ -1,10 +1,18 @@
--- The pair at the place is the keyspace with its primary.
-use Rattle.std.proofs.Common.{ap, ◌∙◌}
-use Rattle.indexmap.specs.Layout.{set_value_at}
+-- What was lent of the keyspace at the place becomes its own there.
+use Rattle.std.proofs.Common.{◌≡◌, ap, length, ◌∙◌}
+use Rattle.mt_primaries.specs.Primaries.{shards_of, with_shards}
+use Rattle.mt_site_state.specs.Purges.{purged_from}
+use Rattle.mt_site_workflows.proofs.PrimaryLemmas.{lent-at}
 use Rattle.mt_site_workflows.proofs.PurgeLemmas.{set-at}
 use Rattle.mt_site_workflows.proofs.purging.purge_at.Goals as goal
 
 pub returns : goal.returns
 returns c =
-    ap (set_value_at c.args.primaries.now.entries c.args.place) c.purge_log.ensures
-    ∙ set-at c.args.workflows.now.entries c.args.primaries.now.entries c.args.place _ _ c.pair_mut-primary.ensures.value
+    let ps = c.args.primaries.now in
+    let ws = c.args.workflows.now.entries in
+    let k = c.name.result.now in
+    let each = c.all_mut.ensures.value k c.name.ensures in
+    let is : c.purge_each.new.primaries ≡ purged_from ws k 0 (shards_of ps k).each =
+    c.purge_each.ensures ∙ ap (λ name. purged_from ws name 0 c.all_mut.result.now) c.copied-keyspace.ensures ∙ ap (purged_from ws k 0) each in
+    lent-at ps k c.args.place c.purge_each.new.primaries c.name.ensures (c.purge_each.auto.primaries ∙ ap length each)
+    ∙ ap (with_shards ps k) is ∙ set-at ws ps c.args.place k c.facts.ensures c.name.ensures

@@ -8,9 +8,9 @@ use Rattle.mt_site_workflows.proofs.purging.purge_log.Goals as goal
 pub returns-then-end-first_kept-lt-SEGMENT : goal.returns-then-end-first_kept-lt-SEGMENT
 returns-then-end-first_kept-lt-SEGMENT c =
     let primary = c.args.primary.now in
-    let needed = first_needed c.args.workflows.now.entries c.args.keyspace.now (end_of primary) in
+    let needed = first_needed c.args.workflows.now.entries c.args.keyspace.now c.args.shard (end_of primary) in
     let few : end_of primary - primary.log.purged < 256 = search rules in
-    let within = needed-le c.args.workflows.now.entries c.args.keyspace.now (end_of primary) in
+    let within = needed-le c.args.workflows.now.entries c.args.keyspace.now c.args.shard (end_of primary) in
     let less : needed - primary.log.purged < 256 = omega (arith, few, within) in
     sym (purge-none primary needed less)
 
@@ -18,4 +18,4 @@ pub purge_below-requires : goal.purge_below-requires
 purge_below-requires c =
     let end : c.position-end.result ≡ end_of c.args.primary.now = search rules in
     subst (λ n. n ≤ end_of c.args.primary.now) (sym c.first_needed-needed.ensures)
-    (subst (λ n. first_needed c.args.workflows.now.entries c.args.keyspace.now n ≤ end_of c.args.primary.now) (sym end) (needed-le c.args.workflows.now.entries c.args.keyspace.now (end_of c.args.primary.now)))
+    (subst (λ n. first_needed c.args.workflows.now.entries c.args.keyspace.now c.args.shard n ≤ end_of c.args.primary.now) (sym end) (needed-le c.args.workflows.now.entries c.args.keyspace.now c.args.shard (end_of c.args.primary.now)))

@@ -9,7 +9,7 @@ use Rattle.mt_site_workflows.proofs.stepping.step.Goals as goal
 pub returns-in_default-way : goal.returns-in_default-way
 returns-in_default-way g c = λ (begun : ℕ).
     let w = c.in-Some.workflow.now in
-    let old : SiteState = record { core = record { topology = c.args.topology.now; primaries = c.args.primaries.now.entries; workflows = c.args.workflows.now.entries }; ways = record { opened = c.args.opened.now.entries; journal = c.args.journal.now; begun = begun } } in
+    let old : SiteState = record { core = record { topology = c.args.topology.now; primaries = c.args.primaries.now; workflows = c.args.workflows.now.entries }; ways = record { opened = c.args.opened.now.entries; journal = c.args.journal.now; begun = begun } } in
     not-stepping (g.W.Asks.scopes c.args.watchers.now) (g.W.Asks.may_answer c.args.watchers.now) old c.args.name.now c.args.at w (sym c.in-Some.ensures.value) _
     (sym c.way.ensures ∙ ap (option_map way_from) c.in_default-way.is)
     (kept-whole old c.args.name.now w (c.get_mut.follows.lender w).entries (sym c.in-Some.ensures.value) (c.get_mut.follows.holds w).0)
@@ -17,7 +17,7 @@ returns-in_default-way g c = λ (begun : ℕ).
 pub returns-in-Some-step_refusal : goal.returns-in-Some-step_refusal
 returns-in-Some-step_refusal g c = λ (begun : ℕ).
     let w = c.in-Some.workflow.now in
-    let old : SiteState = record { core = record { topology = c.args.topology.now; primaries = c.args.primaries.now.entries; workflows = c.args.workflows.now.entries }; ways = record { opened = c.args.opened.now.entries; journal = c.args.journal.now; begun = begun } } in
+    let old : SiteState = record { core = record { topology = c.args.topology.now; primaries = c.args.primaries.now; workflows = c.args.workflows.now.entries }; ways = record { opened = c.args.opened.now.entries; journal = c.args.journal.now; begun = begun } } in
     step-refused (g.W.Asks.scopes c.args.watchers.now) (g.W.Asks.may_answer c.args.watchers.now) old c.args.name.now c.args.at w (sym c.in-Some.ensures.value)
     (way_from c.in-Some-way.way) (reason_from c.in-Some-step_refusal.refusal) _
     (sym c.way.ensures ∙ ap (option_map way_from) c.in-Some-way.is)
@@ -26,7 +26,7 @@ returns-in-Some-step_refusal g c = λ (begun : ℕ).
 
 pub step_between-result-requires-clause-stands : goal.step_between-result-requires-clause-stands
 step_between-result-requires-clause-stands g c =
-    under-way c.args.topology.now c.args.primaries.now.entries c.args.workflows.now.entries c.args.journal.now c.args.opened.now.entries c.args.name.now
+    under-way c.args.topology.now c.args.primaries.now c.args.workflows.now.entries c.args.journal.now c.args.opened.now.entries c.args.name.now
     c.in-Some.workflow.now (way_from c.in-Some-way.way) c.in-Some-get_mut.kept.now c.requires (sym c.in-Some.ensures.value) (sym c.way.ensures ∙ ap (option_map way_from) c.in-Some-way.is)
     (sym c.in-Some-get_mut.ensures.value)
 
@@ -38,9 +38,9 @@ returns g c = λ (begun : ℕ).
     let after = c.step_between-result.new in
     let found = sym c.in-Some.ensures.value in
     let has_way : w.way ≡ Some way = sym c.way.ensures ∙ ap (option_map way_from) c.in-Some-way.is in
-    let old : SiteState = record { core = record { topology = c.args.topology.now; primaries = c.args.primaries.now.entries; workflows = c.args.workflows.now.entries }; ways = record { opened = c.args.opened.now.entries; journal = c.args.journal.now; begun = begun } } in
+    let old : SiteState = record { core = record { topology = c.args.topology.now; primaries = c.args.primaries.now; workflows = c.args.workflows.now.entries }; ways = record { opened = c.args.opened.now.entries; journal = c.args.journal.now; begun = begun } } in
     has-stepped (g.W.Asks.scopes c.args.watchers.now) (g.W.Asks.may_answer c.args.watchers.now) old c.args.name.now c.args.at w found
-    way kept after.kept after.workflow c.step_between-result.result (done_by c.answer_by_step.result) after.topology after.primaries.entries
+    way kept after.kept after.workflow c.step_between-result.result (done_by c.answer_by_step.result) after.topology after.primaries
     (c.get_mut.follows.lender after.workflow).entries (c.get_mut-2.follows.lender after.kept).entries c.close.new.opened.entries (option_map way_from c.way-2.result) after.journal
     (c.requires.each w way kept found has_way (sym c.in-Some-get_mut.ensures.value)).named has_way
     (sym c.step_refusal.ensures ∙ ap (option_map reason_from) c.in_default-step_refusal.is) (sym c.in-Some-get_mut.ensures.value) c.step_between-result.ensures

@@ -7,5 +7,5 @@ use Rattle.mt_site_workflows.proofs.undoing.undo_between.Goals as goal
 pub returns-then-way-eq0 : goal.returns-then-way-eq0
 returns-then-way-eq0 g c =
     let none : (c.args.way.done == 0) ≡ true = search rules in
-    closed c.args.topology.now c.args.primaries.now.entries c.args.workflow.now c.set_way.new.self (way_from c.args.way) c.args.journal.now c.args.kept.now
-    c.requires.stands.source c.requires.stands.target none c.set_way.ensures.after
+    closed c.args.topology.now c.args.primaries.now c.args.workflow.now c.set_way.new.self (way_from c.args.way) c.args.journal.now c.args.kept.now
+    none c.set_way.ensures.after

@@ -1,67 +1,64 @@
--- Both primaries are out of their places meanwhile, and both are put back.
-use Rattle.std.proofs.Common.{◌≡◌, [], ◌∷◌, ap, is_some, length, rules, subst, sym, ◌∙◌}
-use Rattle.mt_plain.specs.Plain.{last_step}
-use Rattle.mt_primary.specs.Primary.{empty_primary}
-use Rattle.mt_steps.specs.Plans.{step_at}
-use Rattle.mt_steps.specs.Shards.{target_at}
-use Rattle.mt_steps.specs.Steps.{IsUndone, SidesState, open_way}
+-- Both sides' shards are lent at their places.
+use Rattle.std.proofs.Common.{◌≡◌, ap, arith, length, subst, ◌∙◌}
+use Rattle.mt_primaries.specs.Places.{IsAt}
+use Rattle.mt_primaries.specs.Primaries.{ShardsState, primary_in, shards_of}
+use Rattle.mt_steps.specs.Steps.{SidesState}
 use Rattle.mt_workflow.specs.Workflows.{way_from}
-use Rattle.mt_site_workflows.proofs.PrimaryLemmas.{given-back, still-at}
-use Rattle.mt_site_workflows.proofs.BetweenLemmas.{first-of, undone, way-is}
-use Rattle.mt_site_workflows.specs.Places.{IsAt}
+use Rattle.mt_site_workflows.proofs.BetweenLemmas.{undone, way-is}
+use Rattle.mt_site_workflows.proofs.PrimaryLemmas.{lent-sides, source-is, target-is}
 use Rattle.mt_site_workflows.proofs.undoing.undo_done.Goals as goal
 
-pub exchange_at-source-requires : goal.exchange_at-source-requires
-exchange_at-source-requires g c = ap is_some c.place_of-at_source.ensures.at
+pub undo_beside-requires-clause-single : goal.undo_beside-requires-clause-single
+undo_beside-requires-clause-single g c =
+    let ps = c.args.primaries.now in
+    let w = c.args.workflow.now in
+    let places = c.places_mut-places.result.now in
+    let a = c.place_of-source.result in
+    let b = c.place_of-target.result in
+    let at_source : IsAt ps w.source a = subst (λ k. IsAt ps k a) c.source.ensures c.place_of-source.ensures.at in
+    let at_target : IsAt ps w.target b = subst (λ k. IsAt ps k b) c.target.ensures c.place_of-target.ensures.at in
+    let x = c.two_of-from.result.0.now in
+    let y = c.two_of-from.result.1.now in
+    let source : x ≡ shards_of ps w.source = source-is ps c.place_of-source.ensures.distinct places c.places_mut-places.ensures.value w.source w.target a b at_source at_target x y c.two_of-from.ensures.first c.two_of-from.ensures.second in
+    let target : y ≡ shards_of ps w.target = target-is ps c.place_of-source.ensures.distinct places c.places_mut-places.ensures.value w.source w.target a b at_source at_target x y c.two_of-from.ensures.first c.two_of-from.ensures.second in
+    let one = ap (λ (s : ShardsState). length s.each) source ∙ c.requires.stands.single in
+    omega (arith, one)
 
-pub exchange_at-target-requires : goal.exchange_at-target-requires
-exchange_at-target-requires g c =
-    ap is_some (still-at c.args.primaries.now.entries c.exchange_at-source.new.primaries.entries _ c.place_of-at_target.result c.exchange_at-source.ensures.places c.place_of-at_target.ensures.at)
-
-pub undo_on-requires-clause-targets : goal.undo_on-requires-clause-targets
-undo_on-requires-clause-targets g c = c.from_mut.ensures.len ∙ sym c.requires.stands.one
-
-pub undo_on-requires-clause-shards : goal.undo_on-requires-clause-shards
-undo_on-requires-clause-shards g c = ap (λ v. v.shards) (way-is c.args.workflow.now (way_from c.args.way) c.requires.way) ∙ c.requires.stands.shards
-
-pub exchange_at-requires : goal.exchange_at-requires
-exchange_at-requires g c =
-    ap is_some (still-at c.args.primaries.now.entries c.exchange_at-target.new.primaries.entries _ c.place_of-at_source.result
-    (c.exchange_at-target.ensures.places ∙ c.exchange_at-source.ensures.places) c.place_of-at_source.ensures.at)
-
-pub exchange_at-requires-2 : goal.exchange_at-requires-2
-exchange_at-requires-2 g c =
-    ap is_some (still-at c.args.primaries.now.entries c.exchange_at.new.primaries.entries _ c.place_of-at_target.result
-    (c.exchange_at.ensures.places ∙ c.exchange_at-target.ensures.places ∙ c.exchange_at-source.ensures.places) c.place_of-at_target.ensures.at)
+pub undo_beside-requires-clause-targets : goal.undo_beside-requires-clause-targets
+undo_beside-requires-clause-targets g c =
+    let ps = c.args.primaries.now in
+    let w = c.args.workflow.now in
+    let places = c.places_mut-places.result.now in
+    let a = c.place_of-source.result in
+    let b = c.place_of-target.result in
+    let at_source : IsAt ps w.source a = subst (λ k. IsAt ps k a) c.source.ensures c.place_of-source.ensures.at in
+    let at_target : IsAt ps w.target b = subst (λ k. IsAt ps k b) c.target.ensures c.place_of-target.ensures.at in
+    let x = c.two_of-from.result.0.now in
+    let y = c.two_of-from.result.1.now in
+    let source : x ≡ shards_of ps w.source = source-is ps c.place_of-source.ensures.distinct places c.places_mut-places.ensures.value w.source w.target a b at_source at_target x y c.two_of-from.ensures.first c.two_of-from.ensures.second in
+    let target : y ≡ shards_of ps w.target = target-is ps c.place_of-source.ensures.distinct places c.places_mut-places.ensures.value w.source w.target a b at_source at_target x y c.two_of-from.ensures.first c.two_of-from.ensures.second in
+    ap (λ (s : ShardsState). length s.each) target ∙ c.requires.stands.targets
 
 pub returns : goal.returns
 returns g c =
+    let ps = c.args.primaries.now in
     let w = c.args.workflow.now in
-    let old = c.args.primaries.now.entries in
-    let sides = c.undo_on.new in
-    let at_source : IsAt old w.source c.place_of-at_source.result = search rules in
-    let at_target : IsAt old w.target c.place_of-at_target.result = search rules in
-    let by_one = c.exchange_at-source.ensures.places in
-    let by_both = c.exchange_at-target.ensures.places ∙ by_one in
-    let source_meanwhile = still-at old c.exchange_at-target.new.primaries.entries w.source c.place_of-at_source.result by_both at_source in
-    let target_meanwhile = still-at old c.exchange_at-source.new.primaries.entries w.target c.place_of-at_target.result by_one at_target in
-    let target_at_last = still-at old c.exchange_at.new.primaries.entries w.target c.place_of-at_target.result (c.exchange_at.ensures.places ∙ by_both) at_target in
-    let one_back = given-back c.exchange_at-target.new.primaries.entries c.exchange_at.new.primaries.entries w.source _ sides.source (c.exchange_at.ensures.after w.source source_meanwhile) (search rules) in
-    let now : SidesState = record { topology = sides.topology; source = sides.source; targets = sides.targets; workflow = sides.workflow; journal = sides.journal } in
-    let from : SidesState = record { topology = c.args.topology.now; source = c.exchange_at-source.result; targets = c.exchange_at-target.result ∷ []; workflow = w; journal = c.args.journal.now } in
-    let undoes : IsUndone (open_way w) (step_at (last_step (open_way w))) from c.args.kept.now.log now c.undo_on.new.log =
-    subst (λ ts. IsUndone (open_way w) (step_at (last_step (open_way w)))
-    (record { topology = c.args.topology.now; source = c.exchange_at-source.result; targets = ts; workflow = w; journal = c.args.journal.now }) c.args.kept.now.log
-    (record { topology = sides.topology; source = sides.source; targets = sides.targets; workflow = sides.workflow; journal = sides.journal }) c.undo_on.new.log)
-    c.from_mut.ensures.value c.undo_on.ensures in
-    let one : length sides.targets ≡ 1 = search rules in
-    let both_back = given-back c.exchange_at.new.primaries.entries c.exchange_at-2.new.primaries.entries w.target _ (target_at sides.targets 0) (c.exchange_at-2.ensures.after w.target target_at_last) (first-of sides.targets c.exchange_at-target.result empty_primary one) in
-    undone c.args.topology.now old c.exchange_at-source.new.primaries.entries c.exchange_at-target.new.primaries.entries c.exchange_at.new.primaries.entries c.exchange_at-2.new.primaries.entries
-    w c.args.journal.now c.exchange_at-source.result c.exchange_at-target.result c.new.result c.new-2.result c.requires.stands.apart
-    (c.exchange_at-source.ensures.before w.source at_source) (c.exchange_at-source.ensures.after w.source at_source)
-    (c.exchange_at-target.ensures.before w.target target_meanwhile) (c.exchange_at-target.ensures.after w.target target_meanwhile)
-    (way_from c.args.way) c.args.kept.now
-    now c.undo_on.new.log
-    _ _ _ c.requires.way c.requires.some one_back both_back
-    (search rules) (search rules) (search rules)
-    undoes
+    let places = c.places_mut-places.result.now in
+    let a = c.place_of-source.result in
+    let b = c.place_of-target.result in
+    let at_source : IsAt ps w.source a = subst (λ k. IsAt ps k a) c.source.ensures c.place_of-source.ensures.at in
+    let at_target : IsAt ps w.target b = subst (λ k. IsAt ps k b) c.target.ensures c.place_of-target.ensures.at in
+    let x = c.two_of-from.result.0.now in
+    let y = c.two_of-from.result.1.now in
+    let source : x ≡ shards_of ps w.source = source-is ps c.place_of-source.ensures.distinct places c.places_mut-places.ensures.value w.source w.target a b at_source at_target x y c.two_of-from.ensures.first c.two_of-from.ensures.second in
+    let target : y ≡ shards_of ps w.target = target-is ps c.place_of-source.ensures.distinct places c.places_mut-places.ensures.value w.source w.target a b at_source at_target x y c.two_of-from.ensures.first c.two_of-from.ensures.second in
+    let after = c.undo_beside.new in
+    let sides : SidesState = record { topology = after.topology; source = primary_in after.source 0; targets = after.target.each; workflow = after.workflow; journal = after.journal } in
+    let become = lent-sides ps c.place_of-source.ensures.distinct places c.places_mut-places.ensures.value w.source w.target a b at_source at_target x y c.two_of-from.ensures.first c.two_of-from.ensures.second
+    c.requires.stands.apart after.source after.target c.undo_beside.ensures.source c.undo_beside.ensures.cuts in
+    undone c.args.topology.now ps w c.args.journal.now (primary_in x 0) y.each (ap (λ s. primary_in s 0) source) (ap (λ (s : ShardsState). s.each) target)
+    (way_from c.args.way) c.args.kept.now sides after.log _
+    c.requires.way c.requires.some become c.undo_beside.ensures.undone
+
+pub undo_beside-requires-clause-shards : goal.undo_beside-requires-clause-shards
+undo_beside-requires-clause-shards g c = ap (λ v. v.shards) (way-is c.args.workflow.now (way_from c.args.way) c.requires.way) ∙ c.requires.stands.shards

@@ -16,8 +16,8 @@ loop-line-preserved g c =
     let line = c.loop-line.line in
     let old = c.args.pass.calls.items in
     let new = c.ask.new.pass.calls.items in
-    let more = one_more workflow stream max line old c.loop-line.pass.calls.items new at taken (call (event.Advance c.copied.result stream at max) c.in-Ok.answer)
-    c.loop-line.invariant.way (ap (λ n. event.Advance n stream at max) c.copied.ensures) c.in-Ok.ensures.adds in
+    let more = one_more workflow stream max line old c.loop-line.pass.calls.items new at taken (call (event.Advance c.copied.result stream 0 at max) c.in-Ok.answer)
+    c.loop-line.invariant.way (ap (λ n. event.Advance n stream 0 at max) c.copied.ensures) c.in-Ok.ensures.adds in
     record {
       client = c.in-Ok.ensures.client ∙ c.loop-line.invariant.client;
       way = subst (λ n. IsUnderWay workflow stream max (line + 1) old new n (taken + c.one_if_taken-taken.result)) (sym c.next_position-at.ensures)

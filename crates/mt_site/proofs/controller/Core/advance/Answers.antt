@@ -15,7 +15,7 @@ use Rattle.mt_site.proofs.controller.Core.advance.Goals as goal
 pub returns-in-Ok-clause-does : goal.returns-in-Ok-clause-does
 returns-in-Ok-clause-does c = (
   c.do_advance.new.self.core,
-  subst (λ r. AdvancesWorkflow c.args.self.now.core c.args.workflow.now (stream_name c.args.stream) c.args.at c.args.max (advanced_from r) c.do_advance.new.self.core) c.in-Ok.is c.do_advance.ensures.does,
+  subst (λ r. AdvancesWorkflow c.args.self.now.core c.args.workflow.now (stream_name c.args.stream) c.args.shard c.args.at c.args.max (advanced_from r) c.do_advance.new.self.core) c.in-Ok.is c.do_advance.ensures.does,
   c.purge.ensures.core,
 )
 
@@ -24,7 +24,7 @@ returns-in-Ok-clause-ways c = c.purge.ensures.ways ∙ c.do_advance.ensures.ways
 
 pub returns-in-Ok-clause-steps : goal.returns-in-Ok-clause-steps
 returns-in-Ok-clause-steps c = λ scopes.
-    let event = advance c.args.workflow.now (stream_name c.args.stream) 0 c.args.at c.args.max in
+    let event = advance c.args.workflow.now (stream_name c.args.stream) c.args.shard c.args.at c.args.max in
     let told = advanced_from (Ok c.in-Ok.counts) in
     let made = c.do_advance.new.self in
     let new = c.purge.new.self in
@@ -38,7 +38,7 @@ returns-in-Ok-clause-headline c = λ scopes. one_kept scopes _ _ _ _ (returns-in
 
 pub returns-in-Ok-clause-stood : goal.returns-in-Ok-clause-stood
 returns-in-Ok-clause-stood c = λ scopes.
-    stood_next scopes _ _ (advance c.args.workflow.now (stream_name c.args.stream) 0 c.args.at c.args.max) (advanced_from (Ok c.in-Ok.counts)) (returns-in-Ok-clause-steps c scopes)
+    stood_next scopes _ _ (advance c.args.workflow.now (stream_name c.args.stream) c.args.shard c.args.at c.args.max) (advanced_from (Ok c.in-Ok.counts)) (returns-in-Ok-clause-steps c scopes)
 
 pub returns-in-Ok-clause-purged : goal.returns-in-Ok-clause-purged
 returns-in-Ok-clause-purged c = λ was. subst IsPurged (sym c.purge.ensures.core) (c.what_is_purged_stays_purged.ensures.all c.do_advance.new.self.core)
@@ -46,17 +46,17 @@ returns-in-Ok-clause-purged c = λ was. subst IsPurged (sym c.purge.ensures.core
 pub returns-in-Err-clause-does : goal.returns-in-Err-clause-does
 returns-in-Err-clause-does c = (
   c.do_advance.new.self.core,
-  subst (λ r. AdvancesWorkflow c.args.self.now.core c.args.workflow.now (stream_name c.args.stream) c.args.at c.args.max (advanced_from r) c.do_advance.new.self.core) c.in-Err.is c.do_advance.ensures.does,
+  subst (λ r. AdvancesWorkflow c.args.self.now.core c.args.workflow.now (stream_name c.args.stream) c.args.shard c.args.at c.args.max (advanced_from r) c.do_advance.new.self.core) c.in-Err.is c.do_advance.ensures.does,
   refl,
 )
 
 pub returns-in-Err-clause-steps : goal.returns-in-Err-clause-steps
 returns-in-Err-clause-steps c = λ scopes.
-    subst (λ r. SiteSteps scopes c.args.self.now (advance c.args.workflow.now (stream_name c.args.stream) 0 c.args.at c.args.max) (advanced_from r) c.do_advance.new.self) c.in-Err.is (c.do_advance.ensures.steps scopes)
+    subst (λ r. SiteSteps scopes c.args.self.now (advance c.args.workflow.now (stream_name c.args.stream) c.args.shard c.args.at c.args.max) (advanced_from r) c.do_advance.new.self) c.in-Err.is (c.do_advance.ensures.steps scopes)
 
 pub returns-in-Err-clause-headline : goal.returns-in-Err-clause-headline
 returns-in-Err-clause-headline c = λ scopes. one_kept scopes _ _ _ _ (returns-in-Err-clause-steps c scopes) c.every_run_keeps_the_headline.ensures.with_earlier_lines
 
 pub returns-in-Err-clause-stood : goal.returns-in-Err-clause-stood
 returns-in-Err-clause-stood c = λ scopes.
-    stood_next scopes _ _ (advance c.args.workflow.now (stream_name c.args.stream) 0 c.args.at c.args.max) (advanced_from (Err c.in-Err.reason)) (returns-in-Err-clause-steps c scopes)
+    stood_next scopes _ _ (advance c.args.workflow.now (stream_name c.args.stream) c.args.shard c.args.at c.args.max) (advanced_from (Err c.in-Err.reason)) (returns-in-Err-clause-steps c scopes)

@@ -2,8 +2,8 @@
 use Rattle.std.proofs.Common.{List, ℕ, subst}
 use Rattle.mt_event.specs.Reasons.{done_by}
 use Rattle.mt_primary.specs.Primary.{IsPrimary}
-use Rattle.mt_site_state.specs.Core.{primary_of}
-use Rattle.mt_site.specs.Applies.{Applies}
+use Rattle.mt_primaries.specs.Primaries.{primary_of}
+use Rattle.mt_site.specs.Applies.{Applies, BringsBounds}
 use Rattle.mt_site.specs.Commands.{event_of_command}
 use Rattle.mt_site.proofs.controller.Core.do_command.Goals.{in-AddKeyspace, in-AddTable, in-EditRule, in-BeginSwitch, in-BeginReverse, in-Step, in-Undo, in-Cancel, in-Complete}
 use Rattle.mt_site.proofs.controller.Core.do_command.Goals as goal
@@ -26,4 +26,15 @@ returns-clause-steps g c =
       | in-Cancel w ↦ rw (w.in-Cancel.is, w.told-is, w.self-is) (w.cancel-told.ensures.does, w.cancel-told.ensures.ways)
       | in-Complete w ↦ rw (w.in-Complete.is, w.told-is, w.self-is) w.complete-told.ensures.does
     ] in
-    c.an_applied_event_steps.ensures old new event told applies (subst (λ s. (keyspace : List ℕ) → IsPrimary (primary_of s.core.primaries keyspace)) c.self.view_is c.each_is_a_primary.ensures)
+    let bounds : BringsBounds event = elim c.match-command.branch [
+      | in-AddKeyspace w ↦ rw w.in-AddKeyspace.is w.add_keyspace-told.ensures.bounds
+      | in-AddTable w ↦ rw w.in-AddTable.is tt
+      | in-EditRule w ↦ rw w.in-EditRule.is tt
+      | in-BeginSwitch w ↦ rw w.in-BeginSwitch.is tt
+      | in-BeginReverse w ↦ rw w.in-BeginReverse.is tt
+      | in-Step w ↦ rw w.in-Step.is tt
+      | in-Undo w ↦ rw w.in-Undo.is tt
+      | in-Cancel w ↦ rw w.in-Cancel.is tt
+      | in-Complete w ↦ rw w.in-Complete.is tt
+    ] in
+    c.an_applied_event_steps.ensures old new event told applies bounds (subst (λ s. (keyspace : List ℕ) (shard : ℕ) → IsPrimary (primary_of s.core.primaries keyspace shard)) c.self.view_is c.each_is_a_primary.ensures)

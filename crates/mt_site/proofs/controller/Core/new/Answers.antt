@@ -7,5 +7,5 @@ use Rattle.mt_site.proofs.controller.Core.new.Goals as goal
 
 pub returns-clause-stands : goal.returns-clause-stands
 returns-clause-stands c = λ scopes.
-    let same : site c.new.result c.new-2.result.entries c.new-3.result.entries c.new-4.result.entries c.new-5.result 0 ≡ empty_site = search rules in
+    let same : site c.new.result c.new-2.result c.new-3.result.entries c.new-4.result.entries c.new-5.result 0 ≡ empty_site = search rules in
     subst (λ s. SiteStands (opening scopes) scopes s) (sym same) (c.a_site_stays_one.ensures.stands scopes)

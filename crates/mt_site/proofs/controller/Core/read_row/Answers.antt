@@ -2,7 +2,7 @@
 use Rattle.std.proofs.Common.{◌≡◌, refl, subst}
 use Rattle.mt_plain.specs.Events.{read}
 use Rattle.mt_site_state.specs.ByHand.{read_at}
-use Rattle.mt_site_state.specs.Core.{primary_at}
+use Rattle.mt_primaries.specs.Primaries.{shards_at}
 use Rattle.mt_site_state.specs.Ways.{SiteSteps}
 use Rattle.mt_site.specs.ByHand.{read_from}
 use Rattle.mt_site.proofs.RunLemmas.{one_kept}
@@ -12,7 +12,7 @@ use Rattle.mt_site.proofs.controller.Core.read_row.Goals as goal
 pub returns-clause-does : goal.returns-clause-does
 returns-clause-does c =
     let target = c.args.place.now.target in
-    (subst (λ s. read_from c.read_row.result ≡ read_at (primary_at s.core.primaries target.keyspace) target.table c.args.key c.args.tablet_type) c.self.view_is c.read_row.ensures, refl)
+    (subst (λ s. read_from c.read_row.result ≡ read_at (shards_at s.core.primaries target.keyspace) target.table c.args.key c.args.tablet_type) c.self.view_is c.read_row.ensures, refl)
 
 pub returns-clause-steps : goal.returns-clause-steps
 returns-clause-steps c = λ scopes.

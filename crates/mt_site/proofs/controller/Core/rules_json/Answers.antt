@@ -8,7 +8,7 @@ use Rattle.mt_site.proofs.controller.Core.rules_json.Goals as goal
 
 pub returns-clause-served : goal.returns-clause-served
 returns-clause-served c = λ p scopes stands.
-    let old : SiteState = site c.self.inside.topology c.self.inside.primaries.entries c.self.inside.workflows.entries c.self.inside.opened.entries c.self.inside.journal c.self.inside.begun in
+    let old : SiteState = site c.self.inside.topology c.self.inside.primaries c.self.inside.workflows.entries c.self.inside.opened.entries c.self.inside.journal c.self.inside.begun in
     let here : SiteStands p scopes old = subst (λ s. SiteStands p scopes s) (sym c.self.view_is) stands in
     text_served string_bytes c.to_json.result (rules_text c.rules.result.now) (rules_text (served p).rules)
     (ap rules_text c.rules.ensures

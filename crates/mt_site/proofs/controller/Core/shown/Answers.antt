@@ -9,15 +9,10 @@ use Rattle.mt_site.proofs.RunLemmas.{one_kept}
 use Rattle.mt_site.proofs.SiteLemmas.{joined, site}
 use Rattle.mt_site.proofs.controller.Core.shown.Goals as goal
 
-pub show-requires-clause-one : goal.show-requires-clause-one
-show-requires-clause-one c =
-    let old : SiteState = site c.self.inside.topology c.self.inside.primaries.entries c.self.inside.workflows.entries c.self.inside.opened.entries c.self.inside.journal c.self.inside.begun in
-    λ w. c.keyspaces_of_a_core_have_one_shard.ensures.lanes old.core (c.a_site_stays_one.ensures.core old c.self.invariant) c.args.name.now w
-
-pub show-requires-clause-there : goal.show-requires-clause-there
-show-requires-clause-there c =
-    let old : SiteState = site c.self.inside.topology c.self.inside.primaries.entries c.self.inside.workflows.entries c.self.inside.opened.entries c.self.inside.journal c.self.inside.begun in
-    λ w. c.streams_of_a_core_lie_in_their_logs.ensures.forward old.core (c.a_site_stays_one.ensures.core old c.self.invariant) c.args.name.now w
+pub show-requires : goal.show-requires
+show-requires c =
+    let old : SiteState = site c.self.inside.topology c.self.inside.primaries c.self.inside.workflows.entries c.self.inside.opened.entries c.self.inside.journal c.self.inside.begun in
+    λ w found shard within. c.streams_of_a_core_lie_in_their_logs.ensures.forward old.core (c.a_site_stays_one.ensures.core old c.self.invariant) c.args.name.now w shard found within
 
 pub returns-clause-does : goal.returns-clause-does
 returns-clause-does c =

@@ -1,0 +1,4 @@
+pub mod Kept
+pub mod Lends
+pub mod Places
+pub mod Primaries
